@@ -1,0 +1,172 @@
+-- Applications without a fault: one fact for each build fault, that it does not stand.
+--
+-- | word             | meaning                                                                             |
+-- |------------------|-------------------------------------------------------------------------------------|
+-- | EachInstr        | something holds of each instruction, with the actor that has it                     |
+-- | Leaves           | the instruction doesn't go on to the next one                                       |
+-- | SuitsKind        | the call names an object of the kind that it is for                                 |
+-- | Covers           | the range of a variable has the whole of these numbers                              |
+-- | SuitsActor       | a task makes no call that is for interrupts                                         |
+-- | OperandsFit      | no variable is both operands, and `*` has a number among its operands               |
+-- | NamesThings      | each number in the instruction names a variable or an object                        |
+-- | IsFreeOf         | this fault does not stand                                                           |
+-- | IsFaultless      | none of the eleven faults stands                                                    |
+-- | IsJudgedYet      | the application has only what is judged today                                       |
+use Rattle.std.specs.Prelude.{◌≡◌, ◌≢◌, ◌≤◌, ◌<◌, ◌≤ℤ◌, ◌⊎◌, ◌+◌, ℕ, ℤ, pos, List, [], Option, None, Some, Bool, true, false, IsTrue, length, IfSome, All, AllPairs, count_by, slice_get, is_none}
+use Rattle.fr_program.specs.declared.instr.Instr.{Instr}
+use Rattle.fr_program.specs.declared.instr.Instr.TheVariants.{Set, If, Goto, Pick, Call as Calls, Return}
+use Rattle.fr_program.specs.declared.instr.Call.TheVariants.{EnterCritical, ExitCritical, Delay, DeleteSelf, Create, Delete, On}
+use Rattle.fr_program.specs.declared.instr.Form.TheVariants.{Task as InTask}
+use Rattle.fr_program.specs.declared.instr.Action.{Action}
+use Rattle.fr_program.specs.declared.instr.Action.TheVariants.{QueueReceive, Send, Receive}
+use Rattle.fr_program.specs.declared.instr.Operand.{Operand}
+use Rattle.fr_program.specs.declared.instr.Operand.TheVariants.{Number, Variable}
+use Rattle.fr_program.specs.declared.instr.Operator.TheVariants.{Times}
+use Rattle.fr_program.specs.declared.ids.VarId.{VarId}
+use Rattle.fr_program.specs.declared.parts.Kind.{Kind}
+use Rattle.fr_program.specs.declared.parts.Kind.TheVariants.{Queue}
+use Rattle.fr_program.specs.declared.parts.ActorKind.TheVariants.{Task}
+use Rattle.fr_program.specs.declared.fault.BuildFault.{BuildFault}
+use Rattle.fr_program.specs.declared.fault.BuildFault.TheVariants.{Memory, TooMany, BadRange, BadTarget, FallsOff, TwoShared, NotOwner, KindMismatch, FromIsrInTask, ResultRange, Operands, Names, NotYet}
+use Rattle.fr_program.specs.Program.{Program, VariableOf, ActorOf}
+use Rattle.fr_program.specs.Lookup.{actor_at, variable_at, instr_at}
+use Rattle.fr_program.specs.Limits.{VariableInLimits, KindInLimits, InstrInLimits, IsName, names_of, most_actors, most_variables, most_objects, most_instructions}
+use Rattle.fr_program.specs.Uses.{variables_of, object_named, TargetsBelow, makes_kind, drops_kind, acts_on, is_from_isr}
+
+-- something about each instruction, and the actor that has it
+abbrev pub EachInstr : Program → (ℕ → Instr → Type 0) → Type 0
+EachInstr P F = (a pc : ℕ) (i : Instr) → instr_at P a pc ≡ Some i → F a i
+
+-- the instruction doesn't go on to the next one
+abbrev pub Leaves : Option Instr → Type 0
+Leaves (Some (Goto target)) = Unit {0}
+Leaves (Some Return) = Unit {0}
+Leaves (Some (Calls DeleteSelf)) = Unit {0}
+Leaves i = ⊥
+
+-- code that has a last instruction, which doesn't go on
+abbrev pub EndsWell : ActorOf → Type 0
+EndsWell actor = (last : ℕ) × (length actor.code ≡ last + 1) × Leaves (slice_get actor.code last)
+
+-- whether this is a variable with no owner
+abbrev pub is_shared : Program → VarId → Bool
+is_shared P x = elim (slice_get P.variables x.0) [ None ↦ false | Some v ↦ is_none v.owner ]
+
+-- the object, where there is one, is of a kind that passes this test
+abbrev pub HasKind : Program → ℕ → (Kind → Bool) → Type 0
+HasKind P o test = IfSome (slice_get P.objects o) (λ object. IsTrue (test object.kind))
+
+abbrev pub SuitsKind : Program → Instr → Type 0
+SuitsKind P (Calls (Create created o e)) = HasKind P o.0 (makes_kind created)
+SuitsKind P (Calls (Delete deleted o)) = HasKind P o.0 (drops_kind deleted)
+SuitsKind P (Calls (On o action)) = HasKind P o.0 (acts_on action)
+SuitsKind P i = Unit {0}
+
+-- a task makes no call that is for interrupts
+abbrev pub SuitsActor : ActorOf → Instr → Type 0
+SuitsActor actor (Calls call) = actor.kind ≡ Task → is_from_isr call ≡ false
+SuitsActor actor i = Unit {0}
+
+-- the range of the variable, where there is one, has the whole of these numbers
+abbrev pub Covers : Program → VarId → ℤ → ℤ → Type 0
+Covers P x lo hi = IfSome (slice_get P.variables x.0) (λ v. (v.lo ≤ℤ lo) × (hi ≤ℤ v.hi))
+
+-- a result variable has 0 to the call's length, a receiving variable the queue's range
+abbrev pub TakesIn : Program → Kind → Action → Type 0
+TakesIn P (Queue size lo hi) (QueueReceive into timing e) = Covers P into lo hi
+TakesIn P kind (Send buffer n timing result) = IfSome result (λ x. Covers P x (pos 0) (pos n))
+TakesIn P kind (Receive buffer n timing result) = IfSome result (λ x. Covers P x (pos 0) (pos n))
+TakesIn P kind action = Unit {0}
+
+abbrev pub ResultsFit : Program → Instr → Type 0
+ResultsFit P (Pick x lo hi) = Covers P x lo hi
+ResultsFit P (Calls (On o action)) = IfSome (slice_get P.objects o.0) (λ object. TakesIn P object.kind action)
+ResultsFit P i = Unit {0}
+
+abbrev pub IsConstant : Operand → Type 0
+IsConstant (Number z) = Unit {0}
+IsConstant (Variable x) = ⊥
+
+abbrev pub AreApart : Operand → Operand → Type 0
+AreApart (Variable x) (Variable y) = x ≢ y
+AreApart l r = Unit {0}
+
+-- no variable is both operands, and `*` has a number among its operands
+abbrev pub OperandsFit : Instr → Type 0
+OperandsFit (Set x l Times r) = IsConstant l ⊎ IsConstant r
+OperandsFit (Set x l op r) = AreApart l r
+OperandsFit (If l comparison r target) = AreApart l r
+OperandsFit i = Unit {0}
+
+-- each number in the instruction names a variable or an object
+abbrev pub NamesThings : Program → Instr → Type 0
+NamesThings P i = All (λ x. x.0 < length P.variables) (variables_of i) × IfSome (object_named i) (λ o. o < length P.objects)
+
+-- names are names, each stands once, and each number names something
+pub record HasNames (P : Program) : Type 0 where
+  pub names : All IsName (names_of P)
+  pub once : AllPairs (λ x y. x ≢ y) (names_of P)
+  pub things : EachInstr P (λ a i. NamesThings P i)
+  pub owners : All (λ v. IfSome v.owner (λ owner. owner.0 < length P.actors)) P.variables
+
+-- the numbers of the application are within their limits
+pub record IsInLimits (P : Program) : Type 0 where
+  pub variables : All VariableInLimits P.variables
+  pub objects : All (λ o. KindInLimits o.kind) P.objects
+  pub code : EachInstr P (λ a i. InstrInLimits i)
+
+-- there are not too many things, and no code is too long
+pub record IsSmall (P : Program) : Type 0 where
+  pub actors : length P.actors ≤ most_actors
+  pub variables : length P.variables ≤ most_variables
+  pub objects : length P.objects ≤ most_objects
+  pub code : All (λ a. length a.code ≤ most_instructions) P.actors
+
+-- the instructions that are judged today
+abbrev pub IsInstrJudgedYet : Instr → Type 0
+IsInstrJudgedYet (Set x l op r) = Unit {0}
+IsInstrJudgedYet (If l comparison r target) = Unit {0}
+IsInstrJudgedYet (Goto target) = Unit {0}
+IsInstrJudgedYet Return = Unit {0}
+IsInstrJudgedYet (Calls (EnterCritical InTask)) = Unit {0}
+IsInstrJudgedYet (Calls (ExitCritical InTask)) = Unit {0}
+IsInstrJudgedYet (Calls (Delay ticks)) = Unit {0}
+IsInstrJudgedYet (Calls DeleteSelf) = Unit {0}
+IsInstrJudgedYet i = ⊥
+
+-- one task at the most, with no object and no other instruction
+pub record IsJudgedYet (P : Program) : Type 0 where
+  pub objects : P.objects ≡ []
+  pub one : length P.actors ≤ 1
+  pub tasks : All (λ a. a.kind ≡ Task) P.actors
+  pub code : EachInstr P (λ a i. IsInstrJudgedYet i)
+
+-- this fault does not stand
+abbrev pub IsFreeOf : Program → BuildFault → Type 0
+IsFreeOf P Memory = Unit {0}
+IsFreeOf P TooMany = IsSmall P
+IsFreeOf P BadRange = IsInLimits P
+IsFreeOf P BadTarget = EachInstr P (λ a i. TargetsBelow (length (actor_at P a).code) i)
+IsFreeOf P FallsOff = All EndsWell P.actors
+IsFreeOf P TwoShared = EachInstr P (λ a i. count_by (is_shared P) (variables_of i) ≤ 1)
+IsFreeOf P NotOwner = EachInstr P (λ a i. All (λ x. IfSome (variable_at P x.0).owner (λ owner. owner.0 ≡ a)) (variables_of i))
+IsFreeOf P KindMismatch = EachInstr P (λ a i. SuitsKind P i)
+IsFreeOf P FromIsrInTask = EachInstr P (λ a i. SuitsActor (actor_at P a) i)
+IsFreeOf P ResultRange = EachInstr P (λ a i. ResultsFit P i)
+IsFreeOf P Operands = EachInstr P (λ a i. OperandsFit i)
+IsFreeOf P Names = HasNames P
+IsFreeOf P NotYet = IsJudgedYet P
+
+-- an application: parts in which none of the eleven faults stands
+pub record IsFaultless (P : Program) : Type 0 where
+  pub small : IsFreeOf P TooMany
+  pub limits : IsFreeOf P BadRange
+  pub targets : IsFreeOf P BadTarget
+  pub ends : IsFreeOf P FallsOff
+  pub shared : IsFreeOf P TwoShared
+  pub owners : IsFreeOf P NotOwner
+  pub kinds : IsFreeOf P KindMismatch
+  pub forms : IsFreeOf P FromIsrInTask
+  pub results : IsFreeOf P ResultRange
+  pub operands : IsFreeOf P Operands
+  pub names : IsFreeOf P Names

@@ -1,0 +1,94 @@
+// Why parts are no application.
+ghost use Rattle.std.specs.Prelude.{◌≡◌, Some};
+ghost use Rattle.fr_program.specs.declared.fault.BuildFault.TheVariants.{Memory};
+
+use std::alloc::{AllocError, AllocFailed};
+use std::error::Error;
+use std::fmt;
+
+/// Why parts are no application. Its text is the number and the name that a refusal's line shows.
+#[derive(Clone, Copy, Debug, PartialEq, Eq)]
+pub enum BuildFault {
+    /// An allocation was refused.
+    Memory,
+    /// Over 32 actors, 64 variables, 64 objects or 512 instructions of an actor.
+    TooMany,
+    /// A lower bound above its upper one, an initial value outside its range, or a size, first
+    /// count, length, block time or delay out of its limits.
+    BadRange,
+    /// A target past the end of the code.
+    BadTarget,
+    /// Code that is empty, or whose last instruction can go on to a next one.
+    FallsOff,
+    /// Shared variables stand more than once in an instruction.
+    TwoShared,
+    /// An instruction names another actor's variable.
+    NotOwner,
+    /// A call on an object of another kind.
+    KindMismatch,
+    /// A task makes a call that is for interrupts.
+    FromIsrInTask,
+    /// A variable's range lacks a part of what a `pick`, a result or a received value can be.
+    ResultRange,
+    /// One variable is both operands of a `set` or an `if`, or both operands of `*` are variables.
+    Operands,
+    /// A name that is none or stands twice, or a number that names nothing.
+    Names,
+    /// The application is not judged yet: it has an object, an interrupt, a second actor, or an
+    /// instruction other than `set`, `if`, `goto`, `return`, entering and leaving a critical section
+    /// in the task's form, `vTaskDelay` and `vTaskDelete(NULL)`.
+    NotYet,
+}
+
+impl BuildFault {
+    ghost use Rattle.fr_program.specs.FaultText.{text_of};
+
+    /// The number and the name, as a refusal's line shows them.
+    pub fn text(self) -> &'static str
+        ensures { result.now ≡ text_of self }
+    {
+        match self {
+            BuildFault::Memory => "0 Memory",
+            BuildFault::TooMany => "1 TooMany",
+            BuildFault::BadRange => "2 BadRange",
+            BuildFault::BadTarget => "3 BadTarget",
+            BuildFault::FallsOff => "4 FallsOff",
+            BuildFault::TwoShared => "5 TwoShared",
+            BuildFault::NotOwner => "6 NotOwner",
+            BuildFault::KindMismatch => "7 KindMismatch",
+            BuildFault::FromIsrInTask => "8 FromIsrInTask",
+            BuildFault::ResultRange => "9 ResultRange",
+            BuildFault::Operands => "10 Operands",
+            BuildFault::Names => "11 Names",
+            BuildFault::NotYet => "12 NotYet",
+        }
+    }
+}
+
+impl fmt::Display for BuildFault {
+    ghost use Rattle.fr_program.specs.FaultText.{text_of};
+
+    ghost output = { λ f. Some (text_of f) };
+
+    fn fmt<W: fmt::Write>(&self, f: &mut fmt::Formatter<W>) -> fmt::Result {
+        f.write_str(self.text())
+    }
+}
+
+impl Error for BuildFault {}
+
+impl From<AllocError> for BuildFault {
+    ghost from_gives = { λ _ e. e ≡ Memory };
+
+    fn from(_refused: AllocError) -> BuildFault {
+        BuildFault::Memory
+    }
+}
+
+impl<T: Drop> From<AllocFailed<T>> for BuildFault {
+    ghost from_gives = { λ _ e. e ≡ Memory };
+
+    fn from(_refused: AllocFailed<T>) -> BuildFault {
+        BuildFault::Memory
+    }
+}

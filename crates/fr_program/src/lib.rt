@@ -1,0 +1,21 @@
+// Applications: variables, kernel objects, tasks and interrupts with their code, and the points at which an actor
+// can stand. An `App` has no build fault, and its points and their numbers are inverse to each other; all other
+// crates stand on this one.
+#![tactic(auto)]
+
+mod app;
+mod fault;
+mod ids;
+mod instr;
+mod parts;
+mod range;
+
+pub use app::App;
+pub use fault::BuildFault;
+pub use ids::{ActorId, ObjId, Point, Side, VarId};
+pub use instr::{
+    Action, BlockTime, BufferKind, Call, Comparison, CreatedKind, DeletedKind, Form, GiveForm,
+    Instr, Operand, Operator, TakeForm, Timing,
+};
+pub use parts::{Actor, ActorKind, Kind, Object, Parts, Variable};
+pub use range::Range;
