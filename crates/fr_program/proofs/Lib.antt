@@ -1,1 +1,2 @@
 pub mod PointLemmas
+pub mod ListLemmas

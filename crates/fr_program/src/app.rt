@@ -1,12 +1,16 @@
 // Checked applications, and their points.
-ghost use Rattle.std.specs.Prelude.{◌≡◌, ◌<◌, ◌++◌, length, slice_get, Some, map, OnOk, IfOk};
-ghost use Rattle.fr_program.specs.Points.{points_of, points_from, points_along, points_at};
-ghost use Rattle.fr_program.specs.View.{actor_of};
+ghost use Rattle.std.specs.Prelude.{◌≡◌, ◌<◌, length, slice_get, Some, map, All, IfOk, OnOk};
+ghost use Rattle.fr_program.specs.Points.{points_of};
+ghost use Rattle.fr_program.specs.Limits.{VariableInLimits};
+ghost use Rattle.fr_program.specs.View.{actor_of, program_of};
 
+use crate::check::check_parts;
 use crate::fault::BuildFault;
-use crate::ids::{ActorId, Point, Side};
+use crate::ids::{ActorId, ObjId, Point, Side, VarId};
 use crate::instr::{Call, Instr};
-use crate::parts::{Actor, Object, Parts, Variable};
+use crate::parts::{Actor, ActorKind, Kind, Object, Parts, Variable};
+use crate::range::Range;
+use crate::table::{Table, table_of};
 use std::alloc::Global;
 use std::marker::Model;
 
@@ -16,6 +20,8 @@ pub struct App {
     parts: Parts,
     /// Every point, in the order of its number.
     points: Vec<Point>,
+    /// By actor and instruction, the number of the point before it.
+    starts: Vec<Vec<usize>>,
 }
 
 impl Model for App {
@@ -27,21 +33,26 @@ impl Model for App {
 
     ghost view = { λ a. program_of a.parts };
 
-    ghost use Rattle.std.specs.Prelude.{◌≡◌};
+    ghost use Rattle.std.specs.Prelude.{◌≡◌, All};
     ghost use Rattle.fr_program.specs.Points.{points_of};
+    ghost use Rattle.fr_program.specs.Limits.{VariableInLimits};
 
-    ghost invariant = { λ a. a.points.items ≡ points_of (program_of a.parts) };
+    ghost invariant = { λ a. (a.points.items ≡ points_of (program_of a.parts)) × All VariableInLimits (program_of a.parts).variables };
 }
 
 impl App {
     ghost use Rattle.std.specs.Option.{option_copied};
-    ghost use Rattle.fr_program.specs.Lookup.{instr_of};
+    ghost use Rattle.fr_program.specs.Lookup.{instr_of, object_at, variable_at, actor_at, is_interrupt};
     ghost use Rattle.fr_program.specs.View.{variable_of, object_of};
 
     /// The application that the parts say.
     pub fn build(alloc: Global, parts: Parts) -> Result<App, (BuildFault, Parts)> {
-        match points_of(alloc, &parts.actors) {
-            Ok(points) => Ok(App { parts, points }),
+        match checked_table(alloc, &parts) {
+            Ok(Table { points, starts }) => Ok(App {
+                parts,
+                points,
+                starts,
+            }),
             Err(fault) => Err((fault, parts)),
         }
     }
@@ -61,6 +72,18 @@ impl App {
         self.points[k]
     }
 
+    /// The number of a point, or None where the application has no such point.
+    pub fn number(&self, point: Point) -> Option<usize> {
+        let first = *self.starts.get(point.actor.0)?.get(point.pc)?;
+        match point.side {
+            Side::Before => Some(first),
+            Side::Inside => match self.instr(point) {
+                Some(Instr::Call(Call::On { .. })) => first.checked_add(1),
+                _ => None,
+            },
+        }
+    }
+
     /// The instruction of a point, or None where the application has no such place.
     pub fn instr(&self, point: Point) -> Option<&Instr>
         ensures { option_copied result ≡ instr_of self.now point }
@@ -68,6 +91,46 @@ impl App {
         match self.parts.actors.get(point.actor.0) {
             Some(actor) => actor.code.get(point.pc),
             None => None,
+        }
+    }
+
+    /// What the object is.
+    pub fn kind(&self, object: ObjId) -> Kind
+        requires { object.0 < length self.now.objects }
+        ensures { result ≡ (object_at self.now object.0).kind }
+    {
+        self.parts.objects[object.0].kind
+    }
+
+    /// The variable with this number.
+    pub fn variable(&self, x: VarId) -> &Variable
+        requires { x.0 < length self.now.variables }
+        ensures { variable_of result.now ≡ variable_at self.now x.0 }
+    {
+        &self.parts.variables[x.0]
+    }
+
+    /// The range of the variable, as it is declared.
+    pub fn range(&self, x: VarId) -> Range
+        requires { x.0 < length self.now.variables }
+        ensures lo { result.lo ≡ (variable_at self.now x.0).lo }
+        ensures hi { result.hi ≡ (variable_at self.now x.0).hi }
+    {
+        let variable = &self.parts.variables[x.0];
+        Range {
+            lo: i128::from(variable.lo),
+            hi: i128::from(variable.hi),
+        }
+    }
+
+    /// Whether the actor is an interrupt.
+    pub fn is_interrupt(&self, actor: ActorId) -> bool
+        requires { actor.0 < length self.now.actors }
+        ensures { result ≡ is_interrupt (actor_at self.now actor.0).kind }
+    {
+        match self.parts.actors[actor.0].kind {
+            ActorKind::Task => false,
+            ActorKind::Interrupt => true,
         }
     }
 
@@ -93,48 +156,10 @@ impl App {
     }
 }
 
-fn points_of(alloc: Global, actors: &[Actor]) -> Result<Vec<Point>, BuildFault>
-    ensures { IfOk result (λ points. points.items ≡ points_from 0 (map actor_of actors.now)) }
+fn checked_table(alloc: Global, parts: &Parts) -> Result<Table, BuildFault>
+    ensures points { IfOk result (λ t. t.points.items ≡ points_of (program_of parts.now)) }
+    ensures limits { OnOk result (All VariableInLimits (program_of parts.now).variables) }
 {
-    let mut points = Vec::new(alloc);
-    for (a, actor) in actors.iter().enumerate() {
-        push_points_of_code(&mut points, ActorId(a), &actor.code)?;
-    }
-    Ok(points)
-}
-
-fn push_points_of_code(
-    points: &mut Vec<Point>,
-    actor: ActorId,
-    code: &[Instr],
-) -> Result<(), BuildFault>
-    ensures { OnOk result (points.new.items ≡ points.old.items ++ points_along actor.0 0 code.now) }
-{
-    for (pc, instr) in code.iter().enumerate() {
-        push_points_at(points, actor, pc, instr)?;
-    }
-    Ok(())
-}
-
-fn push_points_at(
-    points: &mut Vec<Point>,
-    actor: ActorId,
-    pc: usize,
-    instr: &Instr,
-) -> Result<(), BuildFault>
-    ensures { OnOk result (points.new.items ≡ points.old.items ++ points_at actor.0 pc instr.now) }
-{
-    points.push(Point {
-        actor,
-        pc,
-        side: Side::Before,
-    })?;
-    if let Instr::Call(Call::On { .. }) = instr {
-        points.push(Point {
-            actor,
-            pc,
-            side: Side::Inside,
-        })?;
-    }
-    Ok(())
+    check_parts(alloc, parts)?;
+    table_of(alloc, &parts.actors)
 }

@@ -4,11 +4,13 @@
 #![tactic(auto)]
 
 mod app;
+mod check;
 mod fault;
 mod ids;
 mod instr;
 mod parts;
 mod range;
+mod table;
 
 pub use app::App;
 pub use fault::BuildFault;

@@ -1,0 +1,5 @@
+pub mod State
+pub mod Rule
+pub mod Step
+pub mod Run
+pub mod Laws

@@ -1,0 +1,14 @@
+-- The texts of certificate faults: the number and the name that a refusal's line shows.
+use Rattle.std.specs.Prelude.{ℕ, List, codes}
+use Rattle.fr_cert.specs.declared.fault.CertFault.{CertFault}
+use Rattle.fr_cert.specs.declared.fault.CertFault.TheVariants.{Memory, TooLong, Json, Shape, Version, PointCount, UnknownName, Note}
+
+abbrev pub text_of : CertFault → List ℕ
+text_of Memory = codes "0 Memory"
+text_of TooLong = codes "1 TooLong"
+text_of Json = codes "2 Json"
+text_of (Shape path) = codes "3 Shape"
+text_of Version = codes "4 Version"
+text_of PointCount = codes "5 PointCount"
+text_of UnknownName = codes "6 UnknownName"
+text_of Note = codes "7 Note"

@@ -1,0 +1,77 @@
+// Why a command has no answer, with its exit status and its line.
+use fr_cert::CertFault;
+use fr_reader::ReadFault;
+use std::alloc::{AllocError, Global};
+
+/// Why a command has no answer.
+#[derive(Debug, Drop)]
+pub enum CheckFault {
+    /// The application's bytes are refused.
+    App(ReadFault),
+    /// The certificate's bytes are refused.
+    Cert(CertFault),
+    /// The number of workers is not 1 to 64.
+    Workers,
+    /// The number of rounds is not 1 to 64.
+    Rounds,
+    /// There are over 1,000,000 polls.
+    Polls,
+    /// An allocation was refused.
+    Memory,
+    /// A thread couldn't be started.
+    Thread,
+    /// The writer failed.
+    Write,
+}
+
+impl CheckFault {
+    /// The fault, with each inner fault of memory as `Memory`.
+    pub fn of_app(fault: ReadFault) -> CheckFault {
+        if fault.is_memory() {
+            CheckFault::Memory
+        } else {
+            CheckFault::App(fault)
+        }
+    }
+
+    /// The same, of a certificate's fault.
+    pub fn of_cert(fault: CertFault) -> CheckFault {
+        if fault.is_memory() {
+            CheckFault::Memory
+        } else {
+            CheckFault::Cert(fault)
+        }
+    }
+}
+
+impl From<AllocError> for CheckFault {
+    fn from(_refused: AllocError) -> CheckFault {
+        CheckFault::Memory
+    }
+}
+
+/// The exit status: 2 where the input or the words are refused, 3 where the machine failed.
+pub fn status(fault: &CheckFault) -> u8 {
+    match fault {
+        CheckFault::App(_)
+        | CheckFault::Cert(_)
+        | CheckFault::Workers
+        | CheckFault::Rounds
+        | CheckFault::Polls => 2,
+        CheckFault::Memory | CheckFault::Thread | CheckFault::Write => 3,
+    }
+}
+
+/// The line for standard error, without its newline.
+pub fn fault_line(alloc: Global, fault: &CheckFault) -> Result<String, AllocError> {
+    match fault {
+        CheckFault::App(fault) => format!(in alloc; "refused: app {fault}"),
+        CheckFault::Cert(fault) => format!(in alloc; "refused: cert {fault}"),
+        CheckFault::Workers => String::from_str(alloc, "refused: workers"),
+        CheckFault::Rounds => String::from_str(alloc, "refused: rounds"),
+        CheckFault::Polls => String::from_str(alloc, "refused: polls"),
+        CheckFault::Memory => String::from_str(alloc, "machine: memory"),
+        CheckFault::Thread => String::from_str(alloc, "machine: thread"),
+        CheckFault::Write => String::from_str(alloc, "machine: file"),
+    }
+}

@@ -1,0 +1,103 @@
+// The program: words to files, files to a verdict, a verdict to a printed line and an exit status.
+#![tactic(auto)]
+
+ghost use Rattle.std.specs.Prelude.{◌≤◌};
+
+mod checking;
+mod fault;
+mod loading;
+mod words;
+
+use checking::check_one;
+use clap::error::ErrorKind;
+use fault::{CheckFault, fault_line, status};
+use loading::{LoadFault, load};
+use std::alloc::Global;
+use std::fs::File;
+use std::process::ExitCode;
+use std::{env, io};
+use words::{Request, asked, matched};
+
+const REFUSED: u8 = 2;
+
+const MACHINE: u8 = 3;
+
+const MOST_APP_BYTES: usize = 1_048_576;
+
+const MOST_CERTIFICATE_BYTES: usize = 16_777_216;
+
+fn file_bytes(rt: &HostRuntime, path: &str, limit: usize) -> Result<Vec<u8>, LoadFault>
+    requires { limit ≤ 16777216 }
+{
+    match File::open(rt, path) {
+        Ok(mut file) => load(rt.alloc(), &mut file, limit),
+        Err(_) => Err(LoadFault::Device),
+    }
+}
+
+/// Prints a fault's line and gives its exit status.
+fn refuse(rt: &HostRuntime, fault: &CheckFault) -> io::Result<u8> {
+    match fault_line(rt.alloc(), fault) {
+        Ok(line) => {
+            eprintln!(rt; "{line}")?;
+            Ok(status(fault))
+        }
+        Err(_) => machine(rt, "memory"),
+    }
+}
+
+fn machine(rt: &HostRuntime, what: &str) -> io::Result<u8> {
+    eprintln!(rt; "machine: {what}")?;
+    Ok(MACHINE)
+}
+
+fn not_loaded(rt: &HostRuntime, fault: LoadFault) -> io::Result<u8> {
+    match fault {
+        LoadFault::Memory => machine(rt, "memory"),
+        LoadFault::Device => machine(rt, "file"),
+    }
+}
+
+fn check(rt: &HostRuntime, app: &str, certificate: &str) -> io::Result<u8> {
+    let app = match file_bytes(rt, app, MOST_APP_BYTES) {
+        Ok(bytes) => bytes,
+        Err(fault) => return not_loaded(rt, fault),
+    };
+    let certificate = match file_bytes(rt, certificate, MOST_CERTIFICATE_BYTES) {
+        Ok(bytes) => bytes,
+        Err(fault) => return not_loaded(rt, fault),
+    };
+    let mut out = io::writer(rt);
+    match check_one(rt.alloc(), &app, &certificate, &mut out) {
+        Ok(status) => Ok(status),
+        Err(fault) => refuse(rt, &fault),
+    }
+}
+
+fn refuse_words(rt: &HostRuntime, error: &clap::Error) -> io::Result<u8> {
+    if matches!(error.kind(), ErrorKind::OutOfMemory) {
+        return machine(rt, "memory");
+    }
+    error.print(rt)?;
+    Ok(error.exit_code() as u8)
+}
+
+fn answer(rt: &HostRuntime) -> io::Result<u8> {
+    let alloc: Global = rt.alloc();
+    let Ok(words) = env::args(rt) else {
+        eprintln!(rt; "refused: words")?;
+        return Ok(REFUSED);
+    };
+    let words: Vec<String> = words.collect(alloc)?;
+    match matched(alloc, &words) {
+        Ok(matches) => match asked(&matches) {
+            Some(Request::Check { app, certificate }) => check(rt, app, certificate),
+            None => Ok(REFUSED),
+        },
+        Err(error) => refuse_words(rt, &error),
+    }
+}
+
+fn main(rt: HostRuntime) -> ExitCode {
+    ExitCode::from(answer(&rt).unwrap_or(MACHINE))
+}

@@ -1,0 +1,54 @@
+// The words of the command line.
+use clap::{Arg, ArgAction, ArgMatches, Command, Error};
+use std::alloc::{AllocError, Global};
+
+/// What the command line asks for.
+#[derive(Clone, Copy, Debug)]
+pub enum Request<'a> {
+    /// The verdict on the application and the certificate in these files.
+    Check { app: &'a str, certificate: &'a str },
+}
+
+fn file_arg<'a>(alloc: Global, id: &'a str, help: &'a str) -> Arg<'a> {
+    Arg::new(alloc, id)
+        .value_name(id)
+        .required(true)
+        .action(ArgAction::Set)
+        .help(help)
+}
+
+fn check_command<'a>(alloc: Global) -> Result<Command<'a>, AllocError> {
+    Command::new(alloc, "check")
+        .about("Prints the verdict on an application and a certificate")
+        .arg(file_arg(alloc, "APP", "The application, in TOML"))?
+        .arg(file_arg(alloc, "CERT", "The certificate, in JSON"))
+}
+
+fn command<'a>(alloc: Global) -> Result<Command<'a>, AllocError> {
+    Command::new(alloc, "fr_check")
+        .version("0.1.0")
+        .propagate_version(true)
+        .about("Checks that a multicore FreeRTOS application keeps the kernel's usage rules")
+        .subcommand_required(true)
+        .arg_required_else_help(true)
+        .subcommand(check_command(alloc)?)
+}
+
+/// What the words match, or `clap`'s own text of what is wrong with them.
+pub fn matched<'a>(alloc: Global, words: &'a [String]) -> Result<ArgMatches<'a>, Error> {
+    command(alloc)?.try_get_matches_from(words)
+}
+
+/// What the matched words ask for. None can't be where the words were matched.
+pub fn asked<'a>(matches: &ArgMatches<'a>) -> Option<Request<'a>> {
+    let (name, words) = matches.subcommand()?;
+    match name {
+        "check" => {
+            Some(Request::Check {
+                app: words.get_str("APP")?,
+                certificate: words.get_str("CERT")?,
+            })
+        }
+        _ => None,
+    }
+}

@@ -1,0 +1,8 @@
+// Certificates: a note for each point, and a guard for each end of a buffer.
+#![tactic(auto)]
+
+mod certificate;
+mod ends;
+
+pub use certificate::Certificate;
+pub use ends::{EndName, Ends};

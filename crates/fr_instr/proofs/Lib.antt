@@ -1,0 +1,4 @@
+pub mod NumberLaws
+pub mod RunLemmas
+pub mod TokenLaws
+pub mod WrittenLaws

@@ -1,0 +1,69 @@
+-- The longest front of bytes that pass a test.
+use Rattle.std.proofs.Common.{◌≡◌, ℕ, ◌+◌, ◌<◌, ◌≤◌, cond, List, [], ◌∷◌, ◌++◌, length, get_or, take, drop, Bool, true, false, refl, sym, ap, ◌∙◌, append_assoc, append-nil, arith, rules}
+use Rattle.std.proofs.lemmas.List.{take_more, drop_more, take_all, drop_all}
+use Rattle.std.proofs.lemmas.Bool.{and_parts, false≢true}
+use Rattle.std.specs.List.{list_all}
+use Rattle.fr_instr.specs.Tokens.{first}
+use Rattle.fr_instr.specs.Reading.{front, after}
+
+-- the first n bytes pass
+pub record Passed (p : ℕ → Bool) (s : List ℕ) (n : ℕ) : Type 0 where
+  pub fronts : front p s ≡ take n s ++ front p (drop n s)
+  pub afters : after p s ≡ after p (drop n s)
+
+pub passed_none : (p : ℕ → Bool) (s : List ℕ) → Passed p s 0
+passed_none p s = record { fronts = refl; afters = refl }
+
+pub passed_more : (p : ℕ → Bool) (s : List ℕ) (n : ℕ) → n < length s → p (get_or s n 0) ≡ true → Passed p s n → Passed p s (n + 1)
+passed_more p s n within passes h =
+    record {
+      fronts = h.fronts ∙ rw (drop_more s n 0 within, passes, take_more s n 0 within) (sym (append_assoc (take n s) (get_or s n 0 ∷ []) (front p (drop (n + 1) s))));
+      afters = h.afters ∙ rw (drop_more s n 0 within, passes) refl;
+    }
+
+pub passed_stop : (p : ℕ → Bool) (s : List ℕ) (n : ℕ) → n < length s → p (get_or s n 0) ≡ false → Passed p s n → (take n s ≡ front p s) × (drop n s ≡ after p s)
+passed_stop p s n within no_more h =
+    (sym (h.fronts ∙ rw (drop_more s n 0 within, no_more) (append-nil (take n s))), sym (h.afters ∙ rw (drop_more s n 0 within, no_more) refl))
+
+pub passed_end : (p : ℕ → Bool) (s : List ℕ) (n : ℕ) → length s ≤ n → Passed p s n → (take n s ≡ front p s) × (drop n s ≡ after p s)
+passed_end p s n past h =
+    (sym (h.fronts ∙ rw (drop_all n s past) (append-nil (take n s))), sym (h.afters ∙ rw (drop_all n s past) refl))
+
+-- what the two are, told apart from how they are found
+pub front_after : (p : ℕ → Bool) (s : List ℕ) → front p s ++ after p s ≡ s
+front_after p [] = refl
+front_after p (b ∷ bs) =
+    elim (p b) as (λ t. cond t (b ∷ front p bs) [] ++ cond t (after p bs) (b ∷ bs) ≡ b ∷ bs) [
+      | true ↦ ap (λ x. b ∷ x) (front_after p bs)
+      | false ↦ refl
+    ]
+
+pub front_passes : (p : ℕ → Bool) (s : List ℕ) → list_all p (front p s) ≡ true
+front_passes p [] = refl
+front_passes p (b ∷ bs) =
+    elim (p b) as (λ t. p b ≡ t → list_all p (cond t (b ∷ front p bs) []) ≡ true) [
+      | true ↦ λ e. rw (e, front_passes p bs)
+      | false ↦ λ e. refl
+    ] refl
+
+pub after_stops : (p : ℕ → Bool) (s : List ℕ) → p 0 ≡ false → p (first (after p s)) ≡ false
+after_stops p [] none = none
+after_stops p (b ∷ bs) none =
+    elim (p b) as (λ t. p b ≡ t → p (first (cond t (after p bs) (b ∷ bs))) ≡ false) [
+      | true ↦ λ e. after_stops p bs none
+      | false ↦ λ e. e
+    ] refl
+
+pub front_of : (p : ℕ → Bool) (w rest : List ℕ) → list_all p w ≡ true → p (first rest) ≡ false → front p (w ++ rest) ≡ w
+front_of p [] [] all stop = refl
+front_of p [] (b ∷ bs) all stop = rw stop
+front_of p (c ∷ w) rest all stop =
+    let (here, more) = and_parts (p c) (list_all p w) all in
+    rw here (ap (λ x. c ∷ x) (front_of p w rest more stop))
+
+pub after_of : (p : ℕ → Bool) (w rest : List ℕ) → list_all p w ≡ true → p (first rest) ≡ false → after p (w ++ rest) ≡ rest
+after_of p [] [] all stop = refl
+after_of p [] (b ∷ bs) all stop = rw stop
+after_of p (c ∷ w) rest all stop =
+    let (here, more) = and_parts (p c) (list_all p w) all in
+    rw here (after_of p w rest more stop)

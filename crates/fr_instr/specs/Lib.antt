@@ -1,0 +1,5 @@
+pub mod FaultText
+pub mod Reading
+pub mod Tokens
+pub mod Views
+pub mod Written

@@ -1,0 +1,30 @@
+-- The one text in which a list of tokens is written.
+use Rattle.std.specs.Prelude.{◌≡◌, ℕ, List, [], ◌∷◌, ◌++◌, Bool, true, false, if◌then◌else◌, ◌||◌, not}
+use Rattle.std.specs.List.{AllByRecursion}
+use Rattle.fr_instr.specs.Tokens.{Tok, word, number, sign, tok_bytes, IsTok, Spells}
+use Rattle.fr_instr.specs.declared.token.Sign.{Sign}
+use Rattle.fr_instr.specs.declared.token.Sign.TheVariants.{Open, Close, Comma}
+
+abbrev pub is_open : Tok → Bool
+is_open (sign Open) = true
+is_open _ = false
+
+-- no space stands before it
+abbrev pub leans : Tok → Bool
+leans (sign Open) = true
+leans (sign Close) = true
+leans (sign Comma) = true
+leans _ = false
+
+-- the space between two tokens
+abbrev pub gap : Tok → Tok → List ℕ
+gap t u = if is_open t || leans u then [] else 32 ∷ []
+
+abbrev pub written : List Tok → List ℕ
+written [] = []
+written (t ∷ []) = tok_bytes t
+written (t ∷ u ∷ ts) = tok_bytes t ++ (gap t u ++ written (u ∷ ts))
+
+-- tokens are read again from the text that is written for them
+abbrev pub ReadAgain : Type 0
+ReadAgain = (ts : List Tok) → AllByRecursion IsTok ts → Spells (written ts) ts

@@ -1,0 +1,71 @@
+// Why a text is no line.
+ghost use Rattle.std.specs.Prelude.{◌≡◌, Some};
+ghost use Rattle.fr_instr.specs.declared.fault.LineFault.TheVariants.{Memory};
+
+use std::alloc::{AllocError, AllocFailed};
+use std::error::Error;
+use std::fmt;
+
+/// Why a text is no line. Its text is the number and the name that a refusal's line shows.
+#[derive(Clone, Copy, Debug, PartialEq, Eq)]
+pub enum LineFault {
+    /// An allocation was refused.
+    Memory,
+    /// The tokens have no line's shape, a number stands where a word must or a word where a number
+    /// must, or an `else` or a `v =` stands at a call that has none.
+    Syntax,
+    /// A word in an operand's, an object's or a variable's place that names no such thing.
+    UnknownName,
+    /// A word in the place of a call that is none of the calls.
+    UnknownCall,
+    /// A call with a wrong number of arguments.
+    ArgCount,
+    /// A number with a leading zero, `-0`, or one that is out of the limits of its place.
+    BadNumber,
+}
+
+impl LineFault {
+    ghost use Rattle.fr_instr.specs.FaultText.{text_of};
+
+    /// The number and the name, as a refusal's line shows them.
+    pub fn text(self) -> &'static str
+        ensures { result.now ≡ text_of self }
+    {
+        match self {
+            LineFault::Memory => "0 Memory",
+            LineFault::Syntax => "1 Syntax",
+            LineFault::UnknownName => "2 UnknownName",
+            LineFault::UnknownCall => "3 UnknownCall",
+            LineFault::ArgCount => "4 ArgCount",
+            LineFault::BadNumber => "5 BadNumber",
+        }
+    }
+}
+
+impl fmt::Display for LineFault {
+    ghost use Rattle.fr_instr.specs.FaultText.{text_of};
+
+    ghost output = { λ f. Some (text_of f) };
+
+    fn fmt<W: fmt::Write>(&self, f: &mut fmt::Formatter<W>) -> fmt::Result {
+        f.write_str(self.text())
+    }
+}
+
+impl Error for LineFault {}
+
+impl From<AllocError> for LineFault {
+    ghost from_gives = { λ _ e. e ≡ Memory };
+
+    fn from(_refused: AllocError) -> LineFault {
+        LineFault::Memory
+    }
+}
+
+impl<T: Drop> From<AllocFailed<T>> for LineFault {
+    ghost from_gives = { λ _ e. e ≡ Memory };
+
+    fn from(_refused: AllocFailed<T>) -> LineFault {
+        LineFault::Memory
+    }
+}

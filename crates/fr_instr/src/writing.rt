@@ -1,0 +1,346 @@
+// Writing: the text of a line.
+use crate::call::CallName;
+use crate::names::Names;
+use fr_program::{
+    Action, BlockTime, Call, Comparison, Form, GiveForm, Instr as Line, ObjId, Operand, Operator,
+    TakeForm, Timing, VarId,
+};
+use itoa::Buffer;
+use std::alloc::{AllocError, Global};
+
+/// What stands in an argument's place.
+#[derive(Clone, Copy, Debug)]
+pub(crate) enum Arg {
+    Object(ObjId),
+    Operand(Operand),
+    Variable(VarId),
+    Length(u32),
+    Time(BlockTime),
+    Ticks(u32),
+    Null,
+}
+
+fn push_number(out: &mut String, n: i64) -> Result<(), AllocError> {
+    let mut buffer = Buffer::new();
+    out.push_str(buffer.format(n))
+}
+
+fn push_natural(out: &mut String, n: u64) -> Result<(), AllocError> {
+    let mut buffer = Buffer::new();
+    out.push_str(buffer.format(n))
+}
+
+fn push_operand(out: &mut String, names: &Names, operand: Operand) -> Result<(), AllocError> {
+    match operand {
+        Operand::Number(n) => push_number(out, n),
+        Operand::Variable(x) => out.push_str(names.variable_text(x)),
+    }
+}
+
+fn push_block_time(out: &mut String, time: BlockTime) -> Result<(), AllocError> {
+    match time {
+        BlockTime::Ticks(n) => push_natural(out, n as u64),
+        BlockTime::MaxDelay => out.push_str("portMAX_DELAY"),
+    }
+}
+
+fn push_arg(out: &mut String, names: &Names, arg: Arg) -> Result<(), AllocError> {
+    match arg {
+        Arg::Object(o) => out.push_str(names.object_text(o)),
+        Arg::Operand(operand) => push_operand(out, names, operand),
+        Arg::Variable(x) => out.push_str(names.variable_text(x)),
+        Arg::Length(n) => push_natural(out, n as u64),
+        Arg::Time(time) => push_block_time(out, time),
+        Arg::Ticks(n) => push_natural(out, n as u64),
+        Arg::Null => out.push_str("NULL"),
+    }
+}
+
+// Further arguments, each behind a comma and a space.
+fn push_more_args(out: &mut String, names: &Names, args: &[Arg]) -> Result<(), AllocError> {
+    for arg in args {
+        out.push_str(", ")?;
+        push_arg(out, names, *arg)?;
+    }
+    Ok(())
+}
+
+fn push_args(out: &mut String, names: &Names, args: &[Arg]) -> Result<(), AllocError> {
+    let Some((first, rest)) = args.split_first() else {
+        return Ok(());
+    };
+    push_arg(out, names, *first)?;
+    push_more_args(out, names, rest)
+}
+
+fn args_with_timing(
+    alloc: Global,
+    object: ObjId,
+    middle: Arg,
+    timing: Timing,
+) -> Result<Vec<Arg>, AllocError> {
+    match timing {
+        Timing::Waits(time) => {
+            Ok(Vec::from_array(alloc, [Arg::Object(object), middle, Arg::Time(time)])?)
+        }
+        Timing::FromIsr => Ok(Vec::from_array(alloc, [Arg::Object(object), middle])?),
+    }
+}
+
+fn take_args(alloc: Global, object: ObjId, form: TakeForm) -> Result<Vec<Arg>, AllocError> {
+    match form {
+        TakeForm::Plain(time) => Ok(Vec::from_array(
+            alloc,
+            [Arg::Object(object), Arg::Time(time)],
+        )?),
+        TakeForm::Recursive(time) => {
+            Ok(Vec::from_array(alloc, [Arg::Object(object), Arg::Time(time)])?)
+        }
+        TakeForm::FromIsr => Ok(Vec::from_array(alloc, [Arg::Object(object)])?),
+    }
+}
+
+fn action_args(alloc: Global, object: ObjId, action: Action) -> Result<Vec<Arg>, AllocError> {
+    match action {
+        Action::QueueSend { value, timing, .. } => {
+            args_with_timing(alloc, object, Arg::Operand(value), timing)
+        }
+        Action::QueueReceive { into, timing, .. } => {
+            args_with_timing(alloc, object, Arg::Variable(into), timing)
+        }
+        Action::Take { form, .. } => take_args(alloc, object, form),
+        Action::Give { .. } => Ok(Vec::from_array(alloc, [Arg::Object(object)])?),
+        Action::Send { length, timing, .. } => {
+            args_with_timing(alloc, object, Arg::Length(length), timing)
+        }
+        Action::Receive { length, timing, .. } => {
+            args_with_timing(alloc, object, Arg::Length(length), timing)
+        }
+        Action::Reset { .. } => Ok(Vec::from_array(alloc, [Arg::Object(object)])?),
+    }
+}
+
+fn call_args(alloc: Global, call: Call) -> Result<Vec<Arg>, AllocError> {
+    match call {
+        Call::Delay(ticks) => Ok(Vec::from_array(alloc, [Arg::Ticks(ticks)])?),
+        Call::DeleteSelf => Ok(Vec::from_array(alloc, [Arg::Null])?),
+        Call::Create { object, .. } => Ok(Vec::from_array(alloc, [Arg::Object(object)])?),
+        Call::Delete { object, .. } => Ok(Vec::from_array(alloc, [Arg::Object(object)])?),
+        Call::On { object, action } => action_args(alloc, object, action),
+        _ => Ok(Vec::new(alloc)),
+    }
+}
+
+fn timing_form(timing: Timing) -> Form {
+    match timing {
+        Timing::Waits(_) => Form::Task,
+        Timing::FromIsr => Form::FromIsr,
+    }
+}
+
+fn take_form(form: TakeForm) -> GiveForm {
+    match form {
+        TakeForm::Plain(_) => GiveForm::Plain,
+        TakeForm::Recursive(_) => GiveForm::Recursive,
+        TakeForm::FromIsr => GiveForm::FromIsr,
+    }
+}
+
+fn action_name(action: Action) -> CallName {
+    match action {
+        Action::QueueSend { timing, .. } => CallName::QueueSend(timing_form(timing)),
+        Action::QueueReceive { timing, .. } => CallName::QueueReceive(timing_form(timing)),
+        Action::Take { form, .. } => CallName::Take(take_form(form)),
+        Action::Give { form, .. } => CallName::Give(form),
+        Action::Send { kind, timing, .. } => CallName::Send(kind, timing_form(timing)),
+        Action::Receive { kind, timing, .. } => CallName::Receive(kind, timing_form(timing)),
+        Action::Reset { kind, .. } => CallName::Reset(kind),
+    }
+}
+
+fn call_name(call: Call) -> CallName {
+    match call {
+        Call::EnterCritical(form) => CallName::Enter(form),
+        Call::ExitCritical(form) => CallName::Exit(form),
+        Call::SuspendAll => CallName::SuspendAll,
+        Call::ResumeAll => CallName::ResumeAll,
+        Call::Yield => CallName::Yield,
+        Call::Delay(_) => CallName::Delay,
+        Call::DeleteSelf => CallName::DeleteSelf,
+        Call::Create { kind, .. } => CallName::Create(kind),
+        Call::Delete { kind, .. } => CallName::Delete(kind),
+        Call::On { action, .. } => action_name(action),
+    }
+}
+
+fn action_else(action: Action) -> Option<usize> {
+    match action {
+        Action::QueueSend { or_else, .. } => or_else,
+        Action::QueueReceive { or_else, .. } => or_else,
+        Action::Take { or_else, .. } => or_else,
+        Action::Give { or_else, .. } => or_else,
+        Action::Send { .. } => None,
+        Action::Receive { .. } => None,
+        Action::Reset { or_else, .. } => or_else,
+    }
+}
+
+fn call_else(call: Call) -> Option<usize> {
+    match call {
+        Call::Create { or_else, .. } => or_else,
+        Call::On { action, .. } => action_else(action),
+        _ => None,
+    }
+}
+
+fn call_into(call: Call) -> Option<VarId> {
+    match call {
+        Call::On { action, .. } => match action {
+            Action::Send { result, .. } => result,
+            Action::Receive { result, .. } => result,
+            _ => None,
+        },
+        _ => None,
+    }
+}
+
+fn push_into(out: &mut String, names: &Names, into: Option<VarId>) -> Result<(), AllocError> {
+    match into {
+        None => Ok(()),
+        Some(x) => {
+            out.push_str(names.variable_text(x))?;
+            out.push_str(" = ")
+        }
+    }
+}
+
+fn push_else(out: &mut String, or_else: Option<usize>) -> Result<(), AllocError> {
+    match or_else {
+        None => Ok(()),
+        Some(target) => {
+            out.push_str(" else ")?;
+            push_natural(out, target as u64)
+        }
+    }
+}
+
+fn push_call(alloc: Global, out: &mut String, names: &Names, call: Call) -> Result<(), AllocError> {
+    let args = call_args(alloc, call)?;
+    push_into(out, names, call_into(call))?;
+    out.push_str(call_name(call).text())?;
+    out.push_str("(")?;
+    push_args(out, names, args.as_slice())?;
+    out.push_str(")")?;
+    push_else(out, call_else(call))
+}
+
+fn operator_text(operator: Operator) -> &'static str {
+    match operator {
+        Operator::Plus => " + ",
+        Operator::Minus => " - ",
+        Operator::Times => " * ",
+    }
+}
+
+fn comparison_text(comparison: Comparison) -> &'static str {
+    match comparison {
+        Comparison::Less => " < ",
+        Comparison::AtMost => " <= ",
+        Comparison::Greater => " > ",
+        Comparison::AtLeast => " >= ",
+        Comparison::Equal => " == ",
+        Comparison::NotEqual => " != ",
+    }
+}
+
+fn push_set(
+    out: &mut String,
+    names: &Names,
+    target: VarId,
+    left: Operand,
+    operator: Operator,
+    right: Operand,
+) -> Result<(), AllocError> {
+    out.push_str("set ")?;
+    out.push_str(names.variable_text(target))?;
+    out.push_str(" = ")?;
+    push_operand(out, names, left)?;
+    out.push_str(operator_text(operator))?;
+    push_operand(out, names, right)
+}
+
+fn push_if(
+    out: &mut String,
+    names: &Names,
+    left: Operand,
+    comparison: Comparison,
+    right: Operand,
+    target: usize,
+) -> Result<(), AllocError> {
+    out.push_str("if ")?;
+    push_operand(out, names, left)?;
+    out.push_str(comparison_text(comparison))?;
+    push_operand(out, names, right)?;
+    out.push_str(" goto ")?;
+    push_natural(out, target as u64)
+}
+
+fn push_goto(out: &mut String, target: usize) -> Result<(), AllocError> {
+    out.push_str("goto ")?;
+    push_natural(out, target as u64)
+}
+
+fn push_pick(
+    out: &mut String,
+    names: &Names,
+    target: VarId,
+    lo: i64,
+    hi: i64,
+) -> Result<(), AllocError> {
+    out.push_str("pick ")?;
+    out.push_str(names.variable_text(target))?;
+    out.push_str(" ")?;
+    push_number(out, lo)?;
+    out.push_str(" ")?;
+    push_number(out, hi)
+}
+
+fn push_line(
+    alloc: Global,
+    out: &mut String,
+    names: &Names,
+    line: &Line,
+) -> Result<(), AllocError> {
+    match *line {
+        Line::Set {
+            target,
+            left,
+            operator,
+            right,
+        } => push_set(out, names, target, left, operator, right),
+        Line::If {
+            left,
+            comparison,
+            right,
+            target,
+        } => push_if(out, names, left, comparison, right, target),
+        Line::Goto { target } => push_goto(out, target),
+        Line::Pick { target, lo, hi } => push_pick(out, names, target, lo, hi),
+        Line::Call(call) => push_call(alloc, out, names, call),
+        Line::Return => out.push_str("return"),
+    }
+}
+
+/// The text of the line, with these names: one space between tokens, except none before or behind
+/// `(`, none before `)` and none before `,`; the operator of a `set` is always written. It is read
+/// again as the same line.
+///
+/// The line is one of the grammar: its variables and its object are among the names, and its
+/// numbers are within the limits of their places.
+///
+/// Its error is that an allocation was refused.
+pub fn write_line(alloc: Global, line: &Line, names: &Names) -> Result<String, AllocError> {
+    let mut out = String::new(alloc);
+    push_line(alloc, &mut out, names, line)?;
+    Ok(out)
+}

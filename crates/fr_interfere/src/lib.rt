@@ -1,0 +1,2 @@
+// What a point owes to the steps of other actors: none of them disturbs its note.
+#![tactic(auto)]

@@ -1,0 +1,4 @@
+pub mod Turns
+pub mod Induction
+pub mod Numbers
+pub mod Unique

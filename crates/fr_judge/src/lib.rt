@@ -1,0 +1,18 @@
+// The verdict on an application and a certificate, and why a Yes can be believed.
+//
+// Below it stand the own obligations of a point (fr_edge), what other actors' steps do to it (fr_interfere) and the
+// guards of buffers' ends (fr_ends). The laws here are functions that do nothing: each is there for its contract.
+#![tactic(auto)]
+
+mod laws;
+mod part;
+mod text;
+mod verdict;
+
+pub use laws::{
+    a_step_keeps_notes, certified_is_safe, notes_exclude_breaches, the_start_keeps_notes,
+    the_verdict_is_one,
+};
+pub use part::{Part, Verdict};
+pub use text::{Judged, TextFault, judge_text};
+pub use verdict::{job, judge};

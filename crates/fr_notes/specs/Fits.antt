@@ -1,0 +1,43 @@
+-- Notes that fit an application: those that can be built for it.
+use Rattle.std.specs.Prelude.{◌≡◌, ◌≤◌, ◌≤ℤ◌, ℕ, List, length, All}
+use Rattle.fr_program.specs.declared.parts.Kind.{Kind}
+use Rattle.fr_program.specs.declared.parts.Kind.TheVariants.{Mutex, Recursive}
+use Rattle.fr_program.specs.Program.{Program}
+use Rattle.fr_program.specs.Lookup.{variable_at}
+use Rattle.fr_program.specs.Points.{points_of}
+use Rattle.fr_calls.specs.State.{kind_of}
+use Rattle.fr_notes.specs.Note.{Alternative, Note, Claim, HeldTimes, claim_of, range_of}
+
+-- the most that a depth or a count in a note can be
+abbrev pub most_depth : ℕ
+most_depth = 255
+
+-- how many alternatives a note has at the most
+abbrev pub most_alternatives : ℕ
+most_alternatives = 4
+
+-- what can be said of an object of this kind: a mutex is held once, a recursive one 1 to 255 times, nothing else ever
+abbrev pub CanClaim : Kind → Claim → Type 0
+CanClaim Mutex (HeldTimes count) = count ≡ 1
+CanClaim Recursive (HeldTimes count) = (1 ≤ count) × (count ≤ most_depth)
+CanClaim kind (HeldTimes count) = ⊥
+CanClaim kind claim = Unit {0}
+
+-- an alternative that can be built for the application: it has a claim for each object and, for each variable, a range
+-- inside the declared one
+pub record AlternativeFits (P : Program) (n : Alternative) : Type 0 where
+  pub critical : n.critical ≤ most_depth
+  pub suspended : n.suspended ≤ most_depth
+  pub objects : length n.claims ≡ length P.objects
+  pub variables : length n.ranges ≡ length P.variables
+  pub claims : (o : ℕ) → CanClaim (kind_of P o) (claim_of n o)
+  pub order : (x : ℕ) → (range_of n x).0 ≤ℤ (range_of n x).1
+  pub inside : (x : ℕ) → ((variable_at P x).lo ≤ℤ (range_of n x).0) × ((range_of n x).1 ≤ℤ (variable_at P x).hi)
+
+-- at most four alternatives, each of which fits
+abbrev pub NoteFits : Program → Note → Type 0
+NoteFits P note = (length note ≤ most_alternatives) × All (λ n. AlternativeFits P n) note
+
+-- one note for each point, and each of them fits
+abbrev pub NotesFit : Program → List Note → Type 0
+NotesFit P notes = (length notes ≡ length (points_of P)) × All (λ note. NoteFits P note) notes

@@ -1,0 +1,4 @@
+pub mod Note
+pub mod Noted
+pub mod Fits
+pub mod Compare

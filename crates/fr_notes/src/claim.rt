@@ -1,0 +1,27 @@
+// What a note says of an object.
+
+/// What an alternative of a note says of one object.
+#[derive(Clone, Copy, Debug, PartialEq, Eq)]
+pub enum Claim {
+    /// The actor doesn't hold it (it may be live or dead).
+    NotHeld,
+    /// It is live, and the actor doesn't hold it.
+    Alive,
+    /// It is dead.
+    Gone,
+    /// The actor holds it so often; so it is live.
+    HeldTimes(u8),
+}
+
+impl Claim {
+    /// Whether an actor of which this claim holds has the other one hold of it too.
+    pub fn implies(self, other: Claim) -> bool {
+        match (self, other) {
+            (Claim::HeldTimes(count), Claim::HeldTimes(other)) => count == other,
+            (Claim::HeldTimes(_), _) | (_, Claim::HeldTimes(_)) => false,
+            (_, Claim::NotHeld) => true,
+            (Claim::Alive, Claim::Alive) | (Claim::Gone, Claim::Gone) => true,
+            _ => false,
+        }
+    }
+}

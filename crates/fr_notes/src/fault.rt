@@ -1,0 +1,48 @@
+// Why there is no such note.
+ghost use Rattle.std.specs.Prelude.{◌≡◌};
+ghost use Rattle.fr_notes.specs.declared.fault.NoteFault.TheVariants.{Memory};
+
+use std::alloc::{AllocError, AllocFailed};
+use thiserror::Error;
+
+/// Why parts are no note. The numbers are those that a refused certificate shows.
+#[derive(Clone, Copy, Debug, PartialEq, Eq, Error)]
+pub enum NoteFault {
+    #[error("0 Memory")]
+    Memory,
+    /// A held count that is not 1 to 255, is not 1 on a plain mutex, or is of no mutex.
+    #[error("1 Count")]
+    Count,
+    /// An object that is both live and dead, or both held and dead.
+    #[error("2 Lives")]
+    Lives,
+    /// A range that isn't inside the variable's declared one.
+    #[error("3 Span")]
+    Span,
+}
+
+/// Why notes are not the notes of an application.
+#[derive(Clone, Copy, Debug, PartialEq, Eq, Error)]
+pub enum NotesFault {
+    #[error("0 Memory")]
+    Memory,
+    /// There isn't one note for each point.
+    #[error("1 PointCount")]
+    PointCount,
+}
+
+impl From<AllocError> for NoteFault {
+    ghost from_gives = { λ _ e. e ≡ Memory };
+
+    fn from(_refused: AllocError) -> NoteFault {
+        NoteFault::Memory
+    }
+}
+
+impl<T: Drop> From<AllocFailed<T>> for NoteFault {
+    ghost from_gives = { λ _ e. e ≡ Memory };
+
+    fn from(_refused: AllocFailed<T>) -> NoteFault {
+        NoteFault::Memory
+    }
+}

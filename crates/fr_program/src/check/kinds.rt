@@ -1,0 +1,144 @@
+// Calls on objects of another kind, calls that are for interrupts, and results that don't fit.
+ghost use Rattle.std.specs.Prelude.{◌≡◌, ◌≤◌, ◌↔◌, IsTrue};
+ghost use Rattle.fr_program.specs.Uses.{makes_kind, drops_kind, acts_on, is_semaphore, is_buffer, is_from_isr, is_timing_from_isr};
+ghost use Rattle.fr_program.specs.Fault.{SuitsKind, SuitsActor};
+ghost use Rattle.fr_program.specs.View.{actor_of, program_of};
+
+use crate::ids::ObjId;
+use crate::instr::{
+    Action, BufferKind, Call, CreatedKind, DeletedKind, Form, GiveForm, Instr, TakeForm, Timing,
+};
+use crate::parts::{Actor, ActorKind, Kind, Parts};
+
+pub fn suits_kind(parts: &Parts, instr: Instr) -> bool
+    ensures { IsTrue result ↔ SuitsKind (program_of parts.now) instr }
+{
+    match instr {
+        Instr::Call(Call::Create { kind, object, .. }) => match parts.objects.get(object.0) {
+            Some(found) => makes_kind(kind, found.kind),
+            None => true,
+        },
+        Instr::Call(Call::Delete { kind, object }) => match parts.objects.get(object.0) {
+            Some(found) => drops_kind(kind, found.kind),
+            None => true,
+        },
+        Instr::Call(Call::On { object, action }) => match parts.objects.get(object.0) {
+            Some(found) => acts_on(action, found.kind),
+            None => true,
+        },
+        _ => true,
+    }
+}
+
+fn makes_kind(created: CreatedKind, kind: Kind) -> bool
+    ensures { result ≡ makes_kind created kind }
+{
+    match (created, kind) {
+        (CreatedKind::Queue, Kind::Queue { .. }) => true,
+        (CreatedKind::Binary, Kind::Binary) => true,
+        (CreatedKind::Counting, Kind::Counting { .. }) => true,
+        (CreatedKind::Mutex, Kind::Mutex) => true,
+        (CreatedKind::Recursive, Kind::Recursive) => true,
+        (CreatedKind::Stream, Kind::Stream { .. }) => true,
+        (CreatedKind::Message, Kind::Message { .. }) => true,
+        _ => false,
+    }
+}
+
+fn is_semaphore(kind: Kind) -> bool
+    ensures { result ≡ is_semaphore kind }
+{
+    match kind {
+        Kind::Binary => true,
+        Kind::Counting { .. } => true,
+        Kind::Mutex => true,
+        Kind::Recursive => true,
+        _ => false,
+    }
+}
+
+fn drops_kind(deleted: DeletedKind, kind: Kind) -> bool
+    ensures { result ≡ drops_kind deleted kind }
+{
+    match (deleted, kind) {
+        (DeletedKind::Queue, Kind::Queue { .. }) => true,
+        (DeletedKind::Semaphore, _) => is_semaphore(kind),
+        (DeletedKind::Stream, Kind::Stream { .. }) => true,
+        (DeletedKind::Message, Kind::Message { .. }) => true,
+        _ => false,
+    }
+}
+
+fn is_buffer(buffer: BufferKind, kind: Kind) -> bool
+    ensures { result ≡ is_buffer buffer kind }
+{
+    match (buffer, kind) {
+        (BufferKind::Stream, Kind::Stream { .. }) => true,
+        (BufferKind::Message, Kind::Message { .. }) => true,
+        _ => false,
+    }
+}
+
+fn acts_on(action: Action, kind: Kind) -> bool
+    ensures { result ≡ acts_on action kind }
+{
+    match (action, kind) {
+        (Action::QueueSend { .. }, Kind::Queue { .. }) => true,
+        (Action::QueueReceive { .. }, Kind::Queue { .. }) => true,
+        (Action::Take { .. }, _) => is_semaphore(kind),
+        (Action::Give { .. }, _) => is_semaphore(kind),
+        (Action::Send { kind: buffer, .. }, _) => is_buffer(buffer, kind),
+        (Action::Receive { kind: buffer, .. }, _) => is_buffer(buffer, kind),
+        (Action::Reset { kind: buffer, .. }, _) => is_buffer(buffer, kind),
+        _ => false,
+    }
+}
+
+pub fn suits_actor(actor: &Actor, instr: Instr) -> bool
+    ensures { IsTrue result ↔ SuitsActor (actor_of actor.now) instr }
+{
+    match (actor.kind, instr) {
+        (ActorKind::Task, Instr::Call(call)) => !is_from_isr(call),
+        _ => true,
+    }
+}
+
+fn is_from_isr(call: Call) -> bool
+    ensures { result ≡ is_from_isr call }
+{
+    match call {
+        Call::EnterCritical(Form::FromIsr) => true,
+        Call::ExitCritical(Form::FromIsr) => true,
+        Call::On { object, action } => is_action_from_isr(object, action),
+        _ => false,
+    }
+}
+
+fn is_action_from_isr(object: ObjId, action: Action) -> bool
+    ensures { result ≡ is_from_isr (Call.On object action) }
+{
+    match action {
+        Action::QueueSend { timing, .. } => is_timing_from_isr(timing),
+        Action::QueueReceive { timing, .. } => is_timing_from_isr(timing),
+        Action::Take {
+            form: TakeForm::FromIsr,
+            ..
+        } => true,
+        Action::Give {
+            form: GiveForm::FromIsr,
+            ..
+        } => true,
+        Action::Send { timing, .. } => is_timing_from_isr(timing),
+        Action::Receive { timing, .. } => is_timing_from_isr(timing),
+        _ => false,
+    }
+}
+
+fn is_timing_from_isr(timing: Timing) -> bool
+    ensures { result ≡ is_timing_from_isr timing }
+{
+    match timing {
+        Timing::Waits(_) => false,
+        Timing::FromIsr => true,
+    }
+}

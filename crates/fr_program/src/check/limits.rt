@@ -1,0 +1,149 @@
+// Too many things, and numbers out of their limits.
+ghost use Rattle.std.specs.Prelude.{◌≡◌, ◌≤◌, ◌↔◌, IsTrue, All, length};
+ghost use Rattle.fr_program.specs.Fault.{IsSmall};
+ghost use Rattle.fr_program.specs.Limits.{IsSize, VariableInLimits, KindInLimits, OperandInLimits, BlockTimeInLimits, TimingInLimits, LengthInLimits, ActionInLimits, InstrInLimits, most_actors, most_variables, most_objects, most_instructions};
+ghost use Rattle.fr_program.specs.View.{variable_of, actor_of, program_of};
+
+use crate::instr::{Action, BlockTime, Call, Instr, TakeForm, Timing};
+use crate::parts::{Actor, Kind, Object, Parts, Variable};
+
+const MOST_ACTORS: usize = 32;
+
+const MOST_VARIABLES: usize = 64;
+
+const MOST_OBJECTS: usize = 64;
+
+const MOST_INSTRUCTIONS: usize = 512;
+
+const MOST_SIZE: u32 = 65535;
+
+const MOST_TICKS: u32 = 2147483647;
+
+pub fn is_small(parts: &Parts) -> bool
+    ensures { IsTrue result ↔ IsSmall (program_of parts.now) }
+{
+    are_lists_small(parts) && are_codes_small(&parts.actors)
+}
+
+fn are_lists_small(parts: &Parts) -> bool
+    ensures { IsTrue result
+        ↔ ((length (program_of parts.now).actors ≤ most_actors)
+        × (length (program_of parts.now).variables ≤ most_variables)
+        × (length (program_of parts.now).objects ≤ most_objects)) }
+{
+    parts.actors.len() <= MOST_ACTORS
+        && parts.variables.len() <= MOST_VARIABLES
+        && parts.objects.len() <= MOST_OBJECTS
+}
+
+fn are_codes_small(actors: &[Actor]) -> bool
+    ensures { IsTrue result ↔ All (λ a. length (actor_of a).code ≤ most_instructions) actors.now }
+{
+    actors
+        .iter()
+        .all(|actor| actor.code.len() <= MOST_INSTRUCTIONS)
+}
+
+pub fn are_variables_in_limits(variables: &[Variable]) -> bool
+    ensures { IsTrue result ↔ All (λ v. VariableInLimits (variable_of v)) variables.now }
+{
+    variables
+        .iter()
+        .all(|variable| is_variable_in_limits(variable))
+}
+
+fn is_variable_in_limits(variable: &Variable) -> bool
+    ensures { IsTrue result ↔ VariableInLimits (variable_of variable.now) }
+{
+    variable.lo <= variable.init && variable.init <= variable.hi
+}
+
+pub fn are_objects_in_limits(objects: &[Object]) -> bool
+    ensures { IsTrue result ↔ All (λ o. KindInLimits o.kind) objects.now }
+{
+    objects.iter().all(|object| is_kind_in_limits(object.kind))
+}
+
+fn is_kind_in_limits(kind: Kind) -> bool
+    ensures { IsTrue result ↔ KindInLimits kind }
+{
+    match kind {
+        Kind::Queue { size, lo, hi } => is_size(size) && lo <= hi,
+        Kind::Counting { size, first } => is_size(size) && 0 <= first && first <= size,
+        Kind::Stream { size } => is_size(size),
+        Kind::Message { size } => is_size(size),
+        Kind::Binary => true,
+        Kind::Mutex => true,
+        Kind::Recursive => true,
+    }
+}
+
+fn is_size(size: i64) -> bool
+    ensures { IsTrue result ↔ IsSize size }
+{
+    1 <= size && size <= i64::from(MOST_SIZE)
+}
+
+pub fn is_instr_in_limits(instr: Instr) -> bool
+    ensures { IsTrue result ↔ InstrInLimits instr }
+{
+    match instr {
+        Instr::Pick { target: _, lo, hi } => lo <= hi,
+        Instr::Call(Call::Delay(ticks)) => ticks <= MOST_TICKS,
+        Instr::Call(Call::On { object: _, action }) => is_action_in_limits(action),
+        _ => true,
+    }
+}
+
+fn is_action_in_limits(action: Action) -> bool
+    ensures { IsTrue result ↔ ActionInLimits action }
+{
+    match action {
+        Action::QueueSend { timing, .. } => is_timing_in_limits(timing),
+        Action::QueueReceive { timing, .. } => is_timing_in_limits(timing),
+        Action::Take {
+            form: TakeForm::Plain(time),
+            ..
+        } => is_block_time_in_limits(time),
+        Action::Take {
+            form: TakeForm::Recursive(time),
+            ..
+        } => is_block_time_in_limits(time),
+        Action::Take {
+            form: TakeForm::FromIsr,
+            ..
+        } => true,
+        Action::Send { length, timing, .. } => {
+            is_length_in_limits(length) && is_timing_in_limits(timing)
+        }
+        Action::Receive { length, timing, .. } => {
+            is_length_in_limits(length) && is_timing_in_limits(timing)
+        }
+        Action::Give { .. } => true,
+        Action::Reset { .. } => true,
+    }
+}
+
+fn is_timing_in_limits(timing: Timing) -> bool
+    ensures { IsTrue result ↔ TimingInLimits timing }
+{
+    match timing {
+        Timing::Waits(time) => is_block_time_in_limits(time),
+        Timing::FromIsr => true,
+    }
+}
+
+fn is_block_time_in_limits(time: BlockTime) -> bool
+    ensures { IsTrue result ↔ BlockTimeInLimits time }
+{
+    match time {
+        BlockTime::Ticks(ticks) => ticks <= MOST_TICKS,
+        BlockTime::MaxDelay => true,
+    }
+}
+
+fn is_length_in_limits(length: u32) -> bool
+    ensures { IsTrue result ↔ LengthInLimits length }
+{
+    1 <= length && length <= MOST_SIZE
+}

@@ -1,0 +1,95 @@
+// Results that don't fit their variables, and operands that don't go together.
+ghost use Rattle.std.specs.Prelude.{◌↔◌, IsTrue, pos, IfSome};
+ghost use Rattle.fr_program.specs.Fault.{Covers, TakesIn, ResultsFit, OperandsFit, IsConstant, AreApart};
+ghost use Rattle.fr_program.specs.View.{program_of};
+
+use crate::ids::VarId;
+use crate::instr::{Action, Call, Instr, Operand, Operator};
+use crate::parts::{Kind, Parts};
+
+pub fn results_fit(parts: &Parts, instr: Instr) -> bool
+    ensures { IsTrue result ↔ ResultsFit (program_of parts.now) instr }
+{
+    match instr {
+        Instr::Pick { target, lo, hi } => covers(parts, target, lo, hi),
+        Instr::Call(Call::On { object, action }) => match parts.objects.get(object.0) {
+            Some(found) => takes_in(parts, found.kind, action),
+            None => true,
+        },
+        _ => true,
+    }
+}
+
+fn takes_in(parts: &Parts, kind: Kind, action: Action) -> bool
+    ensures { IsTrue result ↔ TakesIn (program_of parts.now) kind action }
+{
+    match action {
+        Action::QueueReceive { into, .. } => match kind {
+            Kind::Queue { size: _, lo, hi } => covers(parts, into, lo, hi),
+            _ => true,
+        },
+        Action::Send {
+            length,
+            result: count,
+            ..
+        } => covers_count(parts, count, length),
+        Action::Receive {
+            length,
+            result: count,
+            ..
+        } => covers_count(parts, count, length),
+        _ => true,
+    }
+}
+
+fn covers_count(parts: &Parts, count: Option<VarId>, length: u32) -> bool
+    ensures { IsTrue result ↔ IfSome count (λ x. Covers (program_of parts.now) x (pos 0) (pos length)) }
+{
+    match count {
+        Some(x) => covers(parts, x, 0, i64::from(length)),
+        None => true,
+    }
+}
+
+fn covers(parts: &Parts, x: VarId, lo: i64, hi: i64) -> bool
+    ensures { IsTrue result ↔ Covers (program_of parts.now) x lo hi }
+{
+    match parts.variables.get(x.0) {
+        Some(variable) => variable.lo <= lo && hi <= variable.hi,
+        None => true,
+    }
+}
+
+pub fn operands_fit(instr: Instr) -> bool
+    ensures { IsTrue result ↔ OperandsFit instr }
+{
+    match instr {
+        Instr::Set {
+            target: _,
+            left,
+            operator: Operator::Times,
+            right,
+        } => is_constant(left) || is_constant(right),
+        Instr::Set { left, right, .. } => are_apart(left, right),
+        Instr::If { left, right, .. } => are_apart(left, right),
+        _ => true,
+    }
+}
+
+fn is_constant(operand: Operand) -> bool
+    ensures { IsTrue result ↔ IsConstant operand }
+{
+    match operand {
+        Operand::Number(_) => true,
+        Operand::Variable(_) => false,
+    }
+}
+
+fn are_apart(left: Operand, right: Operand) -> bool
+    ensures { IsTrue result ↔ AreApart left right }
+{
+    match (left, right) {
+        (Operand::Variable(x), Operand::Variable(y)) => x != y,
+        _ => true,
+    }
+}

@@ -1,0 +1,54 @@
+// Targets, and the ends of codes.
+ghost use Rattle.std.specs.Prelude.{◌≡◌, ◌<◌, ◌↔◌, IsTrue, IfSome};
+ghost use Rattle.fr_program.specs.Uses.{TargetsBelow, else_of};
+ghost use Rattle.fr_program.specs.Fault.{EndsWell};
+ghost use Rattle.fr_program.specs.View.{actor_of};
+
+use crate::instr::{Action, Call, Instr};
+use crate::parts::Actor;
+
+pub fn are_targets_below(length: usize, instr: Instr) -> bool
+    ensures { IsTrue result ↔ TargetsBelow length instr }
+{
+    match instr {
+        Instr::If { target, .. } => target < length,
+        Instr::Goto { target } => target < length,
+        Instr::Call(Call::Create { or_else, .. }) => is_else_below(length, or_else),
+        Instr::Call(Call::On { object: _, action }) => is_else_below(length, else_of(action)),
+        _ => true,
+    }
+}
+
+fn is_else_below(length: usize, or_else: Option<usize>) -> bool
+    ensures { IsTrue result ↔ IfSome or_else (λ target. target < length) }
+{
+    match or_else {
+        Some(target) => target < length,
+        None => true,
+    }
+}
+
+fn else_of(action: Action) -> Option<usize>
+    ensures { result ≡ else_of action }
+{
+    match action {
+        Action::QueueSend { or_else, .. } => or_else,
+        Action::QueueReceive { or_else, .. } => or_else,
+        Action::Take { or_else, .. } => or_else,
+        Action::Give { or_else, .. } => or_else,
+        Action::Reset { or_else, .. } => or_else,
+        Action::Send { .. } => None,
+        Action::Receive { .. } => None,
+    }
+}
+
+pub fn ends_well(actor: &Actor) -> bool
+    ensures { IsTrue result ↔ EndsWell (actor_of actor.now) }
+{
+    match actor.code.last() {
+        Some(Instr::Goto { .. }) => true,
+        Some(Instr::Return) => true,
+        Some(Instr::Call(Call::DeleteSelf)) => true,
+        _ => false,
+    }
+}

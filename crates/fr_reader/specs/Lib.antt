@@ -1,0 +1,4 @@
+pub mod Keys
+pub mod Texts
+pub mod Views
+pub mod Faults

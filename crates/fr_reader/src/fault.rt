@@ -1,0 +1,91 @@
+// Why a text is no application.
+ghost use Rattle.std.specs.Prelude.{◌≡◌};
+ghost use Rattle.fr_reader.specs.declared.fault.ReadFault.TheVariants.{Memory};
+
+use crate::key::Key;
+use fr_instr::LineFault;
+use fr_program::BuildFault;
+use std::alloc::{AllocError, AllocFailed};
+use std::error::Error;
+use std::fmt;
+
+/// Why a text is no application.
+#[derive(Debug, Drop)]
+pub enum ReadFault {
+    /// An allocation was refused.
+    Memory,
+    /// The text has over 1,048,576 bytes.
+    TooLong,
+    /// The bytes are not UTF-8, or no TOML text.
+    Toml,
+    /// A table lacks a key that it has to have.
+    Missing(Key),
+    /// What stands at the key is of another type, is an unknown word at `kind`, or is no actor's
+    /// name at `owner`.
+    WrongType(Key),
+    /// A table has a key that is none of its keys.
+    UnknownKey(String),
+    /// A name stands more than once among variables, objects and actors.
+    Twice(String),
+    /// A name is none: see `IsName`.
+    BadName,
+    /// A line of an actor's code has a fault; lines are read where none of the faults above stands.
+    Line {
+        actor: String,
+        index: usize,
+        fault: LineFault,
+    },
+    /// What the text says is no application; this is asked where none of the faults above stands.
+    Build(BuildFault),
+}
+
+impl ReadFault {
+    /// Whether an allocation was refused, here or in the fault of a line or of the parts.
+    pub fn is_memory(&self) -> bool {
+        match self {
+            ReadFault::Memory => true,
+            ReadFault::Line { fault, .. } => *fault == LineFault::Memory,
+            ReadFault::Build(fault) => *fault == BuildFault::Memory,
+            _ => false,
+        }
+    }
+}
+
+impl fmt::Display for ReadFault {
+    fn fmt<W: fmt::Write>(&self, f: &mut fmt::Formatter<W>) -> fmt::Result {
+        match self {
+            ReadFault::Memory => f.write_str("0 Memory"),
+            ReadFault::TooLong => f.write_str("1 TooLong"),
+            ReadFault::Toml => f.write_str("2 Toml"),
+            ReadFault::Missing(_) => f.write_str("3 Missing"),
+            ReadFault::WrongType(_) => f.write_str("4 WrongType"),
+            ReadFault::UnknownKey(_) => f.write_str("5 UnknownKey"),
+            ReadFault::Twice(_) => f.write_str("6 Twice"),
+            ReadFault::BadName => f.write_str("7 BadName"),
+            ReadFault::Line {
+                actor,
+                index,
+                fault,
+            } => write!(f, "8 Line: {actor} {index}: {fault}"),
+            ReadFault::Build(fault) => write!(f, "9 Build: {fault}"),
+        }
+    }
+}
+
+impl Error for ReadFault {}
+
+impl From<AllocError> for ReadFault {
+    ghost from_gives = { λ _ e. e ≡ Memory };
+
+    fn from(_refused: AllocError) -> ReadFault {
+        ReadFault::Memory
+    }
+}
+
+impl<T: Drop> From<AllocFailed<T>> for ReadFault {
+    ghost from_gives = { λ _ e. e ≡ Memory };
+
+    fn from(_refused: AllocFailed<T>) -> ReadFault {
+        ReadFault::Memory
+    }
+}

@@ -1,0 +1,93 @@
+// The keys of an application's tables.
+ghost use Rattle.std.specs.Prelude.{◌≡◌};
+ghost use Rattle.fr_reader.specs.Keys.{key_text, is_key_of, is_own_key};
+
+/// A key that a table of an application may have.
+#[derive(Clone, Copy, Debug, PartialEq, Eq)]
+pub enum Key {
+    Variable,
+    Object,
+    Actor,
+    Name,
+    Lo,
+    Hi,
+    Init,
+    Owner,
+    Kind,
+    Live,
+    Size,
+    First,
+    Code,
+}
+
+impl Key {
+    /// The key as it stands in the text.
+    pub fn text(self) -> &'static str
+        ensures { result.now ≡ key_text self }
+    {
+        match self {
+            Key::Variable => "variable",
+            Key::Object => "object",
+            Key::Actor => "actor",
+            Key::Name => "name",
+            Key::Lo => "lo",
+            Key::Hi => "hi",
+            Key::Init => "init",
+            Key::Owner => "owner",
+            Key::Kind => "kind",
+            Key::Live => "live",
+            Key::Size => "size",
+            Key::First => "first",
+            Key::Code => "code",
+        }
+    }
+}
+
+/// What the key `kind` of an object says.
+#[derive(Clone, Copy, Debug)]
+pub(crate) enum ObjectKind {
+    Queue,
+    Binary,
+    Counting,
+    Mutex,
+    Recursive,
+    Stream,
+    Message,
+}
+
+/// A kind of table.
+#[derive(Clone, Copy, Debug)]
+pub(crate) enum Place {
+    Application,
+    Variable,
+    Object(ObjectKind),
+    Actor,
+}
+
+/// Whether a table of this kind may have this key.
+pub(crate) fn is_key_of(place: Place, key: &str) -> bool
+    ensures { result ≡ is_key_of place key.now }
+{
+    match place {
+        Place::Application => key == "variable" || key == "object" || key == "actor",
+        Place::Variable => {
+            key == "name" || key == "lo" || key == "hi" || key == "init" || key == "owner"
+        }
+        Place::Object(kind) => {
+            key == "name" || key == "kind" || key == "live" || is_own_key(kind, key)
+        }
+        Place::Actor => key == "name" || key == "kind" || key == "code",
+    }
+}
+
+// Whether this is a key that objects of this kind have beside the keys of every object.
+fn is_own_key(kind: ObjectKind, key: &str) -> bool
+    ensures { result ≡ is_own_key kind key.now }
+{
+    match kind {
+        ObjectKind::Queue => key == "size" || key == "lo" || key == "hi",
+        ObjectKind::Counting => key == "size" || key == "first",
+        ObjectKind::Stream | ObjectKind::Message => key == "size",
+        ObjectKind::Binary | ObjectKind::Mutex | ObjectKind::Recursive => false,
+    }
+}

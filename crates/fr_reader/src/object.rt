@@ -1,0 +1,122 @@
+// Objects, as their tables have them.
+ghost use Rattle.std.specs.Prelude.{◌≡◌, Some, IfOk, IfErr, map, IfSome, IfNone};
+ghost use Rattle.toml.specs.Data.{string};
+ghost use Rattle.toml.specs.View.{view, table_view, array_view};
+ghost use Rattle.fr_reader.specs.Keys.{field, kind_word, kind_named};
+ghost use Rattle.fr_reader.specs.Texts.{IsObject, HasKind, IsTableOf, Each};
+ghost use Rattle.fr_reader.specs.Faults.{InTable, InKind, InObject, InEntry, InEach, Standing};
+ghost use Rattle.fr_reader.specs.Views.{object_text};
+
+use crate::fault::ReadFault;
+use crate::key::{Key, ObjectKind, Place};
+use crate::table::{found_at, integer_at, known_keys, live_at, text_at};
+use fr_program::Kind;
+use std::alloc::Global;
+use toml::value::Array;
+use toml::{Table, Value};
+
+/// An object as its table has it.
+#[derive(Debug, Drop)]
+pub(crate) struct ObjectText<'a> {
+    pub name: &'a str,
+    pub kind: Kind,
+    pub live: bool,
+}
+
+fn kind_of_word(word: &str) -> Option<ObjectKind>
+    ensures some { IfSome result (λ kind. word.now ≡ kind_word kind) }
+    ensures none { IfNone result ((kind : ObjectKind) → word.now ≡ kind_word kind → ⊥) }
+{
+    match word {
+        "queue" => Some(ObjectKind::Queue),
+        "binary" => Some(ObjectKind::Binary),
+        "counting" => Some(ObjectKind::Counting),
+        "mutex" => Some(ObjectKind::Mutex),
+        "recursive" => Some(ObjectKind::Recursive),
+        "stream" => Some(ObjectKind::Stream),
+        "message" => Some(ObjectKind::Message),
+        _ => None,
+    }
+}
+
+fn kind_at(table: &Table) -> Result<ObjectKind, ReadFault>
+    ensures ok { IfOk result (λ kind. field Key.Kind (table_view table.now) ≡ Some (string (kind_word kind))) }
+    ensures err { IfErr result (Standing (InKind kind_word (table_view table.now))) }
+{
+    let Some(value) = found_at(table, Key::Kind) else {
+        return Err(ReadFault::Missing(Key::Kind));
+    };
+    let Some(word) = value.as_str() else {
+        return Err(ReadFault::WrongType(Key::Kind));
+    };
+    match kind_of_word(word) {
+        Some(kind) => Ok(kind),
+        None => Err(ReadFault::WrongType(Key::Kind)),
+    }
+}
+
+// The kind with the keys that only it has.
+fn kind_of(table: &Table, kind: ObjectKind) -> Result<Kind, ReadFault>
+    ensures named { IfOk result (λ k. kind_named k ≡ kind) }
+    ensures ok { IfOk result (HasKind (table_view table.now)) }
+    ensures err { IfErr result (Standing (InTable (Place.Object kind) (table_view table.now))) }
+{
+    let place = Place::Object(kind);
+    match kind {
+        ObjectKind::Queue => Ok(Kind::Queue {
+            size: integer_at(table, place, Key::Size)?,
+            lo: integer_at(table, place, Key::Lo)?,
+            hi: integer_at(table, place, Key::Hi)?,
+        }),
+        ObjectKind::Binary => Ok(Kind::Binary),
+        ObjectKind::Counting => Ok(Kind::Counting {
+            size: integer_at(table, place, Key::Size)?,
+            first: integer_at(table, place, Key::First)?,
+        }),
+        ObjectKind::Mutex => Ok(Kind::Mutex),
+        ObjectKind::Recursive => Ok(Kind::Recursive),
+        ObjectKind::Stream => Ok(Kind::Stream {
+            size: integer_at(table, place, Key::Size)?,
+        }),
+        ObjectKind::Message => Ok(Kind::Message {
+            size: integer_at(table, place, Key::Size)?,
+        }),
+    }
+}
+
+// The object that the table stands for, where its kind is this one.
+fn object_of(alloc: Global, table: &Table, kind: ObjectKind) -> Result<ObjectText<'_>, ReadFault>
+    requires { field Key.Kind (table_view table.now) ≡ Some (string (kind_word kind)) }
+    ensures ok { IfOk result (λ o. IsObject (table_view table.now) (object_text o)) }
+    ensures err { IfErr result (Standing (InTable (Place.Object kind) (table_view table.now))) }
+{
+    let place = Place::Object(kind);
+    known_keys(alloc, table, place)?;
+    Ok(ObjectText {
+        name: text_at(table, place, Key::Name)?,
+        kind: kind_of(table, kind)?,
+        live: live_at(table, place)?,
+    })
+}
+
+fn entry_of(alloc: Global, value: &Value) -> Result<ObjectText<'_>, ReadFault>
+    ensures ok { IfOk result (λ o. IsTableOf IsObject (view value.now) (object_text o)) }
+    ensures err { IfErr result (Standing (InEntry Key.Object InObject (view value.now))) }
+{
+    match value.as_table() {
+        Some(table) => object_of(alloc, table, kind_at(table)?),
+        None => Err(ReadFault::WrongType(Key::Object)),
+    }
+}
+
+// The objects that an array stands for, in its order.
+pub(crate) fn objects_of(alloc: Global, array: &Array) -> Result<Vec<ObjectText<'_>>, ReadFault>
+    ensures ok { IfOk result (λ os. Each (IsTableOf IsObject) (array_view array.now) (map object_text os.items)) }
+    ensures err { IfErr result (Standing (InEach (InEntry Key.Object InObject) (array_view array.now))) }
+{
+    let mut objects = Vec::new(alloc);
+    for value in array {
+        objects.push(entry_of(alloc, value)?)?;
+    }
+    Ok(objects)
+}

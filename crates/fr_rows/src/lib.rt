@@ -1,0 +1,9 @@
+// Tests alone: worked rows, each an application, a certificate and the answer that they have to get.
+#![tactic(auto)]
+
+#[cfg(test)]
+mod answer;
+#[cfg(test)]
+mod first_path;
+#[cfg(test)]
+mod long_texts;
