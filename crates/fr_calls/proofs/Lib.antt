@@ -1,3 +1,6 @@
 pub mod Built
 pub mod Contents
 pub mod Formed
+pub mod Free
+pub mod WorkedSteps
+pub mod WorkedRules

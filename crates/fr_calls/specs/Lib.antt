@@ -3,3 +3,5 @@ pub mod Rule
 pub mod Step
 pub mod Run
 pub mod Laws
+pub mod WorkedSteps
+pub mod WorkedRules

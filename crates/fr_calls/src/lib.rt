@@ -1,13 +1,15 @@
-// The rules of kernel calls, and the states, steps and runs of an application.
-//
-// `rule_of` names the rule that an actor would breach by a call where it stands. States, the step table, breaches and
-// runs are definitions in specs/; the laws are functions that do nothing: each is there for its contract.
+// States, the twelve rules of use, steps and runs: what an application does, and what it must not do. The other crates
+// take their meaning from the definitions in specs/: a state, a breach of a rule, a step, a run, safe. The code has
+// the rules that an actor's kind, depths and mutexes decide (`rule_of`) and where each row of the step table leads
+// (`lands_at`). The laws are functions that do nothing: each is there for its contract.
 #![tactic(auto)]
 
 mod laws;
 mod rules;
 mod way;
+mod worked;
 
 pub use laws::{steps_stay_well_formed, the_start_is_well_formed};
 pub use rules::rule_of;
 pub use way::{Landing, Way, lands_at};
+pub use worked::{breaches_as_worked, steps_as_worked};

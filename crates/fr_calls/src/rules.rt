@@ -1,14 +1,21 @@
 // The rules that an actor's kind, its depths and its mutexes decide.
-use fr_program::{
-    Action, App, BlockTime, Call, Form, GiveForm, Instr, Kind, ObjId, TakeForm, Timing,
-};
+ghost use Rattle.std.specs.Prelude.{◌≡◌};
+ghost use Rattle.fr_program.specs.Uses.{is_timing_from_isr, is_from_isr};
+ghost use Rattle.fr_program.specs.Fault.{NamesThings};
+ghost use Rattle.fr_calls.specs.Rule.{is_at_once, allowed_in_critical, allowed_suspended, is_unsuited, first_forbidden};
+
+use fr_program::{Action, App, BlockTime, Call, Form, GiveForm, Instr, Kind, TakeForm, Timing};
 
 /// A block time of 0, which the forms for interrupts have.
-fn is_at_once(timing: &Timing) -> bool {
+fn is_at_once(timing: &Timing) -> bool
+    ensures { result ≡ is_at_once timing.now }
+{
     matches!(timing, Timing::FromIsr | Timing::Waits(BlockTime::Ticks(0)))
 }
 
-fn allowed_in_critical(call: &Call) -> bool {
+fn allowed_in_critical(call: &Call) -> bool
+    ensures { result ≡ allowed_in_critical call.now }
+{
     match call {
         Call::EnterCritical(_) | Call::ExitCritical(_) => true,
         Call::On {
@@ -19,39 +26,44 @@ fn allowed_in_critical(call: &Call) -> bool {
     }
 }
 
-fn allowed_suspended(call: &Call) -> bool {
+fn allowed_suspended(call: &Call) -> bool
+    ensures { result ≡ allowed_suspended call.now }
+{
     matches!(
         call,
         Call::EnterCritical(_) | Call::ExitCritical(_) | Call::SuspendAll | Call::ResumeAll
     )
 }
 
-fn is_timing_from_isr(timing: &Timing) -> bool {
+fn is_timing_from_isr(timing: &Timing) -> bool
+    ensures { result ≡ is_timing_from_isr timing.now }
+{
     matches!(timing, Timing::FromIsr)
 }
 
-fn is_action_from_isr(action: &Action) -> bool {
-    match action {
-        Action::QueueSend { timing, .. }
-        | Action::QueueReceive { timing, .. }
-        | Action::Send { timing, .. }
-        | Action::Receive { timing, .. } => is_timing_from_isr(timing),
-        Action::Take { form, .. } => matches!(form, TakeForm::FromIsr),
-        Action::Give { form, .. } => matches!(form, GiveForm::FromIsr),
-        Action::Reset { .. } => false,
-    }
-}
-
-fn is_from_isr(call: &Call) -> bool {
+/// Whether the call's name ends in FromISR or _FROM_ISR.
+fn is_from_isr(call: &Call) -> bool
+    ensures { result ≡ is_from_isr call.now }
+{
     match call {
         Call::EnterCritical(form) | Call::ExitCritical(form) => matches!(form, Form::FromIsr),
-        Call::On { action, .. } => is_action_from_isr(action),
+        Call::On { action, .. } => match action {
+            Action::QueueSend { timing, .. }
+            | Action::QueueReceive { timing, .. }
+            | Action::Send { timing, .. }
+            | Action::Receive { timing, .. } => is_timing_from_isr(timing),
+            Action::Take { form, .. } => matches!(form, TakeForm::FromIsr),
+            Action::Give { form, .. } => matches!(form, GiveForm::FromIsr),
+            Action::Reset { .. } => false,
+        },
         _ => false,
     }
 }
 
 /// Whether a take or a give doesn't suit the kind of semaphore.
-fn is_unsuited(kind: Kind, action: &Action) -> bool {
+fn is_unsuited(kind: Kind, action: &Action) -> bool
+    ensures { result ≡ is_unsuited kind action.now }
+{
     match (kind, action) {
         (Kind::Recursive, Action::Take { form, .. }) => !matches!(form, TakeForm::Recursive(_)),
         (Kind::Recursive, Action::Give { form, .. }) => !matches!(form, GiveForm::Recursive),
@@ -63,13 +75,12 @@ fn is_unsuited(kind: Kind, action: &Action) -> bool {
     }
 }
 
-fn kind_of(app: &App, object: ObjId) -> Option<Kind> {
-    app.objects().get(object.0).map(|object| object.kind)
-}
-
 /// The least of the rules 4, 5, 6, 9, 10 and 11 that is breached before the instruction, by an
 /// actor that is an interrupt or not, is in the critical section at depth `crit` (0: it isn't in
-/// it), has suspended the scheduler `susp` times, and holds some mutex or none.
+/// it), has suspended the scheduler `susp` times, and holds some mutex or none; None where none of
+/// them is. The instruction's numbers name things of the application. The rules are those of the
+/// FreeRTOS Reference Manual on critical sections, suspension, interrupts, kinds of semaphores and
+/// the end of a task, as this project's profile joins them.
 pub fn rule_of(
     app: &App,
     interrupt: bool,
@@ -77,7 +88,10 @@ pub fn rule_of(
     susp: u32,
     holds: bool,
     instr: &Instr,
-) -> Option<u8> {
+) -> Option<u8>
+    requires { NamesThings app.now instr.now }
+    ensures { result ≡ first_forbidden app.now interrupt crit susp holds instr.now }
+{
     match instr {
         Instr::Return => if !interrupt || crit > 0 {
             Some(11)
@@ -96,7 +110,10 @@ fn rule_of_call(
     susp: u32,
     holds: bool,
     call: &Call,
-) -> Option<u8> {
+) -> Option<u8>
+    requires { NamesThings app.now (Instr.Call call.now) }
+    ensures { result ≡ first_forbidden app.now interrupt crit susp holds (Instr.Call call.now) }
+{
     if crit > 0 && !allowed_in_critical(call) {
         return Some(4);
     }
@@ -107,10 +124,13 @@ fn rule_of_call(
         return Some(6);
     }
     match call {
-        Call::On { object, action } => match kind_of(app, *object) {
-            Some(kind) if is_unsuited(kind, action) => Some(9),
-            _ => None,
-        },
+        Call::On { object, action } => {
+            if is_unsuited(app.kind(*object), action) {
+                Some(9)
+            } else {
+                None
+            }
+        }
         Call::ExitCritical(_) => if crit == 0 { Some(10) } else { None },
         Call::ResumeAll => if susp == 0 { Some(10) } else { None },
         Call::DeleteSelf => {

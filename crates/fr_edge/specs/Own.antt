@@ -1,5 +1,5 @@
 -- A point's own obligations: the entry, the rules, and where its steps go.
-use Rattle.std.specs.Prelude.{◌≡◌, ℕ, ℤ, List, Some, Bool, true, false, IsTrue, Contains}
+use Rattle.std.specs.Prelude.{◌≡◌, ℤ, List, Some, Bool, true, false, IsTrue, Contains}
 use Rattle.fr_program.specs.declared.instr.Instr.{Instr}
 use Rattle.fr_program.specs.declared.instr.Instr.TheVariants.{Call as Calls}
 use Rattle.fr_program.specs.declared.instr.Call.TheVariants.{Delete}

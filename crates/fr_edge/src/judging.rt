@@ -1,5 +1,6 @@
 // Judging a point's own obligations, without memory.
-ghost use Rattle.std.specs.Prelude.{◌<◌, length};
+ghost use Rattle.std.specs.Prelude.{◌≡◌, ◌<◌, Some, length};
+ghost use Rattle.fr_program.specs.Lookup.{instr_of};
 ghost use Rattle.fr_program.specs.Points.{points_of};
 
 use crate::failing::Own;
@@ -67,10 +68,13 @@ fn holds_some(alternative: &Alternative) -> bool {
 }
 
 /// The least of the rules that the actor's kind, depths and mutexes decide, before an instruction.
-fn decided_rule(app: &App, alternative: &Alternative, point: Point, instr: &Instr) -> Option<u8> {
+fn decided_rule(app: &App, alternative: &Alternative, point: Point, instr: &Instr) -> Option<u8>
+    requires { instr_of app.now point ≡ Some instr.now }
+{
     if point.side == Side::Inside {
         return None;
     }
+    app.is_faultless();
     let (crit, susp) = (u32::from(alternative.crit), u32::from(alternative.susp));
     rule_of(
         app,
@@ -110,7 +114,9 @@ fn stays_in_range(app: &App, alternative: &Alternative, instr: &Instr) -> bool {
 }
 
 /// The least rule that is breached in some state in which the alternative holds.
-fn rule_breached(app: &App, alternative: &Alternative, point: Point, instr: &Instr) -> Option<u8> {
+fn rule_breached(app: &App, alternative: &Alternative, point: Point, instr: &Instr) -> Option<u8>
+    requires { instr_of app.now point ≡ Some instr.now }
+{
     match decided_rule(app, alternative, point, instr) {
         Some(rule) => Some(rule),
         None => if stays_in_range(app, alternative, instr) {
@@ -129,7 +135,9 @@ fn lesser(one: Option<u8>, other: Option<u8>) -> Option<u8> {
     }
 }
 
-fn least_rule(app: &App, note: &Note, point: Point, instr: &Instr) -> Option<u8> {
+fn least_rule(app: &App, note: &Note, point: Point, instr: &Instr) -> Option<u8>
+    requires { instr_of app.now point ≡ Some instr.now }
+{
     let mut least = None;
     for alternative in note.alternatives() {
         least = lesser(least, rule_breached(app, alternative, point, instr));
@@ -139,7 +147,9 @@ fn least_rule(app: &App, note: &Note, point: Point, instr: &Instr) -> Option<u8>
 
 /// Whether the actor has no step in any state in which the alternative holds, since it is at a
 /// breach of a rule that stops it.
-fn is_stopped(app: &App, alternative: &Alternative, point: Point, instr: &Instr) -> bool {
+fn is_stopped(app: &App, alternative: &Alternative, point: Point, instr: &Instr) -> bool
+    requires { instr_of app.now point ≡ Some instr.now }
+{
     decided_rule(app, alternative, point, instr).is_some()
 }
 
@@ -161,7 +171,9 @@ fn missed(
     point: Point,
     instr: &Instr,
     way: Way,
-) -> Option<Point> {
+) -> Option<Point>
+    requires { instr_of app.now point ≡ Some instr.now }
+{
     let Landing::At(target) = lands_at(point, point.pc.checked_add(1)?, instr, way) else {
         return None;
     };

@@ -7,7 +7,7 @@
 -- | EndFits                       | it is the guard of an end of a buffer, and fits                |
 -- | EndsFit                       | each end does, and none is listed twice                        |
 -- | CertificateFits               | the notes fit, and the ends do                                 |
-use Rattle.std.specs.Prelude.{◌≡◌, ◌<◌, ℕ, List, Bool, true, false, IsTrue, length, All, AllPairs}
+use Rattle.std.specs.Prelude.{◌≡◌, ◌<◌, List, Bool, true, false, IsTrue, length, All, AllPairs}
 use Rattle.fr_program.specs.declared.parts.Kind.{Kind}
 use Rattle.fr_program.specs.declared.parts.Kind.TheVariants.{Mutex, Recursive, Stream, Message}
 use Rattle.fr_program.specs.Program.{Program}

@@ -17,11 +17,11 @@ use Rattle.fr_program.specs.declared.ids.Side.{Side}
 use Rattle.fr_program.specs.declared.ids.Side.TheVariants.{Before, Inside}
 use Rattle.fr_program.specs.Program.{Program}
 use Rattle.fr_program.specs.Lookup.{instr_at, no_actor, IsPlace, IsPoint, HasSide}
-use Rattle.fr_calls.specs.State.{State, At, Done, Exists, place_of, start}
-use Rattle.fr_calls.specs.Rule.{Rule, OneWriter, OneReader, GivenByHolder, LifeInOrder, InRange, End, Writer, Reader, Breach, SharesEnd, LifeOutOfOrder, Stands, is_at_end, IsInside}
+use Rattle.fr_calls.specs.State.{State, At, Done, Exists, start}
+use Rattle.fr_calls.specs.Rule.{Rule, OneWriter, OneReader, LifeInOrder, InRange, End, Writer, Reader, Breach, SharesEnd, LifeOutOfOrder, Stands, is_at_end, IsInside}
 use Rattle.fr_calls.specs.Step.{Step}
 use Rattle.fr_calls.specs.Run.{Follows, IsRun}
-use Rattle.fr_calls.proofs.Built.{IsBuilt, is-built}
+use Rattle.fr_calls.proofs.Built.{is-built}
 use Rattle.fr_calls.proofs.Formed.{map_case, start-formed, step-formed}
 use Rattle.fr_notes.specs.Note.{HoldsOne, Holds}
 use Rattle.fr_notes.specs.Noted.{note_at, IsAt, Noted, NotedBy}

@@ -1,3 +1,5 @@
 pub mod Part
 pub mod Verdict
+pub mod Owed
 pub mod Sound
+pub mod WorkedVerdicts

@@ -1,4 +1,12 @@
 -- The soundness of the verdict: a certified application is safe.
+--
+-- | word                                  | meaning                                                             |
+-- |---------------------------------------|---------------------------------------------------------------------|
+-- | KeepsNotes                            | a state is well formed, and each actor's note holds of it           |
+-- | Certified                             | no build fault, distinct turns, every part kept at every point      |
+-- | StartKeepsNotes, StepKeepsNotes       | what the induction goes by: the start, a step                       |
+-- | NotesExcludeBreaches                  | a state that keeps the notes has no breach                          |
+-- | RunsKeepNotes, IsSound                | what comes of it: every state of every run, and safety              |
 use Rattle.std.specs.Prelude.{ℕ, ℤ, List, Contains}
 use Rattle.fr_program.specs.declared.ids.Point.{Point}
 use Rattle.fr_program.specs.Program.{Program}

@@ -1,6 +1,7 @@
 // What is proved of the definitions, for every application and every certificate.
 ghost use Rattle.fr_judge.specs.Sound.{StartKeepsNotes, StepKeepsNotes, NotesExcludeBreaches, IsSound};
 ghost use Rattle.fr_judge.specs.Verdict.{IsVerdictOne};
+ghost use Rattle.fr_judge.specs.Owed.{OnlyOwedPartsFail};
 
 /// Where an application has no build fault, the turns of its certificate are distinct and every
 /// part is kept at every point, no state of any run breaches a rule; and every such state is well
@@ -29,4 +30,10 @@ pub fn notes_exclude_breaches()
 /// An application and a certificate have one verdict.
 pub fn the_verdict_is_one()
     ensures { IsVerdictOne }
+{}
+
+/// A part that isn't kept at a point is one that the point owes: it names points of the
+/// application, and an end that the point is inside.
+pub fn only_owed_parts_fail()
+    ensures { OnlyOwedPartsFail }
 {}

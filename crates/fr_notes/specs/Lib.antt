@@ -2,3 +2,4 @@ pub mod Note
 pub mod Noted
 pub mod Fits
 pub mod Compare
+pub mod WorkedNotes

@@ -1,4 +1,6 @@
-// Notes: what a certificate says of an actor at each point, and what a step makes of it.
+// Notes: what is said of an actor and of the state at each point. A note is a list of alternatives, of which one
+// holds. The other crates take from here when a note holds of an actor, when two notes hold in one state, and what a
+// step makes of an alternative.
 #![tactic(auto)]
 
 mod change;
@@ -7,9 +9,11 @@ mod fault;
 mod narrow;
 mod note;
 mod notes;
+mod worked;
 
 pub use change::{Change, change_by, keeps};
 pub use claim::Claim;
 pub use fault::{NoteFault, NotesFault};
 pub use note::{Alternative, Note, NoteParts};
 pub use notes::Notes;
+pub use worked::notes_as_worked;

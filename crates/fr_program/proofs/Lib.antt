@@ -1,2 +1,9 @@
 pub mod PointLemmas
 pub mod ListLemmas
+pub mod UsesLemmas
+pub mod InstrLemmas
+pub mod PairLemmas
+pub mod FaultLemmas
+pub mod PointLaws
+pub mod StartLemmas
+pub mod SpanLemmas

@@ -1,6 +1,6 @@
 -- What holds of each element of a mapped list, and of an element that was read.
-use Rattle.std.proofs.Common.{◌≡◌, ◌<◌, ◌≤◌, ℕ, List, length, map, get_or, subst, sym, All, Result, Ok, Err, OnOk}
-use Rattle.std.proofs.lemmas.List.{get_or-map, length-map}
+use Rattle.std.proofs.Common.{◌≡◌, ◌<◌, ◌+◌, ℕ, List, [], ◌∷◌, length, map, get_or, refl, ap, subst, sym, below_more, All, Result, Ok, Err, OnOk}
+use Rattle.std.proofs.lemmas.List.{get_or-map, get_or_default, length-map}
 
 -- what holds of each image holds of each element, through the map
 pub All-unmapped : {X Y : Type 0} (P : Y → Type 0) (f : X → Y) (xs : List X) → All P (map f xs) → All (λ x. P (f x)) xs
@@ -19,3 +19,19 @@ All-read_map P f xs k x below is each = All-read (λ y. P (f y)) xs k x below is
 pub OnOk-from : {T E P : Type 0} (r : Result T E) → P → OnOk r P
 OnOk-from (Ok x) holds = holds
 OnOk-from (Err e) holds = tt
+
+-- what holds of each element so far and of the next one, read from an equal list, holds of one more
+pub each_more : {X : Type 0} (P : X → Type 0) (xs ys : List X) (n : ℕ) (e : X) → ys ≡ xs → n < length ys →
+    ((k : ℕ) (d : X) → k < n → P (get_or xs k d)) → P (get_or ys n e) → (k : ℕ) (d : X) → k < n + 1 → P (get_or xs k d)
+each_more {X = X} P xs ys n e same within each here k d below =
+    let next : (d : X) → P (get_or xs n d) = λ d. subst (λ zs. P (get_or zs n d)) same (subst P (get_or_default ys n e d within) here) in
+    below_more (λ k. (d : X) → P (get_or xs k d)) n (λ k b d. each k d b) next k below d
+
+-- where one list is another, a read of the one is a read of the other
+pub read_same : {X : Type 0} (xs ys : List X) (n : ℕ) (x : X) → ys ≡ xs → x ≡ get_or ys n x → x ≡ get_or xs n x
+read_same xs ys n x same is = subst (λ zs. x ≡ get_or zs n x) same is
+
+-- two maps, one after the other, are one
+pub map_map : {X Y Z : Type 0} (f : X → Y) (g : Y → Z) (xs : List X) → map g (map f xs) ≡ map (λ x. g (f x)) xs
+map_map f g [] = refl
+map_map f g (x ∷ xs) = ap (λ zs. g (f x) ∷ zs) (map_map f g xs)

@@ -6,3 +6,8 @@ pub mod FaultText
 pub mod Limits
 pub mod Uses
 pub mod Fault
+pub mod InstrFault
+pub mod ListFault
+pub mod PointNumbers
+pub mod Built
+pub mod Spans

@@ -1,7 +1,9 @@
 // Checked applications, and their points.
-ghost use Rattle.std.specs.Prelude.{◌≡◌, ◌<◌, length, slice_get, Some, map, All, IfOk, OnOk};
-ghost use Rattle.fr_program.specs.Points.{points_of};
-ghost use Rattle.fr_program.specs.Limits.{VariableInLimits};
+ghost use Rattle.std.specs.Prelude.{◌≡◌, ◌≢◌, ◌<◌, ◌+◌, ◌^◌, ◌↔◌, ℕ, length, slice_get, Some, map, IfOk, IfErr, IfSome, IfNone, OnOk};
+ghost use Rattle.fr_program.specs.Lookup.{HasSide, IsPoint};
+ghost use Rattle.fr_program.specs.Points.{points_of, point_number, side_number};
+ghost use Rattle.fr_program.specs.PointNumbers.{starts_from, PointsAreNumbered};
+ghost use Rattle.fr_program.specs.Fault.{IsFreeOf, IsFaultless, IsJudgedYet};
 ghost use Rattle.fr_program.specs.View.{actor_of, program_of};
 
 use crate::check::check_parts;
@@ -33,11 +35,9 @@ impl Model for App {
 
     ghost view = { λ a. program_of a.parts };
 
-    ghost use Rattle.std.specs.Prelude.{◌≡◌, All};
-    ghost use Rattle.fr_program.specs.Points.{points_of};
-    ghost use Rattle.fr_program.specs.Limits.{VariableInLimits};
+    ghost use Rattle.fr_program.specs.Built.{IsBuilt};
 
-    ghost invariant = { λ a. (a.points.items ≡ points_of (program_of a.parts)) × All VariableInLimits (program_of a.parts).variables };
+    ghost invariant = { IsBuilt };
 }
 
 impl App {
@@ -45,8 +45,20 @@ impl App {
     ghost use Rattle.fr_program.specs.Lookup.{instr_of, object_at, variable_at, actor_at, is_interrupt};
     ghost use Rattle.fr_program.specs.View.{variable_of, object_of};
 
-    /// The application that the parts say.
-    pub fn build(alloc: Global, parts: Parts) -> Result<App, (BuildFault, Parts)> {
+    /// The application that the parts say. It needs memory for the table of points, and while the
+    /// names are compared: at most 160, each pair of them, for which too many are refused before.
+    ///
+    /// A refusal hands the parts back unchanged, with a fault that stands: the first that is
+    /// found, `BuildFault::NotYet` after all others; or `BuildFault::Memory` where an allocation
+    /// was refused.
+    pub fn build(alloc: Global, parts: Parts) -> Result<App, (BuildFault, Parts)>
+        ensures same { IfOk result (λ app. app ≡ program_of parts) }
+        ensures faultless { IfOk result (λ app. IsFaultless app) }
+        ensures judged { IfOk result (λ app. IsJudgedYet app) }
+        ensures stands { IfErr result
+            (λ e. e.0 ≢ BuildFault.Memory → IsFreeOf (program_of parts) e.0 → ⊥) }
+        ensures returned { IfErr result (λ e. e.1 ≡ parts) }
+    {
         match checked_table(alloc, &parts) {
             Ok(Table { points, starts }) => Ok(App {
                 parts,
@@ -72,15 +84,35 @@ impl App {
         self.points[k]
     }
 
-    /// The number of a point, or None where the application has no such point.
-    pub fn number(&self, point: Point) -> Option<usize> {
-        let first = *self.starts.get(point.actor.0)?.get(point.pc)?;
-        match point.side {
-            Side::Before => Some(first),
-            Side::Inside => match self.instr(point) {
-                Some(Instr::Call(Call::On { .. })) => first.checked_add(1),
-                _ => None,
-            },
+    /// No build fault stands in an application, and it has only what is judged today.
+    pub fn is_faultless(&self)
+        ensures faultless { IsFaultless self.now }
+        ensures judged { IsJudgedYet self.now }
+    {
+        let _ = &self.parts;
+    }
+
+    /// Points and their numbers are inverse to each other.
+    pub fn is_numbered(&self)
+        ensures { PointsAreNumbered self.now }
+    {
+    }
+
+    /// The number of a point, or None where the application has no such point. Numbers go by
+    /// actor, then by instruction, `Before` then `Inside`.
+    pub fn number(&self, point: Point) -> Option<usize>
+        ensures some { IfSome result
+            (λ k. IsPoint self.now point × (k ≡ point_number self.now point)) }
+        ensures none { IfNone result (IsPoint self.now point → ⊥) }
+        ensures inverse { (k : ℕ) →
+            ((result ≡ Some k) ↔ (slice_get (points_of self.now) k ≡ Some point)) }
+    {
+        match self.instr(point) {
+            Some(instr) => {
+                let start = self.starts[point.actor.0][point.pc];
+                number_from(start, *instr, point.side)
+            }
+            None => None,
         }
     }
 
@@ -156,10 +188,28 @@ impl App {
     }
 }
 
+fn number_from(start: usize, instr: Instr, side: Side) -> Option<usize>
+    requires { HasSide instr side → start + side_number side < 2 ^ 64 }
+    ensures some { IfSome result (λ k. HasSide instr side × (k ≡ start + side_number side)) }
+    ensures none { IfNone result (HasSide instr side → ⊥) }
+{
+    match (side, instr) {
+        (Side::Before, _) => Some(start),
+        (Side::Inside, Instr::Call(Call::On { .. })) => Some(start + 1),
+        _ => None,
+    }
+}
+
 fn checked_table(alloc: Global, parts: &Parts) -> Result<Table, BuildFault>
     ensures points { IfOk result (λ t. t.points.items ≡ points_of (program_of parts.now)) }
-    ensures limits { OnOk result (All VariableInLimits (program_of parts.now).variables) }
+    ensures starts { IfOk result
+        (λ t. map (λ v. v.items) t.starts.items ≡ starts_from 0 (program_of parts.now).actors) }
+    ensures faultless { OnOk result (IsFaultless (program_of parts.now)) }
+    ensures judged { OnOk result (IsJudgedYet (program_of parts.now)) }
+    ensures stands { IfErr result
+        (λ f. f ≢ BuildFault.Memory → IsFreeOf (program_of parts.now) f → ⊥) }
 {
     check_parts(alloc, parts)?;
-    table_of(alloc, &parts.actors)
+    let table = table_of(alloc, &parts.actors)?;
+    Ok(table)
 }

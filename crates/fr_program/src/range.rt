@@ -1,8 +1,8 @@
 // Ranges of whole numbers.
-ghost use Rattle.std.specs.Prelude.{◌≡◌, ◌≤ℤ◌, ◌<ℤ◌, IfSome, IfNone};
+ghost use Rattle.std.specs.Prelude.{◌≡◌, ◌≤ℤ◌, ◌<ℤ◌, ◌+ℤ◌, ◌-ℤ◌, ◌↔◌, ℤ, pos, IsTrue, IfSome, IfNone};
 
 /// The whole numbers from `lo` to `hi`, both of them included. There is at least one.
-#[derive(Clone, Copy, Debug, PartialEq, Eq)]
+#[derive(Clone, Copy, Debug, PartialEq)]
 pub struct Range {
     pub lo: i128,
     pub hi: i128,
@@ -10,6 +10,8 @@ pub struct Range {
 }
 
 impl Range {
+    ghost use Rattle.fr_program.specs.Spans.{IsIn, IsNarrow, IsSpan, IsScaled};
+
     /// The numbers from `lo` to `hi`, or None where `lo` is above `hi`.
     pub fn new(lo: i128, hi: i128) -> Option<Range>
         ensures some { IfSome result (λ range. (range.lo ≡ lo) × (range.hi ≡ hi)) }
@@ -19,6 +21,83 @@ impl Range {
             Some(Range { lo, hi })
         } else {
             None
+        }
+    }
+
+    /// The numbers that are in both ranges, or None where there is none.
+    pub fn meet(self, other: Range) -> Option<Range>
+        ensures some { IfSome result (λ both. (z : ℤ) → (IsIn both z ↔ (IsIn self z × IsIn other z))) }
+        ensures none { IfNone result ((z : ℤ) → IsIn self z → IsIn other z → ⊥) }
+    {
+        Range::new(self.lo.max(other.lo), self.hi.min(other.hi))
+    }
+
+    /// Whether each number of this range is in the other one.
+    pub fn within(self, other: Range) -> bool
+        ensures { IsTrue result ↔ ((z : ℤ) → IsIn self z → IsIn other z) }
+    {
+        other.lo <= self.lo && self.hi <= other.hi
+    }
+
+    /// The exact span of the sums of a number of this range and one of the other. Both have ends
+    /// of 64 bits.
+    pub fn add(self, other: Range) -> Range
+        requires narrow { IsNarrow self }
+        requires other_narrow { IsNarrow other }
+        ensures { IsSpan ◌+ℤ◌ self other result }
+    {
+        Range {
+            lo: self.lo + other.lo,
+            hi: self.hi + other.hi,
+        }
+    }
+
+    /// The exact span of the differences: a number of this range less one of the other. Both have
+    /// ends of 64 bits.
+    pub fn sub(self, other: Range) -> Range
+        requires narrow { IsNarrow self }
+        requires other_narrow { IsNarrow other }
+        ensures { IsSpan ◌-ℤ◌ self other result }
+    {
+        Range {
+            lo: self.lo - other.hi,
+            hi: self.hi - other.lo,
+        }
+    }
+
+    /// The exact span of this range's numbers times `by`. The range has ends of 64 bits.
+    pub fn scale(self, by: i64) -> Range
+        requires { IsNarrow self }
+        ensures { IsScaled by self result }
+    {
+        if by >= 0 {
+            self.scale_up(by)
+        } else {
+            self.scale_down(by)
+        }
+    }
+
+    fn scale_up(self, by: i64) -> Range
+        requires narrow { IsNarrow self }
+        requires up { pos 0 ≤ℤ by }
+        ensures { IsScaled by self result }
+    {
+        let by = i128::from(by);
+        Range {
+            lo: self.lo * by,
+            hi: self.hi * by,
+        }
+    }
+
+    fn scale_down(self, by: i64) -> Range
+        requires narrow { IsNarrow self }
+        requires down { by ≤ℤ pos 0 }
+        ensures { IsScaled by self result }
+    {
+        let by = i128::from(by);
+        Range {
+            lo: self.hi * by,
+            hi: self.lo * by,
         }
     }
 }

@@ -1,6 +1,7 @@
 // The points of an application in order, and the number of the first point of each instruction.
-ghost use Rattle.std.specs.Prelude.{◌≡◌, ◌++◌, length, map, OnOk, IfOk};
+ghost use Rattle.std.specs.Prelude.{◌≡◌, ◌++◌, length, map, OnOk, IfOk, IfErr};
 ghost use Rattle.fr_program.specs.Points.{points_from, points_along, points_at};
+ghost use Rattle.fr_program.specs.PointNumbers.{starts_from, starts_along};
 ghost use Rattle.fr_program.specs.View.{actor_of};
 
 use crate::fault::BuildFault;
@@ -18,7 +19,10 @@ pub struct Table {
 }
 
 pub fn table_of(alloc: Global, actors: &[Actor]) -> Result<Table, BuildFault>
-    ensures { IfOk result (λ t. t.points.items ≡ points_from 0 (map actor_of actors.now)) }
+    ensures points { IfOk result (λ t. t.points.items ≡ points_from 0 (map actor_of actors.now)) }
+    ensures starts { IfOk result
+        (λ t. map (λ v. v.items) t.starts.items ≡ starts_from 0 (map actor_of actors.now)) }
+    ensures err { IfErr result (λ f. f ≡ BuildFault.Memory) }
 {
     let mut points = Vec::new(alloc);
     let mut starts = Vec::new(alloc);
@@ -34,7 +38,11 @@ fn push_points_of_code(
     actor: ActorId,
     code: &[Instr],
 ) -> Result<Vec<usize>, BuildFault>
-    ensures { OnOk result (points.new.items ≡ points.old.items ++ points_along actor.0 0 code.now) }
+    ensures points { OnOk result
+        (points.new.items ≡ points.old.items ++ points_along actor.0 0 code.now) }
+    ensures starts { IfOk result
+        (λ starts. starts.items ≡ starts_along (length points.old.items) code.now) }
+    ensures err { IfErr result (λ f. f ≡ BuildFault.Memory) }
 {
     let mut starts = Vec::new(alloc);
     for (pc, instr) in code.iter().enumerate() {
@@ -50,7 +58,9 @@ fn push_points_at(
     pc: usize,
     instr: Instr,
 ) -> Result<(), BuildFault>
-    ensures { OnOk result (points.new.items ≡ points.old.items ++ points_at actor.0 pc instr) }
+    ensures points { OnOk result
+        (points.new.items ≡ points.old.items ++ points_at actor.0 pc instr) }
+    ensures err { IfErr result (λ f. f ≡ BuildFault.Memory) }
 {
     points.push(Point {
         actor,

@@ -1,7 +1,7 @@
 // Targets, and the ends of codes.
-ghost use Rattle.std.specs.Prelude.{◌≡◌, ◌<◌, ◌↔◌, IsTrue, IfSome};
+ghost use Rattle.std.specs.Prelude.{◌≡◌, ◌<◌, ◌↔◌, IsTrue, IfSome, All, true};
 ghost use Rattle.fr_program.specs.Uses.{TargetsBelow, else_of};
-ghost use Rattle.fr_program.specs.Fault.{EndsWell};
+ghost use Rattle.fr_program.specs.ListFault.{ends_well};
 ghost use Rattle.fr_program.specs.View.{actor_of};
 
 use crate::instr::{Action, Call, Instr};
@@ -42,8 +42,14 @@ fn else_of(action: Action) -> Option<usize>
     }
 }
 
-pub fn ends_well(actor: &Actor) -> bool
-    ensures { IsTrue result ↔ EndsWell (actor_of actor.now) }
+pub fn each_ends_well(actors: &[Actor]) -> bool
+    ensures { IsTrue result ↔ All (λ a. ends_well (actor_of a) ≡ true) actors.now }
+{
+    actors.iter().all(|actor| ends_well(actor))
+}
+
+fn ends_well(actor: &Actor) -> bool
+    ensures { result ≡ ends_well (actor_of actor.now) }
 {
     match actor.code.last() {
         Some(Instr::Goto { .. }) => true,

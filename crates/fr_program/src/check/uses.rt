@@ -2,10 +2,10 @@
 ghost use Rattle.std.specs.Prelude.{◌≡◌, ◌≤◌, ◌<◌, ◌↔◌, ◌++◌, IsTrue, IfSome, All, count_by, length};
 ghost use Rattle.fr_program.specs.Uses.{variables_of, action_variables, operand_variables, option_list, object_named};
 ghost use Rattle.fr_program.specs.Fault.{is_shared, NamesThings};
-ghost use Rattle.fr_program.specs.Lookup.{variable_at};
+ghost use Rattle.fr_program.specs.InstrFault.{used, SharesAtMostOne, MayUse, MayUseAll, InEachPlace, IsVariable};
 ghost use Rattle.fr_program.specs.View.{program_of};
 
-use crate::ids::{ActorId, ObjId, VarId};
+use crate::ids::{ActorId, VarId};
 use crate::instr::{Action, Call, Instr, Operand};
 use crate::parts::Parts;
 
@@ -18,8 +18,7 @@ pub struct Uses {
 }
 
 pub fn uses_of(instr: Instr) -> Uses
-    ensures { option_list result.target ++ (option_list result.left ++ option_list result.right)
-        ≡ variables_of instr }
+    ensures { used result ≡ variables_of instr }
 {
     match instr {
         Instr::Set {
@@ -74,7 +73,10 @@ fn operand_variable(operand: Operand) -> Option<VarId>
     }
 }
 
-pub fn shares_at_most_one(parts: &Parts, uses: Uses) -> bool {
+pub fn shares_at_most_one(parts: &Parts, instr: Instr) -> bool
+    ensures { IsTrue result ↔ SharesAtMostOne (program_of parts.now) instr }
+{
+    let uses = uses_of(instr);
     shared_count(parts, uses.target)
         + shared_count(parts, uses.left)
         + shared_count(parts, uses.right)
@@ -100,14 +102,22 @@ fn is_shared(parts: &Parts, x: VarId) -> bool
     }
 }
 
-pub fn may_use_all(parts: &Parts, actor: ActorId, uses: Uses) -> bool {
+pub fn may_use_all(parts: &Parts, actor: ActorId, instr: Instr) -> bool
+    ensures { IsTrue result ↔ MayUseAll (program_of parts.now) actor.0 instr }
+{
+    may_use_places(parts, actor, uses_of(instr))
+}
+
+fn may_use_places(parts: &Parts, actor: ActorId, uses: Uses) -> bool
+    ensures { IsTrue result ↔ InEachPlace (λ x. MayUse (program_of parts.now) actor.0 x) uses }
+{
     may_use(parts, actor, uses.target)
         && may_use(parts, actor, uses.left)
         && may_use(parts, actor, uses.right)
 }
 
 fn may_use(parts: &Parts, actor: ActorId, x: Option<VarId>) -> bool
-    ensures { IsTrue result ↔ IfSome x (λ x. IfSome (variable_at (program_of parts.now) x.0).owner (λ owner. owner.0 ≡ actor.0)) }
+    ensures { IsTrue result ↔ IfSome x (λ x. MayUse (program_of parts.now) actor.0 x) }
 {
     match x {
         Some(x) => match parts.variables.get(x.0) {
@@ -121,15 +131,29 @@ fn may_use(parts: &Parts, actor: ActorId, x: Option<VarId>) -> bool
     }
 }
 
-pub fn names_things(parts: &Parts, instr: Instr, uses: Uses) -> bool {
+pub fn names_things(parts: &Parts, instr: Instr) -> bool
+    ensures { IsTrue result ↔ NamesThings (program_of parts.now) instr }
+{
+    names_variables(parts, instr) && names_object(parts, instr)
+}
+
+fn names_variables(parts: &Parts, instr: Instr) -> bool
+    ensures { IsTrue result
+        ↔ All (λ x. IsVariable (program_of parts.now) x) (variables_of instr) }
+{
+    names_places(parts, uses_of(instr))
+}
+
+fn names_places(parts: &Parts, uses: Uses) -> bool
+    ensures { IsTrue result ↔ InEachPlace (λ x. IsVariable (program_of parts.now) x) uses }
+{
     names_variable(parts, uses.target)
         && names_variable(parts, uses.left)
         && names_variable(parts, uses.right)
-        && names_object(parts, object_named(instr))
 }
 
 fn names_variable(parts: &Parts, x: Option<VarId>) -> bool
-    ensures { IsTrue result ↔ IfSome x (λ x. x.0 < length (program_of parts.now).variables) }
+    ensures { IsTrue result ↔ IfSome x (λ x. IsVariable (program_of parts.now) x) }
 {
     match x {
         Some(x) => x.0 < parts.variables.len(),
@@ -137,20 +161,14 @@ fn names_variable(parts: &Parts, x: Option<VarId>) -> bool
     }
 }
 
-fn names_object(parts: &Parts, object: Option<ObjId>) -> bool
-    ensures { IsTrue result ↔ IfSome object (λ o. o.0 < length (program_of parts.now).objects) }
+fn names_object(parts: &Parts, instr: Instr) -> bool
+    ensures { IsTrue result
+        ↔ IfSome (object_named instr) (λ o. o < length (program_of parts.now).objects) }
 {
-    match object {
-        Some(object) => object.0 < parts.objects.len(),
-        None => true,
-    }
-}
-
-fn object_named(instr: Instr) -> Option<ObjId> {
     match instr {
-        Instr::Call(Call::Create { object, .. }) => Some(object),
-        Instr::Call(Call::Delete { object, .. }) => Some(object),
-        Instr::Call(Call::On { object, .. }) => Some(object),
-        _ => None,
+        Instr::Call(Call::Create { object, .. }) => object.0 < parts.objects.len(),
+        Instr::Call(Call::Delete { object, .. }) => object.0 < parts.objects.len(),
+        Instr::Call(Call::On { object, .. }) => object.0 < parts.objects.len(),
+        _ => true,
     }
 }

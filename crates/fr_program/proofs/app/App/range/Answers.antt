@@ -13,5 +13,5 @@ invariant_of-result c =
     let n = length-map items variable_of in
     let same = ap (λ p. length p.variables) c.self.view_is in
     let below : c.args.x.0 < length items = omega (arith, n, same) in
-    let within : VariableInLimits (variable_of v) = All-read_map VariableInLimits variable_of items c.args.x.0 v below c.index-variable.ensures c.self.invariant.1 in
+    let within : VariableInLimits (variable_of v) = All-read_map VariableInLimits variable_of items c.args.x.0 v below c.index-variable.ensures c.self.invariant.faultless.limits.variables in
     record { ordered = omega (arith, ints) }

@@ -1,0 +1,4 @@
+pub mod Sums
+pub mod Outcomes
+pub mod Steps
+pub mod Ends

@@ -1,0 +1,119 @@
+-- The worked breaches, row by row.
+use Rattle.std.proofs.Common.{◌≡◌, ℕ, zero, suc, [], Some, refl, sym, ap, ◌∙◌, subst, inr, arith}
+use Rattle.std.specs.Prelude.{pos, IsTrue}
+use Rattle.std.proofs.lemmas.Int.{ints}
+use Rattle.std.proofs.lemmas.Option.{same_Some}
+use Rattle.fr_program.specs.declared.instr.Instr.{Instr}
+use Rattle.fr_program.specs.declared.instr.Instr.TheVariants.{Call as Calls}
+use Rattle.fr_program.specs.declared.instr.Call.TheVariants.{Delay, DeleteSelf, On}
+use Rattle.fr_program.specs.declared.instr.Action.{Action}
+use Rattle.fr_program.specs.declared.instr.Action.TheVariants.{Send, Receive, Reset}
+use Rattle.fr_program.specs.declared.instr.BufferKind.TheVariants.{Stream as OfStream}
+use Rattle.fr_program.specs.declared.instr.Timing.TheVariants.{Waits}
+use Rattle.fr_program.specs.declared.ids.Side.{Side}
+use Rattle.fr_program.specs.declared.ids.Side.TheVariants.{Before, Inside}
+use Rattle.fr_program.specs.declared.parts.Kind.TheVariants.{Mutex}
+use Rattle.fr_program.specs.Program.{Program}
+use Rattle.fr_program.specs.Lookup.{instr_at}
+use Rattle.fr_calls.specs.State.{State, At, Dead, Values, Held, Bytes, place_of}
+use Rattle.fr_calls.specs.Rule.{Rule, OneWriter, OneReader, GivenByHolder, AllowedInCritical, IsLive, LifeInOrder, EndsInOrder, InRange, End, Writer, Reader, is_at_end, Stands, IsInside, SharesEnd, Breach, Breaches}
+use Rattle.fr_calls.specs.WorkedSteps.{x, thing, call, of_one, seen, before, inside, add_one, create, delete, give, queue_send, stream_send, stream_receive, reset, ten, queue, stream}
+use Rattle.fr_calls.specs.WorkedRules.{two, both, both_inside, WorkedBreaches, WorkedLeast}
+
+-- actor 0 stands at this side of its instruction 0 and breaches the rule
+breach-at : (P : Program) (S : State) (side : Side) (i : Instr) (rule : Rule) → place_of S 0 ≡ At 0 side → instr_at P 0 0 ≡ Some i → Breaches P S 0 side i rule → Breach P S rule 0
+breach-at P S side i rule at is b = record { side = side; instr = i; stands = record { pc = 0; at = at; is = is }; breaches = b }
+
+abbrev sends : Action
+sends = Send OfStream 8 (Waits ten) (Some x)
+
+abbrev receives : Action
+receives = Receive OfStream 8 (Waits ten) (Some x)
+
+abbrev resets : Action
+resets = Reset OfStream (Some 2)
+
+-- both are inside their calls
+inside-0 : (one other : Action) → IsInside (two stream (call one) (call other)) both_inside 0 0 one
+inside-0 one other = (thing, refl, record { pc = 0; at = refl; is = refl })
+
+inside-1 : (one other : Action) → IsInside (two stream (call one) (call other)) both_inside 1 0 other
+inside-1 one other = (thing, refl, record { pc = 0; at = refl; is = refl })
+
+shared : (end : End) (one other : Action) → IsTrue (is_at_end end one) → IsTrue (is_at_end end other) → SharesEnd (two stream (call one) (call other)) both_inside 0 end
+shared end one other h k = (0, one, other, 1, (λ e. absurd (omega (arith, e))), inside-0 one other, inside-1 one other, h, k)
+
+-- an actor that stands at its instruction 0 has that instruction
+one-instr : (P : Program) (S : State) (a : ℕ) (here side : Side) (i j : Instr) → place_of S a ≡ At 0 here → instr_at P a 0 ≡ Some i → Stands P S a side j → j ≡ i
+one-instr P S a here side i j at is s =
+    let e : At 0 here ≡ At s.pc side = sym at ∙ s.at in
+    let pc : 0 ≡ s.pc = cc in
+    same_Some _ _ (sym (subst (λ n. instr_at P a n ≡ Some j) (sym pc) s.is) ∙ is)
+
+apart : (b : ℕ) (action : Action) → (b ≡ 0 → ⊥) → IsInside (two stream stream_send stream_receive) both_inside b 0 action → IsTrue (is_at_end Writer action) → ⊥
+apart zero action ne inside h = ne refl
+apart (suc zero) action ne (n, same, stands) h =
+    let e : Calls (On n action) ≡ stream_receive = one-instr (two stream stream_send stream_receive) both_inside 1 Inside Inside stream_receive (Calls (On n action)) refl refl stands in
+    let f : action ≡ receives = cc in
+    let g : IsTrue (is_at_end Writer receives) = subst (λ a. IsTrue (is_at_end Writer a)) f h in
+    cc
+apart (suc (suc b)) action ne (n, same, stands) h = let e = stands.at in cc
+
+no-sharing : Breach (two stream stream_send stream_receive) both_inside OneWriter 0 → ⊥
+no-sharing breach =
+    let b = breach.breaches in
+    let zero : b.0 ≡ 0 = first b.0 b.1 b.5 in
+    apart b.3 b.2 b.4 (subst (λ o. IsInside (two stream stream_send stream_receive) both_inside b.3 o b.2) zero b.6) b.8
+  where
+    first : (o : ℕ) (action : Action) → IsInside (two stream stream_send stream_receive) both_inside 0 o action → o ≡ 0
+    first o action (n, same, stands) =
+        let e : Calls (On n action) ≡ stream_send = one-instr (two stream stream_send stream_receive) both_inside 0 Inside Inside stream_send (Calls (On n action)) refl refl stands in
+        let f : n ≡ thing = cc in
+        sym same ∙ ap (λ k. k.0) f
+
+no-giving : Breach (of_one Mutex give) (before (pos 0) (Held 0 1)) GivenByHolder 0 → ⊥
+no-giving breach =
+    let e = one-instr (of_one Mutex give) (before (pos 0) (Held 0 1)) 0 Before breach.side give breach.instr refl refl breach.stands in
+    let b = subst (λ i. Breaches (of_one Mutex give) (before (pos 0) (Held 0 1)) 0 breach.side i GivenByHolder) e breach.breaches in
+    absurd (omega (arith, b.1))
+
+pub worked-breaches : WorkedBreaches
+worked-breaches = record {
+  two_senders = breach-at (two stream stream_send stream_send) both_inside Inside stream_send OneWriter refl refl (shared Writer sends sends refl refl);
+  sender_and_reset = breach-at (two stream stream_send reset) both_inside Inside stream_send OneWriter refl refl (shared Writer sends resets refl refl);
+  receiver_and_reset = breach-at (two stream stream_receive reset) both_inside Inside stream_receive OneReader refl refl (shared Reader receives resets refl refl);
+  sender_and_receiver = no-sharing;
+  give_of_anothers = breach-at (of_one Mutex give) (before (pos 0) (Held 1 1)) Before give GivenByHolder refl refl (refl, refl);
+  give_of_own = no-giving;
+  delay_in_critical = breach-at (of_one stream (Calls (Delay 1))) (seen (At 0 Before) (pos 0) Dead (Some (0, 1)) 0) Before (Calls (Delay 1)) AllowedInCritical refl refl refl;
+  use_of_a_dead_buffer = breach-at (of_one stream stream_send) (inside (pos 0) Dead) Inside stream_send IsLive refl refl (0, refl, refl);
+  delete_in_use = breach-at (two stream delete stream_receive) (both (At 0 Before) (At 0 Inside) (Bytes 0)) Before delete LifeInOrder refl refl (1, (λ e. absurd (omega (arith, e))), receives, (thing, refl, record { pc = 0; at = refl; is = refl }));
+  create_of_a_live_one = breach-at (of_one stream create) (before (pos 0) (Bytes 0)) Before create LifeInOrder refl refl (λ e. cc);
+  end_with_a_mutex = breach-at (of_one Mutex (Calls DeleteSelf)) (before (pos 0) (Held 0 1)) Before (Calls DeleteSelf) EndsInOrder refl refl refl;
+  set_out_of_range = breach-at (of_one stream add_one) (before (pos 9) Dead) Before add_one InRange refl refl (inr (omega (arith, ints)));
+  send_out_of_range = breach-at (of_one queue queue_send) (inside (pos 10) (Values [])) Inside queue_send InRange refl refl (inr (omega (arith, ints)));
+}
+
+pub worked-least : WorkedLeast
+worked-least = record {
+  send_in_critical = refl;
+  send_forever_in_critical = refl;
+  send_at_once_in_critical = refl;
+  queue_send_in_critical = refl;
+  take_in_critical = refl;
+  delay_suspended = refl;
+  send_suspended = refl;
+  enter_suspended = refl;
+  give_in_interrupt = refl;
+  enter_in_interrupt = refl;
+  mutex_in_interrupt = refl;
+  binary_in_interrupt = refl;
+  plain_of_recursive = refl;
+  recursive_of_plain = refl;
+  exit_at_zero = refl;
+  resume_at_zero = refl;
+  return_of_a_task = refl;
+  return_in_critical = refl;
+  return_of_an_interrupt = refl;
+  end_holding = refl;
+}

@@ -1,0 +1,11 @@
+// Worked verdicts, as theorems: a yes, and two that are no.
+ghost use Rattle.fr_judge.specs.WorkedVerdicts.{RoundIsYes, RoundIsCertified, ReturnIsNo, SpoilingIsNo};
+
+/// A task that goes round is certified by a note that says nothing; one that returns is not; nor is
+/// one whose note another task's `set` spoils.
+pub fn verdicts_as_worked()
+    ensures round { RoundIsYes }
+    ensures certified { RoundIsCertified }
+    ensures returning { ReturnIsNo }
+    ensures spoiling { SpoilingIsNo }
+{}

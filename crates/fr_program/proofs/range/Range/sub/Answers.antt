@@ -1,0 +1,14 @@
+use Rattle.std.proofs.Common.{◌≡◌, ◌≤ℤ◌, ◌+ℤ◌, ◌-ℤ◌, ℤ, arith}
+use Rattle.std.proofs.lemmas.Int.{ints}
+use Rattle.fr_program.specs.Spans.{IsIn}
+use Rattle.fr_program.proofs.range.Range.sub.Goals as goal
+
+pub returns : goal.returns
+returns c =
+    let a = c.args.self in
+    let b = c.args.other in
+    record {
+      inside = λ x y p q. (omega (arith, ints), omega (arith, ints));
+      lo = (a.lo, b.hi, (omega (arith, ints), a.ordered), (b.ordered, omega (arith, ints)), omega (arith, ints));
+      hi = (a.hi, b.lo, (a.ordered, omega (arith, ints)), (omega (arith, ints), b.ordered), omega (arith, ints));
+    }
