@@ -34,8 +34,8 @@ Guarded P C p buffer end =
     (action : Action) → IsInsideOn P p buffer action → IsTrue (is_at_end end action) →
     (g : Guard) × (guard_for C.ends buffer end ≡ Some g) × ImpliesGuard P C.notes p g
 
--- the point isn't inside a call on the object that q deletes, or no state has both notes; points of one actor are
--- never near
+-- a delete at q is no danger to p: p isn't inside a call on the object that q deletes, or no state has both notes.
+-- Between points of one actor it is none
 abbrev pub Near : Program → List Note → Point → Point → Type 0
 Near P notes p q =
     IsPoint P q → q.actor ≢ p.actor → (o : ℕ) (action : Action) → IsInsideOn P p o action → Deletes P q o →

@@ -1,4 +1,11 @@
+pub mod ArgsLaws
+pub mod CallLaws
+pub mod LineLaws
+pub mod NameLaws
 pub mod NumberLaws
+pub mod PartsLaws
 pub mod RunLemmas
+pub mod ShapeLaws
 pub mod TokenLaws
 pub mod WrittenLaws
+pub mod WrittenLineLaws

@@ -1,5 +1,14 @@
+pub mod CallReading
+pub mod Calls
+pub mod Faults
 pub mod FaultText
+pub mod Lines
+pub mod Names
+pub mod Numbers
 pub mod Reading
+pub mod ShapeReading
+pub mod Shapes
 pub mod Tokens
 pub mod Views
 pub mod Written
+pub mod WrittenLine

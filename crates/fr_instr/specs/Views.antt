@@ -1,8 +1,16 @@
 -- What the crate's types mean.
-use Rattle.std.specs.Prelude.{ℕ, Bool, List, map}
-use denote.Ref.{Bor}
+use Rattle.std.specs.Prelude.{ℕ, Bool, List, [], ◌∷◌, Option, map, option_map}
 use Rattle.std.specs.Char.{is_ascii_digit}
+use denote.Ref.{Bor}
 use Rattle.fr_instr.specs.Tokens.{Tok, word, number, sign, is_space, is_word_byte}
+use Rattle.fr_instr.specs.Shapes as meaning
+use Rattle.fr_instr.specs.declared.meaning.Args.{Args}
+use Rattle.fr_instr.specs.declared.meaning.Args.TheVariants as args
+use Rattle.fr_instr.specs.declared.shape.CallShape.{CallShape}
+use Rattle.fr_instr.specs.declared.shape.Shape.{Shape}
+use Rattle.fr_instr.specs.declared.shape.Shape.TheVariants as shape
+use Rattle.fr_instr.specs.declared.shape.Value.{Value}
+use Rattle.fr_instr.specs.declared.shape.Value.TheVariants as value
 use Rattle.fr_instr.specs.declared.token.Token.{Token}
 use Rattle.fr_instr.specs.declared.token.Token.TheVariants as token
 use Rattle.fr_instr.specs.declared.token.Class.{Class}
@@ -25,3 +33,33 @@ toks ts = map tok ts
 -- the texts in a list of references to them
 abbrev pub texts : List (Bor (List ℕ)) → List (List ℕ)
 texts ts = map (λ t. t.now) ts
+
+abbrev pub text_in : Option (Bor (List ℕ)) → Option (List ℕ)
+text_in t = option_map (λ w. w.now) t
+
+abbrev pub word_of : Value → meaning.Word
+word_of (value.Name w) = meaning.name w.now
+word_of (value.Number d) = meaning.numeral d.now
+
+abbrev pub words : List Value → List meaning.Word
+words vs = map word_of vs
+
+abbrev pub call_view : CallShape → meaning.Shape
+call_view c = meaning.call (text_in c.into) c.name.now (words c.args.items) (text_in c.or_else)
+
+abbrev pub shape_view : Shape → meaning.Shape
+shape_view (shape.Set x a) = meaning.set x.now (word_of a)
+shape_view (shape.SetTo x a op b) = meaning.set_to x.now (word_of a) op (word_of b)
+shape_view (shape.If a c b l) = meaning.branch (word_of a) c (word_of b) l.now
+shape_view (shape.Goto l) = meaning.jump l.now
+shape_view (shape.Pick x lo hi) = meaning.pick x.now lo.now hi.now
+shape_view shape.Return = meaning.leave
+shape_view (shape.Call c) = call_view c
+
+-- the words of a call's arguments
+abbrev pub args_words : Args → List meaning.Word
+args_words args.None = []
+args_words (args.One a) = word_of a ∷ []
+args_words (args.Two a b) = word_of a ∷ word_of b ∷ []
+args_words (args.Three a b c) = word_of a ∷ word_of b ∷ word_of c ∷ []
+args_words (args.More a b c d more) = word_of a ∷ word_of b ∷ word_of c ∷ word_of d ∷ words more.now

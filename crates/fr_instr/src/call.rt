@@ -1,8 +1,13 @@
 // The calls of the grammar, by their names.
+ghost use Rattle.std.specs.Prelude.{◌≡◌, ◌≢◌, ◌<◌, length, IfSome, IfNone, position, slice_get};
+ghost use Rattle.std.specs.Str.{bytes_eq};
+ghost use Rattle.fr_instr.specs.Calls.{row_of, either_form, any_form, either_buffer, create_name, delete_name, send_name, receive_name};
+ghost use Rattle.fr_instr.specs.declared.call.CallName.{CallName};
+
 use fr_program::{BufferKind, CreatedKind, DeletedKind, Form, GiveForm};
 
 /// Which of the calls a line makes. A take has the forms that a give has.
-#[derive(Clone, Copy, Debug, PartialEq, Eq)]
+#[derive(Clone, Copy, Debug, PartialEq)]
 pub(crate) enum CallName {
     Enter(Form),
     Exit(Form),
@@ -66,17 +71,37 @@ const CALLS: [CallName; 40] = [
     CallName::Reset(BufferKind::Message),
 ];
 
+// The place in `CALLS` of the call with this name.
+fn place_of_call(name: &[u8]) -> Option<usize>
+    ensures { result ≡ position (λ c. bytes_eq (row_of c).name name.now) CALLS }
+{
+    CALLS.iter().position(|call| call.text().as_bytes() == name)
+}
+
+// The call at this place in `CALLS`.
+fn call_at(place: usize) -> CallName
+    requires { place < length CALLS }
+    ensures { slice_get CALLS place ≡ Some result }
+{
+    CALLS[place]
+}
+
 /// The call with this name.
-pub(crate) fn call_named(name: &[u8]) -> Option<CallName> {
-    CALLS
-        .iter()
-        .copied()
-        .find(|call| call.text().as_bytes() == name)
+pub(crate) fn call_named(name: &[u8]) -> Option<CallName>
+    ensures found { IfSome result (λ c. name.now ≡ (row_of c).name) }
+    ensures none { IfNone result ((c : CallName) → name.now ≢ (row_of c).name) }
+{
+    match place_of_call(name) {
+        Some(place) => Some(call_at(place)),
+        None => None,
+    }
 }
 
 impl CallName {
     /// The name, as it stands in a line.
-    pub(crate) fn text(self) -> &'static str {
+    pub(crate) fn text(self) -> &'static str
+        ensures { result.now ≡ (row_of self).name }
+    {
         match self {
             CallName::Enter(form) => enter_text(form),
             CallName::Exit(form) => exit_text(form),
@@ -98,7 +123,9 @@ impl CallName {
     }
 
     /// Whether an `else` may follow the call.
-    pub(crate) fn may_fail(self) -> bool {
+    pub(crate) fn may_fail(self) -> bool
+        ensures { result ≡ (row_of self).may_fail }
+    {
         matches!(
             self,
             CallName::Create(_)
@@ -111,26 +138,34 @@ impl CallName {
     }
 
     /// Whether a `v =` may stand before the call.
-    pub(crate) fn may_answer(self) -> bool {
+    pub(crate) fn may_answer(self) -> bool
+        ensures { result ≡ (row_of self).may_answer }
+    {
         matches!(self, CallName::Send(_, _) | CallName::Receive(_, _))
     }
 }
 
-fn enter_text(form: Form) -> &'static str {
+fn enter_text(form: Form) -> &'static str
+    ensures { result.now ≡ (row_of (CallName.Enter form)).name }
+{
     match form {
         Form::Task => "taskENTER_CRITICAL",
         Form::FromIsr => "taskENTER_CRITICAL_FROM_ISR",
     }
 }
 
-fn exit_text(form: Form) -> &'static str {
+fn exit_text(form: Form) -> &'static str
+    ensures { result.now ≡ (row_of (CallName.Exit form)).name }
+{
     match form {
         Form::Task => "taskEXIT_CRITICAL",
         Form::FromIsr => "taskEXIT_CRITICAL_FROM_ISR",
     }
 }
 
-fn create_text(kind: CreatedKind) -> &'static str {
+fn create_text(kind: CreatedKind) -> &'static str
+    ensures { result.now ≡ create_name kind }
+{
     match kind {
         CreatedKind::Queue => "xQueueCreate",
         CreatedKind::Binary => "xSemaphoreCreateBinary",
@@ -142,7 +177,9 @@ fn create_text(kind: CreatedKind) -> &'static str {
     }
 }
 
-fn delete_text(kind: DeletedKind) -> &'static str {
+fn delete_text(kind: DeletedKind) -> &'static str
+    ensures { result.now ≡ delete_name kind }
+{
     match kind {
         DeletedKind::Queue => "vQueueDelete",
         DeletedKind::Semaphore => "vSemaphoreDelete",
@@ -151,21 +188,27 @@ fn delete_text(kind: DeletedKind) -> &'static str {
     }
 }
 
-fn queue_send_text(form: Form) -> &'static str {
+fn queue_send_text(form: Form) -> &'static str
+    ensures { result.now ≡ (row_of (CallName.QueueSend form)).name }
+{
     match form {
         Form::Task => "xQueueSend",
         Form::FromIsr => "xQueueSendFromISR",
     }
 }
 
-fn queue_receive_text(form: Form) -> &'static str {
+fn queue_receive_text(form: Form) -> &'static str
+    ensures { result.now ≡ (row_of (CallName.QueueReceive form)).name }
+{
     match form {
         Form::Task => "xQueueReceive",
         Form::FromIsr => "xQueueReceiveFromISR",
     }
 }
 
-fn take_text(form: GiveForm) -> &'static str {
+fn take_text(form: GiveForm) -> &'static str
+    ensures { result.now ≡ (row_of (CallName.Take form)).name }
+{
     match form {
         GiveForm::Plain => "xSemaphoreTake",
         GiveForm::Recursive => "xSemaphoreTakeRecursive",
@@ -173,7 +216,9 @@ fn take_text(form: GiveForm) -> &'static str {
     }
 }
 
-fn give_text(form: GiveForm) -> &'static str {
+fn give_text(form: GiveForm) -> &'static str
+    ensures { result.now ≡ (row_of (CallName.Give form)).name }
+{
     match form {
         GiveForm::Plain => "xSemaphoreGive",
         GiveForm::Recursive => "xSemaphoreGiveRecursive",
@@ -181,7 +226,9 @@ fn give_text(form: GiveForm) -> &'static str {
     }
 }
 
-fn send_text(kind: BufferKind, form: Form) -> &'static str {
+fn send_text(kind: BufferKind, form: Form) -> &'static str
+    ensures { result.now ≡ send_name kind form }
+{
     match kind {
         BufferKind::Stream => match form {
             Form::Task => "xStreamBufferSend",
@@ -194,7 +241,9 @@ fn send_text(kind: BufferKind, form: Form) -> &'static str {
     }
 }
 
-fn receive_text(kind: BufferKind, form: Form) -> &'static str {
+fn receive_text(kind: BufferKind, form: Form) -> &'static str
+    ensures { result.now ≡ receive_name kind form }
+{
     match kind {
         BufferKind::Stream => match form {
             Form::Task => "xStreamBufferReceive",
@@ -207,7 +256,9 @@ fn receive_text(kind: BufferKind, form: Form) -> &'static str {
     }
 }
 
-fn reset_text(kind: BufferKind) -> &'static str {
+fn reset_text(kind: BufferKind) -> &'static str
+    ensures { result.now ≡ (row_of (CallName.Reset kind)).name }
+{
     match kind {
         BufferKind::Stream => "xStreamBufferReset",
         BufferKind::Message => "xMessageBufferReset",

@@ -4,6 +4,7 @@
 #![tactic(auto)]
 
 mod call;
+mod calling;
 mod fault;
 mod meaning;
 mod names;

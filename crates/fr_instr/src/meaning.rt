@@ -1,12 +1,18 @@
 // What words, numbers and arguments stand for.
-use crate::call::CallName;
+ghost use Rattle.std.specs.Prelude.{◌≡◌, ◌≢◌, [], ◌∷◌, IfOk, IfErr, MatchResult, length as list_length};
+ghost use Rattle.fr_instr.specs.Views.{args_words, word_of, words};
+ghost use Rattle.fr_instr.specs.Calls.{object, operand, variable, length, time, ticks, null, wait_of, take_wait_of, form_of, time_of, take_form_of, take_time_of};
+ghost use Rattle.fr_instr.specs.Names.{NamesOf};
+ghost use Rattle.fr_instr.specs.Lines.{IsVariable, IsOperand, IsBlockTime, SaysObject, SaysVariable, SaysLength, SaysTicks, SaysNull, AreArgs};
+ghost use Rattle.fr_instr.specs.Faults.{InVariable, InPlace, InPlain, InPlaces};
+ghost use Rattle.fr_instr.specs.declared.fault.LineFault.TheVariants.{ArgCount};
+ghost use Rattle.fr_instr.specs.declared.writing.Arg.TheVariants as arg;
+
 use crate::fault::LineFault;
 use crate::names::Names;
 use crate::number;
 use crate::shape::Value;
-use fr_program::{
-    Action, BlockTime, BufferKind, Call, Form, GiveForm, ObjId, Operand, TakeForm, Timing, VarId,
-};
+use fr_program::{BlockTime, Form, GiveForm, ObjId, Operand, TakeForm, Timing, VarId};
 
 /// The arguments of a call. No call has more than three.
 #[derive(Clone, Copy, Debug)]
@@ -15,11 +21,13 @@ pub(crate) enum Args<'a, 'v> {
     One(Value<'a>),
     Two(Value<'a>, Value<'a>),
     Three(Value<'a>, Value<'a>, Value<'a>),
-    More(Value<'a>, Value<'a>, Value<'a>, &'v [Value<'a>]),
+    More(Value<'a>, Value<'a>, Value<'a>, Value<'a>, &'v [Value<'a>]),
 }
 
 /// The arguments in a list.
-pub(crate) fn args_of<'a, 'v>(values: &'v [Value<'a>]) -> Args<'a, 'v> {
+pub(crate) fn args_of<'a, 'v>(values: &'v [Value<'a>]) -> Args<'a, 'v>
+    ensures { args_words result ≡ words values.now }
+{
     let Some((first, rest)) = values.split_first() else {
         return Args::None;
     };
@@ -29,65 +37,89 @@ pub(crate) fn args_of<'a, 'v>(values: &'v [Value<'a>]) -> Args<'a, 'v> {
     let Some((third, rest)) = rest.split_first() else {
         return Args::Two(*first, *second);
     };
-    if rest.is_empty() {
-        Args::Three(*first, *second, *third)
-    } else {
-        Args::More(*first, *second, *third, rest)
-    }
+    let Some((fourth, rest)) = rest.split_first() else {
+        return Args::Three(*first, *second, *third);
+    };
+    Args::More(*first, *second, *third, *fourth, rest)
 }
 
 /// The variable with this name.
-pub(crate) fn variable_of(names: &Names, word: &[u8]) -> Result<VarId, LineFault> {
-    let Ok(name) = std::str::from_utf8(word) else {
-        return Err(LineFault::UnknownName);
-    };
-    names.variable(name).ok_or(LineFault::UnknownName)
+pub(crate) fn variable_of(names: &Names, word: &[u8]) -> Result<VarId, LineFault>
+    ensures { MatchResult result (IsVariable names.now word.now) (InVariable names.now word.now) }
+{
+    match names.variable_named(word) {
+        Some(x) => Ok(x),
+        None => Err(LineFault::UnknownName),
+    }
 }
 
-fn object_of(names: &Names, word: &[u8]) -> Result<ObjId, LineFault> {
-    let Ok(name) = std::str::from_utf8(word) else {
-        return Err(LineFault::UnknownName);
-    };
-    names.object(name).ok_or(LineFault::UnknownName)
-}
-
-fn variable_at(names: &Names, value: Value<'_>) -> Result<VarId, LineFault> {
+fn variable_at(names: &Names, value: Value<'_>) -> Result<VarId, LineFault>
+    ensures { MatchResult result (SaysVariable names.now (word_of value.entry)) (InPlace names.now variable (word_of value.entry)) }
+{
     match value {
-        Value::Name(word) => variable_of(names, word),
+        Value::Name(word) => match names.variable_named(word) {
+            Some(x) => Ok(x),
+            None => Err(LineFault::UnknownName),
+        },
         Value::Number(_) => Err(LineFault::Syntax),
     }
 }
 
-fn object_at(names: &Names, value: Value<'_>) -> Result<ObjId, LineFault> {
+fn object_at(names: &Names, value: Value<'_>) -> Result<ObjId, LineFault>
+    ensures { MatchResult result (SaysObject names.now (word_of value.entry)) (InPlace names.now object (word_of value.entry)) }
+{
     match value {
-        Value::Name(word) => object_of(names, word),
+        Value::Name(word) => match names.object_named(word) {
+            Some(o) => Ok(o),
+            None => Err(LineFault::UnknownName),
+        },
         Value::Number(_) => Err(LineFault::Syntax),
     }
 }
 
 /// The operand that stands here.
-pub(crate) fn operand_at(names: &Names, value: Value<'_>) -> Result<Operand, LineFault> {
+pub(crate) fn operand_at(names: &Names, value: Value<'_>) -> Result<Operand, LineFault>
+    ensures { MatchResult result (IsOperand names.now (word_of value.entry)) (InPlace names.now operand (word_of value.entry)) }
+{
     match value {
-        Value::Name(word) => Ok(Operand::Variable(variable_of(names, word)?)),
-        Value::Number(text) => Ok(Operand::Number(number::integer_of(text)?)),
+        Value::Name(word) => match names.variable_named(word) {
+            Some(x) => Ok(Operand::Variable(x)),
+            None => Err(LineFault::UnknownName),
+        },
+        Value::Number(text) => match number::integer_of(text) {
+            Some(n) => Ok(Operand::Number(n)),
+            None => Err(LineFault::BadNumber),
+        },
     }
 }
 
-fn length_at(value: Value<'_>) -> Result<u32, LineFault> {
+fn length_at(value: Value<'_>) -> Result<u32, LineFault>
+    ensures { MatchResult result (SaysLength (word_of value.entry)) (InPlain length (word_of value.entry)) }
+{
     match value {
         Value::Name(_) => Err(LineFault::Syntax),
-        Value::Number(text) => number::length_of(text),
+        Value::Number(text) => match number::length_of(text) {
+            Some(n) => Ok(n),
+            None => Err(LineFault::BadNumber),
+        },
     }
 }
 
-fn ticks_at(value: Value<'_>) -> Result<u32, LineFault> {
+fn ticks_at(value: Value<'_>) -> Result<u32, LineFault>
+    ensures { MatchResult result (SaysTicks (word_of value.entry)) (InPlain ticks (word_of value.entry)) }
+{
     match value {
         Value::Name(_) => Err(LineFault::Syntax),
-        Value::Number(text) => number::ticks_of(text),
+        Value::Number(text) => match number::ticks_of(text) {
+            Some(n) => Ok(n),
+            None => Err(LineFault::BadNumber),
+        },
     }
 }
 
-fn block_time_at(value: Value<'_>) -> Result<BlockTime, LineFault> {
+fn block_time_at(value: Value<'_>) -> Result<BlockTime, LineFault>
+    ensures { MatchResult result (IsBlockTime (word_of value.entry)) (InPlain time (word_of value.entry)) }
+{
     match value {
         Value::Name(word) => {
             if word == b"portMAX_DELAY".as_slice() {
@@ -96,11 +128,16 @@ fn block_time_at(value: Value<'_>) -> Result<BlockTime, LineFault> {
                 Err(LineFault::Syntax)
             }
         }
-        Value::Number(text) => Ok(BlockTime::Ticks(number::ticks_of(text)?)),
+        Value::Number(text) => match number::ticks_of(text) {
+            Some(n) => Ok(BlockTime::Ticks(n)),
+            None => Err(LineFault::BadNumber),
+        },
     }
 }
 
-fn null_at(value: Value<'_>) -> Result<(), LineFault> {
+fn null_at(value: Value<'_>) -> Result<(), LineFault>
+    ensures { MatchResult result (λ _. SaysNull (word_of value.entry)) (InPlain null (word_of value.entry)) }
+{
     match value {
         Value::Name(word) => {
             if word == b"NULL".as_slice() {
@@ -113,138 +150,117 @@ fn null_at(value: Value<'_>) -> Result<(), LineFault> {
     }
 }
 
-// A call without arguments.
-fn bare(call: Call, args: Args<'_, '_>) -> Result<Call, LineFault> {
+// No argument at all.
+pub(crate) fn no_args(args: Args<'_, '_>) -> Result<(), LineFault>
+    ensures { MatchResult result (λ _. args_words args.entry ≡ []) (λ f. (f ≡ ArgCount) × (list_length (args_words args.entry) ≢ 0)) }
+{
     match args {
-        Args::None => Ok(call),
+        Args::None => Ok(()),
         _ => Err(LineFault::ArgCount),
     }
 }
 
-fn delay(args: Args<'_, '_>) -> Result<Call, LineFault> {
+pub(crate) fn delay_arg(args: Args<'_, '_>) -> Result<u32, LineFault>
+    ensures ok { IfOk result (λ n. (N : NamesOf) → AreArgs N (args_words args.entry) (arg.Ticks n ∷ [])) }
+    ensures err { IfErr result (λ f. (N : NamesOf) → InPlaces N (ticks ∷ []) (args_words args.entry) f) }
+{
     match args {
-        Args::One(value) => Ok(Call::Delay(ticks_at(value)?)),
+        Args::One(value) => ticks_at(value),
         _ => Err(LineFault::ArgCount),
     }
 }
 
-fn delete_self(args: Args<'_, '_>) -> Result<Call, LineFault> {
+pub(crate) fn delete_self_arg(args: Args<'_, '_>) -> Result<(), LineFault>
+    ensures ok { IfOk result (λ _. (N : NamesOf) → AreArgs N (args_words args.entry) (arg.Null ∷ [])) }
+    ensures err { IfErr result (λ f. (N : NamesOf) → InPlaces N (null ∷ []) (args_words args.entry) f) }
+{
     match args {
-        Args::One(value) => {
-            null_at(value)?;
-            Ok(Call::DeleteSelf)
-        }
+        Args::One(value) => null_at(value),
         _ => Err(LineFault::ArgCount),
     }
 }
 
 // The one argument of a call on an object alone.
-fn only_object(names: &Names, args: Args<'_, '_>) -> Result<ObjId, LineFault> {
+pub(crate) fn only_object(names: &Names, args: Args<'_, '_>) -> Result<ObjId, LineFault>
+    ensures ok { IfOk result (λ o. AreArgs names.now (args_words args.entry) (arg.Object o ∷ [])) }
+    ensures err { IfErr result (InPlaces names.now (object ∷ []) (args_words args.entry)) }
+{
     match args {
         Args::One(value) => object_at(names, value),
         _ => Err(LineFault::ArgCount),
     }
 }
 
-fn queue_send(
+// A queue, a value, and a block time in the form for tasks.
+pub(crate) fn queue_send_args(
     names: &Names,
     form: Form,
     args: Args<'_, '_>,
-    or_else: Option<usize>,
-) -> Result<Call, LineFault> {
-    let (object, value, timing) = match form {
+) -> Result<(ObjId, Operand, Timing), LineFault>
+    ensures form { IfOk result (λ p. form_of p.2 ≡ form) }
+    ensures ok { IfOk result (λ p. AreArgs names.now (args_words args.entry) (arg.Object p.0 ∷ arg.Operand p.1 ∷ time_of p.2)) }
+    ensures err { IfErr result (InPlaces names.now (object ∷ operand ∷ wait_of form) (args_words args.entry)) }
+{
+    match form {
         Form::Task => match args {
-            Args::Three(object, value, time) => (
+            Args::Three(object, value, time) => Ok((
                 object_at(names, object)?,
                 operand_at(names, value)?,
                 Timing::Waits(block_time_at(time)?),
-            ),
-            _ => return Err(LineFault::ArgCount),
+            )),
+            _ => Err(LineFault::ArgCount),
         },
         Form::FromIsr => match args {
-            Args::Two(object, value) => (
+            Args::Two(object, value) => Ok((
                 object_at(names, object)?,
                 operand_at(names, value)?,
                 Timing::FromIsr,
-            ),
-            _ => return Err(LineFault::ArgCount),
+            )),
+            _ => Err(LineFault::ArgCount),
         },
-    };
-    let action = Action::QueueSend {
-        value,
-        timing,
-        or_else,
-    };
-    Ok(Call::On { object, action })
-}
-
-fn queue_receive(
-    names: &Names,
-    form: Form,
-    args: Args<'_, '_>,
-    or_else: Option<usize>,
-) -> Result<Call, LineFault> {
-    let (object, into, timing) = match form {
-        Form::Task => match args {
-            Args::Three(object, into, time) => (
-                object_at(names, object)?,
-                variable_at(names, into)?,
-                Timing::Waits(block_time_at(time)?),
-            ),
-            _ => return Err(LineFault::ArgCount),
-        },
-        Form::FromIsr => match args {
-            Args::Two(object, into) => (
-                object_at(names, object)?,
-                variable_at(names, into)?,
-                Timing::FromIsr,
-            ),
-            _ => return Err(LineFault::ArgCount),
-        },
-    };
-    let action = Action::QueueReceive {
-        into,
-        timing,
-        or_else,
-    };
-    Ok(Call::On { object, action })
-}
-
-// A semaphore and a block time.
-fn object_and_time(names: &Names, args: Args<'_, '_>) -> Result<(ObjId, BlockTime), LineFault> {
-    match args {
-        Args::Two(object, time) => Ok((object_at(names, object)?, block_time_at(time)?)),
-        _ => Err(LineFault::ArgCount),
     }
 }
 
-fn take(
-    names: &Names,
-    form: GiveForm,
-    args: Args<'_, '_>,
-    or_else: Option<usize>,
-) -> Result<Call, LineFault> {
-    let (object, form) = match form {
-        GiveForm::Plain => {
-            let (object, time) = object_and_time(names, args)?;
-            (object, TakeForm::Plain(time))
-        }
-        GiveForm::Recursive => {
-            let (object, time) = object_and_time(names, args)?;
-            (object, TakeForm::Recursive(time))
-        }
-        GiveForm::FromIsr => (only_object(names, args)?, TakeForm::FromIsr),
-    };
-    let action = Action::Take { form, or_else };
-    Ok(Call::On { object, action })
-}
-
-// A buffer, a length and a block time, or none in the form for interrupts.
-fn buffer_args(
+// A queue, a variable, and a block time in the form for tasks.
+pub(crate) fn queue_receive_args(
     names: &Names,
     form: Form,
     args: Args<'_, '_>,
-) -> Result<(ObjId, u32, Timing), LineFault> {
+) -> Result<(ObjId, VarId, Timing), LineFault>
+    ensures form { IfOk result (λ p. form_of p.2 ≡ form) }
+    ensures ok { IfOk result (λ p. AreArgs names.now (args_words args.entry) (arg.Object p.0 ∷ arg.Variable p.1 ∷ time_of p.2)) }
+    ensures err { IfErr result (InPlaces names.now (object ∷ variable ∷ wait_of form) (args_words args.entry)) }
+{
+    match form {
+        Form::Task => match args {
+            Args::Three(object, into, time) => Ok((
+                object_at(names, object)?,
+                variable_at(names, into)?,
+                Timing::Waits(block_time_at(time)?),
+            )),
+            _ => Err(LineFault::ArgCount),
+        },
+        Form::FromIsr => match args {
+            Args::Two(object, into) => Ok((
+                object_at(names, object)?,
+                variable_at(names, into)?,
+                Timing::FromIsr,
+            )),
+            _ => Err(LineFault::ArgCount),
+        },
+    }
+}
+
+// A buffer, a length, and a block time in the form for tasks.
+pub(crate) fn buffer_args(
+    names: &Names,
+    form: Form,
+    args: Args<'_, '_>,
+) -> Result<(ObjId, u32, Timing), LineFault>
+    ensures form { IfOk result (λ p. form_of p.2 ≡ form) }
+    ensures ok { IfOk result (λ p. AreArgs names.now (args_words args.entry) (arg.Object p.0 ∷ arg.Length p.1 ∷ time_of p.2)) }
+    ensures err { IfErr result (InPlaces names.now (object ∷ length ∷ wait_of form) (args_words args.entry)) }
+{
     match form {
         Form::Task => match args {
             Args::Three(object, length, time) => Ok((
@@ -265,78 +281,34 @@ fn buffer_args(
     }
 }
 
-fn send(
+// A semaphore, and a block time but in the form for interrupts.
+pub(crate) fn take_args(
     names: &Names,
-    kind: BufferKind,
-    form: Form,
+    form: GiveForm,
     args: Args<'_, '_>,
-    into: Option<VarId>,
-) -> Result<Call, LineFault> {
-    let (object, length, timing) = buffer_args(names, form, args)?;
-    let action = Action::Send {
-        kind,
-        length,
-        timing,
-        result: into,
-    };
-    Ok(Call::On { object, action })
-}
-
-fn receive(
-    names: &Names,
-    kind: BufferKind,
-    form: Form,
-    args: Args<'_, '_>,
-    into: Option<VarId>,
-) -> Result<Call, LineFault> {
-    let (object, length, timing) = buffer_args(names, form, args)?;
-    let action = Action::Receive {
-        kind,
-        length,
-        timing,
-        result: into,
-    };
-    Ok(Call::On { object, action })
-}
-
-// A call on an object alone that has two steps.
-fn on_object(names: &Names, args: Args<'_, '_>, action: Action) -> Result<Call, LineFault> {
-    let object = only_object(names, args)?;
-    Ok(Call::On { object, action })
-}
-
-/// The call with this name, these arguments, this target and this variable. The target is none
-/// where no `else` may follow the call, and the variable where no `v =` may stand before it.
-pub(crate) fn call_of(
-    names: &Names,
-    name: CallName,
-    args: Args<'_, '_>,
-    or_else: Option<usize>,
-    into: Option<VarId>,
-) -> Result<Call, LineFault> {
-    match name {
-        CallName::Enter(form) => bare(Call::EnterCritical(form), args),
-        CallName::Exit(form) => bare(Call::ExitCritical(form), args),
-        CallName::SuspendAll => bare(Call::SuspendAll, args),
-        CallName::ResumeAll => bare(Call::ResumeAll, args),
-        CallName::Yield => bare(Call::Yield, args),
-        CallName::Delay => delay(args),
-        CallName::DeleteSelf => delete_self(args),
-        CallName::Create(kind) => Ok(Call::Create {
-            kind,
-            object: only_object(names, args)?,
-            or_else,
-        }),
-        CallName::Delete(kind) => Ok(Call::Delete {
-            kind,
-            object: only_object(names, args)?,
-        }),
-        CallName::QueueSend(form) => queue_send(names, form, args, or_else),
-        CallName::QueueReceive(form) => queue_receive(names, form, args, or_else),
-        CallName::Take(form) => take(names, form, args, or_else),
-        CallName::Give(form) => on_object(names, args, Action::Give { form, or_else }),
-        CallName::Send(kind, form) => send(names, kind, form, args, into),
-        CallName::Receive(kind, form) => receive(names, kind, form, args, into),
-        CallName::Reset(kind) => on_object(names, args, Action::Reset { kind, or_else }),
+) -> Result<(ObjId, TakeForm), LineFault>
+    ensures form { IfOk result (λ p. take_form_of p.1 ≡ form) }
+    ensures ok { IfOk result (λ p. AreArgs names.now (args_words args.entry) (arg.Object p.0 ∷ take_time_of p.1)) }
+    ensures err { IfErr result (InPlaces names.now (object ∷ take_wait_of form) (args_words args.entry)) }
+{
+    match form {
+        GiveForm::Plain => match args {
+            Args::Two(object, time) => Ok((
+                object_at(names, object)?,
+                TakeForm::Plain(block_time_at(time)?),
+            )),
+            _ => Err(LineFault::ArgCount),
+        },
+        GiveForm::Recursive => match args {
+            Args::Two(object, time) => Ok((
+                object_at(names, object)?,
+                TakeForm::Recursive(block_time_at(time)?),
+            )),
+            _ => Err(LineFault::ArgCount),
+        },
+        GiveForm::FromIsr => match args {
+            Args::One(object) => Ok((object_at(names, object)?, TakeForm::FromIsr)),
+            _ => Err(LineFault::ArgCount),
+        },
     }
 }

@@ -1,19 +1,51 @@
 // Reading: the line that a text is.
+ghost use Rattle.std.specs.Prelude.{◌≡◌, ◌≢◌, None, false, IfOk, IfErr, MatchResult};
+ghost use Rattle.fr_instr.specs.Views.{word_of, words, text_in, shape_view};
+ghost use Rattle.fr_instr.specs.Shapes.{set, set_to, branch, jump, pick, call};
+ghost use Rattle.fr_instr.specs.Numbers.{IsInteger, IsTarget};
+ghost use Rattle.fr_instr.specs.Calls.{row_of};
+ghost use Rattle.fr_instr.specs.Lines.{IsElse, IsInto, IsCall, IsLineOf, IsLine, IsLineIn};
+ghost use Rattle.fr_instr.specs.Faults.{InInteger, InTarget, InElse, InInto, InCall, InShape, Stands};
+ghost use Rattle.fr_instr.specs.declared.fault.LineFault.TheVariants.{Memory};
+ghost use Rattle.fr_program.specs.declared.instr.Instr.{Instr};
+
 use crate::call::{self, CallName};
 use crate::fault::LineFault;
 use crate::names::Names;
 use crate::shape::{self, CallShape, Shape, Value};
-use crate::{meaning, number, token};
+use crate::{calling, meaning, number, token};
 use fr_program::{Call, Comparison, Instr as Line, Operand, Operator, VarId};
 use std::alloc::Global;
 
+fn target_at(text: &[u8]) -> Result<usize, LineFault>
+    ensures { MatchResult result (IsTarget text.now) (InTarget text.now) }
+{
+    match number::target_of(text) {
+        Some(target) => Ok(target),
+        None => Err(LineFault::BadNumber),
+    }
+}
+
+fn integer_at(text: &[u8]) -> Result<i64, LineFault>
+    ensures { MatchResult result (IsInteger text.now) (InInteger text.now) }
+{
+    match number::integer_of(text) {
+        Some(n) => Ok(n),
+        None => Err(LineFault::BadNumber),
+    }
+}
+
 // The target behind `else`, which stands only where the call may fail.
-fn else_of(name: CallName, or_else: Option<&[u8]>) -> Result<Option<usize>, LineFault> {
+fn else_of(name: CallName, or_else: Option<&[u8]>) -> Result<Option<usize>, LineFault>
+    ensures ok { IfOk result (IsElse (text_in or_else.entry)) }
+    ensures none { IfOk result (λ e. (row_of name).may_fail ≡ false → e ≡ None) }
+    ensures err { IfErr result (InElse name (text_in or_else.entry)) }
+{
     match or_else {
         None => Ok(None),
         Some(target) => {
             if name.may_fail() {
-                Ok(Some(number::target_of(target)?))
+                Ok(Some(target_at(target)?))
             } else {
                 Err(LineFault::Syntax)
             }
@@ -22,7 +54,11 @@ fn else_of(name: CallName, or_else: Option<&[u8]>) -> Result<Option<usize>, Line
 }
 
 // The variable before `=`, which stands only where the call answers a number.
-fn into_of(names: &Names, name: CallName, into: Option<&[u8]>) -> Result<Option<VarId>, LineFault> {
+fn into_of(names: &Names, name: CallName, into: Option<&[u8]>) -> Result<Option<VarId>, LineFault>
+    ensures ok { IfOk result (IsInto names.now (text_in into.entry)) }
+    ensures none { IfOk result (λ v. (row_of name).may_answer ≡ false → v ≡ None) }
+    ensures err { IfErr result (InInto names.now name (text_in into.entry)) }
+{
     match into {
         None => Ok(None),
         Some(word) => {
@@ -35,12 +71,17 @@ fn into_of(names: &Names, name: CallName, into: Option<&[u8]>) -> Result<Option<
     }
 }
 
-fn call_of(names: &Names, shape: &CallShape<'_>) -> Result<Call, LineFault> {
-    let name = call::call_named(shape.name).ok_or(LineFault::UnknownCall)?;
+fn call_of(names: &Names, shape: &CallShape<'_>) -> Result<Call, LineFault>
+    ensures ok { IfOk result (IsCall names.now (text_in shape.now.into) shape.now.name.now (words shape.now.args.items) (text_in shape.now.or_else)) }
+    ensures err { IfErr result (InCall names.now (text_in shape.now.into) shape.now.name.now (words shape.now.args.items) (text_in shape.now.or_else)) }
+{
+    let Some(name) = call::call_named(shape.name) else {
+        return Err(LineFault::UnknownCall);
+    };
     let or_else = else_of(name, shape.or_else)?;
     let into = into_of(names, name, shape.into)?;
     let args = meaning::args_of(shape.args.as_slice());
-    meaning::call_of(names, name, args, or_else, into)
+    calling::call_of(names, name, args, or_else, into)
 }
 
 fn set_of(
@@ -49,20 +90,31 @@ fn set_of(
     left: Value<'_>,
     operator: Operator,
     right: Value<'_>,
-) -> Result<Line, LineFault> {
+) -> Result<Line, LineFault>
+    ensures ok { IfOk result (IsLineOf names.now (set_to target.now (word_of left.entry) operator (word_of right.entry))) }
+    ensures err { IfErr result (InShape names.now (set_to target.now (word_of left.entry) operator (word_of right.entry))) }
+{
+    let target = meaning::variable_of(names, target)?;
+    let left = meaning::operand_at(names, left)?;
+    let right = meaning::operand_at(names, right)?;
     Ok(Line::Set {
-        target: meaning::variable_of(names, target)?,
-        left: meaning::operand_at(names, left)?,
+        target,
+        left,
         operator,
-        right: meaning::operand_at(names, right)?,
+        right,
     })
 }
 
 // A `set` of one operand adds 0 to it.
-fn short_set_of(names: &Names, target: &[u8], left: Value<'_>) -> Result<Line, LineFault> {
+fn short_set_of(names: &Names, target: &[u8], left: Value<'_>) -> Result<Line, LineFault>
+    ensures ok { IfOk result (IsLineOf names.now (set target.now (word_of left.entry))) }
+    ensures err { IfErr result (InShape names.now (set target.now (word_of left.entry))) }
+{
+    let target = meaning::variable_of(names, target)?;
+    let left = meaning::operand_at(names, left)?;
     Ok(Line::Set {
-        target: meaning::variable_of(names, target)?,
-        left: meaning::operand_at(names, left)?,
+        target,
+        left,
         operator: Operator::Plus,
         right: Operand::Number(0),
     })
@@ -74,30 +126,44 @@ fn if_of(
     comparison: Comparison,
     right: Value<'_>,
     target: &[u8],
-) -> Result<Line, LineFault> {
+) -> Result<Line, LineFault>
+    ensures ok { IfOk result (IsLineOf names.now (branch (word_of left.entry) comparison (word_of right.entry) target.now)) }
+    ensures err { IfErr result (InShape names.now (branch (word_of left.entry) comparison (word_of right.entry) target.now)) }
+{
+    let left = meaning::operand_at(names, left)?;
+    let right = meaning::operand_at(names, right)?;
+    let target = target_at(target)?;
     Ok(Line::If {
-        left: meaning::operand_at(names, left)?,
+        left,
         comparison,
-        right: meaning::operand_at(names, right)?,
-        target: number::target_of(target)?,
+        right,
+        target,
     })
 }
 
-fn pick_of(names: &Names, target: &[u8], lo: &[u8], hi: &[u8]) -> Result<Line, LineFault> {
-    Ok(Line::Pick {
-        target: meaning::variable_of(names, target)?,
-        lo: number::integer_of(lo)?,
-        hi: number::integer_of(hi)?,
-    })
+fn pick_of(names: &Names, target: &[u8], lo: &[u8], hi: &[u8]) -> Result<Line, LineFault>
+    ensures ok { IfOk result (IsLineOf names.now (pick target.now lo.now hi.now)) }
+    ensures err { IfErr result (InShape names.now (pick target.now lo.now hi.now)) }
+{
+    let target = meaning::variable_of(names, target)?;
+    let lo = integer_at(lo)?;
+    let hi = integer_at(hi)?;
+    Ok(Line::Pick { target, lo, hi })
 }
 
-fn goto_of(target: &[u8]) -> Result<Line, LineFault> {
-    Ok(Line::Goto {
-        target: number::target_of(target)?,
-    })
+fn goto_of(names: &Names, target: &[u8]) -> Result<Line, LineFault>
+    ensures ok { IfOk result (IsLineOf names.now (jump target.now)) }
+    ensures err { IfErr result (InShape names.now (jump target.now)) }
+{
+    let _ = names;
+    let target = target_at(target)?;
+    Ok(Line::Goto { target })
 }
 
-fn line_of(names: &Names, shape: &Shape<'_>) -> Result<Line, LineFault> {
+fn line_of(names: &Names, shape: &Shape<'_>) -> Result<Line, LineFault>
+    ensures ok { IfOk result (IsLineOf names.now (shape_view shape.now)) }
+    ensures err { IfErr result (InShape names.now (shape_view shape.now)) }
+{
     match shape {
         Shape::Set(target, left) => short_set_of(names, target, *left),
         Shape::SetTo(target, left, operator, right) => {
@@ -106,7 +172,7 @@ fn line_of(names: &Names, shape: &Shape<'_>) -> Result<Line, LineFault> {
         Shape::If(left, comparison, right, target) => {
             if_of(names, *left, *comparison, *right, target)
         }
-        Shape::Goto(target) => goto_of(target),
+        Shape::Goto(target) => goto_of(names, target),
         Shape::Pick(target, lo, hi) => pick_of(names, target, lo, hi),
         Shape::Return => Ok(Line::Return),
         Shape::Call(call) => Ok(Line::Call(call_of(names, call)?)),
@@ -126,9 +192,16 @@ fn line_of(names: &Names, shape: &Shape<'_>) -> Result<Line, LineFault> {
 /// block time, a delay and a target are 0 to 2147483647.
 ///
 /// Its errors are those of `LineFault`: one that stands in the text, where it is no line.
-pub fn read_line(alloc: Global, text: &str, names: &Names) -> Result<Line, LineFault> {
+pub fn read_line(alloc: Global, text: &str, names: &Names) -> Result<Line, LineFault>
+    ensures ok { IfOk result (IsLine names.now text.now) }
+    ensures one { IfOk result (λ l. (m : Instr) → IsLine names.now text.now m → m ≡ l) }
+    ensures within { IfOk result (IsLineIn names.now) }
+    ensures none { IfErr result (λ f. f ≢ Memory → (l : Instr) → ¬ IsLine names.now text.now l) }
+    ensures err { IfErr result (λ f. f ≢ Memory → Stands names.now text.now f) }
+{
     let tokens = token::tokens(alloc, text.as_bytes())?;
-    match shape::shape_at(alloc, tokens.as_slice())? {
+    let found = shape::shape_at(alloc, tokens.as_slice())?;
+    match found {
         Some(shape) => line_of(names, &shape),
         None => Err(LineFault::Syntax),
     }

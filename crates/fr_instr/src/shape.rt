@@ -1,5 +1,7 @@
 // Shapes of lines: what stands in a line, with its words and numbers still as their bytes.
-ghost use Rattle.std.specs.Prelude.{◌≡◌, ◌+◌, length, IfSome};
+ghost use Rattle.std.specs.Prelude.{◌≡◌, ◌+◌, ◌++◌, ◌≤◌, drop, length, option_map, IfSome, IfOk, None, map};
+ghost use Rattle.fr_instr.specs.Views.{toks, word_of, words, text_in, shape_view};
+ghost use Rattle.fr_instr.specs.ShapeReading.{operator_of, comparison_of, take_word, take_number, take_value, take_sign, at_end, set_tail, set_at, branch_at, jump_at, pick_at, keyword_at, behind_open, behind_close, arg_before_comma, arg_before_close, some_args, args_at, else_tail, else_at, target_end, call_at, head_at, counted_at, shape_at};
 
 use crate::token::{Sign, Token};
 use fr_program::{Comparison, Operator};
@@ -33,7 +35,9 @@ pub(crate) enum Shape<'a> {
     Call(CallShape<'a>),
 }
 
-fn operator_of(sign: Sign) -> Option<Operator> {
+fn operator_of(sign: Sign) -> Option<Operator>
+    ensures { result ≡ operator_of sign }
+{
     match sign {
         Sign::Plus => Some(Operator::Plus),
         Sign::Minus => Some(Operator::Minus),
@@ -42,7 +46,9 @@ fn operator_of(sign: Sign) -> Option<Operator> {
     }
 }
 
-fn comparison_of(sign: Sign) -> Option<Comparison> {
+fn comparison_of(sign: Sign) -> Option<Comparison>
+    ensures { result ≡ comparison_of sign }
+{
     match sign {
         Sign::Less => Some(Comparison::Less),
         Sign::LessEqual => Some(Comparison::AtMost),
@@ -54,7 +60,9 @@ fn comparison_of(sign: Sign) -> Option<Comparison> {
     }
 }
 
-fn take_word<'a, 't>(tokens: &'t [Token<'a>]) -> Option<(&'a [u8], &'t [Token<'a>])> {
+fn take_word<'a, 't>(tokens: &'t [Token<'a>]) -> Option<(&'a [u8], &'t [Token<'a>])>
+    ensures { option_map (λ p. (p.0.now, toks p.1.now)) result ≡ take_word (toks tokens.now) }
+{
     let (first, rest) = tokens.split_first()?;
     match *first {
         Token::Word(word) => Some((word, rest)),
@@ -62,7 +70,9 @@ fn take_word<'a, 't>(tokens: &'t [Token<'a>]) -> Option<(&'a [u8], &'t [Token<'a
     }
 }
 
-fn take_number<'a, 't>(tokens: &'t [Token<'a>]) -> Option<(&'a [u8], &'t [Token<'a>])> {
+fn take_number<'a, 't>(tokens: &'t [Token<'a>]) -> Option<(&'a [u8], &'t [Token<'a>])>
+    ensures { option_map (λ p. (p.0.now, toks p.1.now)) result ≡ take_number (toks tokens.now) }
+{
     let (first, rest) = tokens.split_first()?;
     match *first {
         Token::Number(number) => Some((number, rest)),
@@ -71,7 +81,8 @@ fn take_number<'a, 't>(tokens: &'t [Token<'a>]) -> Option<(&'a [u8], &'t [Token<
 }
 
 fn take_value<'a, 't>(tokens: &'t [Token<'a>]) -> Option<(Value<'a>, &'t [Token<'a>])>
-    ensures { IfSome result (λ p. length p.1.now + 1 ≡ length tokens.now) }
+    ensures value { option_map (λ p. (word_of p.0, toks p.1.now)) result ≡ take_value (toks tokens.now) }
+    ensures shorter { IfSome result (λ p. length p.1.now + 1 ≡ length tokens.now) }
 {
     let (first, rest) = tokens.split_first()?;
     match *first {
@@ -82,7 +93,8 @@ fn take_value<'a, 't>(tokens: &'t [Token<'a>]) -> Option<(Value<'a>, &'t [Token<
 }
 
 fn take_sign<'a, 't>(tokens: &'t [Token<'a>]) -> Option<(Sign, &'t [Token<'a>])>
-    ensures { IfSome result (λ p. length p.1.now + 1 ≡ length tokens.now) }
+    ensures value { option_map (λ p. (p.0, toks p.1.now)) result ≡ take_sign (toks tokens.now) }
+    ensures shorter { IfSome result (λ p. length p.1.now + 1 ≡ length tokens.now) }
 {
     let (first, rest) = tokens.split_first()?;
     match *first {
@@ -92,23 +104,34 @@ fn take_sign<'a, 't>(tokens: &'t [Token<'a>]) -> Option<(Sign, &'t [Token<'a>])>
 }
 
 // The shape, where no token follows.
-fn at_end<'a>(shape: Shape<'a>, tokens: &[Token<'a>]) -> Option<Shape<'a>> {
+fn at_end<'a>(shape: Shape<'a>, tokens: &[Token<'a>]) -> Option<Shape<'a>>
+    ensures { option_map shape_view result ≡ at_end (shape_view shape.entry) (toks tokens.now) }
+{
     if tokens.is_empty() { Some(shape) } else { None }
 }
 
-fn goto_at<'a>(tokens: &[Token<'a>]) -> Option<Shape<'a>> {
+#[tactic(auto, unfolding(crate::specs::ShapeReading::jump_at))]
+fn goto_at<'a>(tokens: &[Token<'a>]) -> Option<Shape<'a>>
+    ensures { option_map shape_view result ≡ jump_at (toks tokens.now) }
+{
     let (target, rest) = take_number(tokens)?;
     at_end(Shape::Goto(target), rest)
 }
 
-fn pick_at<'a>(tokens: &[Token<'a>]) -> Option<Shape<'a>> {
+#[tactic(auto, unfolding(crate::specs::ShapeReading::pick_at))]
+fn pick_at<'a>(tokens: &[Token<'a>]) -> Option<Shape<'a>>
+    ensures { option_map shape_view result ≡ pick_at (toks tokens.now) }
+{
     let (target, rest) = take_word(tokens)?;
     let (lo, rest) = take_number(rest)?;
     let (hi, rest) = take_number(rest)?;
     at_end(Shape::Pick(target, lo, hi), rest)
 }
 
-fn if_at<'a>(tokens: &[Token<'a>]) -> Option<Shape<'a>> {
+#[tactic(auto, unfolding(crate::specs::ShapeReading::branch_at))]
+fn if_at<'a>(tokens: &[Token<'a>]) -> Option<Shape<'a>>
+    ensures { option_map shape_view result ≡ branch_at (toks tokens.now) }
+{
     let (left, rest) = take_value(tokens)?;
     let (sign, rest) = take_sign(rest)?;
     let comparison = comparison_of(sign)?;
@@ -122,7 +145,10 @@ fn if_at<'a>(tokens: &[Token<'a>]) -> Option<Shape<'a>> {
     }
 }
 
-fn set_tail<'a>(target: &'a [u8], left: Value<'a>, tokens: &[Token<'a>]) -> Option<Shape<'a>> {
+#[tactic(auto, unfolding(crate::specs::ShapeReading::set_tail))]
+fn set_tail<'a>(target: &'a [u8], left: Value<'a>, tokens: &[Token<'a>]) -> Option<Shape<'a>>
+    ensures { option_map shape_view result ≡ set_tail target.now (word_of left.entry) (toks tokens.now) }
+{
     if tokens.is_empty() {
         return Some(Shape::Set(target, left));
     }
@@ -132,7 +158,10 @@ fn set_tail<'a>(target: &'a [u8], left: Value<'a>, tokens: &[Token<'a>]) -> Opti
     at_end(Shape::SetTo(target, left, operator, right), rest)
 }
 
-fn set_at<'a>(tokens: &[Token<'a>]) -> Option<Shape<'a>> {
+#[tactic(auto, unfolding(crate::specs::ShapeReading::set_at))]
+fn set_at<'a>(tokens: &[Token<'a>]) -> Option<Shape<'a>>
+    ensures { option_map shape_view result ≡ set_at (toks tokens.now) }
+{
     let (target, rest) = take_word(tokens)?;
     let (sign, rest) = take_sign(rest)?;
     let (left, rest) = take_value(rest)?;
@@ -142,7 +171,10 @@ fn set_at<'a>(tokens: &[Token<'a>]) -> Option<Shape<'a>> {
     }
 }
 
-fn keyword_at<'a>(word: &[u8], tokens: &[Token<'a>]) -> Option<Shape<'a>> {
+#[tactic(auto, unfolding(crate::specs::ShapeReading::keyword_at))]
+fn keyword_at<'a>(word: &[u8], tokens: &[Token<'a>]) -> Option<Shape<'a>>
+    ensures { option_map shape_view result ≡ keyword_at word.now (toks tokens.now) }
+{
     if word == b"set".as_slice() {
         set_at(tokens)
     } else if word == b"if".as_slice() {
@@ -158,21 +190,37 @@ fn keyword_at<'a>(word: &[u8], tokens: &[Token<'a>]) -> Option<Shape<'a>> {
     }
 }
 
-// An argument before this sign, and what follows the sign.
-fn arg_before<'a, 't>(last: Sign, tokens: &'t [Token<'a>]) -> Option<(Value<'a>, &'t [Token<'a>])>
-    ensures { IfSome result (λ p. length p.1.now + 2 ≡ length tokens.now) }
+// An argument before a comma, and what follows the comma.
+#[tactic(auto, unfolding(crate::specs::ShapeReading::arg_before_comma))]
+fn arg_before_comma<'a, 't>(tokens: &'t [Token<'a>]) -> Option<(Value<'a>, &'t [Token<'a>])>
+    ensures value { option_map (λ p. (word_of p.0, toks p.1.now)) result ≡ arg_before_comma (toks tokens.now) }
+    ensures shorter { IfSome result (λ p. length p.1.now + 2 ≡ length tokens.now) }
 {
     let (value, rest) = take_value(tokens)?;
     let (sign, rest) = take_sign(rest)?;
-    if sign == last {
-        Some((value, rest))
-    } else {
-        None
+    match sign {
+        Sign::Comma => Some((value, rest)),
+        _ => None,
+    }
+}
+
+// An argument before a closing bracket, and what follows the bracket.
+#[tactic(auto, unfolding(crate::specs::ShapeReading::arg_before_close))]
+fn arg_before_close<'a, 't>(tokens: &'t [Token<'a>]) -> Option<(Value<'a>, &'t [Token<'a>])>
+    ensures { option_map (λ p. (word_of p.0, toks p.1.now)) result ≡ arg_before_close (toks tokens.now) }
+{
+    let (value, rest) = take_value(tokens)?;
+    let (sign, rest) = take_sign(rest)?;
+    match sign {
+        Sign::Close => Some((value, rest)),
+        _ => None,
     }
 }
 
 // What follows a closing bracket at the front.
-fn behind_close<'a, 't>(tokens: &'t [Token<'a>]) -> Option<&'t [Token<'a>]> {
+fn behind_close<'a, 't>(tokens: &'t [Token<'a>]) -> Option<&'t [Token<'a>]>
+    ensures { option_map (λ p. toks p.now) result ≡ behind_close (take_sign (toks tokens.now)) }
+{
     match take_sign(tokens) {
         Some((Sign::Close, rest)) => Some(rest),
         _ => None,
@@ -180,37 +228,46 @@ fn behind_close<'a, 't>(tokens: &'t [Token<'a>]) -> Option<&'t [Token<'a>]> {
 }
 
 // What follows an opening bracket at the front.
-fn behind_open<'a, 't>(tokens: &'t [Token<'a>]) -> Option<&'t [Token<'a>]> {
+fn behind_open<'a, 't>(tokens: &'t [Token<'a>]) -> Option<&'t [Token<'a>]>
+    ensures { option_map (λ p. toks p.now) result ≡ behind_open (take_sign (toks tokens.now)) }
+{
     match take_sign(tokens) {
         Some((Sign::Open, rest)) => Some(rest),
         _ => None,
     }
 }
 
-// The arguments that stand before a comma, and what follows the last comma.
-fn args_before_last<'a, 't>(
+// The arguments that stand before a comma, and where what follows the last comma begins.
+fn args_before_last<'a>(
     alloc: Global,
-    tokens: &'t [Token<'a>],
-) -> Result<(Vec<Value<'a>>, &'t [Token<'a>]), AllocError> {
+    tokens: &[Token<'a>],
+) -> Result<(Vec<Value<'a>>, usize), AllocError>
+    ensures within { IfOk result (λ p. p.1 ≤ length tokens.now) }
+    ensures before { IfOk result (λ p. some_args (toks tokens.now) ≡ option_map (λ q. (words p.0.items ++ q.0, q.1)) (some_args (toks (drop p.1 tokens.now)))) }
+    ensures last { IfOk result (λ p. arg_before_comma (toks (drop p.1 tokens.now)) ≡ None) }
+{
     let mut args = Vec::new(alloc);
     let mut i = 0;
-    while let Some((value, _rest)) = arg_before(Sign::Comma, &tokens[i..]) {
+    while let Some((value, _rest)) = arg_before_comma(&tokens[i..]) {
         args.push(value)?;
         i += 2;
     }
-    Ok((args, &tokens[i..]))
+    Ok((args, i))
 }
 
 // The arguments up to the closing bracket, and what follows it.
+#[tactic(auto, unfolding(crate::specs::ShapeReading::args_at))]
 fn args_at<'a, 't>(
     alloc: Global,
     tokens: &'t [Token<'a>],
-) -> Result<Option<(Vec<Value<'a>>, &'t [Token<'a>])>, AllocError> {
+) -> Result<Option<(Vec<Value<'a>>, &'t [Token<'a>])>, AllocError>
+    ensures { IfOk result (λ o. option_map (λ p. (words p.0.items, toks p.1.now)) o ≡ args_at (toks tokens.now)) }
+{
     if let Some(rest) = behind_close(tokens) {
         return Ok(Some((Vec::new(alloc), rest)));
     }
     let (mut args, last) = args_before_last(alloc, tokens)?;
-    match arg_before(Sign::Close, last) {
+    match arg_before_close(&tokens[last..]) {
         Some((value, rest)) => {
             args.push(value)?;
             Ok(Some((args, rest)))
@@ -219,27 +276,54 @@ fn args_at<'a, 't>(
     }
 }
 
-// The target behind `else`, where tokens are left at all.
-fn else_at<'a>(tokens: &[Token<'a>]) -> Option<Option<&'a [u8]>> {
+// The target, where no token follows.
+fn target_end<'a>(target: &'a [u8], tokens: &[Token<'a>]) -> Option<&'a [u8]>
+    ensures { text_in result ≡ target_end target.now (toks tokens.now) }
+{
     if tokens.is_empty() {
-        return Some(None);
-    }
-    let (word, rest) = take_word(tokens)?;
-    let (target, rest) = take_number(rest)?;
-    if word == b"else".as_slice() && rest.is_empty() {
-        Some(Some(target))
+        Some(target)
     } else {
         None
     }
 }
 
+// The target behind `else`.
+#[tactic(auto, unfolding(crate::specs::ShapeReading::else_tail))]
+fn else_tail<'a>(tokens: &[Token<'a>]) -> Option<&'a [u8]>
+    ensures { text_in result ≡ else_tail (toks tokens.now) }
+{
+    let (word, rest) = take_word(tokens)?;
+    let (target, rest) = take_number(rest)?;
+    if word == b"else".as_slice() {
+        target_end(target, rest)
+    } else {
+        None
+    }
+}
+
+// The target behind `else`, where tokens are left at all.
+fn else_at<'a>(tokens: &[Token<'a>]) -> Option<Option<&'a [u8]>>
+    ensures { option_map text_in result ≡ else_at (toks tokens.now) }
+{
+    if tokens.is_empty() {
+        return Some(None);
+    }
+    match else_tail(tokens) {
+        Some(target) => Some(Some(target)),
+        None => None,
+    }
+}
+
 // A call, behind its name and its opening bracket.
+#[tactic(auto, unfolding(crate::specs::ShapeReading::call_at))]
 fn call_at<'a>(
     alloc: Global,
     into: Option<&'a [u8]>,
     name: &'a [u8],
     tokens: &[Token<'a>],
-) -> Result<Option<Shape<'a>>, AllocError> {
+) -> Result<Option<Shape<'a>>, AllocError>
+    ensures { IfOk result (λ o. option_map shape_view o ≡ call_at (text_in into.entry) name.now (toks tokens.now)) }
+{
     let Some((args, rest)) = args_at(alloc, tokens)? else {
         return Ok(None);
     };
@@ -255,26 +339,44 @@ fn call_at<'a>(
 }
 
 // A call's name, where the variable before it has this name, and what follows the opening bracket.
-fn head_behind<'a, 't>(tokens: &'t [Token<'a>]) -> Option<(&'a [u8], &'t [Token<'a>])> {
+#[tactic(auto, unfolding(crate::specs::ShapeReading::head_at))]
+fn head_behind<'a, 't>(tokens: &'t [Token<'a>]) -> Option<(&'a [u8], &'t [Token<'a>])>
+    ensures { option_map (λ p. (p.0.now, toks p.1.now)) result ≡ head_at (toks tokens.now) }
+{
     let (name, rest) = take_word(tokens)?;
     let inside = behind_open(rest)?;
     Some((name, inside))
 }
 
+// A call behind the variable that takes its answer.
+#[tactic(auto, unfolding(crate::specs::ShapeReading::counted_at))]
+fn counted_at<'a>(
+    alloc: Global,
+    into: &'a [u8],
+    tokens: &[Token<'a>],
+) -> Result<Option<Shape<'a>>, AllocError>
+    ensures { IfOk result (λ o. option_map shape_view o ≡ counted_at into.now (toks tokens.now)) }
+{
+    match head_behind(tokens) {
+        Some((name, inside)) => call_at(alloc, Some(into), name, inside),
+        None => Ok(None),
+    }
+}
+
 /// The line whose tokens these are.
+#[tactic(auto, unfolding(crate::specs::ShapeReading::shape_at))]
 pub(crate) fn shape_at<'a>(
     alloc: Global,
     tokens: &[Token<'a>],
-) -> Result<Option<Shape<'a>>, AllocError> {
+) -> Result<Option<Shape<'a>>, AllocError>
+    ensures { IfOk result (λ o. option_map shape_view o ≡ shape_at (toks tokens.now)) }
+{
     let Some((word, rest)) = take_word(tokens) else {
         return Ok(None);
     };
     match take_sign(rest) {
         Some((Sign::Open, inside)) => call_at(alloc, None, word, inside),
-        Some((Sign::Assign, more)) => match head_behind(more) {
-            Some((name, inside)) => call_at(alloc, Some(word), name, inside),
-            None => Ok(None),
-        },
+        Some((Sign::Assign, more)) => counted_at(alloc, word, more),
         _ => Ok(keyword_at(word, rest)),
     }
 }

@@ -1,15 +1,15 @@
 -- The worked notes, row by row: a state to show where two alternatives are together, and what they say of one thing
 -- where they aren't.
-use Rattle.std.proofs.Common.{◌≡◌, ℕ, zero, suc, ◌<◌, ◌≤◌, List, [], ◌∷◌, get_or, Option, Some, None, Bool, true, false, refl, sym, ◌∙◌, arith}
-use Rattle.std.specs.Prelude.{ℤ, pos, IfSome, length, nat_eq, if◌then◌else◌}
+use Rattle.std.proofs.Common.{◌≡◌, ℕ, zero, suc, ◌<◌, ◌≤◌, [], ◌∷◌, get_or, Option, Some, None, Bool, true, false, refl, sym, ◌∙◌, arith}
+use Rattle.std.specs.Prelude.{ℤ, pos, IfSome, nat_eq, if◌then◌else◌}
 use Rattle.std.proofs.lemmas.Int.{ints}
 use Rattle.std.proofs.lemmas.Bool.{eqb-true}
 use Rattle.fr_program.specs.declared.instr.Instr.TheVariants.{Goto}
 use Rattle.fr_program.specs.declared.ids.Side.TheVariants.{Before}
 use Rattle.fr_program.specs.declared.parts.Kind.TheVariants.{Mutex}
-use Rattle.fr_calls.specs.State.{State, At, Content, Dead, Free, Held, CanHave, Exists, IsWellFormed, kind_of, place_of, content_of, value_of, depth_in}
-use Rattle.fr_notes.specs.Note.{Claim, NotHeld, Alive, Gone, HeldTimes, Meets, Within, HoldsOne, claim_of, range_of}
-use Rattle.fr_notes.specs.WorkedNotes.{two_tasks, says, any, Together, WorkedClaims, WorkedTogether}
+use Rattle.fr_calls.specs.State.{State, At, Content, Free, Held, CanHave, Exists, IsWellFormed, kind_of, place_of, content_of, value_of, depth_in}
+use Rattle.fr_notes.specs.Note.{Claim, NotHeld, Alive, HeldTimes, Meets, Within, HoldsOne, claim_of, range_of}
+use Rattle.fr_notes.specs.WorkedNotes.{two_tasks, says, any, WorkedClaims, WorkedTogether}
 
 pub worked-claims : WorkedClaims
 worked-claims = record {

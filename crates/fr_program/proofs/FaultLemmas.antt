@@ -2,7 +2,7 @@
 use Rattle.std.proofs.Common.{◌≡◌, ◌≢◌, ◌<◌, ℕ, List, [], ◌∷◌, Bool, true, false, IsTrue, length, map, get_or, subst, sym, ◌∙◌, All, AllPairs, Option, Some, slice_get, suc, ◌+◌, ◌-◌, refl, arith}
 use Rattle.std.proofs.lemmas.Bool.{false≢true}
 use Rattle.std.proofs.lemmas.List.{get_or-map, get_or_default, length-map}
-use Rattle.std.proofs.lemmas.List.Elements.{All-map, All-weaker}
+use Rattle.std.proofs.lemmas.List.Elements.{All-map}
 use Rattle.fr_program.specs.declared.instr.Instr.{Instr}
 use Rattle.fr_program.specs.declared.instr.Instr.TheVariants.{Goto, Return, Call as Calls}
 use Rattle.fr_program.specs.declared.instr.Call.TheVariants.{DeleteSelf}
@@ -15,7 +15,7 @@ use Rattle.fr_program.specs.Fault.{IsFreeOf, IsFaultless, IsJudgedYet, IsInstrJu
 use Rattle.fr_program.specs.InstrFault.{IsCodeFreeOf, IsCodeFaultless}
 use Rattle.fr_program.specs.ListFault.{leaves, ends_well, AreListsFaultless, AreNamesFaultless, IsActorJudgedYet, IsAlone}
 use Rattle.fr_program.proofs.ListLemmas.{All-unmapped}
-use Rattle.fr_program.proofs.InstrLemmas.{All-slice_get, instr_at-within, code-from_places, places-from_code}
+use Rattle.fr_program.proofs.InstrLemmas.{All-slice_get, instr_at-within, code-from_places}
 
 -- some element of a list that has one
 some_element : {X : Type 0} (xs : List X) (k : ℕ) → k < length xs → X
@@ -45,18 +45,18 @@ code_free P NotYet free = λ a pc i at. tt
 -- lists, instructions and names without a fault are an application without one
 pub faultless : (P : Program) → AreListsFaultless P → IsCodeFaultless P → AreNamesFaultless P → IsFaultless P
 faultless P lists code names = record {
-    small = lists.small;
-    limits = record { variables = lists.variables; objects = lists.objects; code = λ a pc i at. (code a pc i at).limits };
-    targets = λ a pc i at. (code a pc i at).targets;
-    ends = lists.ends;
-    shared = λ a pc i at. (code a pc i at).shared;
-    owners = λ a pc i at. (code a pc i at).owners;
-    kinds = λ a pc i at. (code a pc i at).kinds;
-    forms = λ a pc i at. (code a pc i at).forms;
-    results = λ a pc i at. (code a pc i at).results;
-    operands = λ a pc i at. (code a pc i at).operands;
-    names = record { names = names.names; once = names.once; things = λ a pc i at. (code a pc i at).things; owners = lists.owners };
-  }
+  small = lists.small;
+  limits = record { variables = lists.variables; objects = lists.objects; code = λ a pc i at. (code a pc i at).limits };
+  targets = λ a pc i at. (code a pc i at).targets;
+  ends = lists.ends;
+  shared = λ a pc i at. (code a pc i at).shared;
+  owners = λ a pc i at. (code a pc i at).owners;
+  kinds = λ a pc i at. (code a pc i at).kinds;
+  forms = λ a pc i at. (code a pc i at).forms;
+  results = λ a pc i at. (code a pc i at).results;
+  operands = λ a pc i at. (code a pc i at).operands;
+  names = record { names = names.names; once = names.once; things = λ a pc i at. (code a pc i at).things; owners = lists.owners };
+}
 
 -- the end of a code, by the test and by what it says
 leaves-true : (o : Option Instr) → Leaves o → leaves o ≡ true
@@ -93,17 +93,17 @@ each_ends actors each = λ k d below. let e = each k d below in ends-true (get_o
 -- what is judged today, by actors and by the application's places
 pub judged-from_actors : (P : Program) → IsAlone P → All IsActorJudgedYet P.actors → IsJudgedYet P
 judged-from_actors P alone each = record {
-    objects = alone.objects;
-    one = alone.one;
-    tasks = λ k d below. (each k d below).task;
-    code = λ a pc i at. All-slice_get IsInstrJudgedYet (actor_at P a).code pc i (each a no_actor (instr_at-within P a pc i at)).code at;
-  }
+  objects = alone.objects;
+  one = alone.one;
+  tasks = λ k d below. (each k d below).task;
+  code = λ a pc i at. All-slice_get IsInstrJudgedYet (actor_at P a).code pc i (each a no_actor (instr_at-within P a pc i at)).code at;
+}
 
 pub actors-from_judged : (P : Program) → IsJudgedYet P → All IsActorJudgedYet P.actors
 actors-from_judged P judged = λ k d below. record {
-    task = judged.tasks k d below;
-    code = code-from_places P (λ x i. IsInstrJudgedYet i) k (get_or P.actors k d) (get_or_default P.actors k no_actor d below) (judged.code k);
-  }
+  task = judged.tasks k d below;
+  code = code-from_places P (λ x i. IsInstrJudgedYet i) k (get_or P.actors k d) (get_or_default P.actors k no_actor d below) (judged.code k);
+}
 
 -- pairs of a mapped list, and pairs of the list itself
 pub pairs-map : {X Y : Type 0} (R : Y → Y → Type 0) (f : X → Y) (xs : List X) → AllPairs (λ x y. R (f x) (f y)) xs → AllPairs R (map f xs)
@@ -124,9 +124,9 @@ map-pairs R f xs pairs = λ i j d before last.
 pub names-from_read : {X : Type 0} (P : Program) (f : X → List ℕ) (xs : List X) → map f xs ≡ names_of P →
     All (λ x. IsName (f x)) xs → AllPairs (λ x y. f x ≢ f y) xs → AreNamesFaultless P
 names-from_read P f xs are each pairs = record {
-    names = subst (All IsName) are (All-map IsName f xs each);
-    once = subst (AllPairs (λ x y. x ≢ y)) are (pairs-map (λ x y. x ≢ y) f xs pairs);
-  }
+  names = subst (All IsName) are (All-map IsName f xs each);
+  once = subst (AllPairs (λ x y. x ≢ y)) are (pairs-map (λ x y. x ≢ y) f xs pairs);
+}
 
 pub read_each : {X : Type 0} (P : Program) (f : X → List ℕ) (xs : List X) → map f xs ≡ names_of P → All IsName (names_of P) → All (λ x. IsName (f x)) xs
 read_each P f xs are each = All-unmapped IsName f xs (subst (All IsName) (sym are) each)

@@ -1,6 +1,6 @@
 -- What holds of each instruction of each actor, by actors and by the application's places.
-use Rattle.std.proofs.Common.{◌≡◌, ◌<◌, ◌≤◌, ℕ, List, [], length, map, get_or, Option, None, Some, inl, inr, subst, sym, ap, ◌∙◌, All, slice_get}
-use Rattle.std.proofs.lemmas.List.{get_or-map, get_or_past, length-map}
+use Rattle.std.proofs.Common.{◌≡◌, ◌<◌, ◌≤◌, ℕ, List, length, map, get_or, Some, inl, inr, subst, sym, ap, ◌∙◌, All, slice_get}
+use Rattle.std.proofs.lemmas.List.{get_or-map, get_or_past}
 use Rattle.std.proofs.lemmas.Option.{slice_get_within, slice_get-get_or, get_or_from_slice_get, none-some}
 use Rattle.std.proofs.lemmas.Bool.{cases_lt}
 use Rattle.fr_program.specs.declared.instr.Instr.{Instr}
@@ -8,7 +8,6 @@ use Rattle.fr_program.specs.declared.parts.Actor.{Actor}
 use Rattle.fr_program.specs.Program.{Program, ActorOf}
 use Rattle.fr_program.specs.Lookup.{actor_at, instr_at, no_actor}
 use Rattle.fr_program.specs.View.{actor_of}
-use Rattle.fr_program.specs.Fault.{EachInstr}
 
 -- what holds of each element holds of the one at a place
 pub All-slice_get : {X : Type 0} (P : X → Type 0) (xs : List X) (k : ℕ) (x : X) → All P xs → slice_get xs k ≡ Some x → P x
@@ -23,7 +22,7 @@ actor_at-read actors a actor below is = get_or-map actor_of actors a actor no_ac
 pub instr_at-within : (P : Program) (a pc : ℕ) (i : Instr) → instr_at P a pc ≡ Some i → a < length P.actors
 instr_at-within P a pc i at =
     let none : length P.actors ≤ a → a < length P.actors = λ past.
-        absurd (none-some i (ap (λ (x : ActorOf). slice_get x.code pc) (sym (get_or_past P.actors a no_actor past)) ∙ at)) in
+    absurd (none-some i (ap (λ (x : ActorOf). slice_get x.code pc) (sym (get_or_past P.actors a no_actor past)) ∙ at)) in
     elim (cases_lt a (length P.actors)) [ inl below ↦ below | inr past ↦ none past ]
 
 -- from the places of an actor to its code, and back

@@ -1,10 +1,10 @@
 -- Points and their numbers are inverse. A point's number splits as the list does: what comes before its actor,
 -- before its instruction, and its side. So both ways go along the actors, then along the code, then the sides.
-use Rattle.std.proofs.Common.{◌≡◌, ◌<◌, ◌≤◌, ◌+◌, ◌⊎◌, ℕ, suc, zero, List, [], ◌∷◌, ◌++◌, Option, None, Some, length, map, take, get_or, slice_get, sum_by, inl, inr, refl, sym, ap, ◌∙◌, subst, add-zero, zero-add, arith}
+use Rattle.std.proofs.Common.{◌≡◌, ◌+◌, ◌⊎◌, ℕ, suc, zero, List, [], ◌∷◌, ◌++◌, Option, None, Some, length, take, get_or, slice_get, sum_by, inl, inr, refl, sym, ap, ◌∙◌, subst, add-zero, zero-add, arith}
 use Rattle.std.specs.Option.{option_map}
 use Rattle.std.proofs.lemmas.List.{length-map, length-append}
 use Rattle.std.proofs.lemmas.List.Sums.{sum_by-cons}
-use Rattle.std.proofs.lemmas.Option.{slice_get-map, slice_get_within, none-some, same_Some}
+use Rattle.std.proofs.lemmas.Option.{slice_get-map, none-some, same_Some}
 use Rattle.fr_program.specs.declared.instr.Instr.{Instr}
 use Rattle.fr_program.specs.declared.instr.Instr.TheVariants.{Call as Calls}
 use Rattle.fr_program.specs.declared.instr.Call.TheVariants.{On}
@@ -13,7 +13,7 @@ use Rattle.fr_program.specs.declared.ids.Side.{Side}
 use Rattle.fr_program.specs.declared.ids.Side.TheVariants.{Before, Inside}
 use Rattle.fr_program.specs.Program.{Program, ActorOf}
 use Rattle.fr_program.specs.Lookup.{HasSide, IsPoint, no_actor}
-use Rattle.fr_program.specs.Points.{sides_of, side_number, points_at, points_along, points_from, points_of, count_of_instr, count_of_actor, point_number}
+use Rattle.fr_program.specs.Points.{sides_of, side_number, points_at, points_along, points_from, count_of_instr, count_of_actor, point_number}
 use Rattle.fr_program.specs.PointNumbers.{PointsAreNumbered}
 
 abbrev point_at : ℕ → ℕ → Side → Point
@@ -51,8 +51,9 @@ get_split : {X : Type 0} (xs ys : List X) (k : ℕ) (x : X) → slice_get (xs ++
 get_split [] ys k x at = inr (k, sym (zero-add k), at)
 get_split (y ∷ xs) ys zero x at = inl at
 get_split (y ∷ xs) ys (suc k) x at = elim (get_split xs ys k x at) [
-    inl first ↦ inl first
-  | inr later ↦ inr (later.0, later_suc (length xs) k later.0 later.1, later.2) ]
+  | inl first ↦ inl first
+  | inr later ↦ inr (later.0, later_suc (length xs) k later.0 later.1, later.2)
+]
 
 mapped : {X Y : Type 0} (f : X → Y) (o : Option X) (y : Y) → option_map f o ≡ Some y → (x : X) × (o ≡ Some x) × (y ≡ f x)
 mapped f None y at = absurd (none-some y at)
@@ -85,7 +86,7 @@ along_at a pc (j ∷ code) zero i s at has =
     ap (slice_get (points_along a pc (j ∷ code))) (zero-add (side_number s)) ∙ (first ∙ ap (λ n. Some (point_at a n s)) (sym (add-zero pc)))
 along_at a pc (j ∷ code) (suc k) i s at has =
     let n : sum_by count_of_instr (take (suc k) (j ∷ code)) + side_number s ≡ length (points_at a pc j) + (sum_by count_of_instr (take k code) + side_number s) =
-        omega (arith, sum_by-cons count_of_instr j (take k code), length_points_at a pc j) in
+    omega (arith, sum_by-cons count_of_instr j (take k code), length_points_at a pc j) in
     let next : (pc + 1) + k ≡ pc + suc k = omega arith in
     ap (slice_get (points_along a pc (j ∷ code))) n ∙ (get_right (points_at a pc j) (points_along a (pc + 1) code) _ ∙ (along_at a (pc + 1) code k i s at has ∙ ap (λ n. Some (point_at a n s)) next))
 
@@ -100,7 +101,7 @@ from_at n (x ∷ actors) zero pc i s at has =
 from_at n (x ∷ actors) (suc a) pc i s at has =
     let rest = sum_by count_of_instr (take pc (get_or actors a no_actor).code) in
     let k : sum_by count_of_actor (take (suc a) (x ∷ actors)) + rest + side_number s ≡ length (points_along n 0 x.code) + (sum_by count_of_actor (take a actors) + rest + side_number s) =
-        omega (arith, sum_by-cons count_of_actor x (take a actors), length_points_along n 0 x.code) in
+    omega (arith, sum_by-cons count_of_actor x (take a actors), length_points_along n 0 x.code) in
     let next : (n + 1) + a ≡ n + suc a = omega arith in
     ap (slice_get (points_from n (x ∷ actors))) k ∙ (get_right (points_along n 0 x.code) (points_from (n + 1) actors) _ ∙ (from_at (n + 1) actors a pc i s at has ∙ ap (λ m. Some (point_at m pc s)) next))
 
@@ -146,8 +147,9 @@ later_listed a pc j code k m p split l =
 along_listed : (a pc : ℕ) (code : List Instr) (k : ℕ) (p : Point) → slice_get (points_along a pc code) k ≡ Some p → Listed a pc code k p
 along_listed a pc [] k p at = absurd (none-some p at)
 along_listed a pc (j ∷ code) k p at = elim (get_split (points_at a pc j) (points_along a (pc + 1) code) k p at) [
-    inl first ↦ first_listed a pc j code k p first
-  | inr later ↦ later_listed a pc j code k later.0 p later.1 (along_listed a (pc + 1) code later.0 p later.2) ]
+  | inl first ↦ first_listed a pc j code k p first
+  | inr later ↦ later_listed a pc j code k later.0 p later.1 (along_listed a (pc + 1) code later.0 p later.2)
+]
 
 -- the same among all actors
 record ListedFrom (n : ℕ) (actors : List ActorOf) (k : ℕ) (p : Point) : Type 0 where
@@ -162,15 +164,15 @@ record ListedFrom (n : ℕ) (actors : List ActorOf) (k : ℕ) (p : Point) : Type
 
 first_from : (n : ℕ) (x : ActorOf) (actors : List ActorOf) (k : ℕ) (p : Point) → Listed n 0 x.code k p → ListedFrom n (x ∷ actors) k p
 first_from n x actors k p l = record {
-    actor = 0;
-    place = l.place;
-    instr = l.instr;
-    side = l.side;
-    at = l.at;
-    has = l.has;
-    is = l.is ∙ (ap (λ m. point_at n m l.side) (zero-add l.place) ∙ ap (λ m. point_at m l.place l.side) (sym (add-zero n)));
-    number = omega (arith, l.number);
-  }
+  actor = 0;
+  place = l.place;
+  instr = l.instr;
+  side = l.side;
+  at = l.at;
+  has = l.has;
+  is = l.is ∙ (ap (λ m. point_at n m l.side) (zero-add l.place) ∙ ap (λ m. point_at m l.place l.side) (sym (add-zero n)));
+  number = omega (arith, l.number);
+}
 
 later_from : (n : ℕ) (x : ActorOf) (actors : List ActorOf) (k m : ℕ) (p : Point) → k ≡ length (points_along n 0 x.code) + m → ListedFrom (n + 1) actors m p → ListedFrom n (x ∷ actors) k p
 later_from n x actors k m p split l =
@@ -189,16 +191,17 @@ later_from n x actors k m p split l =
 from_listed : (n : ℕ) (actors : List ActorOf) (k : ℕ) (p : Point) → slice_get (points_from n actors) k ≡ Some p → ListedFrom n actors k p
 from_listed n [] k p at = absurd (none-some p at)
 from_listed n (x ∷ actors) k p at = elim (get_split (points_along n 0 x.code) (points_from (n + 1) actors) k p at) [
-    inl first ↦ first_from n x actors k p (along_listed n 0 x.code k p first)
-  | inr later ↦ later_from n x actors k later.0 p later.1 (from_listed (n + 1) actors later.0 p later.2) ]
+  | inl first ↦ first_from n x actors k p (along_listed n 0 x.code k p first)
+  | inr later ↦ later_from n x actors k later.0 p later.1 (from_listed (n + 1) actors later.0 p later.2)
+]
 
 -- ---- both ways
 
 pub points_are_numbered : (P : Program) → PointsAreNumbered P
 points_are_numbered P = record {
-    at = λ p place. from_at 0 P.actors p.actor.0 p.pc place.0 p.side place.1 place.2 ∙ ap (λ a. Some (point_at a p.pc p.side)) (zero-add p.actor.0);
-    listed = λ k p at.
-        let l = from_listed 0 P.actors k p at in
-        let is = l.is ∙ ap (λ a. point_at a l.place l.side) (zero-add l.actor) in
-        subst (λ q. IsPoint P q × (point_number P q ≡ k)) (sym is) ((l.instr, l.at, l.has), l.number);
-  }
+  at = λ p place. from_at 0 P.actors p.actor.0 p.pc place.0 p.side place.1 place.2 ∙ ap (λ a. Some (point_at a p.pc p.side)) (zero-add p.actor.0);
+  listed = λ k p at.
+      let l = from_listed 0 P.actors k p at in
+      let is = l.is ∙ ap (λ a. point_at a l.place l.side) (zero-add l.actor) in
+      subst (λ q. IsPoint P q × (point_number P q ≡ k)) (sym is) ((l.instr, l.at, l.has), l.number);
+}

@@ -1,5 +1,5 @@
 -- Products of whole numbers: they keep the order or turn it with the sign of the factor, and of 64 bits they fit.
-use Rattle.std.proofs.Common.{◌≡◌, ◌≤◌, ◌<◌, ◌*◌, ◌^◌, ◌≤ℤ◌, ◌*ℤ◌, ℕ, ℤ, suc, pos, negsuc, FitsSigned, unsigned_abs, ap, ◌∙◌, arith, lit<, to_z, of_z}
+use Rattle.std.proofs.Common.{◌≡◌, ◌≤◌, ◌*◌, ◌^◌, ◌≤ℤ◌, ◌*ℤ◌, ℕ, ℤ, suc, pos, negsuc, FitsSigned, ap, ◌∙◌, arith, lit<, to_z, of_z}
 use Rattle.std.proofs.Math.Nat.{mul-le-mul_right}
 use Rattle.std.proofs.lemmas.Int.{ints, to_z-of_z, fits_signed_mul}
 use mir.Syntax.{w64, w128}

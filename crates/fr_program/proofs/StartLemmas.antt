@@ -69,12 +69,13 @@ row_read P f rows row a pc i are is at =
     let size = length_starts_from 0 actors in
     let here : a < length rows = omega (arith, many, same, size, within) in
     let read : f row ≡ starts_along (0 + sum_by count_of_actor (take a actors)) (actor_at P a).code =
-        ap f is ∙ (sym (get_or-map f rows a row (f row) here) ∙ (ap (λ xs. get_or xs a (f row)) are ∙ row_at 0 actors a (f row) within)) in
+    ap f is ∙ (sym (get_or-map f rows a row (f row) here) ∙ (ap (λ xs. get_or xs a (f row)) are ∙ row_at 0 actors a (f row) within)) in
     let first : 0 + sum_by count_of_actor (take a actors) ≡ sum_by count_of_actor (take a actors) = omega arith in
     let long = length_starts_along (0 + sum_by count_of_actor (take a actors)) (actor_at P a).code in
-    let also = ap (λ xs. length xs) read in
-    ( omega (arith, long, also, inside)
-    , λ d. ap (λ xs. get_or xs pc d) read ∙ (start_at _ (actor_at P a).code pc d inside ∙ ap (λ n. n + sum_by count_of_instr (take pc (actor_at P a).code)) first) )
+    let also = ap (λ xs. length xs) read in (
+      omega (arith, long, also, inside),
+      λ d. ap (λ xs. get_or xs pc d) read ∙ (start_at _ (actor_at P a).code pc d inside ∙ ap (λ n. n + sum_by count_of_instr (take pc (actor_at P a).code)) first),
+    )
 
 -- ---- the answer
 
@@ -82,9 +83,10 @@ row_read P f rows row a pc i are is at =
 pub inverse_of : (P : Program) → PointsAreNumbered P → (p : Point) (r : Option ℕ) → IfSome r (λ k. IsPoint P p × (k ≡ point_number P p)) → IfNone r (IsPoint P p → ⊥) →
     (k : ℕ) → (r ≡ Some k) ↔ (slice_get (points_of P) k ≡ Some p)
 inverse_of P law p None some none k = (λ is. absurd (none-some k is), λ at. absurd (none (law.listed k p at).0))
-inverse_of P law p (Some n) some none k =
-    ( λ is. ap (slice_get (points_of P)) (sym (same_Some n k is) ∙ some.1) ∙ law.at p some.0
-    , λ at. ap (λ m. Some m) (some.1 ∙ (law.listed k p at).1) )
+inverse_of P law p (Some n) some none k = (
+  λ is. ap (slice_get (points_of P)) (sym (same_Some n k is) ∙ some.1) ∙ law.at p some.0,
+  λ at. ap (λ m. Some m) (some.1 ∙ (law.listed k p at).1),
+)
 
 -- from the start of a point's instruction, and its side, to its number
 pub some_number : (P : Program) (p : Point) (i : Instr) (start : ℕ) (r : Option ℕ) → instr_at P p.actor.0 p.pc ≡ Some i → start ≡ before P p.actor.0 p.pc →

@@ -12,7 +12,7 @@
 -- | IsFreeOf         | this fault does not stand                                                           |
 -- | IsFaultless      | none of the eleven faults stands                                                    |
 -- | IsJudgedYet      | the application has only what is judged today                                       |
-use Rattle.std.specs.Prelude.{◌≡◌, ◌≢◌, ◌≤◌, ◌<◌, ◌≤ℤ◌, ◌⊎◌, ◌+◌, ℕ, ℤ, pos, List, [], Option, None, Some, Bool, true, false, IsTrue, length, IfSome, All, AllPairs, count_by, slice_get, is_none}
+use Rattle.std.specs.Prelude.{◌≡◌, ◌≢◌, ◌≤◌, ◌<◌, ◌≤ℤ◌, ◌⊎◌, ◌+◌, ℕ, ℤ, pos, [], Option, None, Some, Bool, false, IsTrue, length, IfSome, All, AllPairs, count_by, slice_get, is_none}
 use Rattle.fr_program.specs.declared.instr.Instr.{Instr}
 use Rattle.fr_program.specs.declared.instr.Instr.TheVariants.{Set, If, Goto, Pick, Call as Calls, Return}
 use Rattle.fr_program.specs.declared.instr.Call.TheVariants.{EnterCritical, ExitCritical, Delay, DeleteSelf, Create, Delete, On}
@@ -28,7 +28,7 @@ use Rattle.fr_program.specs.declared.parts.Kind.TheVariants.{Queue}
 use Rattle.fr_program.specs.declared.parts.ActorKind.TheVariants.{Task}
 use Rattle.fr_program.specs.declared.fault.BuildFault.{BuildFault}
 use Rattle.fr_program.specs.declared.fault.BuildFault.TheVariants.{Memory, TooMany, BadRange, BadTarget, FallsOff, TwoShared, NotOwner, KindMismatch, FromIsrInTask, ResultRange, Operands, Names, NotYet}
-use Rattle.fr_program.specs.Program.{Program, VariableOf, ActorOf}
+use Rattle.fr_program.specs.Program.{Program, ActorOf}
 use Rattle.fr_program.specs.Lookup.{actor_at, variable_at, instr_at}
 use Rattle.fr_program.specs.Limits.{VariableInLimits, KindInLimits, InstrInLimits, IsName, names_of, most_actors, most_variables, most_objects, most_instructions}
 use Rattle.fr_program.specs.Uses.{variables_of, object_named, TargetsBelow, makes_kind, drops_kind, acts_on, is_from_isr}

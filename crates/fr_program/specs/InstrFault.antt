@@ -1,5 +1,15 @@
 -- Faults at one instruction: what each fault's absence says of it.
-use Rattle.std.specs.Prelude.{◌≡◌, ◌<◌, ◌≤◌, ℕ, List, ◌++◌, length, IfSome, All, count_by, slice_index, ◌||◌, true, false}
+--
+-- | word                          | meaning                                                               |
+-- |-------------------------------|-----------------------------------------------------------------------|
+-- | used, InEachPlace             | the variables in an instruction's three places, what holds of each    |
+-- | SharesAtMostOne               | shared variables stand at most once                                   |
+-- | MayUse, MayUseAll             | an actor may use a variable, each variable of an instruction          |
+-- | IsVariable                    | the application has this variable                                     |
+-- | IsInstrFreeOf                 | the instruction doesn't have this fault                               |
+-- | IsInstrFaultless              | the instruction has none                                              |
+-- | IsCodeFreeOf, IsCodeFaultless | the same of each instruction of each actor                            |
+use Rattle.std.specs.Prelude.{◌≡◌, ◌<◌, ◌≤◌, ℕ, List, ◌++◌, length, IfSome, All, count_by}
 use Rattle.fr_program.specs.declared.check.uses.Uses.{Uses}
 use Rattle.fr_program.specs.declared.ids.VarId.{VarId}
 use Rattle.fr_program.specs.declared.instr.Instr.{Instr}
@@ -7,7 +17,7 @@ use Rattle.fr_program.specs.declared.fault.BuildFault.{BuildFault}
 use Rattle.fr_program.specs.declared.fault.BuildFault.TheVariants.{BadRange, BadTarget, TwoShared, NotOwner, KindMismatch, FromIsrInTask, ResultRange, Operands, Names}
 use Rattle.fr_program.specs.Program.{Program, ActorOf}
 use Rattle.fr_program.specs.Lookup.{actor_at, variable_at}
-use Rattle.fr_program.specs.Limits.{InstrInLimits, is_letter, is_digit}
+use Rattle.fr_program.specs.Limits.{InstrInLimits}
 use Rattle.fr_program.specs.Uses.{variables_of, option_list, TargetsBelow}
 use Rattle.fr_program.specs.Fault.{EachInstr, is_shared, SuitsKind, SuitsActor, ResultsFit, OperandsFit, NamesThings}
 
@@ -66,10 +76,3 @@ IsCodeFreeOf P fault = EachInstr P (λ a i. IsInstrFreeOf P a (actor_at P a) i f
 
 abbrev pub IsCodeFaultless : Program → Type 0
 IsCodeFaultless P = EachInstr P (λ a i. IsInstrFaultless P a (actor_at P a) i)
-
--- a name, except that it may be a reserved word
-pub record IsWord (name : List ℕ) : Type 0 where
-  pub some : 1 ≤ length name
-  pub short : length name ≤ 32
-  pub letters : All (λ c. (is_letter c || is_digit c) ≡ true) name
-  pub first : is_digit (slice_index name 0) ≡ false

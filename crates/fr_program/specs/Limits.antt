@@ -9,17 +9,17 @@
 -- | most_ticks                                    | a block time or a delay is 0 to 2147483647 ticks                |
 -- | VariableInLimits, KindInLimits, InstrInLimits | the numbers of a variable, an object, an instruction are within |
 -- | IsName, names_of                              | what a name may be, and all names of an application             |
-use Rattle.std.specs.Prelude.{◌≡◌, ◌≤◌, ◌≤ℤ◌, ◌+◌, ℕ, ℤ, pos, List, [], ◌∷◌, ◌++◌, Bool, true, false, length, All, FitsSigned, slice_index, nat_le, nat_eq, ◌&&◌, ◌||◌, codes, Contains, map}
+use Rattle.std.specs.Prelude.{◌≡◌, ◌≤◌, ◌≤ℤ◌, ℕ, ℤ, pos, List, [], ◌∷◌, ◌++◌, Bool, true, false, length, All, FitsSigned, slice_index, nat_le, nat_eq, ◌&&◌, ◌||◌, codes, Contains, map}
 use Rattle.std.specs.Int.{w64}
 use Rattle.fr_program.specs.declared.instr.Instr.{Instr}
-use Rattle.fr_program.specs.declared.instr.Instr.TheVariants.{Set, If, Goto, Pick, Call as Calls, Return}
+use Rattle.fr_program.specs.declared.instr.Instr.TheVariants.{Set, If, Pick, Call as Calls}
 use Rattle.fr_program.specs.declared.instr.Call.TheVariants.{Delay, On}
 use Rattle.fr_program.specs.declared.instr.Action.{Action}
 use Rattle.fr_program.specs.declared.instr.Action.TheVariants.{QueueSend, QueueReceive, Take, Give, Send, Receive, Reset}
 use Rattle.fr_program.specs.declared.instr.Operand.{Operand}
 use Rattle.fr_program.specs.declared.instr.Operand.TheVariants.{Number, Variable}
 use Rattle.fr_program.specs.declared.parts.Kind.{Kind}
-use Rattle.fr_program.specs.declared.parts.Kind.TheVariants.{Queue, Binary, Counting, Mutex, Recursive, Stream, Message}
+use Rattle.fr_program.specs.declared.parts.Kind.TheVariants.{Queue, Counting, Stream, Message}
 use Rattle.fr_program.specs.declared.instr.BlockTime.{BlockTime}
 use Rattle.fr_program.specs.declared.instr.BlockTime.TheVariants.{Ticks, MaxDelay}
 use Rattle.fr_program.specs.declared.instr.Timing.{Timing}

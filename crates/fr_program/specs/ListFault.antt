@@ -1,11 +1,20 @@
 -- Faults of an application's lists, and of its names.
-use Rattle.std.specs.Prelude.{◌≡◌, ◌<◌, ◌≤◌, ◌≢◌, List, [], ℕ, length, IfSome, All, AllPairs, Option, Some, Bool, true, false, slice_get, ◌-◌}
+--
+-- | word                               | meaning                                                          |
+-- |------------------------------------|------------------------------------------------------------------|
+-- | HasOwner                           | a variable's owner, if it has one, is an actor that is there     |
+-- | leaves, ends_well                  | whether an instruction, the last of a code, doesn't go on        |
+-- | IsWord                             | a name, except that it may be a reserved word                    |
+-- | AreListsFaultless                  | variables, objects and ends of codes have no fault               |
+-- | AreNamesFaultless                  | names are names, and each stands once                            |
+-- | IsAlone, IsActorJudgedYet          | no object and one actor; a task that is judged today             |
+use Rattle.std.specs.Prelude.{◌≡◌, ◌<◌, ◌≤◌, ◌≢◌, List, [], ℕ, length, IfSome, All, AllPairs, Option, Some, Bool, true, false, slice_get, slice_index, ◌-◌, ◌||◌}
 use Rattle.fr_program.specs.declared.instr.Instr.{Instr}
 use Rattle.fr_program.specs.declared.instr.Instr.TheVariants.{Goto, Return, Call as Calls}
 use Rattle.fr_program.specs.declared.instr.Call.TheVariants.{DeleteSelf}
 use Rattle.fr_program.specs.declared.parts.ActorKind.TheVariants.{Task}
 use Rattle.fr_program.specs.Program.{Program, VariableOf, ActorOf}
-use Rattle.fr_program.specs.Limits.{VariableInLimits, KindInLimits, IsName, names_of}
+use Rattle.fr_program.specs.Limits.{VariableInLimits, KindInLimits, IsName, names_of, is_letter, is_digit}
 use Rattle.fr_program.specs.Fault.{IsSmall, EndsWell, IsInstrJudgedYet}
 
 -- the owner of the variable, where it has one, is among so many actors
@@ -45,3 +54,10 @@ pub record IsAlone (P : Program) : Type 0 where
 pub record IsActorJudgedYet (actor : ActorOf) : Type 0 where
   pub task : actor.kind ≡ Task
   pub code : All IsInstrJudgedYet actor.code
+
+-- a name, except that it may be a reserved word
+pub record IsWord (name : List ℕ) : Type 0 where
+  pub some : 1 ≤ length name
+  pub short : length name ≤ 32
+  pub letters : All (λ c. (is_letter c || is_digit c) ≡ true) name
+  pub first : is_digit (slice_index name 0) ≡ false

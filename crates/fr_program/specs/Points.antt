@@ -8,7 +8,7 @@
 -- | points_from      | the points of a list of actors, the first of which has this number       |
 -- | points_of        | all points of an application                                             |
 -- | point_number     | the number of a point: how many points come before it                    |
-use Rattle.std.specs.Prelude.{ℕ, suc, ◌+◌, List, [], ◌∷◌, ◌++◌, map, length, sum_by, take}
+use Rattle.std.specs.Prelude.{ℕ, ◌+◌, List, [], ◌∷◌, ◌++◌, map, length, sum_by, take}
 use Rattle.fr_program.specs.declared.instr.Instr.{Instr}
 use Rattle.fr_program.specs.declared.instr.Instr.TheVariants.{Call as Calls}
 use Rattle.fr_program.specs.declared.instr.Call.TheVariants.{On}

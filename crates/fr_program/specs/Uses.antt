@@ -11,7 +11,7 @@
 -- | is_from_isr                      | the call's name ends in FromISR or _FROM_ISR                        |
 use Rattle.std.specs.Prelude.{◌<◌, ◌++◌, ℕ, List, [], ◌∷◌, Option, None, Some, Bool, true, false, IfSome}
 use Rattle.fr_program.specs.declared.instr.Instr.{Instr}
-use Rattle.fr_program.specs.declared.instr.Instr.TheVariants.{Set, If, Goto, Pick, Call as Calls, Return}
+use Rattle.fr_program.specs.declared.instr.Instr.TheVariants.{Set, If, Goto, Pick, Call as Calls}
 use Rattle.fr_program.specs.declared.instr.Call.{Call}
 use Rattle.fr_program.specs.declared.instr.Call.TheVariants.{EnterCritical, ExitCritical, Create, Delete, On}
 use Rattle.fr_program.specs.declared.instr.Action.{Action}

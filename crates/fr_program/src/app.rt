@@ -45,12 +45,13 @@ impl App {
     ghost use Rattle.fr_program.specs.Lookup.{instr_of, object_at, variable_at, actor_at, is_interrupt};
     ghost use Rattle.fr_program.specs.View.{variable_of, object_of};
 
-    /// The application that the parts say. It needs memory for the table of points, and while the
-    /// names are compared: at most 160, each pair of them, for which too many are refused before.
+    /// The application that the parts say: Ok exactly where no build fault stands and no allocation
+    /// was refused. The table of points and the list of names take memory. Names are compared pair
+    /// by pair, which is cheap since more than 160 are refused before.
     ///
-    /// A refusal hands the parts back unchanged, with a fault that stands: the first that is
-    /// found, `BuildFault::NotYet` after all others; or `BuildFault::Memory` where an allocation
-    /// was refused.
+    /// On a refusal the parts come back unchanged, with a fault that stands. Where several stand,
+    /// which one is named is open, but `NotYet` comes after all others. `Memory` says that an
+    /// allocation was refused. The rules are this project's profile.
     pub fn build(alloc: Global, parts: Parts) -> Result<App, (BuildFault, Parts)>
         ensures same { IfOk result (λ app. app ≡ program_of parts) }
         ensures faultless { IfOk result (λ app. IsFaultless app) }
@@ -95,8 +96,7 @@ impl App {
     /// Points and their numbers are inverse to each other.
     pub fn is_numbered(&self)
         ensures { PointsAreNumbered self.now }
-    {
-    }
+    {}
 
     /// The number of a point, or None where the application has no such point. Numbers go by
     /// actor, then by instruction, `Before` then `Inside`.
@@ -126,7 +126,7 @@ impl App {
         }
     }
 
-    /// What the object is.
+    /// What the object is, which is one of the application's.
     pub fn kind(&self, object: ObjId) -> Kind
         requires { object.0 < length self.now.objects }
         ensures { result ≡ (object_at self.now object.0).kind }
@@ -134,7 +134,7 @@ impl App {
         self.parts.objects[object.0].kind
     }
 
-    /// The variable with this number.
+    /// The variable with this number, which is one of the application's.
     pub fn variable(&self, x: VarId) -> &Variable
         requires { x.0 < length self.now.variables }
         ensures { variable_of result.now ≡ variable_at self.now x.0 }
@@ -142,7 +142,7 @@ impl App {
         &self.parts.variables[x.0]
     }
 
-    /// The range of the variable, as it is declared.
+    /// The declared range of a variable of the application.
     pub fn range(&self, x: VarId) -> Range
         requires { x.0 < length self.now.variables }
         ensures lo { result.lo ≡ (variable_at self.now x.0).lo }
@@ -155,7 +155,7 @@ impl App {
         }
     }
 
-    /// Whether the actor is an interrupt.
+    /// Whether an actor of the application is an interrupt.
     pub fn is_interrupt(&self, actor: ActorId) -> bool
         requires { actor.0 < length self.now.actors }
         ensures { result ≡ is_interrupt (actor_at self.now actor.0).kind }

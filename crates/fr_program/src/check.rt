@@ -89,10 +89,10 @@ fn check_code(parts: &Parts) -> Result<(), BuildFault>
 fn check_code_of(parts: &Parts, a: ActorId, actor: &Actor) -> Result<(), BuildFault>
     ensures ok { OnOk result
         (All (λ i. IsInstrFaultless (program_of parts.now) a.0 (actor_of actor.now) i)
-            (actor_of actor.now).code) }
+        (actor_of actor.now).code) }
     ensures err { IfErr result
         (λ f. All (λ i. IsInstrFreeOf (program_of parts.now) a.0 (actor_of actor.now) i f)
-            (actor_of actor.now).code → ⊥) }
+        (actor_of actor.now).code → ⊥) }
 {
     for instr in &actor.code {
         check_instr(parts, a, actor, *instr)?;

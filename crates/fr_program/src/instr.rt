@@ -2,14 +2,14 @@
 use crate::ids::{ObjId, VarId};
 
 /// A number, or the value of a variable.
-#[derive(Clone, Copy, Debug, PartialEq, Eq)]
+#[derive(Clone, Copy, Debug, PartialEq)]
 pub enum Operand {
     Number(i64),
     Variable(VarId),
 }
 
 /// What a `set` computes of its two operands.
-#[derive(Clone, Copy, Debug, PartialEq, Eq)]
+#[derive(Clone, Copy, Debug, PartialEq)]
 pub enum Operator {
     Plus,
     Minus,
@@ -17,7 +17,7 @@ pub enum Operator {
 }
 
 /// How an `if` compares its two operands: `<`, `<=`, `>`, `>=`, `==`, `!=`.
-#[derive(Clone, Copy, Debug, PartialEq, Eq)]
+#[derive(Clone, Copy, Debug, PartialEq)]
 pub enum Comparison {
     Less,
     AtMost,
@@ -28,14 +28,14 @@ pub enum Comparison {
 }
 
 /// How long a task's call may wait: a number of ticks, or `portMAX_DELAY`, which is without limit.
-#[derive(Clone, Copy, Debug, PartialEq, Eq)]
+#[derive(Clone, Copy, Debug, PartialEq)]
 pub enum BlockTime {
     Ticks(u32),
     MaxDelay,
 }
 
 /// The form of a call that has no block time: the one for tasks, or the one for interrupts.
-#[derive(Clone, Copy, Debug, PartialEq, Eq)]
+#[derive(Clone, Copy, Debug, PartialEq)]
 pub enum Form {
     Task,
     FromIsr,
@@ -43,14 +43,14 @@ pub enum Form {
 
 /// The form of a call on a queue or a buffer: a task's, with its block time, or the one for
 /// interrupts, which answers at once.
-#[derive(Clone, Copy, Debug, PartialEq, Eq)]
+#[derive(Clone, Copy, Debug, PartialEq)]
 pub enum Timing {
     Waits(BlockTime),
     FromIsr,
 }
 
 /// `xSemaphoreTake`, `xSemaphoreTakeRecursive` or `xSemaphoreTakeFromISR`.
-#[derive(Clone, Copy, Debug, PartialEq, Eq)]
+#[derive(Clone, Copy, Debug, PartialEq)]
 pub enum TakeForm {
     Plain(BlockTime),
     Recursive(BlockTime),
@@ -58,7 +58,7 @@ pub enum TakeForm {
 }
 
 /// `xSemaphoreGive`, `xSemaphoreGiveRecursive` or `xSemaphoreGiveFromISR`.
-#[derive(Clone, Copy, Debug, PartialEq, Eq)]
+#[derive(Clone, Copy, Debug, PartialEq)]
 pub enum GiveForm {
     Plain,
     Recursive,
@@ -66,14 +66,14 @@ pub enum GiveForm {
 }
 
 /// Whether a buffer call is one for stream buffers or one for message buffers.
-#[derive(Clone, Copy, Debug, PartialEq, Eq)]
+#[derive(Clone, Copy, Debug, PartialEq)]
 pub enum BufferKind {
     Stream,
     Message,
 }
 
 /// What a create call makes.
-#[derive(Clone, Copy, Debug, PartialEq, Eq)]
+#[derive(Clone, Copy, Debug, PartialEq)]
 pub enum CreatedKind {
     Queue,
     Binary,
@@ -85,7 +85,7 @@ pub enum CreatedKind {
 }
 
 /// What a delete call takes: `vSemaphoreDelete` is for semaphores and mutexes of every kind.
-#[derive(Clone, Copy, Debug, PartialEq, Eq)]
+#[derive(Clone, Copy, Debug, PartialEq)]
 pub enum DeletedKind {
     Queue,
     Semaphore,
@@ -95,7 +95,7 @@ pub enum DeletedKind {
 
 /// What an object call does. Such a call has a begin and an end, and between them its actor is
 /// inside it. `or_else` is the instruction that follows a failure, where the line names one.
-#[derive(Clone, Copy, Debug, PartialEq, Eq)]
+#[derive(Clone, Copy, Debug, PartialEq)]
 pub enum Action {
     QueueSend {
         value: Operand,
@@ -136,7 +136,7 @@ pub enum Action {
 }
 
 /// A kernel call.
-#[derive(Clone, Copy, Debug, PartialEq, Eq)]
+#[derive(Clone, Copy, Debug, PartialEq)]
 pub enum Call {
     EnterCritical(Form),
     ExitCritical(Form),
@@ -163,7 +163,7 @@ pub enum Call {
 }
 
 /// One line of an actor's code. A target is an instruction's place in that code, from 0.
-#[derive(Clone, Copy, Debug, PartialEq, Eq)]
+#[derive(Clone, Copy, Debug, PartialEq)]
 pub enum Instr {
     Set {
         target: VarId,

@@ -11,6 +11,8 @@ mod instr;
 mod parts;
 mod range;
 mod table;
+#[cfg(test)]
+mod tests;
 
 pub use app::App;
 pub use fault::BuildFault;

@@ -3,7 +3,7 @@ use crate::ids::ActorId;
 use crate::instr::Instr;
 
 /// What an object is, with the keys that only its kind has.
-#[derive(Clone, Copy, Debug, PartialEq, Eq)]
+#[derive(Clone, Copy, Debug, PartialEq)]
 pub enum Kind {
     /// Holds up to `size` values from `lo` to `hi`.
     Queue { size: i64, lo: i64, hi: i64 },
@@ -19,7 +19,7 @@ pub enum Kind {
 }
 
 /// Whether an actor is a task or an interrupt's handler.
-#[derive(Clone, Copy, Debug, PartialEq, Eq)]
+#[derive(Clone, Copy, Debug, PartialEq)]
 pub enum ActorKind {
     Task,
     Interrupt,

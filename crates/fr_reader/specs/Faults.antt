@@ -2,6 +2,8 @@
 use Rattle.std.specs.Prelude.{◌≡◌, ◌⊎◌, ℕ, List, Bool, true, false, IsTrue, Option, Some, None, string_bytes}
 use Rattle.toml.specs.Data.{Data, string, array, table, Items, Members, get_member, get_item, as_str}
 use Rattle.fr_reader.specs.Keys.{field, is_key_of, IsKeyOf, IsRequired, suits, kind_word, actor_word}
+use Rattle.fr_instr.specs.declared.fault.LineFault.TheVariants as line
+use Rattle.fr_program.specs.declared.fault.BuildFault.TheVariants as build
 use Rattle.fr_reader.specs.declared.key.Key.{Key}
 use Rattle.fr_reader.specs.declared.key.Key.TheVariants as key
 use Rattle.fr_reader.specs.declared.key.ObjectKind.{ObjectKind}
@@ -10,9 +12,16 @@ use Rattle.fr_reader.specs.declared.key.Place.TheVariants as place
 use Rattle.fr_reader.specs.declared.fault.ReadFault.{ReadFault}
 use Rattle.fr_reader.specs.declared.fault.ReadFault.TheVariants as fault
 
+-- an allocation was refused, here or in the fault of a line or of the parts
+abbrev pub is_memory : ReadFault → Bool
+is_memory fault.Memory = true
+is_memory (fault.Line actor i line.Memory) = true
+is_memory (fault.Build build.Memory) = true
+is_memory f = false
+
 -- a fault that is not want of memory stands
 abbrev pub Standing : (ReadFault → Type 0) → ReadFault → Type 0
-Standing P f = ¬ (f ≡ fault.Memory) → P f
+Standing P f = is_memory f ≡ false → P f
 
 -- the fault stands in a table of this kind: a key is missing, of a wrong type, or unknown
 abbrev pub InTable : Place → Members → ReadFault → Type 0

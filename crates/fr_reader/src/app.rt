@@ -1,4 +1,12 @@
 // From bytes to an application.
+ghost use Rattle.std.specs.Prelude.{◌≡◌, ℕ, List, Bool, false, IfOk, IfErr};
+ghost use Rattle.toml.specs.View.{table_view};
+ghost use Rattle.fr_program.specs.Program.{Program};
+ghost use Rattle.fr_reader.specs.Meaning.{IsTableText, Means};
+ghost use Rattle.fr_reader.specs.Faults.{Standing, is_memory};
+ghost use Rattle.fr_reader.specs.Stands.{InBytes, Stands};
+ghost use Rattle.fr_reader.specs.declared.fault.ReadFault.{ReadFault as Refusal};
+
 use crate::fault::ReadFault;
 use crate::{parts, texts};
 use fr_program::App;
@@ -8,7 +16,10 @@ use toml::Table;
 const MOST_BYTES: usize = 1_048_576;
 
 // The table that the bytes are the text of.
-fn table_of(alloc: Global, bytes: &[u8]) -> Result<Table, ReadFault> {
+fn table_of(alloc: Global, bytes: &[u8]) -> Result<Table, ReadFault>
+    ensures ok { IfOk result (λ table. IsTableText bytes.now (table_view table)) }
+    ensures err { IfErr result (Standing (InBytes bytes.now)) }
+{
     if bytes.len() > MOST_BYTES {
         return Err(ReadFault::TooLong);
     }
@@ -23,7 +34,19 @@ fn table_of(alloc: Global, bytes: &[u8]) -> Result<Table, ReadFault> {
 }
 
 /// The application that the bytes stand for.
-pub fn read_app(alloc: Global, bytes: &[u8]) -> Result<App, ReadFault> {
+///
+/// The bytes are a TOML text, as the crate `toml` reads it, of at most 1,048,576 bytes, with the
+/// keys `variable`, `object` and `actor`, each an array of tables; this is this project's profile.
+/// Each line of an actor's code is read by `fr_instr::read_line`, and the parts are an application
+/// where `App::build` says so.
+///
+/// Its errors are those of `ReadFault`: one that stands in the bytes, where they stand for no
+/// application. `Line` comes only where no fault before it stands, and `Build` only where no fault
+/// before it does. `is_memory` tells the refusal of an allocation from all others.
+pub fn read_app(alloc: Global, bytes: &[u8]) -> Result<App, ReadFault>
+    ensures ok { IfOk result (Means bytes.now) }
+    ensures err { IfErr result (Standing (Stands bytes.now)) }
+{
     let table = table_of(alloc, bytes)?;
     let texts = texts::texts_of(alloc, &table)?;
     let parts = parts::parts_of(alloc, &texts)?;
@@ -32,3 +55,13 @@ pub fn read_app(alloc: Global, bytes: &[u8]) -> Result<App, ReadFault> {
         Err((fault, _)) => Err(ReadFault::Build(fault)),
     }
 }
+
+/// Bytes stand for one application at the most.
+pub fn one_meaning()
+    ensures { (bytes : List ℕ) (P Q : Program) → Means bytes P → Means bytes Q → P ≡ Q }
+{}
+
+/// Bytes in which a fault stands that is no refused allocation stand for no application.
+pub fn no_meaning()
+    ensures { (bytes : List ℕ) (f : Refusal) (P : Program) → is_memory f ≡ false → Stands bytes f → Means bytes P → ⊥ }
+{}

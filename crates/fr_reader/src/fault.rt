@@ -1,5 +1,5 @@
 // Why a text is no application.
-ghost use Rattle.std.specs.Prelude.{◌≡◌};
+ghost use Rattle.std.specs.Prelude.{◌≡◌, Some};
 ghost use Rattle.fr_reader.specs.declared.fault.ReadFault.TheVariants.{Memory};
 
 use crate::key::Key;
@@ -40,8 +40,12 @@ pub enum ReadFault {
 }
 
 impl ReadFault {
+    ghost use Rattle.fr_reader.specs.Faults.{is_memory};
+
     /// Whether an allocation was refused, here or in the fault of a line or of the parts.
-    pub fn is_memory(&self) -> bool {
+    pub fn is_memory(&self) -> bool
+        ensures { result ≡ is_memory self.now }
+    {
         match self {
             ReadFault::Memory => true,
             ReadFault::Line { fault, .. } => *fault == LineFault::Memory,
@@ -52,6 +56,10 @@ impl ReadFault {
 }
 
 impl fmt::Display for ReadFault {
+    ghost use Rattle.fr_reader.specs.FaultText.{fault_text};
+
+    ghost output = { λ fault. Some (fault_text fault) };
+
     fn fmt<W: fmt::Write>(&self, f: &mut fmt::Formatter<W>) -> fmt::Result {
         match self {
             ReadFault::Memory => f.write_str("0 Memory"),

@@ -15,6 +15,6 @@ mod tests;
 mod texts;
 mod variable;
 
-pub use app::read_app;
+pub use app::{no_meaning, one_meaning, read_app};
 pub use fault::ReadFault;
 pub use key::Key;

@@ -1,6 +1,18 @@
 // Names: what a name is, and that each one stands once among variables, objects and actors.
+ghost use Rattle.std.specs.Prelude.{◌≡◌, ◌↔◌, ◌++◌, ◌||◌, IsTrue, true, All, OnOk, IfOk, IfErr, map};
+ghost use Rattle.std.specs.Str.{bytes_eq};
+ghost use Rattle.std.specs.List.{list_any};
+ghost use Rattle.fr_program.specs.Limits.{IsName, is_letter, is_digit, reserved};
+ghost use Rattle.fr_reader.specs.Meaning.{AreNames, lists_in};
+ghost use Rattle.fr_reader.specs.Faults.{Standing};
+ghost use Rattle.fr_reader.specs.Stands.{InNames};
+ghost use Rattle.fr_reader.specs.Views.{line_text, texts_view};
+
+use crate::actor::ActorText;
 use crate::fault::ReadFault;
+use crate::object::ObjectText;
 use crate::texts::Texts;
+use crate::variable::VariableText;
 use indexmap::IndexSet;
 use std::alloc::{AllocError, Global};
 
@@ -12,49 +24,95 @@ pub(crate) struct NameLists<'a> {
     pub actors: Vec<&'a str>,
 }
 
-const RESERVED: [&str; 8] = [
-    "set",
-    "if",
-    "goto",
-    "pick",
-    "return",
-    "else",
-    "NULL",
-    "portMAX_DELAY",
-];
-
 const MOST_BYTES: usize = 32;
 
-fn is_name_byte(byte: u8) -> bool {
-    byte.is_ascii_alphanumeric() || byte == b'_'
+fn is_name_byte(byte: u8) -> bool
+    ensures { result ≡ (is_letter byte || is_digit byte) }
+{
+    byte.is_ascii_alphabetic() || byte == b'_' || byte.is_ascii_digit()
+}
+
+fn is_word(bytes: &[u8]) -> bool
+    ensures { IsTrue result ↔ All (λ c. (is_letter c || is_digit c) ≡ true) bytes.now }
+{
+    bytes.iter().all(|byte| is_name_byte(*byte))
+}
+
+fn is_reserved(text: &str) -> bool
+    ensures { result ≡ list_any (bytes_eq text.now) reserved }
+{
+    text == "set"
+        || text == "if"
+        || text == "goto"
+        || text == "pick"
+        || text == "return"
+        || text == "else"
+        || text == "NULL"
+        || text == "portMAX_DELAY"
 }
 
 // Whether this is 1 to 32 ASCII letters, digits and underscores, with no digit first, and no reserved word.
-fn is_name(text: &str) -> bool {
+fn is_name(text: &str) -> bool
+    ensures { IsTrue result ↔ IsName text.now }
+{
     let bytes = text.as_bytes();
-    let Some(first) = bytes.first() else {
+    if bytes.is_empty() || bytes.len() > MOST_BYTES {
         return false;
-    };
-    bytes.len() <= MOST_BYTES
-        && !first.is_ascii_digit()
-        && bytes.iter().all(|byte| is_name_byte(*byte))
-        && !RESERVED.contains(&text)
+    }
+    if bytes[0].is_ascii_digit() || !is_word(bytes) {
+        return false;
+    }
+    !is_reserved(text)
 }
 
-pub(crate) fn names_of<'a>(alloc: Global, texts: &Texts<'a>) -> Result<NameLists<'a>, AllocError> {
+fn variable_names<'a>(alloc: Global, texts: &[VariableText<'a>]) -> Result<Vec<&'a str>, AllocError>
+    ensures { IfOk result (λ names. names.items ≡ map (λ v. v.name) texts.now) }
+{
+    texts.iter().map(|v| v.name).collect(alloc)
+}
+
+fn object_names<'a>(alloc: Global, texts: &[ObjectText<'a>]) -> Result<Vec<&'a str>, AllocError>
+    ensures { IfOk result (λ names. names.items ≡ map (λ o. o.name) texts.now) }
+{
+    texts.iter().map(|o| o.name).collect(alloc)
+}
+
+fn actor_names<'a>(alloc: Global, texts: &[ActorText<'a>]) -> Result<Vec<&'a str>, AllocError>
+    ensures { IfOk result (λ names. names.items ≡ map (λ a. a.name) texts.now) }
+{
+    texts.iter().map(|a| a.name).collect(alloc)
+}
+
+/// The names in the texts, as three lists.
+pub(crate) fn names_of<'a>(alloc: Global, texts: &Texts<'a>) -> Result<NameLists<'a>, AllocError>
+    ensures variables { IfOk result (λ lists. map line_text lists.variables.items ≡ (lists_in (texts_view texts.now)).variables) }
+    ensures objects { IfOk result (λ lists. map line_text lists.objects.items ≡ (lists_in (texts_view texts.now)).objects) }
+    ensures actors { IfOk result (λ lists. map line_text lists.actors.items ≡ (lists_in (texts_view texts.now)).actors) }
+{
     Ok(NameLists {
-        variables: texts.variables.iter().map(|v| v.name).collect(alloc)?,
-        objects: texts.objects.iter().map(|o| o.name).collect(alloc)?,
-        actors: texts.actors.iter().map(|a| a.name).collect(alloc)?,
+        variables: variable_names(alloc, &texts.variables)?,
+        objects: object_names(alloc, &texts.objects)?,
+        actors: actor_names(alloc, &texts.actors)?,
     })
 }
 
-// Puts the names behind those that are there.
-fn add_names<'a>(
-    alloc: Global,
-    seen: &mut IndexSet<&'a str>,
-    names: &[&'a str],
-) -> Result<(), ReadFault> {
+// The names of the three lists together.
+fn all_names<'a>(alloc: Global, lists: &NameLists<'a>) -> Result<Vec<&'a str>, AllocError>
+    ensures { IfOk result (λ all. all.items ≡ lists.now.variables.items ++ (lists.now.objects.items ++ lists.now.actors.items)) }
+{
+    let mut all = Vec::new(alloc);
+    all.extend_from_slice(&lists.variables)?;
+    all.extend_from_slice(&lists.objects)?;
+    all.extend_from_slice(&lists.actors)?;
+    Ok(all)
+}
+
+// Finds a text that is no name, or a name that stands twice.
+fn check_each(alloc: Global, names: &[&str]) -> Result<(), ReadFault>
+    ensures ok { OnOk result (AreNames (map line_text names.now)) }
+    ensures err { IfErr result (Standing (InNames (map line_text names.now))) }
+{
+    let mut seen = IndexSet::new(alloc);
     for name in names {
         if !is_name(name) {
             return Err(ReadFault::BadName);
@@ -67,10 +125,11 @@ fn add_names<'a>(
     Ok(())
 }
 
-/// Finds a name that is none, or one that stands twice among the three lists.
-pub(crate) fn check_names(alloc: Global, names: &NameLists) -> Result<(), ReadFault> {
-    let mut seen = IndexSet::new(alloc);
-    add_names(alloc, &mut seen, &names.variables)?;
-    add_names(alloc, &mut seen, &names.objects)?;
-    add_names(alloc, &mut seen, &names.actors)
+/// Finds a text in a name's place that is none, or a name that stands twice among the three lists.
+pub(crate) fn check_names(alloc: Global, lists: &NameLists) -> Result<(), ReadFault>
+    ensures ok { OnOk result (AreNames (map line_text lists.now.variables.items ++ (map line_text lists.now.objects.items ++ map line_text lists.now.actors.items))) }
+    ensures err { IfErr result (Standing (InNames (map line_text lists.now.variables.items ++ (map line_text lists.now.objects.items ++ map line_text lists.now.actors.items)))) }
+{
+    let all = all_names(alloc, lists)?;
+    check_each(alloc, &all)
 }

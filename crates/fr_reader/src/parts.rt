@@ -1,4 +1,13 @@
 // The parts that the texts say: owners by number, and lines as instructions.
+ghost use Rattle.std.specs.Prelude.{◌≡◌, ◌++◌, Some, true, IfOk, IfErr, map, option_copied, string_bytes};
+ghost use Rattle.std.specs.List.{AllZip};
+ghost use Rattle.fr_instr.specs.Lines.{IsLine};
+ghost use Rattle.fr_program.specs.View as program;
+ghost use Rattle.fr_reader.specs.Meaning.{AreNames, IsOwner, IsOwned, IsCoded, Says, names_in};
+ghost use Rattle.fr_reader.specs.Faults.{is_memory, Standing};
+ghost use Rattle.fr_reader.specs.Stands.{IsNoOwner, InOwner, InOwners, InLine, InLines, InCode, InTexts};
+ghost use Rattle.fr_reader.specs.Views.{variable_text, object_text, actor_text, line_text, texts_view};
+
 use crate::actor::ActorText;
 use crate::fault::ReadFault;
 use crate::key::Key;
@@ -10,7 +19,10 @@ use fr_instr::Names;
 use fr_program::{Actor, ActorId, Instr, Object, Parts, Variable};
 use std::alloc::Global;
 
-fn owner_of(names: &Names, owner: Option<&str>) -> Result<Option<ActorId>, ReadFault> {
+fn owner_of(names: &Names, owner: Option<&str>) -> Result<Option<ActorId>, ReadFault>
+    ensures ok { IfOk result (IsOwner names.now.actors (option_copied owner.entry)) }
+    ensures err { IfErr result (Standing (IsNoOwner names.now.actors (option_copied owner.entry))) }
+{
     let Some(name) = owner else {
         return Ok(None);
     };
@@ -20,7 +32,10 @@ fn owner_of(names: &Names, owner: Option<&str>) -> Result<Option<ActorId>, ReadF
     }
 }
 
-fn variable_of(alloc: Global, names: &Names, text: &VariableText) -> Result<Variable, ReadFault> {
+fn variable_of(alloc: Global, names: &Names, text: &VariableText) -> Result<Variable, ReadFault>
+    ensures ok { IfOk result (λ v. IsOwned names.now.actors (variable_text text.now) (program.variable_of v)) }
+    ensures err { IfErr result (Standing (InOwner names.now.actors (variable_text text.now))) }
+{
     Ok(Variable {
         name: String::from_str(alloc, text.name)?,
         lo: text.lo,
@@ -34,7 +49,10 @@ fn variables_of(
     alloc: Global,
     names: &Names,
     texts: &[VariableText],
-) -> Result<Vec<Variable>, ReadFault> {
+) -> Result<Vec<Variable>, ReadFault>
+    ensures ok { IfOk result (λ vs. AllZip (IsOwned names.now.actors) (map variable_text texts.now) (map program.variable_of vs.items)) }
+    ensures err { IfErr result (Standing (InOwners names.now.actors (map variable_text texts.now))) }
+{
     let mut variables = Vec::new(alloc);
     for text in texts {
         variables.push(variable_of(alloc, names, text)?)?;
@@ -42,7 +60,10 @@ fn variables_of(
     Ok(variables)
 }
 
-fn object_of(alloc: Global, text: &ObjectText) -> Result<Object, ReadFault> {
+fn object_of(alloc: Global, text: &ObjectText) -> Result<Object, ReadFault>
+    ensures ok { IfOk result (λ o. program.object_of o ≡ object_text text.now) }
+    ensures err { IfErr result (λ f. is_memory f ≡ true) }
+{
     Ok(Object {
         name: String::from_str(alloc, text.name)?,
         kind: text.kind,
@@ -50,7 +71,10 @@ fn object_of(alloc: Global, text: &ObjectText) -> Result<Object, ReadFault> {
     })
 }
 
-fn objects_of(alloc: Global, texts: &[ObjectText]) -> Result<Vec<Object>, ReadFault> {
+fn objects_of(alloc: Global, texts: &[ObjectText]) -> Result<Vec<Object>, ReadFault>
+    ensures ok { IfOk result (λ os. AllZip (λ text o. o ≡ text) (map object_text texts.now) (map program.object_of os.items)) }
+    ensures err { IfErr result (λ f. is_memory f ≡ true) }
+{
     let mut objects = Vec::new(alloc);
     for text in texts {
         objects.push(object_of(alloc, text)?)?;
@@ -65,7 +89,10 @@ fn instr_of(
     actor: &str,
     index: usize,
     line: &str,
-) -> Result<Instr, ReadFault> {
+) -> Result<Instr, ReadFault>
+    ensures ok { IfOk result (IsLine names.now line.now) }
+    ensures err { IfErr result (Standing (InLine names.now actor.now index line.now)) }
+{
     match fr_instr::read_line(alloc, line, names) {
         Ok(instr) => Ok(instr),
         Err(fault) => Err(ReadFault::Line {
@@ -81,7 +108,10 @@ fn code_of(
     names: &Names,
     actor: &str,
     lines: &[&str],
-) -> Result<Vec<Instr>, ReadFault> {
+) -> Result<Vec<Instr>, ReadFault>
+    ensures ok { IfOk result (λ code. AllZip (IsLine names.now) (map line_text lines.now) code.items) }
+    ensures err { IfErr result (Standing (InLines names.now actor.now (map line_text lines.now))) }
+{
     let mut code = Vec::new(alloc);
     for (index, line) in lines.iter().enumerate() {
         code.push(instr_of(alloc, names, actor, index, line)?)?;
@@ -89,7 +119,10 @@ fn code_of(
     Ok(code)
 }
 
-fn actor_of(alloc: Global, names: &Names, text: &ActorText) -> Result<Actor, ReadFault> {
+fn actor_of(alloc: Global, names: &Names, text: &ActorText) -> Result<Actor, ReadFault>
+    ensures ok { IfOk result (λ a. IsCoded names.now (actor_text text.now) (program.actor_of a)) }
+    ensures err { IfErr result (Standing (InLines names.now text.now.name.now (map line_text text.now.lines.items))) }
+{
     Ok(Actor {
         name: String::from_str(alloc, text.name)?,
         kind: text.kind,
@@ -97,7 +130,10 @@ fn actor_of(alloc: Global, names: &Names, text: &ActorText) -> Result<Actor, Rea
     })
 }
 
-fn actors_of(alloc: Global, names: &Names, texts: &[ActorText]) -> Result<Vec<Actor>, ReadFault> {
+fn actors_of(alloc: Global, names: &Names, texts: &[ActorText]) -> Result<Vec<Actor>, ReadFault>
+    ensures ok { IfOk result (λ xs. AllZip (IsCoded names.now) (map actor_text texts.now) (map program.actor_of xs.items)) }
+    ensures err { IfErr result (Standing (InCode names.now (map actor_text texts.now))) }
+{
     let mut actors = Vec::new(alloc);
     for text in texts {
         actors.push(actor_of(alloc, names, text)?)?;
@@ -106,7 +142,11 @@ fn actors_of(alloc: Global, names: &Names, texts: &[ActorText]) -> Result<Vec<Ac
 }
 
 /// The parts that the texts say. Names are asked for first, then owners, then lines.
-pub(crate) fn parts_of(alloc: Global, texts: &Texts) -> Result<Parts, ReadFault> {
+pub(crate) fn parts_of(alloc: Global, texts: &Texts) -> Result<Parts, ReadFault>
+    ensures names { IfOk result (λ _. AreNames (names_in (texts_view texts.now))) }
+    ensures ok { IfOk result (λ parts. Says (texts_view texts.now) (program.program_of parts)) }
+    ensures err { IfErr result (Standing (InTexts (texts_view texts.now))) }
+{
     let lists = names::names_of(alloc, texts)?;
     names::check_names(alloc, &lists)?;
     let names = Names::build(alloc, &lists.variables, &lists.objects, &lists.actors)?;

@@ -1,8 +1,7 @@
 // Names: what may be one, and that each stands once. There are at most 160, so each pair is compared.
 ghost use Rattle.std.specs.Prelude.{◌≡◌, ◌≢◌, ◌≤◌, ◌<◌, ◌↔◌, ◌||◌, IsTrue, All, AllPairs, Contains, IfOk, IfErr, map, length, slice_index, take, drop};
 ghost use Rattle.fr_program.specs.Limits.{IsName, names_of, is_letter, is_digit, reserved};
-ghost use Rattle.fr_program.specs.InstrFault.{IsWord};
-ghost use Rattle.fr_program.specs.ListFault.{HasOwner};
+ghost use Rattle.fr_program.specs.ListFault.{HasOwner, IsWord};
 ghost use Rattle.fr_program.specs.View.{variable_of, program_of};
 
 use crate::fault::BuildFault;
@@ -16,7 +15,10 @@ pub fn names_of(alloc: Global, parts: &Parts) -> Result<Vec<&str>, BuildFault>
     ensures ok { IfOk result (λ names. map (λ n. n.now) names.items ≡ names_of (program_of parts.now)) }
     ensures err { IfErr result (λ f. f ≡ BuildFault.Memory) }
 {
-    let variables = parts.variables.iter().map(|variable| variable.name.as_str());
+    let variables = parts
+        .variables
+        .iter()
+        .map(|variable| variable.name.as_str());
     let objects = parts.objects.iter().map(|object| object.name.as_str());
     let actors = parts.actors.iter().map(|actor| actor.name.as_str());
     Ok(variables.chain(objects.chain(actors)).collect(alloc)?)

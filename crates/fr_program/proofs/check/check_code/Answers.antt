@@ -1,5 +1,5 @@
 -- The actor that was read is the one with its number, so what holds along its code holds at its places.
-use Rattle.std.proofs.Common.{◌≡◌, ◌<◌, ℕ, Some, length, ap, arith, below_more}
+use Rattle.std.proofs.Common.{◌≡◌, ℕ, Some, length, ap, arith, below_more}
 use Rattle.std.proofs.lemmas.List.{length-map}
 use Rattle.std.proofs.lemmas.Result.{err_from_is_err_and}
 use Rattle.fr_program.specs.declared.instr.Instr.{Instr}
@@ -30,7 +30,7 @@ loop-a-preserved c =
     let same = ap (λ xs. length xs) c.deref-actor-items.ensures.value in
     let is = actor_at-read actors a actor (omega arith) (read_same actors _ a actor c.deref-actor-items.ensures.value c.actor-item.is) in
     below_more (λ n. (pc : ℕ) (i : Instr) → instr_at P n pc ≡ Some i → IsInstrFaultless P n (actor_at P n) i) a c.loop-a.invariant
-        (places-from_code P (λ x i. IsInstrFaultless P a x i) a (actor_of actor) is c.in_ok-check_code_of.ensures.ok)
+    (places-from_code P (λ x i. IsInstrFaultless P a x i) a (actor_of actor) is c.in_ok-check_code_of.ensures.ok)
 
 pub returns-clause-ok : goal.returns-clause-ok
 returns-clause-ok c = λ a pc i at.

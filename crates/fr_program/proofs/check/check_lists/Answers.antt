@@ -1,5 +1,5 @@
 -- Each list is checked as it is held; what holds there holds of the list that it stands for.
-use Rattle.std.proofs.Common.{◌≡◌, length, true, subst, sym, ap, ◌∙◌, All}
+use Rattle.std.proofs.Common.{◌≡◌, true, subst, sym, ◌∙◌, All}
 use Rattle.std.proofs.lemmas.List.{length-map}
 use Rattle.std.proofs.lemmas.List.Elements.{All-map}
 use Rattle.fr_program.specs.Program.{ObjectOf, ActorOf}

@@ -18,5 +18,5 @@ returns-then-not-stand_once-clause-err c = λ other free.
 pub returns-clause-ok : goal.returns-clause-ok
 returns-clause-ok c =
     names-from_read (program_of c.args.parts.now) text c.in_ok-names.names.items c.in_ok-names.ensures.ok
-        (rw (← c.deref.ensures.value) (c.are_names.ensures.0 c.if-not-are_names.false))
-        (rw (← c.deref-else-not-are_names.ensures.value) (c.stand_once.ensures.0 c.if-not-stand_once.false))
+    (rw (← c.deref.ensures.value) (c.are_names.ensures.0 c.if-not-are_names.false))
+    (rw (← c.deref-else-not-are_names.ensures.value) (c.stand_once.ensures.0 c.if-not-stand_once.false))

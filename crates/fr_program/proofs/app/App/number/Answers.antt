@@ -1,6 +1,5 @@
 -- The instruction's row and start are those of the table, which count the points before it; its sides come after.
-use Rattle.std.proofs.Common.{◌≡◌, ◌<◌, ◌+◌, ℕ, Some, None, length, map, get_or, sym, subst, ap, ◌∙◌, arith}
-use Rattle.fr_program.specs.declared.instr.Instr.{Instr}
+use Rattle.std.proofs.Common.{◌≡◌, None, length, map, sym, subst, ap, ◌∙◌, arith}
 use Rattle.fr_program.specs.Points.{points_of}
 use Rattle.fr_program.specs.PointNumbers.{starts_from}
 use Rattle.fr_program.proofs.PointLaws.{points_are_numbered}
@@ -49,8 +48,8 @@ returns-in-Some-clause-inverse c =
     let start = c.index-start.result.now in
     let read = row_read P (λ v. v.items) c.self.inside.starts.items row p.actor.0 p.pc c.in-Some.instr.now starts c.index.ensures (sym c.in-Some.ensures) in
     inverse_of P (points_are_numbered P) p c.number_from.result
-        (some_number P p c.in-Some.instr.now start c.number_from.result (sym c.in-Some.ensures) (c.index-start.ensures ∙ read.1 start) c.number_from.ensures.some)
-        (no_number P p c.in-Some.instr.now c.number_from.result (sym c.in-Some.ensures) c.number_from.ensures.none)
+    (some_number P p c.in-Some.instr.now start c.number_from.result (sym c.in-Some.ensures) (c.index-start.ensures ∙ read.1 start) c.number_from.ensures.some)
+    (no_number P p c.in-Some.instr.now c.number_from.result (sym c.in-Some.ensures) c.number_from.ensures.none)
 
 pub returns-in-None-clause-inverse : goal.returns-in-None-clause-inverse
 returns-in-None-clause-inverse c =

@@ -7,8 +7,10 @@ use Rattle.fr_program.proofs.check.names.is_reserved.Goals as goal
 
 pub returns-else-is_line_word : goal.returns-else-is_line_word
 returns-else-is_line_word c =
-    let name = c.args.name.now in
-    ( λ t. Contains-append_right (take 4 reserved) (drop 4 reserved) name (c.is_end_word.ensures.0 t)
-    , λ has. elim (Contains-append_cases (take 4 reserved) (drop 4 reserved) name has) [
-        inl first ↦ absurd (false≢true (sym c.if-is_line_word.false ∙ c.is_line_word.ensures.1 first))
-      | inr later ↦ c.is_end_word.ensures.1 later ] )
+    let name = c.args.name.now in (
+      λ t. Contains-append_right (take 4 reserved) (drop 4 reserved) name (c.is_end_word.ensures.0 t),
+      λ has. elim (Contains-append_cases (take 4 reserved) (drop 4 reserved) name has) [
+        | inl first ↦ absurd (false≢true (sym c.if-is_line_word.false ∙ c.is_line_word.ensures.1 first))
+        | inr later ↦ c.is_end_word.ensures.1 later
+      ],
+    )

@@ -8,9 +8,10 @@ abbrev Differs : Bor (List ℕ) → Bor (List ℕ) → Type 0
 Differs x y = x.now ≢ y.now
 
 pub returns-then-not-differs_from_each : goal.returns-then-not-differs_from_each
-returns-then-not-differs_from_each c =
-    ( λ f. absurd (false≢true f)
-    , λ pairs. c.if-not-differs_from_each.ensures.1 (pairs_later Differs c.args.names.now c.loop-k.k _ c.loop-k-test.true pairs) )
+returns-then-not-differs_from_each c = (
+  λ f. absurd (false≢true f),
+  λ pairs. c.if-not-differs_from_each.ensures.1 (pairs_later Differs c.args.names.now c.loop-k.k _ c.loop-k-test.true pairs),
+)
 
 pub loop-k-preserved : goal.loop-k-preserved
 loop-k-preserved c =

@@ -1,4 +1,4 @@
-use Rattle.std.proofs.Common.{◌≡◌, ◌≢◌, ℕ, ◌<◌, length, get_or, Bor, List}
+use Rattle.std.proofs.Common.{◌≢◌, ℕ, ◌<◌, length, get_or, Bor, List}
 use Rattle.fr_program.proofs.check.names.stand_once.Given as goal
 
 -- the names so far differ from each later one

@@ -1,7 +1,6 @@
-use Rattle.std.proofs.Common.{◌≡◌, ◌≤ℤ◌, ◌<ℤ◌, ℤ, Option, None, Some, IfNone, arith}
+use Rattle.std.proofs.Common.{Option, None, Some, IfNone, arith}
 use Rattle.std.proofs.lemmas.Int.{ints, clamps}
 use Rattle.std.proofs.lemmas.Option.{IfSome_then}
-use Rattle.fr_program.specs.Spans.{IsIn}
 use Rattle.fr_program.proofs.range.Range.meet.Goals as goal
 
 none_then : {X P Q : Type 0} (r : Option X) → IfNone r P → (P → Q) → IfNone r Q
@@ -14,9 +13,10 @@ returns-clause-some c =
     let b = c.args.other in
     let low = c.max.ensures.value in
     let high = c.min.ensures.value in
-    IfSome_then c.new.result c.new.ensures.some (λ both p z.
-      ( λ h. ((omega (arith, ints, clamps), omega (arith, ints, clamps)), (omega (arith, ints, clamps), omega (arith, ints, clamps)))
-      , λ h. (omega (arith, ints, clamps), omega (arith, ints, clamps)) ))
+    IfSome_then c.new.result c.new.ensures.some (λ both p z. (
+      λ h. ((omega (arith, ints, clamps), omega (arith, ints, clamps)), (omega (arith, ints, clamps), omega (arith, ints, clamps))),
+      λ h. (omega (arith, ints, clamps), omega (arith, ints, clamps)),
+    ))
 
 pub returns-clause-none : goal.returns-clause-none
 returns-clause-none c =

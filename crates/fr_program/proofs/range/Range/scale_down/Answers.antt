@@ -1,5 +1,4 @@
-use Rattle.std.proofs.Common.{◌*ℤ◌, pos, sym}
-use Rattle.std.proofs.lemmas.Int.{ints}
+use Rattle.std.proofs.Common.{sym}
 use lib.Signed.{≤ℤ_refl}
 use Rattle.fr_program.proofs.SpanLemmas.{mul_down, product}
 use Rattle.fr_program.proofs.range.Range.scale_down.Goals as goal

@@ -1,6 +1,5 @@
-use Rattle.std.proofs.Common.{◌≡◌, ◌≤ℤ◌, ◌+ℤ◌, ◌-ℤ◌, ℤ, arith}
+use Rattle.std.proofs.Common.{arith}
 use Rattle.std.proofs.lemmas.Int.{ints}
-use Rattle.fr_program.specs.Spans.{IsIn}
 use Rattle.fr_program.proofs.range.Range.sub.Goals as goal
 
 pub returns : goal.returns

@@ -1,0 +1,116 @@
+-- The faults of a text that is no line: for each of the five, what stands in the text.
+--
+-- | word          | meaning                                                                              |
+-- |---------------|--------------------------------------------------------------------------------------|
+-- | IsWrongKind   | Syntax: a number stands where a word must, a word where a number must, another word  |
+-- | NamesNothing  | UnknownName: the word names no such thing                                            |
+-- | IsBadNumber   | BadNumber: no number within the limits of this place has this text                   |
+-- | InNaming, InPlain | the fault stands in a place for names, or in another one                            |
+-- | InPlace       | the fault stands in this place                                                       |
+-- | InArgs        | the fault stands in one of the arguments                                             |
+-- | InVariable, InTarget, InInto, InElse | the same, of the other places of a line                       |
+-- | InCall        | the fault stands in a call                                                           |
+-- | InShape       | the fault stands in the shape                                                        |
+-- | Stands        | the fault stands in the text                                                         |
+use Rattle.std.specs.Prelude.{◌≡◌, ◌≢◌, ◌⊎◌, ℕ, ℤ, List, [], ◌∷◌, Option, Some, None, false, codes, length as list_length}
+use Rattle.fr_instr.specs.declared.call.CallName.{CallName}
+use Rattle.fr_instr.specs.declared.fault.LineFault.{LineFault}
+use Rattle.fr_instr.specs.declared.fault.LineFault.TheVariants.{Memory, Syntax, UnknownName, UnknownCall, ArgCount, BadNumber}
+use Rattle.fr_instr.specs.Tokens.{Spells}
+use Rattle.fr_instr.specs.Shapes.{Word, name, numeral, Shape, set, set_to, branch, jump, pick, leave, call, shape_toks}
+use Rattle.fr_instr.specs.Names.{NamesOf, place_of}
+use Rattle.fr_instr.specs.Numbers.{IsInteger, IsTarget, IsTicks, IsLength}
+use Rattle.fr_instr.specs.Calls.{Place, object, operand, variable, length, time, ticks, null, row_of}
+
+abbrev pub IsWrongKind : Place → Word → Type 0
+IsWrongKind object (numeral d) = Unit {0}
+IsWrongKind variable (numeral d) = Unit {0}
+IsWrongKind length (name w) = Unit {0}
+IsWrongKind ticks (name w) = Unit {0}
+IsWrongKind time (name w) = w ≢ codes "portMAX_DELAY"
+IsWrongKind null (name w) = w ≢ codes "NULL"
+IsWrongKind null (numeral d) = Unit {0}
+IsWrongKind p w = ⊥
+
+abbrev pub NamesNothing : NamesOf → Place → Word → Type 0
+NamesNothing N object (name w) = place_of N.objects w ≡ None
+NamesNothing N operand (name w) = place_of N.variables w ≡ None
+NamesNothing N variable (name w) = place_of N.variables w ≡ None
+NamesNothing N p w = ⊥
+
+abbrev pub IsBadNumber : Place → Word → Type 0
+IsBadNumber operand (numeral d) = (z : ℤ) → ¬ IsInteger d z
+IsBadNumber length (numeral d) = (n : ℕ) → ¬ IsLength d n
+IsBadNumber time (numeral d) = (n : ℕ) → ¬ IsTicks d n
+IsBadNumber ticks (numeral d) = (n : ℕ) → ¬ IsTicks d n
+IsBadNumber p w = ⊥
+
+-- the fault stands in the place of an object, an operand or a variable
+abbrev pub InNaming : NamesOf → Place → Word → LineFault → Type 0
+InNaming N p w Syntax = IsWrongKind p w
+InNaming N p w UnknownName = NamesNothing N p w
+InNaming N p w BadNumber = IsBadNumber p w
+InNaming N p w f = ⊥
+
+-- the fault stands in the place of a length, a block time, ticks or NULL
+abbrev pub InPlain : Place → Word → LineFault → Type 0
+InPlain p w Syntax = IsWrongKind p w
+InPlain p w BadNumber = IsBadNumber p w
+InPlain p w f = ⊥
+
+abbrev pub InPlace : NamesOf → Place → Word → LineFault → Type 0
+InPlace N object w f = InNaming N object w f
+InPlace N operand w f = InNaming N operand w f
+InPlace N variable w f = InNaming N variable w f
+InPlace N length w f = InPlain length w f
+InPlace N time w f = InPlain time w f
+InPlace N ticks w f = InPlain ticks w f
+InPlace N null w f = InPlain null w f
+
+abbrev pub InArgs : NamesOf → List Place → List Word → LineFault → Type 0
+InArgs N (p ∷ ps) (w ∷ ws) f = InPlace N p w f ⊎ InArgs N ps ws f
+InArgs N ps ws f = ⊥
+
+-- another number of arguments, or a fault in one of them
+abbrev pub InPlaces : NamesOf → List Place → List Word → LineFault → Type 0
+InPlaces N ps ws f = ((f ≡ ArgCount) × (list_length ws ≢ list_length ps)) ⊎ InArgs N ps ws f
+
+abbrev pub InVariable : NamesOf → List ℕ → LineFault → Type 0
+InVariable N w f = (f ≡ UnknownName) × (place_of N.variables w ≡ None)
+
+abbrev pub InInteger : List ℕ → LineFault → Type 0
+InInteger d f = (f ≡ BadNumber) × ((z : ℤ) → ¬ IsInteger d z)
+
+abbrev pub InTarget : List ℕ → LineFault → Type 0
+InTarget d f = (f ≡ BadNumber) × ((k : ℕ) → ¬ IsTarget d k)
+
+-- an `else` behind a call that can't fail, or a fault in its target
+abbrev pub InElse : CallName → Option (List ℕ) → LineFault → Type 0
+InElse c None f = ⊥
+InElse c (Some d) f = ((f ≡ Syntax) × ((row_of c).may_fail ≡ false)) ⊎ InTarget d f
+
+-- a `v =` before a call that answers no number, or a fault in its variable
+abbrev pub InInto : NamesOf → CallName → Option (List ℕ) → LineFault → Type 0
+InInto N c None f = ⊥
+InInto N c (Some w) f = ((f ≡ Syntax) × ((row_of c).may_answer ≡ false)) ⊎ InVariable N w f
+
+-- the fault stands in a call of this name
+abbrev pub InNamed : NamesOf → CallName → Option (List ℕ) → List Word → Option (List ℕ) → LineFault → Type 0
+InNamed N c v ws e f = InElse c e f ⊎ (InInto N c v f ⊎ InPlaces N (row_of c).places ws f)
+
+-- no call has the name, or the fault stands in the call of the name
+abbrev pub InCall : NamesOf → Option (List ℕ) → List ℕ → List Word → Option (List ℕ) → LineFault → Type 0
+InCall N v k ws e f = ((f ≡ UnknownCall) × ((c : CallName) → k ≢ (row_of c).name)) ⊎ ((c : CallName) × (k ≡ (row_of c).name) × InNamed N c v ws e f)
+
+abbrev pub InShape : NamesOf → Shape → LineFault → Type 0
+InShape N (set x a) f = InVariable N x f ⊎ InPlace N operand a f
+InShape N (set_to x a op b) f = InVariable N x f ⊎ (InPlace N operand a f ⊎ InPlace N operand b f)
+InShape N (branch a c b d) f = InPlace N operand a f ⊎ (InPlace N operand b f ⊎ InTarget d f)
+InShape N (jump d) f = InTarget d f
+InShape N (pick x d e) f = InVariable N x f ⊎ (InInteger d f ⊎ InInteger e f)
+InShape N leave f = ⊥
+InShape N (call v k ws e) f = InCall N v k ws e f
+
+-- the tokens have no shape, or they have one in which the fault stands
+abbrev pub Stands : NamesOf → List ℕ → LineFault → Type 0
+Stands N text f = ((f ≡ Syntax) × ((s : Shape) → ¬ Spells text (shape_toks s))) ⊎ ((s : Shape) × Spells text (shape_toks s) × InShape N s f)

@@ -1,0 +1,130 @@
+-- The one text in which a line is written: the shape of the line, with names and numbers for its parts.
+--
+-- | word                        | meaning                                                     |
+-- |-----------------------------|-------------------------------------------------------------|
+-- | operand_word, arg_word, ..  | the word or number that is written for an operand and so on |
+-- | shape_of                    | the shape of a line, a `set` with its operator              |
+-- | written_line                | its tokens, as they are written                             |
+-- | .._text                     | the same in the pieces that the code writes                 |
+use Rattle.std.specs.Prelude.{ℕ, ℤ, pos, List, [], ◌∷◌, ◌++◌, Option, None, Some, map, option_map, codes}
+use Rattle.std.specs.Fmt.{signed_decimal}
+use Rattle.fr_program.specs.declared.ids.VarId.{VarId}
+use Rattle.fr_program.specs.declared.instr.Operand.{Operand}
+use Rattle.fr_program.specs.declared.instr.Operand.TheVariants.{Number, Variable}
+use Rattle.fr_program.specs.declared.instr.Operator.{Operator}
+use Rattle.fr_program.specs.declared.instr.Operator.TheVariants as operator
+use Rattle.fr_program.specs.declared.instr.Comparison.{Comparison}
+use Rattle.fr_program.specs.declared.instr.Comparison.TheVariants as comparison
+use Rattle.fr_program.specs.declared.instr.BlockTime.{BlockTime}
+use Rattle.fr_program.specs.declared.instr.BlockTime.TheVariants.{Ticks, MaxDelay}
+use Rattle.fr_program.specs.declared.instr.Call.{Call}
+use Rattle.fr_program.specs.declared.instr.Instr.{Instr}
+use Rattle.fr_program.specs.declared.instr.Instr.TheVariants as line
+use Rattle.fr_instr.specs.declared.writing.Arg.{Arg}
+use Rattle.fr_instr.specs.declared.writing.Arg.TheVariants as arg
+use Rattle.fr_instr.specs.Names.{NamesOf, name_at}
+use Rattle.fr_instr.specs.Shapes.{Word, name, numeral, Shape, set_to, branch, jump, pick, leave, call, shape_toks}
+use Rattle.fr_instr.specs.Calls.{row_of, parts_of}
+use Rattle.fr_instr.specs.Written.{written}
+
+abbrev pub natural : ℕ → List ℕ
+natural n = signed_decimal (pos n)
+
+abbrev pub operand_word : NamesOf → Operand → Word
+operand_word N (Number z) = numeral (signed_decimal z)
+operand_word N (Variable x) = name (name_at N.variables x.0)
+
+abbrev pub time_word : BlockTime → Word
+time_word (Ticks n) = numeral (natural n)
+time_word MaxDelay = name (codes "portMAX_DELAY")
+
+abbrev pub arg_word : NamesOf → Arg → Word
+arg_word N (arg.Object o) = name (name_at N.objects o.0)
+arg_word N (arg.Operand a) = operand_word N a
+arg_word N (arg.Variable x) = name (name_at N.variables x.0)
+arg_word N (arg.Length n) = numeral (natural n)
+arg_word N (arg.Time t) = time_word t
+arg_word N (arg.Ticks n) = numeral (natural n)
+arg_word N arg.Null = name (codes "NULL")
+
+abbrev pub into_name : NamesOf → Option VarId → Option (List ℕ)
+into_name N v = option_map (λ x. name_at N.variables x.0) v
+
+abbrev pub call_shape : NamesOf → Call → Shape
+call_shape N c = call (into_name N (parts_of c).into) (row_of (parts_of c).name).name (map (arg_word N) (parts_of c).args) (option_map natural (parts_of c).or_else)
+
+abbrev pub shape_of : NamesOf → Instr → Shape
+shape_of N (line.Set x a op b) = set_to (name_at N.variables x.0) (operand_word N a) op (operand_word N b)
+shape_of N (line.If a c b k) = branch (operand_word N a) c (operand_word N b) (natural k)
+shape_of N (line.Goto k) = jump (natural k)
+shape_of N (line.Pick x lo hi) = pick (name_at N.variables x.0) (signed_decimal lo) (signed_decimal hi)
+shape_of N (line.Call c) = call_shape N c
+shape_of N line.Return = leave
+
+-- one space between tokens, but as `written` says
+abbrev pub written_line : NamesOf → Instr → List ℕ
+written_line N l = written (shape_toks (shape_of N l))
+
+-- ---- the pieces
+
+abbrev pub word_text : Word → List ℕ
+word_text (name w) = w
+word_text (numeral d) = d
+
+-- further arguments, each behind a comma and a space
+abbrev pub more_text : List Word → List ℕ
+more_text [] = []
+more_text (a ∷ more) = codes ", " ++ (word_text a ++ more_text more)
+
+abbrev pub args_text : List Word → List ℕ
+args_text [] = []
+args_text (a ∷ more) = word_text a ++ more_text more
+
+abbrev pub else_text : Option (List ℕ) → List ℕ
+else_text None = []
+else_text (Some d) = codes " else " ++ d
+
+abbrev pub into_text : Option (List ℕ) → List ℕ
+into_text None = []
+into_text (Some x) = x ++ codes " = "
+
+abbrev pub operator_text : Operator → List ℕ
+operator_text operator.Plus = codes " + "
+operator_text operator.Minus = codes " - "
+operator_text operator.Times = codes " * "
+
+abbrev pub comparison_text : Comparison → List ℕ
+comparison_text comparison.Less = codes " < "
+comparison_text comparison.AtMost = codes " <= "
+comparison_text comparison.Greater = codes " > "
+comparison_text comparison.AtLeast = codes " >= "
+comparison_text comparison.Equal = codes " == "
+comparison_text comparison.NotEqual = codes " != "
+
+abbrev pub operand_text : NamesOf → Operand → List ℕ
+operand_text N a = word_text (operand_word N a)
+
+abbrev pub set_text : NamesOf → VarId → Operand → Operator → Operand → List ℕ
+set_text N x a op b = codes "set " ++ (name_at N.variables x.0 ++ (codes " = " ++ (operand_text N a ++ (operator_text op ++ operand_text N b))))
+
+abbrev pub if_text : NamesOf → Operand → Comparison → Operand → ℕ → List ℕ
+if_text N a c b k = codes "if " ++ (operand_text N a ++ (comparison_text c ++ (operand_text N b ++ (codes " goto " ++ natural k))))
+
+abbrev pub goto_text : ℕ → List ℕ
+goto_text k = codes "goto " ++ natural k
+
+abbrev pub pick_text : NamesOf → VarId → ℤ → ℤ → List ℕ
+pick_text N x lo hi = codes "pick " ++ (name_at N.variables x.0 ++ (codes " " ++ (signed_decimal lo ++ (codes " " ++ signed_decimal hi))))
+
+abbrev pub call_text : NamesOf → Call → List ℕ
+call_text N c =
+    into_text (into_name N (parts_of c).into)
+    ++ ((row_of (parts_of c).name).name ++ (codes "(" ++ (args_text (map (arg_word N) (parts_of c).args) ++ (codes ")" ++ else_text (option_map natural (parts_of c).or_else)))))
+
+abbrev pub line_text : NamesOf → Instr → List ℕ
+line_text N (line.Set x a op b) = set_text N x a op b
+line_text N (line.If a c b k) = if_text N a c b k
+line_text N (line.Goto k) = goto_text k
+line_text N (line.Pick x lo hi) = pick_text N x lo hi
+line_text N (line.Call c) = call_text N c
+line_text N line.Return = codes "return"

@@ -1,0 +1,258 @@
+// What no clause says: that builds succeed, the sizes that are taken, and examples of refusals.
+use crate::app::App;
+use crate::fault::BuildFault;
+use crate::ids::{ActorId, ObjId, Point, Side, VarId};
+use crate::instr::{Action, BlockTime, BufferKind, Call, Instr, Timing};
+use crate::parts::{Actor, ActorKind, Kind, Object, Parts, Variable};
+use crate::table::{Table, table_of};
+use std::alloc::{AllocError, Global};
+use std::process::Abort;
+use std::test::Fail;
+
+const BACK: Instr = Instr::Goto { target: 0 };
+
+fn variable(alloc: Global, name: &str, owner: Option<ActorId>) -> Result<Variable, AllocError> {
+    Ok(Variable {
+        name: String::from_str(alloc, name)?,
+        lo: 0,
+        hi: 16,
+        init: 0,
+        owner,
+    })
+}
+
+fn object(alloc: Global, name: &str, kind: Kind) -> Result<Object, AllocError> {
+    Ok(Object {
+        name: String::from_str(alloc, name)?,
+        kind,
+        live: true,
+    })
+}
+
+/// An actor whose code is this instruction, over and over.
+fn actor(alloc: Global, name: &str, kind: ActorKind, instr: Instr) -> Result<Actor, AllocError> {
+    Ok(Actor {
+        name: String::from_str(alloc, name)?,
+        kind,
+        code: Vec::from_slice(alloc, &[instr, BACK])?,
+    })
+}
+
+/// A task t with this instruction, a variable of this name and owner, and a stream buffer sb or
+/// none.
+fn parts(
+    alloc: Global,
+    instr: Instr,
+    name: &str,
+    owner: Option<ActorId>,
+    buffer: bool,
+) -> Result<Parts, AllocError> {
+    let mut variables = Vec::new(alloc);
+    let mut objects = Vec::new(alloc);
+    let mut actors = Vec::new(alloc);
+    variables.push(variable(alloc, name, owner)?)?;
+    if buffer {
+        objects.push(object(alloc, "sb", Kind::Stream { size: 64 })?)?;
+    }
+    actors.push(actor(alloc, "t", ActorKind::Task, instr)?)?;
+    Ok(Parts {
+        variables,
+        objects,
+        actors,
+    })
+}
+
+fn send(length: u32) -> Instr {
+    Instr::Call(Call::On {
+        object: ObjId(0),
+        action: Action::Send {
+            kind: BufferKind::Stream,
+            length,
+            timing: Timing::Waits(BlockTime::Ticks(10)),
+            result: None,
+        },
+    })
+}
+
+fn pick(x: usize) -> Instr {
+    Instr::Pick {
+        target: VarId(x),
+        lo: 0,
+        hi: 1,
+    }
+}
+
+fn built(alloc: Global, parts: Parts) -> Result<App, BuildFault> {
+    match App::build(alloc, parts) {
+        Ok(app) => Ok(app),
+        Err((fault, _parts)) => Err(fault),
+    }
+}
+
+/// The fault that is named, or None where the application is built.
+fn answer(alloc: Global, parts: Parts) -> Option<BuildFault> {
+    match built(alloc, parts) {
+        Ok(_app) => None,
+        Err(fault) => Some(fault),
+    }
+}
+
+fn refused(rt: &impl Abort, alloc: Global, parts: Parts, want: BuildFault) {
+    assert!(rt; answer(alloc, parts) == Some(want), "{want}");
+}
+
+#[test]
+fn points_have_their_numbers(rt: HostRuntime) -> Result<(), Fail> {
+    let alloc = rt.alloc();
+    let app = built(alloc, parts(alloc, BACK, "x", None, false)?)?;
+    assert_eq!(rt; app.points(), 2);
+    assert_eq!(rt; app.number(app.point(1)), Some(1));
+    let inside = Point {
+        actor: ActorId(0),
+        pc: 0,
+        side: Side::Inside,
+    };
+    assert_eq!(rt; app.number(inside), None);
+    Ok(())
+}
+
+#[test]
+fn two_calls_have_six_points(rt: HostRuntime) -> Result<(), Fail> {
+    let alloc = rt.alloc();
+    let mut actors = Vec::new(alloc);
+    actors.push(actor(alloc, "tx", ActorKind::Task, send(8))?)?;
+    actors.push(actor(alloc, "rx", ActorKind::Task, send(8))?)?;
+    let Table { points, starts } = table_of(alloc, &actors)?;
+    assert_eq!(rt; points.len(), 6);
+    assert_eq!(rt; points[4].actor.0, 1);
+    assert_eq!(rt; points[4].pc, 0);
+    assert_eq!(rt; points[4].side, Side::Inside);
+    assert_eq!(rt; starts.len(), 2);
+    assert_eq!(rt; starts[1].as_slice(), [3, 5].as_slice());
+    Ok(())
+}
+
+#[test]
+fn lengths_have_limits(rt: HostRuntime) -> Result<(), Fail> {
+    let alloc = rt.alloc();
+    for length in [0, 65536] {
+        let parts = parts(alloc, send(length), "x", None, true)?;
+        refused(&rt, alloc, parts, BuildFault::BadRange);
+    }
+    for length in [1, 65535] {
+        let parts = parts(alloc, send(length), "x", None, true)?;
+        refused(&rt, alloc, parts, BuildFault::NotYet);
+    }
+    Ok(())
+}
+
+#[test]
+fn numbers_name_things(rt: HostRuntime) -> Result<(), Fail> {
+    let alloc = rt.alloc();
+    let past_objects = parts(alloc, send(8), "x", None, false)?;
+    refused(&rt, alloc, past_objects, BuildFault::Names);
+    let past_variables = parts(alloc, pick(1), "x", None, false)?;
+    refused(&rt, alloc, past_variables, BuildFault::Names);
+    let past_actors = parts(alloc, BACK, "x", Some(ActorId(1)), false)?;
+    refused(&rt, alloc, past_actors, BuildFault::Names);
+    Ok(())
+}
+
+#[test]
+fn names_stand_once_and_are_words(rt: HostRuntime) -> Result<(), Fail> {
+    let alloc = rt.alloc();
+    for name in ["t", "goto", "a23456789b123456789c123456789d123", "1a", ""] {
+        let parts = parts(alloc, BACK, name, None, false)?;
+        refused(&rt, alloc, parts, BuildFault::Names);
+    }
+    for name in ["goto_1", "a23456789b123456789c123456789d12", "_"] {
+        let parts = parts(alloc, BACK, name, None, false)?;
+        assert_eq!(rt; answer(alloc, parts), None);
+    }
+    Ok(())
+}
+
+#[test]
+fn not_judged_yet(rt: HostRuntime) -> Result<(), Fail> {
+    let alloc = rt.alloc();
+    for instr in [pick(0), Instr::Call(Call::Yield)] {
+        let parts = parts(alloc, instr, "x", None, false)?;
+        refused(&rt, alloc, parts, BuildFault::NotYet);
+    }
+    let with_object = parts(alloc, BACK, "x", None, true)?;
+    refused(&rt, alloc, with_object, BuildFault::NotYet);
+    let mut with_interrupt = parts(alloc, BACK, "x", None, false)?;
+    let isr = actor(alloc, "isr", ActorKind::Interrupt, BACK)?;
+    with_interrupt.actors.push(isr)?;
+    refused(&rt, alloc, with_interrupt, BuildFault::NotYet);
+    Ok(())
+}
+
+fn variables(alloc: Global, count: usize) -> Result<Vec<Variable>, AllocError> {
+    let mut variables = Vec::new(alloc);
+    for k in 0..count {
+        let name = format!(in alloc; "v{k}")?;
+        variables.push(variable(alloc, &name, None)?)?;
+    }
+    Ok(variables)
+}
+
+fn objects(alloc: Global, count: usize) -> Result<Vec<Object>, AllocError> {
+    let mut objects = Vec::new(alloc);
+    for k in 0..count {
+        let name = format!(in alloc; "o{k}")?;
+        objects.push(object(alloc, &name, Kind::Mutex)?)?;
+    }
+    Ok(objects)
+}
+
+fn tasks(alloc: Global, count: usize, instrs: usize) -> Result<Vec<Actor>, AllocError> {
+    let mut actors = Vec::new(alloc);
+    for k in 0..count {
+        actors.push(Actor {
+            name: format!(in alloc; "t{k}")?,
+            kind: ActorKind::Task,
+            code: vec![in alloc; BACK; instrs]?,
+        })?;
+    }
+    Ok(actors)
+}
+
+/// So many variables, objects and tasks, each task with so many instructions.
+fn sized(
+    alloc: Global,
+    variable_count: usize,
+    object_count: usize,
+    task_count: usize,
+    instrs: usize,
+) -> Result<Parts, AllocError> {
+    Ok(Parts {
+        variables: variables(alloc, variable_count)?,
+        objects: objects(alloc, object_count)?,
+        actors: tasks(alloc, task_count, instrs)?,
+    })
+}
+
+#[test]
+fn greatest_sizes_are_taken(rt: HostRuntime) -> Result<(), Fail> {
+    let alloc = rt.alloc();
+    assert_eq!(rt; answer(alloc, sized(alloc, 64, 0, 1, 512)?), None);
+    let greatest = sized(alloc, 64, 64, 32, 512)?;
+    refused(&rt, alloc, greatest, BuildFault::NotYet);
+    let too_many = BuildFault::TooMany;
+    refused(&rt, alloc, sized(alloc, 65, 0, 1, 1)?, too_many);
+    refused(&rt, alloc, sized(alloc, 0, 65, 1, 1)?, too_many);
+    refused(&rt, alloc, sized(alloc, 0, 0, 33, 1)?, too_many);
+    refused(&rt, alloc, sized(alloc, 0, 0, 1, 513)?, too_many);
+    Ok(())
+}
+
+/// Under an allocator that refuses, nothing but `Memory` is named.
+#[test]
+fn want_of_memory_is_memory(rt: HostRuntime) {
+    let alloc = rt.alloc();
+    if let Ok(parts) = parts(alloc, BACK, "x", None, false) {
+        let fault = answer(alloc, parts);
+        assert!(rt; fault.is_none() || fault == Some(BuildFault::Memory));
+    }
+}
