@@ -76,16 +76,19 @@ seen place v content critical suspended = record {
   suspended = suspended ∷ 0 ∷ [];
 }
 
--- actor 0 before its instruction, inside it, at the next one, at the other one
+-- actor 0 before its instruction, outside of the critical section
 abbrev pub before : ℤ → Content → State
 before v content = seen (At 0 Before) v content None 0
 
+-- actor 0 inside its instruction
 abbrev pub inside : ℤ → Content → State
 inside v content = seen (At 0 Inside) v content None 0
 
+-- actor 0 before the next instruction
 abbrev pub next : ℤ → Content → State
 next v content = seen (At 1 Before) v content None 0
 
+-- actor 0 before the instruction that an `else` or an `if` leads to
 abbrev pub other : ℤ → Content → State
 other v content = seen (At 2 Before) v content None 0
 
@@ -101,68 +104,87 @@ call action = Calls (On thing action)
 abbrev pub ten : BlockTime
 ten = Ticks 10
 
--- the instructions of the rows below: `set x = x + 1`, `if x < 5 goto 2`, ..
+-- `set x = x + 1`
 abbrev pub add_one : Instr
 add_one = Set x (Variable x) Plus (Number (pos 1))
 
+-- `if x < 5 goto 2`
 abbrev pub if_below : Instr
 if_below = If (Variable x) Less (Number (pos 5)) 2
 
+-- `taskENTER_CRITICAL()`
 abbrev pub enter : Instr
 enter = Calls (EnterCritical InTask)
 
+-- `taskEXIT_CRITICAL()`
 abbrev pub exit : Instr
 exit = Calls (ExitCritical InTask)
 
+-- `xStreamBufferCreate(thing) else 2`
 abbrev pub create : Instr
 create = Calls (Create MakesStream thing (Some 2))
 
+-- `vStreamBufferDelete(thing)`
 abbrev pub delete : Instr
 delete = Calls (Delete DropsStream thing)
 
+-- `xSemaphoreTake(thing, time) else 2`
 abbrev pub take : BlockTime → Instr
 take time = call (Take (PlainTake time) (Some 2))
 
+-- `xSemaphoreTakeFromISR(thing) else 2`
 abbrev pub take_at_once : Instr
 take_at_once = call (Take TakeFromIsr (Some 2))
 
+-- `xSemaphoreTakeRecursive(thing, portMAX_DELAY)`
 abbrev pub take_recursive : Instr
 take_recursive = call (Take (RecursiveTake MaxDelay) None)
 
+-- `xSemaphoreGive(thing) else 2`
 abbrev pub give : Instr
 give = call (Give PlainGive (Some 2))
 
+-- `xSemaphoreGiveRecursive(thing)`
 abbrev pub give_recursive : Instr
 give_recursive = call (Give RecursiveGive None)
 
+-- `xQueueSend(thing, x, 10) else 2`
 abbrev pub queue_send : Instr
 queue_send = call (QueueSend (Variable x) (Waits ten) (Some 2))
 
+-- `xQueueReceive(thing, x, 10) else 2`
 abbrev pub queue_receive : Instr
 queue_receive = call (QueueReceive x (Waits ten) (Some 2))
 
+-- `x = xStreamBufferSend(thing, 8, 10)`
 abbrev pub stream_send : Instr
 stream_send = call (Send OfStream 8 (Waits ten) (Some x))
 
+-- `x = xStreamBufferReceive(thing, 8, 10)`
 abbrev pub stream_receive : Instr
 stream_receive = call (Receive OfStream 8 (Waits ten) (Some x))
 
+-- `xMessageBufferSend(thing, 8, 10)`
 abbrev pub message_send : Instr
 message_send = call (Send OfMessage 8 (Waits ten) None)
 
+-- `x = xMessageBufferReceive(thing, 8, 10)`
 abbrev pub message_receive : Instr
 message_receive = call (Receive OfMessage 8 (Waits ten) (Some x))
 
+-- `xStreamBufferReset(thing) else 2`
 abbrev pub reset : Instr
 reset = call (Reset OfStream (Some 2))
 
--- the kinds of the objects: a queue of 2, a stream buffer of 8, a message buffer of 16
+-- a queue of 2 values from 0 to 9
 abbrev pub queue : Kind
 queue = Queue (pos 2) (pos 0) (pos 9)
 
+-- a stream buffer of 8 bytes
 abbrev pub stream : Kind
 stream = Stream (pos 8)
 
+-- a message buffer of 16 bytes
 abbrev pub message : Kind
 message = Message (pos 16)
 

@@ -9,3 +9,4 @@ pub mod ShapeLaws
 pub mod TokenLaws
 pub mod WrittenLaws
 pub mod WrittenLineLaws
+pub mod RoundTrip

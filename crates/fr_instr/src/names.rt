@@ -1,7 +1,7 @@
 // The names of an application's variables, objects and actors, with their numbers.
 ghost use Rattle.std.specs.Prelude.{◌≡◌, ◌≢◌, ◌++◌, All, AllPairs, IfOk, List, map, option_map, string_bytes};
 ghost use Rattle.fr_program.specs.Limits.{IsName};
-ghost use Rattle.fr_instr.specs.Names.{NamesOf, place_of, name_at};
+ghost use Rattle.fr_instr.specs.Names.{NamesOf, place_of, name_at, AreNames};
 ghost use Rattle.fr_instr.specs.Views.{texts};
 
 use fr_program::{ActorId, ObjId, VarId};
@@ -119,6 +119,13 @@ impl Names {
             Some(i) => Some(ObjId(i)),
             None => None,
         }
+    }
+
+    // Each is a name, and stands once among all of them.
+    pub(crate) fn are_names(&self)
+        ensures { AreNames self.now }
+    {
+        let _ = &self.variables;
     }
 
     // The name of a variable, or no text where there is none.

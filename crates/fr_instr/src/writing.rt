@@ -415,8 +415,10 @@ fn push_line(alloc: Global, out: &mut String, names: &Names, line: &Line) -> Res
 /// Its error is that an allocation was refused.
 pub fn write_line(alloc: Global, line: &Line, names: &Names) -> Result<String, AllocError>
     requires { IsLineIn names.now line.now }
-    ensures { IfOk result (λ s. string_bytes s ≡ written_line names.now line.now) }
+    ensures written { IfOk result (λ s. string_bytes s ≡ written_line names.now line.now) }
+    ensures again { IfOk result (λ s. IsLine names.now (string_bytes s) line.now) }
 {
+    names.are_names();
     let mut out = String::new(alloc);
     push_line(alloc, &mut out, names, line)?;
     Ok(out)

@@ -74,10 +74,11 @@ spoiling = record {
   actors = task 116 (Goto 0 ∷ []) ∷ task 117 (set_2 ∷ Goto 0 ∷ []) ∷ [];
 }
 
--- three points, each with a note that gives x its declared range
+-- a note that gives x its declared range
 abbrev pub x_declared : Alternative
 x_declared = plain ((pos 0, pos 1) ∷ [])
 
+-- three points, each with that note
 abbrev pub three_notes : Certificate
 three_notes = record { notes = (x_declared ∷ []) ∷ (x_declared ∷ []) ∷ (x_declared ∷ []) ∷ []; ends = [] }
 

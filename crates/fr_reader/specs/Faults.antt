@@ -1,4 +1,13 @@
--- Which faults stand in the tables of an application's text.
+-- Which faults stand in the tables of an application's text: those of keys, of what stands at them, and of entries.
+--
+-- | word                       | meaning                                                                        |
+-- |----------------------------|--------------------------------------------------------------------------------|
+-- | is_memory, Standing        | an allocation was refused; a fact about every other fault                      |
+-- | InTable, InVariable        | a key of a table is missing, of a wrong type or unknown                        |
+-- | InKind                     | the key `kind` is missing, or says no kind                                     |
+-- | InObject, InLine, InActor  | the same of an object's table, of an entry of the code, of an actor's table    |
+-- | InEntry, InEach, InEachAt  | the fault stands in an entry of an array, in some entry, at the key of a list  |
+-- | InApplication              | the fault stands in the table of the whole text                                |
 use Rattle.std.specs.Prelude.{◌≡◌, ◌⊎◌, ℕ, List, Bool, true, false, IsTrue, Option, Some, None, string_bytes}
 use Rattle.toml.specs.Data.{Data, string, array, table, Items, Members, get_member, get_item, as_str}
 use Rattle.fr_reader.specs.Keys.{field, is_key_of, IsKeyOf, IsRequired, suits, kind_word, actor_word}
@@ -30,6 +39,7 @@ InTable place ms (fault.WrongType k) = (d : Data) × (field k ms ≡ Some d) × 
 InTable place ms (fault.UnknownKey s) = (d : Data) × (get_member (string_bytes s) ms ≡ Some d) × (is_key_of place (string_bytes s) ≡ false)
 InTable place ms f = ⊥
 
+-- the fault stands in a variable's table
 abbrev pub InVariable : Members → ReadFault → Type 0
 InVariable = InTable place.Variable
 

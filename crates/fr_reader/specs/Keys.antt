@@ -5,9 +5,11 @@
 -- | key_text                | the text of a key                                                    |
 -- | kind_word, actor_word   | the word of a kind of object, of a kind of actor                     |
 -- | kind_named              | the kind whose word an object's `kind` is                            |
+-- | spells                  | a text is that of a key                                              |
 -- | is_own_key              | a key that objects of a kind have beside those of every object       |
 -- | is_key_of, IsKeyOf      | a key that tables of a kind may have                                 |
 -- | IsRequired              | a key that stands in each table that may have it                     |
+-- | IsNumberKey, IsTextKey, IsListKey | keys that ask for a number, a text, a list of tables       |
 -- | suits                   | a value is of the type that the key asks for                         |
 -- | field                   | what a table holds at a key                                          |
 use Rattle.std.specs.Prelude.{◌≡◌, ℕ, List, Bool, true, false, IsTrue, Option, codes, is_some, ◌||◌}
@@ -86,6 +88,7 @@ is_key_of place.Variable t = spells t key.Name || spells t key.Lo || spells t ke
 is_key_of (place.Object o) t = spells t key.Name || spells t key.Kind || spells t key.Live || is_own_key o t
 is_key_of place.Actor t = spells t key.Name || spells t key.Kind || spells t key.Code
 
+-- the same, of a key by its name here
 abbrev pub IsKeyOf : Place → Key → Type 0
 IsKeyOf place k = IsTrue (is_key_of place (key_text k))
 

@@ -2,12 +2,14 @@
 --
 -- | word                  | meaning                                                                              |
 -- |-----------------------|--------------------------------------------------------------------------------------|
--- | is_memory, Standing   | an allocation was refused; a fact about each fault but those                         |
 -- | StandsTwice           | a name stands a second time                                                          |
 -- | InNames               | a text in a name's place is none, or a name stands twice                             |
--- | InOwner               | an owner is no actor's name                                                          |
--- | InCode                | a line of an actor's code has a fault                                                |
+-- | IsNoOwner, InOwner(s) | an owner is no actor's name, in a variable, in some variable                         |
+-- | InLine, InLines       | a line of an actor's code has a fault, and some line of it                           |
+-- | InCode                | some line of some actor's code has a fault                                           |
 -- | InBuild               | what the texts say has a build fault                                                 |
+-- | InSaid, InTexts       | the fault stands in what the texts say, or in the texts                              |
+-- | InText, InBytes       | the fault stands in the table of the bytes, or in the bytes themselves               |
 -- | Stands                | the fault stands in the bytes                                                        |
 use Rattle.std.specs.Prelude.{◌≡◌, ◌⊎◌, ◌<◌, ◌++◌, ℕ, List, ◌∷◌, Bool, true, false, Option, Some, None, Contains, IsUtf8, length, slice_get, string_bytes}
 use Rattle.std.specs.List.{AllZip}
@@ -40,9 +42,11 @@ abbrev pub IsNoOwner : List (List ℕ) → Option (List ℕ) → ReadFault → T
 IsNoOwner actors None f = ⊥
 IsNoOwner actors (Some name) f = (f ≡ fault.WrongType key.Owner) × (Contains actors name → ⊥)
 
+-- the owner of this variable is no actor's name
 abbrev pub InOwner : List (List ℕ) → VariableText → ReadFault → Type 0
 InOwner actors v f = IsNoOwner actors v.owner f
 
+-- so is the owner of some variable
 abbrev pub InOwners : List (List ℕ) → List VariableText → ReadFault → Type 0
 InOwners actors variables f = (i : ℕ) × (v : VariableText) × (slice_get variables i ≡ Some v) × InOwner actors v f
 
@@ -55,6 +59,7 @@ InLine names actor index line f = ⊥
 abbrev pub InLines : NamesOf → List ℕ → List (List ℕ) → ReadFault → Type 0
 InLines names actor lines f = (index : ℕ) × (line : List ℕ) × (slice_get lines index ≡ Some line) × InLine names actor index line f
 
+-- some line in the code of some actor has the fault
 abbrev pub InCode : NamesOf → List ActorText → ReadFault → Type 0
 InCode names actors f = (i : ℕ) × (a : ActorText) × (slice_get actors i ≡ Some a) × InLines names a.name a.lines f
 

@@ -9,7 +9,8 @@ use std::alloc::{AllocError, AllocFailed};
 use std::error::Error;
 use std::fmt;
 
-/// Why a text is no application.
+/// Why a text is no application. Its text is the number and the name that a refusal's line shows, and for a line and
+/// for the parts what that fault's line shows; the keys and the names of faults 3 to 6 are not shown.
 #[derive(Debug, Drop)]
 pub enum ReadFault {
     /// An allocation was refused.
@@ -27,9 +28,11 @@ pub enum ReadFault {
     UnknownKey(String),
     /// A name stands more than once among variables, objects and actors.
     Twice(String),
-    /// A name is none: see `IsName`.
+    /// A name is none: it has 1 to 32 ASCII letters, digits and underscores, with no digit first,
+    /// and is not `set`, `if`, `goto`, `pick`, `return`, `else`, `NULL` or `portMAX_DELAY`.
     BadName,
-    /// A line of an actor's code has a fault; lines are read where none of the faults above stands.
+    /// A line of an actor's code has a fault: the actor's name, the line's place from 0, and the
+    /// fault. Lines are read where none of the faults above stands.
     Line {
         actor: String,
         index: usize,
