@@ -10,3 +10,4 @@ pub mod TokenLaws
 pub mod WrittenLaws
 pub mod WrittenLineLaws
 pub mod RoundTrip
+pub mod TestedNames
