@@ -1,4 +1,5 @@
 pub mod Note
+pub mod View
 pub mod Noted
 pub mod Fits
 pub mod Compare
