@@ -3,4 +3,5 @@ pub mod View
 pub mod Noted
 pub mod Fits
 pub mod Compare
+pub mod Laws
 pub mod WorkedNotes
