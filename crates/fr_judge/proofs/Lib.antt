@@ -6,3 +6,5 @@ pub mod Unique
 pub mod Round
 pub mod WorkedVerdicts
 pub mod WorkedFaultless
+pub mod Telling
+pub mod Judging

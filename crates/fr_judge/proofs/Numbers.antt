@@ -47,10 +47,10 @@ point a pc side = record { actor = record { 0 = a }; pc = pc; side = side }
 
 module _ (P : Program) where
   -- an instruction is within its actor's code, and its actor is one
-  code-below : (a pc : ℕ) (i : Instr) → instr_at P a pc ≡ Some i → pc < length (actor_at P a).code
+  pub code-below : (a pc : ℕ) (i : Instr) → instr_at P a pc ≡ Some i → pc < length (actor_at P a).code
   code-below a pc i e = slice_get_within (actor_at P a).code pc i e
 
-  actor-below : (a pc : ℕ) (i : Instr) → instr_at P a pc ≡ Some i → a < length P.actors
+  pub actor-below : (a pc : ℕ) (i : Instr) → instr_at P a pc ≡ Some i → a < length P.actors
   actor-below a pc i e =
       ⊎_elim (λ l. l)
       (λ h. let none : pc < 0 = subst (λ x. pc < length x.code) (get_or_past P.actors a no_actor h) (code-below a pc i e) in absurd (omega arith))

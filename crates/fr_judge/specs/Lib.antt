@@ -3,3 +3,4 @@ pub mod Verdict
 pub mod Owed
 pub mod Sound
 pub mod WorkedVerdicts
+pub mod Told

@@ -1,31 +1,32 @@
 -- Bytes in which a fault stands stand for no application.
 -- A table that stands for something has a value that suits at each of its keys, so no fault of keys stands in it; and
 -- what the texts say has each name, owner and line, so no fault of those stands either.
-use Rattle.std.proofs.Common.{◌≡◌, ◌≢◌, ◌⊎◌, ℕ, ℤ, codes, zero, suc, ◌+◌, ◌<◌, ◌≤◌, List, [], ◌∷◌, ◌++◌, Bool, true, false, Option, Some, None, option_map, length, map, get_or, slice_get, All, AllPairs, Contains, refl, sym, ap, ◌∙◌, subst, arith, inl, inr, string_bytes, is_some, IsTrue, length-append}
+use Rattle.std.proofs.Common.{◌≡◌, ◌≢◌, ℕ, zero, suc, ◌<◌, List, [], ◌∷◌, ◌++◌, true, false, Option, Some, None, option_map, length, slice_get, AllPairs, Contains, refl, sym, ap, ◌∙◌, subst, arith, inl, inr, string_bytes, IsTrue, length-append}
 use Rattle.std.specs.List.{AllZip}
 use Rattle.std.proofs.lemmas.Option.{same_Some}
 use Rattle.std.proofs.lemmas.Bool.{false≢true}
 use Rattle.std.proofs.lemmas.List.Elements.{All-contains}
 use Rattle.std.proofs.lemmas.List.{get_or_append_left}
 use Rattle.std.proofs.Math.Seq.{get_or-append_seam}
-use Rattle.toml.specs.Data.{Data, string, integer, boolean, array, table, Items, no_items, item, Members, get_member, get_item, as_str}
+use Rattle.toml.specs.Data.{Data, string, integer, boolean, array, table, Items, no_items, item, Members, get_item, as_str}
 use Rattle.toml.specs.Parse.{parse_document}
 use Rattle.fr_program.specs.declared.parts.Kind.{Kind}
 use Rattle.fr_program.specs.declared.parts.Kind.TheVariants as kind
 use Rattle.fr_program.specs.Program.{Program, VariableOf, ObjectOf, ActorOf}
 use Rattle.fr_program.specs.Limits.{IsName}
-use Rattle.fr_program.specs.Fault.{IsFreeOf}
+use Rattle.fr_program.specs.declared.fault.BuildFault.{BuildFault}
+use Rattle.fr_program.specs.declared.fault.BuildFault.TheVariants as build
+use Rattle.fr_program.specs.Fault.{IsFreeOf, IsFaultless}
 use Rattle.fr_instr.specs.Names.{NamesOf}
 use Rattle.fr_instr.specs.Lines.{IsLine}
 use Rattle.fr_instr.proofs.LineLaws.{no_line}
-use Rattle.fr_reader.specs.Keys.{key_text, field, suits, is_key_of, is_own_key, IsKeyOf, IsRequired, IsListKey, kind_word, kind_named, actor_word}
+use Rattle.fr_reader.specs.Keys.{key_text, field, suits, is_own_key, IsKeyOf, IsRequired, IsListKey, kind_word, kind_named, actor_word}
 use Rattle.fr_reader.specs.Texts.{VariableText, ActorText, Texts, AreKnown, IsVariable, IsObject, IsActor, HasKind, IsTableOf, IsText, Each, EachAt, AreTexts}
-use Rattle.fr_reader.specs.Faults.{is_memory, InTable, InVariable, InKind, InObject, InActor, InEntry, InLine as InLineOf, InEach, InEachAt, InApplication}
-use Rattle.fr_reader.specs.Meaning.{names_in, actors_in, lists_in, AreNames, IsOwner, IsOwned, IsCoded, Says, IsTableText, Means, most_bytes}
-use Rattle.fr_reader.specs.Stands.{StandsTwice, InNames, IsNoOwner, InOwner, InOwners, InLine, InLines, InCode, InBuild, InSaid, InTexts, InText, InBytes, Stands}
+use Rattle.fr_reader.specs.Faults.{is_memory, is_not_yet, InTable, InVariable, InKind, InObject, InActor, InEntry, InLine as InLineOf, InEach, InEachAt, InApplication}
+use Rattle.fr_reader.specs.Meaning.{names_in, actors_in, lists_in, AreNames, IsOwner, IsOwned, IsCoded, Says, Means}
+use Rattle.fr_reader.specs.Stands.{StandsTwice, InNames, IsNoOwner, InOwners, InLines, InCode, InBuild, InTexts, InBytes, Stands}
 use Rattle.fr_reader.specs.declared.key.Key.{Key}
 use Rattle.fr_reader.specs.declared.key.Key.TheVariants as key
-use Rattle.fr_reader.specs.declared.key.ObjectKind.{ObjectKind}
 use Rattle.fr_reader.specs.declared.key.Place.{Place}
 use Rattle.fr_reader.specs.declared.key.Place.TheVariants as place
 use Rattle.fr_reader.specs.declared.fault.ReadFault.{ReadFault}
@@ -212,22 +213,38 @@ in_no_texts t P f names says free (inr (n, inl s)) = in_no_owners (actors_in t) 
 in_no_texts t P f names says free (inr (n, inr (inl s))) = in_no_code (lists_in t) t.actors P.actors f says.actors s.2
 in_no_texts t P f names says free (inr (n, inr (inr s))) = free s
 
-not_built : (bytes : List ℕ) (P : Program) (f : ReadFault) (m : Means bytes P) → InBuild m.texts f → ⊥
-not_built bytes P (fault.Build b) m s =
-    s.2 (subst (λ Q. IsFreeOf Q b) (one_program m.texts P s.0 m.names m.says s.1) (m.free b))
-not_built bytes P f m s = absurd s
+-- an application has none of the faults but what isn't judged yet
+free_of : (P : Program) (b : BuildFault) → is_not_yet (fault.Build b) ≡ false → IsFaultless P → IsFreeOf P b
+free_of P build.Memory n h = tt
+free_of P build.TooMany n h = h.small
+free_of P build.BadRange n h = h.limits
+free_of P build.BadTarget n h = h.targets
+free_of P build.FallsOff n h = h.ends
+free_of P build.TwoShared n h = h.shared
+free_of P build.NotOwner n h = h.owners
+free_of P build.KindMismatch n h = h.kinds
+free_of P build.FromIsrInTask n h = h.forms
+free_of P build.ResultRange n h = h.results
+free_of P build.Operands n h = h.operands
+free_of P build.Names n h = h.names
+free_of P build.NotYet n h = absurd (cc)
+
+not_built : (bytes : List ℕ) (P : Program) (f : ReadFault) → is_not_yet f ≡ false → (m : Means bytes P) → InBuild m.texts f → ⊥
+not_built bytes P (fault.Build b) named m s =
+    s.2 (subst (λ Q. IsFreeOf Q b) (one_program m.texts P s.0 m.names m.says s.1) (free_of P b named m.faultless))
+not_built bytes P f named m s = absurd s
 
 in_no_bytes : (bytes : List ℕ) (P : Program) (f : ReadFault) → Means bytes P → InBytes bytes f → ⊥
 in_no_bytes bytes P fault.TooLong m s = omega (arith, s, m.text.size)
 in_no_bytes bytes P fault.Toml m s = never (parse_document bytes) m.root (s m.text.utf8) m.text.parsed
 in_no_bytes bytes P f m s = absurd s
 
-pub no_meaning : (bytes : List ℕ) (f : ReadFault) (P : Program) → is_memory f ≡ false → Stands bytes f → Means bytes P → ⊥
-no_meaning bytes f P named (inl s) m = in_no_bytes bytes P f m s
-no_meaning bytes f P named (inr (root, text, inl s)) m =
+pub no_meaning : (bytes : List ℕ) (f : ReadFault) (P : Program) → is_memory f ≡ false → is_not_yet f ≡ false → Stands bytes f → Means bytes P → ⊥
+no_meaning bytes f P named yet (inl s) m = in_no_bytes bytes P f m s
+no_meaning bytes f P named yet (inr (root, text, inl s)) m =
     let same = both (parse_document bytes) root m.root text.parsed m.text.parsed in
     in_no_application m.root m.texts f m.tables (subst (λ r. InApplication r f) same s)
-no_meaning bytes f P named (inr (root, text, inr (t, tables, s))) m =
+no_meaning bytes f P named yet (inr (root, text, inr (t, tables, s))) m =
     let same = both (parse_document bytes) root m.root text.parsed m.text.parsed in
     let texts = one_texts m.root t m.texts (subst (λ r. AreTexts r t) same tables) m.tables in
-    in_no_texts m.texts P f m.names m.says (not_built bytes P f m) (subst (λ u. InTexts u f) texts s)
+    in_no_texts m.texts P f m.names m.says (not_built bytes P f yet m) (subst (λ u. InTexts u f) texts s)

@@ -1,13 +1,12 @@
 -- What bytes stand for is one application at the most, and none where a fault stands.
 -- A table determines what it says key by key, a list place by place, a program by its names and lines; and each fault
 -- denies what a key, a place, a name or a line has.
-use Rattle.std.proofs.Common.{◌≡◌, ◌≢◌, ◌⊎◌, ℕ, ℤ, codes, zero, suc, ◌+◌, ◌<◌, ◌≤◌, List, [], ◌∷◌, ◌++◌, Bool, true, false, Option, Some, None, option_map, length, map, get_or, slice_get, slice_index, All, AllPairs, Contains, refl, sym, ap, ◌∙◌, subst, arith, rules, inl, inr, string_bytes, if◌then◌else◌, is_some, IsTrue, length-append}
+use Rattle.std.proofs.Common.{◌≡◌, ◌≢◌, ℕ, ℤ, codes, zero, suc, ◌+◌, ◌<◌, List, [], ◌∷◌, ◌++◌, Bool, Option, Some, None, option_map, length, map, get_or, slice_get, AllPairs, refl, sym, ap, ◌∙◌, subst, arith, if◌then◌else◌, length-append}
 use Rattle.std.specs.List.{AllZip}
 use Rattle.std.specs.Str.{bytes_eq}
 use Rattle.std.proofs.lemmas.Option.{same_Some}
-use Rattle.std.proofs.lemmas.Bool.{false≢true}
 use Rattle.std.proofs.lemmas.List.{get_or-append-add}
-use Rattle.toml.specs.Data.{Data, string, integer, float, boolean, datetime, array, table, Items, no_items, item, Members, get_member, get_item, as_str, as_array}
+use Rattle.toml.specs.Data.{Data, string, integer, boolean, array, table, Items, no_items, item, Members}
 use Rattle.toml.specs.Parse.{parse_document}
 use Rattle.fr_program.specs.declared.ids.ActorId.{ActorId}
 use Rattle.fr_program.specs.declared.instr.Instr.{Instr}
@@ -16,24 +15,15 @@ use Rattle.fr_program.specs.declared.parts.Kind.TheVariants as kind
 use Rattle.fr_program.specs.declared.parts.ActorKind.{ActorKind}
 use Rattle.fr_program.specs.declared.parts.ActorKind.TheVariants as actor
 use Rattle.fr_program.specs.Program.{Program, VariableOf, ObjectOf, ActorOf}
-use Rattle.fr_program.specs.Limits.{IsName}
 use Rattle.fr_instr.specs.Names.{NamesOf}
 use Rattle.fr_instr.specs.Lines.{IsLine}
-use Rattle.fr_instr.specs.Faults.{Stands as StandsInLine}
-use Rattle.fr_instr.proofs.LineLaws.{one_line, no_line}
-use Rattle.fr_reader.specs.Keys.{key_text, field, suits, is_key_of, is_own_key, IsKeyOf, IsRequired, IsListKey, kind_word, kind_named, actor_word}
-use Rattle.fr_reader.specs.Texts.{VariableText, ActorText, Texts, AreKnown, IsVariable, IsObject, IsActor, HasKind, IsTableOf, IsText, Each, EachAt, AreTexts}
-use Rattle.fr_reader.specs.Faults.{is_memory, InTable, InVariable, InKind, InObject, InActor, InEntry, InLine as InLineOf, InEach, InEachAt, InApplication}
-use Rattle.fr_reader.specs.Meaning.{names_in, actors_in, lists_in, AreNames, IsOwner, IsOwned, IsCoded, Says, IsTableText, Means, most_bytes}
-use Rattle.fr_reader.specs.Stands.{StandsTwice, InNames, IsNoOwner, InOwner, InOwners, InLine, InLines, InCode, InBuild, InSaid, InTexts, InText, InBytes, Stands}
-use Rattle.fr_reader.specs.declared.key.Key.{Key}
+use Rattle.fr_instr.proofs.LineLaws.{one_line}
+use Rattle.fr_reader.specs.Keys.{field, kind_word, kind_named, actor_word}
+use Rattle.fr_reader.specs.Texts.{VariableText, ActorText, Texts, IsVariable, IsObject, IsActor, HasKind, IsTableOf, IsText, Each, EachAt, AreTexts}
+use Rattle.fr_reader.specs.Meaning.{names_in, actors_in, lists_in, AreNames, IsOwner, IsOwned, IsCoded, Says, Means}
 use Rattle.fr_reader.specs.declared.key.Key.TheVariants as key
 use Rattle.fr_reader.specs.declared.key.ObjectKind.{ObjectKind}
 use Rattle.fr_reader.specs.declared.key.ObjectKind.TheVariants.{Queue, Binary, Counting, Mutex, Recursive, Stream, Message}
-use Rattle.fr_reader.specs.declared.key.Place.{Place}
-use Rattle.fr_reader.specs.declared.key.Place.TheVariants as place
-use Rattle.fr_reader.specs.declared.fault.ReadFault.{ReadFault}
-use Rattle.fr_reader.specs.declared.fault.ReadFault.TheVariants as fault
 
 pub both : {A : Type 0} (o : Option A) (x y : A) → o ≡ Some x → o ≡ Some y → x ≡ y
 both o x y p q = same_Some x y (sym p ∙ q)

@@ -1,5 +1,5 @@
 -- The number at which an actor's name stands.
-use Rattle.std.proofs.Common.{◌≡◌, ◌≤◌, arith, ℕ, List, [], Bool, true, false, Option, Some, None, Bor, length, get_or, slice_get, position, option_copied, Contains, refl, sym, ap, ◌∙◌, subst}
+use Rattle.std.proofs.Common.{◌≡◌, ◌≤◌, arith, ℕ, List, [], Bool, Option, Some, None, Bor, length, get_or, slice_get, option_copied, Contains, refl, sym, ap, ◌∙◌, subst}
 use Rattle.std.specs.Str.{bytes_eq}
 use Rattle.std.specs.Cmp.Lexicographic.{bytes_decides}
 use Rattle.std.proofs.lemmas.Bool.{false≢true}

@@ -3,12 +3,13 @@
 -- | word                       | meaning                                                                        |
 -- |----------------------------|--------------------------------------------------------------------------------|
 -- | is_memory, Standing        | an allocation was refused; a fact about every other fault                      |
+-- | is_not_yet                 | the text may stand for an application, but for one that isn't judged yet        |
 -- | InTable, InVariable        | a key of a table is missing, of a wrong type or unknown                        |
 -- | InKind                     | the key `kind` is missing, or says no kind                                     |
 -- | InObject, InLine, InActor  | the same of an object's table, of an entry of the code, of an actor's table    |
 -- | InEntry, InEach, InEachAt  | the fault stands in an entry of an array, in some entry, at the key of a list  |
 -- | InApplication              | the fault stands in the table of the whole text                                |
-use Rattle.std.specs.Prelude.{◌≡◌, ◌⊎◌, ℕ, List, Bool, true, false, IsTrue, Option, Some, None, string_bytes}
+use Rattle.std.specs.Prelude.{◌≡◌, ◌⊎◌, ℕ, List, Bool, true, false, Option, Some, None, string_bytes}
 use Rattle.toml.specs.Data.{Data, string, array, table, Items, Members, get_member, get_item, as_str}
 use Rattle.fr_reader.specs.Keys.{field, is_key_of, IsKeyOf, IsRequired, suits, kind_word, actor_word}
 use Rattle.fr_instr.specs.declared.fault.LineFault.TheVariants as line
@@ -27,6 +28,11 @@ is_memory fault.Memory = true
 is_memory (fault.Line actor i line.Memory) = true
 is_memory (fault.Build build.Memory) = true
 is_memory f = false
+
+-- what the text says isn't judged yet: the one refusal of texts that may well stand for an application
+abbrev pub is_not_yet : ReadFault → Bool
+is_not_yet (fault.Build build.NotYet) = true
+is_not_yet f = false
 
 -- a fault that is not want of memory stands
 abbrev pub Standing : (ReadFault → Type 0) → ReadFault → Type 0

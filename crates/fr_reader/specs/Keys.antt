@@ -12,7 +12,7 @@
 -- | IsNumberKey, IsTextKey, IsListKey | keys that ask for a number, a text, a list of tables       |
 -- | suits                   | a value is of the type that the key asks for                         |
 -- | field                   | what a table holds at a key                                          |
-use Rattle.std.specs.Prelude.{◌≡◌, ℕ, List, Bool, true, false, IsTrue, Option, codes, is_some, ◌||◌}
+use Rattle.std.specs.Prelude.{ℕ, List, Bool, false, IsTrue, Option, codes, is_some, ◌||◌}
 use Rattle.std.specs.Str.{bytes_eq}
 use Rattle.toml.specs.Data.{Data, Members, get_member, as_str, as_integer, as_bool, as_array}
 use Rattle.fr_program.specs.declared.parts.Kind.{Kind}

@@ -15,10 +15,9 @@ use Rattle.std.specs.List.{AllZip}
 use Rattle.toml.specs.Data.{Members}
 use Rattle.toml.specs.Parse.{parse_document}
 use Rattle.fr_program.specs.declared.ids.ActorId.{ActorId}
-use Rattle.fr_program.specs.declared.fault.BuildFault.{BuildFault}
-use Rattle.fr_program.specs.Program.{Program, VariableOf, ObjectOf, ActorOf}
+use Rattle.fr_program.specs.Program.{Program, VariableOf, ActorOf}
 use Rattle.fr_program.specs.Limits.{IsName}
-use Rattle.fr_program.specs.Fault.{IsFreeOf}
+use Rattle.fr_program.specs.Fault.{IsFaultless}
 use Rattle.fr_instr.specs.Names.{NamesOf}
 use Rattle.fr_instr.specs.Lines.{IsLine}
 use Rattle.fr_reader.specs.Texts.{Texts, VariableText, ActorText, AreTexts}
@@ -84,4 +83,4 @@ pub record Means (bytes : List ℕ) (P : Program) : Type 0 where
   pub tables : AreTexts root texts
   pub names : AreNames (names_in texts)
   pub says : Says texts P
-  pub free : (fault : BuildFault) → IsFreeOf P fault
+  pub faultless : IsFaultless P

@@ -11,7 +11,7 @@
 -- | InSaid, InTexts       | the fault stands in what the texts say, or in the texts                              |
 -- | InText, InBytes       | the fault stands in the table of the bytes, or in the bytes themselves               |
 -- | Stands                | the fault stands in the bytes                                                        |
-use Rattle.std.specs.Prelude.{◌≡◌, ◌⊎◌, ◌<◌, ◌++◌, ℕ, List, ◌∷◌, Bool, true, false, Option, Some, None, Contains, IsUtf8, length, slice_get, string_bytes}
+use Rattle.std.specs.Prelude.{◌≡◌, ◌⊎◌, ◌<◌, ◌++◌, ℕ, List, ◌∷◌, Option, Some, None, Contains, IsUtf8, length, slice_get, string_bytes}
 use Rattle.std.specs.List.{AllZip}
 use Rattle.toml.specs.Data.{Members}
 use Rattle.toml.specs.Parse.{parse_document}

@@ -8,7 +8,7 @@
 -- | IsTableOf                              | a value is a table that stands for something                         |
 -- | Each, EachAt                           | the entries of an array stand for these things, one for each         |
 -- | AreTexts                               | the whole table stands for these texts                               |
-use Rattle.std.specs.Prelude.{◌≡◌, ℕ, ℤ, List, [], ◌∷◌, Bool, IsTrue, Option, Some, None, option_map}
+use Rattle.std.specs.Prelude.{◌≡◌, ℕ, ℤ, List, [], ◌∷◌, IsTrue, Option, Some, None, option_map}
 use Rattle.toml.specs.Data.{Data, string, integer, boolean, array, table, Items, no_items, item, Members, get_member}
 use Rattle.fr_program.specs.declared.parts.Kind.{Kind}
 use Rattle.fr_program.specs.declared.parts.Kind.TheVariants as kind

@@ -6,7 +6,6 @@ use Rattle.toml.proofs.Views.{get_item_within}
 use Rattle.fr_reader.specs.Texts.{IsText}
 use Rattle.fr_reader.specs.Faults.{InLine}
 use Rattle.fr_reader.specs.Views.{line_text}
-use Rattle.fr_reader.specs.declared.key.Key.TheVariants as key
 use Rattle.fr_reader.proofs.EntryLemmas.{each_more, each_all}
 use Rattle.fr_reader.proofs.actor.lines_of.Goals as goal
 

@@ -1,4 +1,4 @@
-use Rattle.std.proofs.Common.{◌≡◌, length, get_or, map, [], sym, ◌∙◌, subst}
+use Rattle.std.proofs.Common.{map, sym, ◌∙◌, subst}
 use Rattle.fr_reader.specs.Views.{line_text}
 use Rattle.fr_reader.specs.Stands.{StandsTwice}
 use Rattle.fr_reader.proofs.NameLemmas.{names_twice, keys_more, names_more}

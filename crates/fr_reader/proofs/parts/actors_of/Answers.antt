@@ -1,4 +1,4 @@
-use Rattle.std.proofs.Common.{get_or, subst, List}
+use Rattle.std.proofs.Common.{get_or, subst}
 use Rattle.std.proofs.lemmas.Result.{err_from_is_err_and}
 use Rattle.fr_program.specs.View as program
 use Rattle.fr_reader.specs.Meaning.{IsCoded}

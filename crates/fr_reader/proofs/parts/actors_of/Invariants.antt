@@ -1,4 +1,4 @@
-use Rattle.std.proofs.Common.{◌≡◌, take, map}
+use Rattle.std.proofs.Common.{take, map}
 use Rattle.std.specs.List.{AllZip}
 use Rattle.fr_program.specs.View as program
 use Rattle.fr_reader.specs.Meaning.{IsCoded}

@@ -1,7 +1,4 @@
-use Rattle.std.proofs.Common.{◌≡◌, map, subst, sym, refl, take, List}
-use Rattle.std.specs.List.{AllZip}
 use Rattle.fr_instr.specs.Lines.{IsLine}
-use Rattle.fr_program.specs.declared.instr.Instr.{Instr}
 use Rattle.fr_reader.specs.Views.{line_text}
 use Rattle.fr_reader.proofs.ZipLemmas.{zip_line}
 use Rattle.fr_reader.proofs.parts.code_of.Goals as goal

@@ -1,4 +1,3 @@
-use Rattle.std.proofs.Common.{get_or}
 use Rattle.std.proofs.lemmas.Result.{err_from_is_err_and}
 use Rattle.fr_program.specs.View as program
 use Rattle.fr_reader.specs.Meaning.{IsOwned}

@@ -1,4 +1,3 @@
-use Rattle.std.proofs.Common.{rules}
 use Rattle.toml.proofs.Views.{table_get}
 use Rattle.fr_reader.specs.Keys.{field, key_text}
 use Rattle.fr_reader.proofs.table.found_at.Goals as goal

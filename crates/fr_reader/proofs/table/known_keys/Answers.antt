@@ -1,9 +1,8 @@
-use Rattle.std.proofs.Common.{◌≡◌, ◌∷◌, [], ◌++◌, List, String, Global, string_bytes, append_assoc, append-nil, refl, sym, ap, ◌∙◌, subst, rules, IsTrue}
+use Rattle.std.proofs.Common.{◌≡◌, ◌∷◌, [], ◌++◌, List, String, Global, string_bytes, append_assoc, append-nil, sym, ap, ◌∙◌, subst, rules, IsTrue}
 use Rattle.std.specs.List.{AllByRecursion}
 use Rattle.std.specs.Map.{keys_of}
 use Rattle.std.specs.Map.Iter.{deref}
 use Rattle.std.proofs.lemmas.Map.Iter.{rest_more, rest_all}
-use Rattle.toml.specs.Data.{get_member}
 use Rattle.fr_reader.specs.Keys.{is_key_of}
 use Rattle.fr_reader.proofs.KeyLemmas.{key_found, each_known, known_push}
 use Rattle.fr_reader.proofs.table.known_keys.Goals as goal

@@ -1,0 +1,42 @@
+-- How the verdict comes of the points in their order: those before the first that fails keep every part.
+use Rattle.std.proofs.Common.{◌≡◌, ℕ, suc, ◌+◌, ◌<◌, ◌≤◌, length, Some, refl, ap, subst, ⊎_elim, arith}
+use Rattle.std.specs.Prelude.{slice_get}
+use Rattle.std.proofs.lemmas.Option.{slice_get_within}
+use Rattle.std.proofs.lemmas.Bool.{cases_lt}
+use Rattle.fr_program.specs.declared.ids.Point.{Point}
+use Rattle.fr_program.specs.Program.{Program}
+use Rattle.fr_program.specs.Lookup.{IsPoint}
+use Rattle.fr_program.specs.Points.{points_of, point_number}
+use Rattle.fr_program.specs.PointNumbers.{PointsAreNumbered}
+use Rattle.fr_program.specs.Fault.{IsFaultless}
+use Rattle.fr_calls.specs.Run.{IsSafe}
+use Rattle.fr_ends.specs.declared.certificate.Certificate.{Certificate}
+use Rattle.fr_ends.specs.Fits.{CertificateFits}
+use Rattle.fr_judge.specs.declared.part.Part.{Part as Told}
+use Rattle.fr_judge.specs.declared.part.Verdict.TheVariants.{Yes as TellsYes, No as TellsNo}
+use Rattle.fr_judge.specs.Verdict.{Verdict, Yes, No, KeepsAll, IsCertified, IsVerdict}
+use Rattle.fr_judge.specs.Told.{told_verdict, TellsFirst, TellsVerdict, KeepsBelow}
+use Rattle.fr_judge.proofs.Induction.{certified-safe}
+use Rattle.fr_judge.proofs.Telling.{fitting-distinct}
+
+module _ (P : Program) (C : Certificate) (numbered : PointsAreNumbered P) where
+  pub one-more : (n : ℕ) → KeepsBelow P C n → ((p : Point) → slice_get (points_of P) n ≡ Some p → KeepsAll P C p) → KeepsBelow P C (n + 1)
+  one-more n below here q is lt =
+      ⊎_elim
+      (λ l. below q is l)
+      (λ h. let same : point_number P q ≡ n = omega (arith, h, lt) in here q (subst (λ k. slice_get (points_of P) k ≡ Some q) same (numbered.at q is)))
+      (cases_lt (point_number P q) n)
+
+  pub all-keep : KeepsBelow P C (length (points_of P)) → IsCertified P C
+  all-keep below p is = below p is (slice_get_within (points_of P) (point_number P p) p (numbered.at p is))
+
+  pub first-failure : (n : ℕ) (p : Point) (told : Told) → KeepsBelow P C n → slice_get (points_of P) n ≡ Some p → TellsFirst P C p (Some told) → TellsVerdict P C (TellsNo p told)
+  first-failure n p told below e first =
+      let listed = numbered.listed n p e in
+      let f : Told → _ = TellsNo p in
+      (No p first.0, ap f first.1, record { point = listed.0; first = first.2; before = λ q is lt. below q is (omega (arith, lt, listed.1)) })
+
+-- a yes is safe
+pub yes-safe : (P : Program) (C : Certificate) → IsFaultless P → CertificateFits P C → TellsVerdict P C TellsYes → IsSafe P
+yes-safe P C faultless fits (Yes, e, kept) = (certified-safe P C (record { faultless = faultless; turns = fitting-distinct P C.ends fits.1.0; kept = kept })).0
+yes-safe P C faultless fits (No p part, e, first) = absurd (cc)

@@ -1,0 +1,68 @@
+-- What is told of a point is of the application, and what an application of today's kind can't fail: it has one task and
+-- no object, so no point is inside an object call, and no other actor has a point.
+use Rattle.std.proofs.Common.{◌≡◌, ℕ, ◌<◌, ◌≤◌, List, [], ◌∷◌, length, Option, Some, None, refl, sym, ap, ◌∙◌, subst, arith}
+use Rattle.std.specs.Prelude.{IsTrue, IfSome, All}
+use Rattle.std.proofs.lemmas.Option.{same_Some}
+use Rattle.fr_program.specs.declared.instr.Instr.TheVariants.{Call as Calls}
+use Rattle.fr_program.specs.declared.instr.Call.TheVariants.{On}
+use Rattle.fr_program.specs.declared.instr.Action.{Action}
+use Rattle.fr_program.specs.declared.ids.ActorId.{ActorId}
+use Rattle.fr_program.specs.declared.ids.Point.{Point}
+use Rattle.fr_program.specs.Program.{Program}
+use Rattle.fr_program.specs.Lookup.{IsPoint, instr_of}
+use Rattle.fr_program.specs.Fault.{IsFaultless, IsJudgedYet}
+use Rattle.fr_calls.specs.Rule.{Rule, OneWriter, OneReader, number_of, End}
+use Rattle.fr_edge.specs.Own.{is_own}
+use Rattle.fr_ends.specs.Certificate.{EndGuard, Guard, Sole, ByMutex, InCritical, Turn, HasDistinctTurns, AllHaveDistinctTurns}
+use Rattle.fr_ends.specs.declared.certificate.Certificate.{Certificate}
+use Rattle.fr_ends.specs.Fits.{GuardFits, EndFits, EndsFit}
+use Rattle.fr_ends.specs.Guarded.{IsInsideOn, Guarded, Near}
+use Rattle.fr_interfere.specs.Undisturbed.{Undisturbed}
+use Rattle.fr_judge.specs.Part.{Part, EntryPart, RulePart, GoesPart, GuardPart, NearPart, SpoiledPart, IsKept}
+use Rattle.fr_judge.specs.Told.{told_part, IsOf}
+use Rattle.fr_judge.proofs.Failing.{failing-owed}
+use Rattle.fr_judge.proofs.Numbers.{actor-below}
+
+-- a rule that a point owes by itself is one of 3 to 12
+own-number : (i : _) (rule : Rule) → IsTrue (is_own i rule) → (3 ≤ number_of rule) × (number_of rule ≤ 12)
+own-number i OneWriter h = cc
+own-number i OneReader h = cc
+own-number i rule h = (omega arith, omega arith)
+
+module _ (P : Program) (faultless : IsFaultless P) (C : Certificate) (p : Point) where
+  -- a part that isn't kept names what the application has
+  pub failing-is-of : (part : Part) → (IsKept P C p part → ⊥) → IsOf P (told_part part)
+  failing-is-of EntryPart h = tt
+  failing-is-of (RulePart rule) h = let o = failing-owed P C p (RulePart rule) h in own-number o.0 rule o.2
+  failing-is-of (GoesPart t) h = (failing-owed P C p (GoesPart t) h).0
+  failing-is-of (GuardPart buffer end) h =
+      let o = failing-owed P C p (GuardPart buffer end) h in
+      subst (λ b. b < length P.objects) o.1.1 (faultless.names.things _ _ _ o.1.3).1
+  failing-is-of (NearPart q) h = (failing-owed P C p (NearPart q) h).0
+  failing-is-of (SpoiledPart q) h = (failing-owed P C p (SpoiledPart q) h).0
+
+module _ (P : Program) (judged : IsJudgedYet P) (C : Certificate) (p : Point) (is : IsPoint P p) where
+  -- all points are of one actor
+  one-actor : (q : Point) → IsPoint P q → q.actor ≡ p.actor
+  one-actor q i =
+      let f : ℕ → ActorId = λ n. record { 0 = n } in
+      ap f (omega (arith, judged.one, actor-below P _ _ _ is.1, actor-below P _ _ _ i.1))
+
+  pub keeps-guard : (buffer : ℕ) (end : End) → Guarded P C p buffer end
+  keeps-guard buffer end action inside at = absurd (judged.code _ _ _ inside.3)
+
+  pub keeps-near : (q : Point) → Near P C.notes p q
+  keeps-near q i other = absurd (other (one-actor q i))
+
+  pub keeps-undisturbed : (q : Point) → Undisturbed P C.notes p q
+  keeps-undisturbed q i other = absurd (other (one-actor q i))
+
+-- guards that fit have distinct turns
+guard-distinct : (P : Program) (g : Guard) → GuardFits P g → HasDistinctTurns g
+guard-distinct P (Sole actor) h = tt
+guard-distinct P (ByMutex mutex) h = tt
+guard-distinct P InCritical h = tt
+guard-distinct P (Turn x values) h = h.2
+
+pub fitting-distinct : (P : Program) (ends : List EndGuard) → All (λ e. EndFits P e) ends → AllHaveDistinctTurns ends
+fitting-distinct P ends h = λ k e lt. guard-distinct P _ (h k e lt).guard

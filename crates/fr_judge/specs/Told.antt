@@ -1,0 +1,77 @@
+-- How the code's parts and verdicts tell those of the definitions, and that they name only what the application has.
+--
+-- | word                    | meaning                                                                       |
+-- |-------------------------|-------------------------------------------------------------------------------|
+-- | told_part, told_verdict | the part, the verdict as the code has it                                      |
+-- | part_of_own             | the part that an own obligation is                                            |
+-- | TellsFirst              | what is told is the first part that isn't kept at a point, or that all are    |
+-- | KeepsBelow              | every part is kept at the points with lesser numbers                          |
+-- | TellsVerdict            | what is told is the verdict                                                   |
+-- | IsOf, Speaks            | a part names only what the application has, and so does a verdict             |
+use Rattle.std.specs.Prelude.{◌≡◌, ◌≤◌, ◌<◌, ℕ, Option, None, Some, Bool, true, false, length}
+use Rattle.fr_program.specs.declared.ids.Point.{Point}
+use Rattle.fr_program.specs.Program.{Program}
+use Rattle.fr_program.specs.Lookup.{IsPoint}
+use Rattle.fr_program.specs.Points.{point_number}
+use Rattle.fr_calls.specs.Rule.{number_of, End, Writer, Reader}
+use Rattle.fr_edge.specs.declared.failing.Own.{Own}
+use Rattle.fr_edge.specs.declared.failing.Own.TheVariants.{Entry as OwnEntry, Rule as OwnRule, Goes as OwnGoes}
+use Rattle.fr_ends.specs.declared.certificate.Certificate.{Certificate}
+use Rattle.fr_judge.specs.declared.part.Part.{Part as Told}
+use Rattle.fr_judge.specs.declared.part.Part.TheVariants.{Entry, Rule, Goes, Guard, Near, Spoiled}
+use Rattle.fr_judge.specs.declared.part.Verdict.{Verdict as ToldVerdict}
+use Rattle.fr_judge.specs.declared.part.Verdict.TheVariants.{Yes as TellsYes, No as TellsNo}
+use Rattle.fr_judge.specs.Part.{Part, EntryPart, RulePart, GoesPart, GuardPart, NearPart, SpoiledPart}
+use Rattle.fr_judge.specs.Verdict.{Verdict, Yes, No, KeepsAll, IsFirstPart, IsVerdict}
+
+-- whether this is the writing end
+abbrev pub is_writer : End → Bool
+is_writer Writer = true
+is_writer Reader = false
+
+-- the part as the code has it: a rule by its number, an end by its buffer and its side
+abbrev pub told_part : Part → Told
+told_part EntryPart = Entry
+told_part (RulePart rule) = Rule (number_of rule)
+told_part (GoesPart t) = Goes t
+told_part (GuardPart buffer end) = Guard (record { buffer = record { 0 = buffer }; writer = is_writer end })
+told_part (NearPart q) = Near q
+told_part (SpoiledPart q) = Spoiled q
+
+-- the part that an own obligation is
+abbrev pub part_of_own : Own → Told
+part_of_own OwnEntry = Entry
+part_of_own (OwnRule n) = Rule n
+part_of_own (OwnGoes t) = Goes t
+
+-- the verdict as the code has it
+abbrev pub told_verdict : Verdict → ToldVerdict
+told_verdict Yes = TellsYes
+told_verdict (No p part) = TellsNo p (told_part part)
+
+-- None says that every part is kept at the point, and a part that it is the first one that isn't
+abbrev pub TellsFirst : Program → Certificate → Point → Option Told → Type 0
+TellsFirst P C p None = KeepsAll P C p
+TellsFirst P C p (Some told) = (part : Part) × (told ≡ told_part part) × IsFirstPart P C p part
+
+-- every part is kept at each point with a number below this one
+abbrev pub KeepsBelow : Program → Certificate → ℕ → Type 0
+KeepsBelow P C n = (p : Point) → IsPoint P p → point_number P p < n → KeepsAll P C p
+
+-- what is told is the verdict
+abbrev pub TellsVerdict : Program → Certificate → ToldVerdict → Type 0
+TellsVerdict P C told = (verdict : Verdict) × (told ≡ told_verdict verdict) × IsVerdict P C verdict
+
+-- the part names a rule that a point can owe by itself, or a point or a buffer of the application
+abbrev pub IsOf : Program → Told → Type 0
+IsOf P Entry = Unit {0}
+IsOf P (Rule n) = (3 ≤ n) × (n ≤ 12)
+IsOf P (Goes t) = IsPoint P t
+IsOf P (Guard e) = e.buffer.0 < length P.objects
+IsOf P (Near q) = IsPoint P q
+IsOf P (Spoiled q) = IsPoint P q
+
+-- the verdict names a point of the application, and a part of it
+abbrev pub Speaks : Program → ToldVerdict → Type 0
+Speaks P TellsYes = Unit {0}
+Speaks P (TellsNo p told) = IsPoint P p × IsOf P told
