@@ -6,15 +6,20 @@
 mod change;
 mod claim;
 mod fault;
+mod fits;
+mod implying;
 mod laws;
 mod narrow;
 mod note;
 mod notes;
+mod said;
+mod stands;
 mod worked;
 
 pub use change::{Change, change_by, keeps};
 pub use claim::Claim;
 pub use fault::{NoteFault, NotesFault};
+pub use implying::implies;
 pub use laws::fitting_can_hold;
 pub use note::{Alternative, Note, NoteParts};
 pub use notes::Notes;
