@@ -45,7 +45,8 @@ impl Model for Note {
 }
 
 /// What a plain note says, where it says more than the default: no mutex held, depth 0, objects
-/// live or dead, and variables anywhere in their declared ranges. Each number stands once in a list.
+/// live or dead, and variables anywhere in their declared ranges. A number stands once in a list;
+/// where one stands twice, its first entry counts.
 #[derive(Debug, Drop)]
 pub struct NoteParts {
     pub held: Vec<(ObjId, u32)>,
@@ -58,7 +59,13 @@ pub struct NoteParts {
 
 impl NoteParts {
     /// The parts of the note that says nothing but the defaults. Takes no memory.
-    pub fn none(alloc: Global) -> NoteParts {
+    pub fn none(alloc: Global) -> NoteParts
+        ensures held { result.held.items ≡ [] }
+        ensures depths { (result.crit ≡ 0) × (result.susp ≡ 0) }
+        ensures live { result.live.items ≡ [] }
+        ensures dead { result.dead.items ≡ [] }
+        ensures range { result.range.items ≡ [] }
+    {
         NoteParts {
             held: Vec::new(alloc),
             crit: 0,
@@ -87,12 +94,15 @@ impl Note {
     /// The plain note that the parts say: Ok exactly where none of the three faults stands and no
     /// allocation was refused. `Count`: a count is not 1 to 255, is not 1 on a plain mutex, or is of
     /// no mutex. `Lives`: an object is both live and dead, or held and dead. `Span`: a range isn't
-    /// inside the variable's declared one. Of several faults, which one is named is open.
+    /// inside the variable's declared one. Of several faults, which one is named is open; `Memory`
+    /// is named only where none of the three stands.
     pub fn build(alloc: Global, app: &App, parts: NoteParts) -> Result<Note, NoteFault>
         ensures says { IfOk result (λ note. note ≡ said app.now parts ∷ []) }
         ensures fits { IfOk result (λ note. NoteFits app.now note) }
         ensures free { OnOk result ((fault : NoteFaultOf) → Stands app.now parts fault → ⊥) }
         ensures stands { IfErr result (λ f. f ≢ NoteFault.Memory → Stands app.now parts f) }
+        ensures memory { IfErr result
+            (λ f. f ≡ NoteFault.Memory → (fault : NoteFaultOf) → Stands app.now parts fault → ⊥) }
     {
         app.is_faultless();
         check_note(app, &parts)?;
