@@ -1,1 +1,6 @@
+pub mod Path
+pub mod Keys
+pub mod Meaning
+pub mod Faults
+pub mod Views
 pub mod FaultText

@@ -2,11 +2,10 @@
 #![tactic(auto)]
 
 mod fault;
-mod note;
+mod key;
 mod path;
-mod reading;
+mod ranges;
 mod tree;
 
 pub use fault::CertFault;
 pub use path::{Path, Step};
-pub use reading::read_cert;
