@@ -1,1 +1,2 @@
 pub mod WorkedNotes
+pub mod Shown

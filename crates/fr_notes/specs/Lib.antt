@@ -1,5 +1,7 @@
 pub mod Note
+pub mod View
 pub mod Noted
 pub mod Fits
 pub mod Compare
+pub mod Laws
 pub mod WorkedNotes
