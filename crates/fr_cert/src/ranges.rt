@@ -1,5 +1,5 @@
 // Reading the ranges that a note gives variables.
-ghost use Rattle.std.specs.Prelude.{◌≡◌, ℕ, List, Some, None, IfOk, IfErr, option_map, map, position};
+ghost use Rattle.std.specs.Prelude.{◌≡◌, ℕ, List, Some, None, IfOk, IfErr, option_map, map, position, string_bytes};
 ghost use Rattle.std.specs.Str.{bytes_eq};
 ghost use Rattle.serde_json.specs.Find.{as_array, as_object, get_item};
 ghost use Rattle.serde_json.specs.View.{view, items_view, members_view};
@@ -10,15 +10,26 @@ ghost use Rattle.fr_cert.specs.Views.{ends_of, named_of};
 
 use crate::fault::CertFault;
 use crate::tree::{departs, departs_in, integer_of, list_in, within_key};
-use fr_program::{App, Range, VarId};
+use fr_program::{App, Range, VarId, Variable};
 use serde_json::{Map, Value};
 use std::alloc::Global;
+
+// What a list has at a position, if it is so long.
+fn item_at(list: &Vec<Value>, index: usize) -> Option<&Value>
+    ensures { option_map (λ v. view v.now) result ≡ get_item index (items_view list.now.items) }
+{
+    if index < list.len() {
+        Some(&list[index])
+    } else {
+        None
+    }
+}
 
 // The integer at a position of a list, if there is one.
 fn end_at(ends: &Vec<Value>, index: usize) -> Option<i128>
     ensures { result ≡ end_at index (items_view ends.now.items) }
 {
-    match ends.get(index) {
+    match item_at(ends, index) {
         Some(value) => integer_of(value),
         None => None,
     }
@@ -35,7 +46,7 @@ fn span_of(alloc: Global, ends: &Vec<Value>) -> Result<Range, CertFault>
     let Some(hi) = end_at(ends, 1) else {
         return Err(departs_in(alloc, 1));
     };
-    if ends.len() > 2 {
+    if let Some(_) = item_at(ends, 2) {
         return Err(departs_in(alloc, 2));
     }
     match Range::new(lo, hi) {
@@ -52,11 +63,18 @@ fn range_of(alloc: Global, value: &Value) -> Result<Range, CertFault>
     span_of(alloc, list_in(alloc, value)?)
 }
 
+// The place of the first variable with this name.
+fn place_of(variables: &[Variable], name: &str) -> Option<usize>
+    ensures { result ≡ position (λ v. bytes_eq (string_bytes v.name) name.now) variables.now }
+{
+    variables.iter().position(|variable| variable.name.as_str() == name)
+}
+
 // The number of the variable with this name.
 fn variable_named(app: &App, name: &str) -> Option<usize>
     ensures { result ≡ variable_named app.now name.now }
 {
-    app.variables().iter().position(|variable| variable.name.as_str() == name)
+    place_of(app.variables(), name)
 }
 
 // The variable with this name, and the range that stands beside it.
@@ -82,14 +100,14 @@ fn named_range(
 fn members_of(
     alloc: Global,
     app: &App,
-    map: &Map<String, Value>,
+    object: &Map<String, Value>,
 ) -> Result<Vec<(VarId, Range)>, CertFault>
     ensures ok { IfOk result
-        (λ v. Named app.now (members_view map.now.entries) (map named_of v.items)) }
-    ensures err { IfErr result (Standing (InMembers app.now (members_view map.now.entries))) }
+        (λ v. Named app.now (members_view object.now.entries) (map named_of v.items)) }
+    ensures err { IfErr result (Standing (InMembers app.now (members_view object.now.entries))) }
 {
     let mut ranges = Vec::new(alloc);
-    for (name, value) in map {
+    for (name, value) in object {
         ranges.push(named_range(alloc, app, name.as_str(), value)?)?;
     }
     Ok(ranges)
