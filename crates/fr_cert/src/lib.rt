@@ -3,6 +3,7 @@
 
 mod fault;
 mod key;
+mod note;
 mod path;
 mod ranges;
 mod tree;

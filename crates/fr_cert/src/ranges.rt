@@ -4,9 +4,10 @@ ghost use Rattle.std.specs.Str.{bytes_eq};
 ghost use Rattle.serde_json.specs.Find.{as_array, as_object, get_item};
 ghost use Rattle.serde_json.specs.View.{view, items_view, members_view};
 ghost use Rattle.fr_cert.specs.Keys.{variable_named, end_at};
-ghost use Rattle.fr_cert.specs.Meaning.{IsSpan, IsSpanOf, IsNamed, Named};
+ghost use Rattle.fr_cert.specs.Meaning.{IsSpan, IsSpanOf, IsNamed, Named, RangesAt};
 ghost use Rattle.fr_cert.specs.Faults.{Standing, Departs, InEnds, InSpan, InNamed, InMembers, InRanges};
-ghost use Rattle.fr_cert.specs.Views.{ends_of, named_of};
+ghost use Rattle.fr_notes.specs.View.{ends_of};
+ghost use Rattle.fr_cert.specs.Views.{named_of};
 
 use crate::fault::CertFault;
 use crate::tree::{departs, departs_in, integer_of, list_in, within_key};
@@ -111,4 +112,20 @@ fn members_of(
         ranges.push(named_range(alloc, app, name.as_str(), value)?)?;
     }
     Ok(ranges)
+}
+
+// The ranges that the value stands for, in its order.
+pub(crate) fn ranges_of(
+    alloc: Global,
+    app: &App,
+    value: &Value,
+) -> Result<Vec<(VarId, Range)>, CertFault>
+    ensures ok { IfOk result
+        (λ v. RangesAt app.now (Some (view value.now)) (map named_of v.items)) }
+    ensures err { IfErr result (Standing (InRanges app.now (view value.now))) }
+{
+    match value.as_object() {
+        Some(object) => members_of(alloc, app, object),
+        None => Err(departs(alloc)),
+    }
 }

@@ -12,25 +12,8 @@
 use Rattle.std.specs.Prelude.{◌≡◌, ◌<◌, ℕ, ℤ, List, [], ◌∷◌, Option, None, Some, Bool, true, false, ◌&&◌, nat_eq, if◌then◌else◌, All}
 use Rattle.fr_calls.specs.State.{State, value_of, content_of, depth_of, count_held}
 use Rattle.fr_calls.specs.Rule.{End, Writer, Reader}
-use Rattle.fr_notes.specs.Note.{Note}
-
--- one actor alone, whoever holds a mutex, whoever is in the critical section, or whose turn it is by a variable
-pub data Guard : Type 0 where
-  Sole : (actor : ℕ) → Guard
-  ByMutex : (mutex : ℕ) → Guard
-  InCritical : Guard
-  Turn : (variable : ℕ) (values : List (ℕ × ℤ)) → Guard
-
--- the guard of one end of one buffer
-pub record EndGuard : Type 0 where
-  pub buffer : ℕ
-  pub end : End
-  pub guard : Guard
-
--- a note for each point, in the order of the points' numbers, and the guards of ends
-pub record Certificate : Type 0 where
-  pub notes : List Note
-  pub ends : List EndGuard
+pub use Rattle.fr_ends.specs.Guard.{Guard, Sole, ByMutex, InCritical, Turn, EndGuard}
+pub use Rattle.fr_ends.specs.declared.certificate.Certificate.{Certificate}
 
 -- the turn value that is listed for an actor; an actor that isn't listed never has the guard
 abbrev pub value_for : List (ℕ × ℤ) → ℕ → Option ℤ

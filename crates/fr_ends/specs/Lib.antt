@@ -1,3 +1,4 @@
+pub mod Guard
 pub mod Certificate
 pub mod Fits
 pub mod Guarded

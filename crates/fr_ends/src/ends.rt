@@ -1,5 +1,8 @@
 // The ends of stream and message buffers, and the guards that are listed for them.
+ghost use Rattle.std.specs.Prelude.{◌≡◌, [], length};
+
 use fr_program::ObjId;
+use std::marker::Model;
 
 /// The writing or the reading end of a stream or message buffer.
 #[derive(Clone, Copy, Debug, PartialEq, Eq)]
@@ -14,16 +17,31 @@ pub struct Ends {
     listed: Vec<EndName>,
 }
 
+impl Model for Ends {
+    ghost use Rattle.std.specs.Prelude.{◌≡◌, List, []};
+    ghost use Rattle.fr_ends.specs.Guard.{EndGuard};
+
+    ghost Value = { List EndGuard };
+
+    ghost view = { λ _. [] };
+
+    ghost invariant = { λ e. e.listed.items ≡ [] };
+}
+
 impl Ends {
     /// No guard at all. Takes no memory.
-    pub fn none(alloc: std::alloc::Global) -> Ends {
+    pub fn none(alloc: std::alloc::Global) -> Ends
+        ensures { result ≡ [] }
+    {
         Ends {
             listed: Vec::new(alloc),
         }
     }
 
     /// How many ends have a guard.
-    pub fn len(&self) -> usize {
+    pub fn len(&self) -> usize
+        ensures { result ≡ length self.now }
+    {
         self.listed.len()
     }
 }
