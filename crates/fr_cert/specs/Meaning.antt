@@ -19,7 +19,7 @@
 -- | IsTree           | a value is such an object                                                                  |
 -- | IsTreeText       | the bytes are the text of this value                                                       |
 -- | Means            | the bytes stand for a certificate of this application                                      |
-use Rattle.std.specs.Prelude.{◌≡◌, ◌≤◌, ◌≤ℤ◌, ◌⊎◌, ℕ, ℤ, pos, List, [], ◌∷◌, Option, Some, None, option_map, option_and_then, unwrap_or, All, IsUtf8, codes, find, length, map, nat_eq, replicate}
+use Rattle.std.specs.Prelude.{◌≡◌, ◌<◌, ◌≤◌, ◌≤ℤ◌, ◌⊎◌, ℕ, ℤ, pos, List, [], ◌∷◌, Option, Some, None, option_map, option_and_then, unwrap_or, All, IsUtf8, codes, find, length, map, nat_eq, replicate}
 use Rattle.std.specs.List.{range_with_len}
 use Rattle.serde_json.specs.Data.{Data, Items, no_items, item, Members, no_members, member}
 use Rattle.serde_json.specs.Find.{get_item, as_array, as_object, as_str}
@@ -27,7 +27,8 @@ use Rattle.serde_json.specs.Read.{read}
 use Rattle.fr_program.specs.Program.{Program}
 use Rattle.fr_program.specs.Lookup.{variable_at}
 use Rattle.fr_program.specs.Points.{points_of}
-use Rattle.fr_notes.specs.Note.{Alternative, Note, NotHeld}
+use Rattle.fr_notes.specs.declared.claim.Claim.TheVariants.{NotHeld}
+use Rattle.fr_notes.specs.Note.{Alternative, Note}
 use Rattle.fr_notes.specs.Fits.{most_depth}
 use Rattle.fr_ends.specs.Certificate.{Certificate}
 use Rattle.fr_cert.specs.Keys.{AreKnown, field, integer_of, end_at, variable_named}
@@ -77,9 +78,9 @@ pub record IsNoteText (P : Program) (ms : Members) (text : NoteText) : Type 0 wh
   pub crit : IsDepthAt (field Crit ms) text.crit
   pub ranges : RangesAt P (field Range ms) text.ranges
 
--- the range lies in the declared one of its variable
+-- the application has the variable, and the range lies in its declared one
 abbrev pub IsInside : Program → ℕ × (ℤ × ℤ) → Type 0
-IsInside P x = ((variable_at P x.0).lo ≤ℤ x.1.0) × (x.1.1 ≤ℤ (variable_at P x.0).hi)
+IsInside P x = (x.0 < length P.variables) × ((variable_at P x.0).lo ≤ℤ x.1.0) × (x.1.1 ≤ℤ (variable_at P x.0).hi)
 
 -- the range of the variable with this number: the one that it is given, or the declared one
 abbrev pub range_at : Program → List (ℕ × (ℤ × ℤ)) → ℕ → ℤ × ℤ

@@ -6,6 +6,7 @@ mod key;
 mod note;
 mod path;
 mod ranges;
+mod reading;
 mod tree;
 
 pub use fault::CertFault;

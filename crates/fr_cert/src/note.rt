@@ -77,12 +77,13 @@ fn parts_of(
         (Standing (InKeysOfNote app.now (members_view object.now.entries))) }
 {
     known_keys(alloc, object, Place::Note)?;
-    let crit = crit_at(alloc, object)?;
-    let range = ranges_at(alloc, app, object)?;
     Ok(NoteParts {
-        crit,
-        range,
-        ..NoteParts::none(alloc)
+        held: Vec::new(alloc),
+        crit: crit_at(alloc, object)?,
+        susp: 0,
+        live: Vec::new(alloc),
+        dead: Vec::new(alloc),
+        range: ranges_at(alloc, app, object)?,
     })
 }
 
