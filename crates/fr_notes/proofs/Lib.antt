@@ -1,2 +1,3 @@
 pub mod WorkedNotes
 pub mod Shown
+pub mod SaidLemmas

@@ -10,6 +10,8 @@ mod laws;
 mod narrow;
 mod note;
 mod notes;
+mod said;
+mod stands;
 mod worked;
 
 pub use change::{Change, change_by, keeps};

@@ -1,9 +1,11 @@
 // Notes: what a certificate says of an actor at a point.
-ghost use Rattle.std.specs.Prelude.{◌≡◌, []};
+ghost use Rattle.std.specs.Prelude.{◌≡◌, ◌≢◌, [], ◌∷◌, IfOk, IfErr, OnOk};
 
 use crate::claim::Claim;
 use crate::fault::NoteFault;
-use fr_program::{App, Kind, ObjId, Object, Range, VarId, Variable};
+use crate::said::{claims_said, ranges_said};
+use crate::stands::check_note;
+use fr_program::{App, ObjId, Range, VarId};
 use std::alloc::Global;
 use std::marker::Model;
 
@@ -69,6 +71,10 @@ impl NoteParts {
 }
 
 impl Note {
+    ghost use Rattle.fr_notes.specs.declared.fault.NoteFault.{NoteFault as NoteFaultOf};
+    ghost use Rattle.fr_notes.specs.Fits.{NoteFits};
+    ghost use Rattle.fr_notes.specs.Parts.{said, Stands};
+
     /// The note that holds of no actor in no state. Takes no memory.
     pub fn never(alloc: Global) -> Note
         ensures { result ≡ [] }
@@ -78,12 +84,20 @@ impl Note {
         }
     }
 
-    /// The plain note that the parts say. `Count`: a count is not 1 to 255, is not 1 on a plain
-    /// mutex, or is of no mutex. `Lives`: an object is both live and dead, or held and dead.
-    /// `Span`: a range isn't inside the variable's declared one.
-    pub fn build(alloc: Global, app: &App, parts: NoteParts) -> Result<Note, NoteFault> {
-        let claims = claims_of(alloc, app.objects(), &parts)?;
-        let ranges = ranges_of(alloc, app.variables(), &parts.range)?;
+    /// The plain note that the parts say: Ok exactly where none of the three faults stands and no
+    /// allocation was refused. `Count`: a count is not 1 to 255, is not 1 on a plain mutex, or is of
+    /// no mutex. `Lives`: an object is both live and dead, or held and dead. `Span`: a range isn't
+    /// inside the variable's declared one. Of several faults, which one is named is open.
+    pub fn build(alloc: Global, app: &App, parts: NoteParts) -> Result<Note, NoteFault>
+        ensures says { IfOk result (λ note. note ≡ said app.now parts ∷ []) }
+        ensures fits { IfOk result (λ note. NoteFits app.now note) }
+        ensures free { OnOk result ((fault : NoteFaultOf) → Stands app.now parts fault → ⊥) }
+        ensures stands { IfErr result (λ f. f ≢ NoteFault.Memory → Stands app.now parts f) }
+    {
+        app.is_faultless();
+        check_note(app, &parts)?;
+        let claims = claims_said(alloc, app, &parts)?;
+        let ranges = ranges_said(alloc, app, &parts.range)?;
         let mut alternatives = Vec::with_capacity(alloc, 1)?;
         alternatives.push(Alternative {
             crit: parts.crit,
@@ -100,84 +114,4 @@ impl Note {
     {
         &self.alternatives
     }
-}
-
-/// Whether a mutex of this kind may be held so often.
-fn is_count(kind: Kind, count: u32) -> bool {
-    match kind {
-        Kind::Mutex => count == 1,
-        Kind::Recursive => 1 <= count && count <= 255,
-        _ => false,
-    }
-}
-
-fn claims_of(
-    alloc: Global,
-    objects: &[Object],
-    parts: &NoteParts,
-) -> Result<Vec<Claim>, NoteFault> {
-    let mut claims = vec![in alloc; Claim::NotHeld; objects.len()]?;
-    for object in &parts.live {
-        if let Some(claim) = claims.get_mut(object.0) {
-            *claim = Claim::Alive;
-        }
-    }
-    mark_dead(&mut claims, &parts.dead)?;
-    mark_held(&mut claims, objects, &parts.held)?;
-    Ok(claims)
-}
-
-fn mark_dead(claims: &mut Vec<Claim>, dead: &[ObjId]) -> Result<(), NoteFault> {
-    for object in dead {
-        if let Some(claim) = claims.get_mut(object.0) {
-            if *claim == Claim::Alive {
-                return Err(NoteFault::Lives);
-            }
-            *claim = Claim::Gone;
-        }
-    }
-    Ok(())
-}
-
-fn mark_held(
-    claims: &mut Vec<Claim>,
-    objects: &[Object],
-    held: &[(ObjId, u32)],
-) -> Result<(), NoteFault> {
-    for (object, count) in held {
-        match objects.get(object.0) {
-            Some(found) if is_count(found.kind, *count) => {}
-            _ => return Err(NoteFault::Count),
-        }
-        if let Some(claim) = claims.get_mut(object.0) {
-            if *claim == Claim::Gone {
-                return Err(NoteFault::Lives);
-            }
-            *claim = Claim::HeldTimes(*count);
-        }
-    }
-    Ok(())
-}
-
-/// The variable's declared range.
-fn declared(variable: &Variable) -> Option<Range> {
-    Range::new(i128::from(variable.lo), i128::from(variable.hi))
-}
-
-fn ranges_of(
-    alloc: Global,
-    variables: &[Variable],
-    narrower: &[(VarId, Range)],
-) -> Result<Vec<Range>, NoteFault> {
-    let mut ranges = Vec::with_capacity(alloc, variables.len())?;
-    for variable in variables {
-        ranges.push(declared(variable).ok_or(NoteFault::Span)?)?;
-    }
-    for (variable, range) in narrower {
-        match ranges.get_mut(variable.0) {
-            Some(whole) if whole.lo <= range.lo && range.hi <= whole.hi => *whole = *range,
-            _ => return Err(NoteFault::Span),
-        }
-    }
-    Ok(ranges)
 }
