@@ -1,7 +1,9 @@
 -- What plain parts of a note say, beside what an object has to say for them.
-use Rattle.std.proofs.Common.{◌≡◌, ◌⊎◌, ℕ, ℤ, zero, suc, ◌+◌, ◌<◌, ◌≤◌, ◌≤ℤ◌, List, [], ◌∷◌, Bool, true, false, Option, Some, None, option_map, length, get_or, cond, find, map, nat_eq, replicate, All, Any, unwrap_or, refl, sym, ap, ◌∙◌, subst, arith, inl, inr}
+use Rattle.std.proofs.Common.{◌≡◌, ◌⊎◌, ℕ, ℤ, zero, suc, ◌+◌, ◌<◌, ◌≤◌, ◌≤ℤ◌, List, [], ◌∷◌, Bool, true, false, Option, Some, None, option_map, length, get_or, cond, find, map, nat_eq, replicate, T, All, Any, unwrap_or, refl, sym, ap, ◌∙◌, subst, arith, inl, inr}
 use Rattle.std.specs.List.{range_with_len}
-use Rattle.std.proofs.lemmas.List.{get_or_default}
+use Rattle.std.proofs.lemmas.Bool.{cases_lt}
+use Rattle.std.proofs.lemmas.List.{get_or_default, get_or-map, length-map}
+use Rattle.std.specs.Int.Signed.{le_z, le_z_yes}
 use Rattle.std.proofs.lemmas.List.Elements.{All-map}
 use Rattle.fr_program.specs.declared.ids.VarId.{VarId}
 use Rattle.fr_program.specs.declared.range.Range.{Range}
@@ -62,10 +64,14 @@ said_plain P parts h =
 
 -- a range is inside the declared one, or it isn't
 nat_or : (a b : ℕ) → (a < b) ⊎ (a < b → ⊥)
-nat_or a b = ?
+nat_or a b = elim (cases_lt a b) [ inl less ↦ inl less | inr most ↦ inr (λ less. absurd (omega (arith, less, most))) ]
+
+bool_or : (b : Bool) → T b ⊎ (T b → ⊥)
+bool_or true = inl tt
+bool_or false = inr (λ h. h)
 
 int_or : (a b : ℤ) → (a ≤ℤ b) ⊎ (a ≤ℤ b → ⊥)
-int_or a b = ?
+int_or a b = elim (bool_or (le_z a b)) [ inl yes_ ↦ inl (le_z_yes yes_) | inr no_ ↦ inr (λ h. no_ h.le) ]
 
 inside_or : (P : Program) (x : ℕ × (ℤ × ℤ)) → IsInside P x ⊎ (IsInside P x → ⊥)
 inside_or P x =
@@ -90,7 +96,7 @@ all_inside P parts free =
     All-map (IsInside P) named_of parts.range.items (all_or_any (λ r. IsInside P (named_of r)) (λ r. inside_or P (named_of r)) parts.range.items (free Span))
 
 any_map : {A B : Type 0} (f : B → A) (Q : A → Type 0) (xs : List B) → Any (λ x. Q (f x)) xs → Any Q (map f xs)
-any_map f Q xs h = ?
+any_map f Q xs h = (h.0, f h.1, rw (length-map xs f) h.2, get_or-map f xs h.0 h.1 (f h.1) h.2 ∙ ap f h.3, h.4)
 
 -- a fault of plain parts is a range outside the declared one
 pub plain_stands : (P : Program) (parts : NoteParts) (f : NoteFault) → IsPlainParts parts → Stands P parts f → Any (λ x. IsInside P x → ⊥) (text_of parts).ranges
