@@ -1,3 +1,5 @@
 pub mod WorkedNotes
 pub mod Shown
 pub mod SaidLemmas
+pub mod FitLemmas
+pub mod ImpliedLemmas

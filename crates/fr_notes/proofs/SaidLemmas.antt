@@ -1,5 +1,5 @@
 -- The alternative that parts say fits the application, where no fault stands in them.
-use Rattle.std.proofs.Common.{◌≡◌, ℕ, ◌<◌, ◌≤◌, List, [], ◌∷◌, length, get_or, Option, Some, None, Bool, true, false, refl, sym, subst, arith, ⊎_elim, cond}
+use Rattle.std.proofs.Common.{◌≡◌, ℕ, ◌≤◌, List, [], ◌∷◌, length, Option, Some, None, Bool, true, false, refl, sym, subst, arith, ⊎_elim}
 use Rattle.std.specs.Prelude.{ℤ, pos, ◌≤ℤ◌, IfSome, nat_eq, if◌then◌else◌, All}
 use Rattle.std.proofs.lemmas.Int.{ints}
 use Rattle.std.proofs.lemmas.List.{get_or_past}
@@ -16,10 +16,10 @@ use Rattle.fr_program.specs.Lookup.{variable_at, no_variable}
 use Rattle.fr_program.specs.Fault.{IsFaultless}
 use Rattle.fr_calls.specs.State.{kind_of}
 use Rattle.fr_notes.specs.declared.note.NoteParts.{NoteParts}
-use Rattle.fr_notes.specs.Note.{Alternative, Claim, NotHeld, Alive, Gone, HeldTimes, claim_of, range_of}
+use Rattle.fr_notes.specs.Note.{NotHeld, Alive, Gone, HeldTimes, range_of}
 use Rattle.fr_notes.specs.Fits.{CanClaim, AlternativeFits, most_depth}
 use Rattle.fr_notes.specs.Parts.{names, count_in, count_said, unheld_said, claim_by, claim_said, range_in, range_by, range_said, said, IsCount, IsInside}
-use Rattle.fr_notes.proofs.Shown.{listed, listed-case}
+use Rattle.fr_notes.proofs.Shown.{listed-case}
 
 -- that an actor doesn't hold it can be said of anything
 can-unheld : (kind : Kind) (dead live : Bool) → CanClaim kind (if dead then Gone else (if live then Alive else NotHeld))

@@ -10,8 +10,8 @@
 -- | least         | each variable is at the lower end of the alternative's range                               |
 -- | content_for   | what an object of a kind has where a claim of it is true of the actor                      |
 -- | usual         | the same, for each object                                                                  |
-use Rattle.std.proofs.Common.{◌≡◌, ◌≢◌, ℕ, zero, suc, ◌+◌, ◌<◌, ◌≤◌, List, [], ◌∷◌, length, get_or, Option, Some, None, Bool, true, false, refl, sym, ap, ◌∙◌, subst, arith, ⊎_elim, map, eq-eqb}
-use Rattle.std.specs.Prelude.{ℤ, pos, ◌≤ℤ◌, IfSome, nat_eq, if◌then◌else◌}
+use Rattle.std.proofs.Common.{◌≡◌, ◌≢◌, ℕ, zero, suc, ◌<◌, ◌≤◌, List, length, get_or, Bool, true, false, refl, sym, subst, arith, ⊎_elim, map, eq-eqb}
+use Rattle.std.specs.Prelude.{ℤ, pos, IfSome, nat_eq, if◌then◌else◌}
 use Rattle.std.specs.List.{range_with_len}
 use Rattle.std.proofs.lemmas.Int.{ints}
 use Rattle.std.proofs.lemmas.List.{get_or_past}
@@ -21,8 +21,8 @@ use Rattle.fr_program.specs.declared.parts.Kind.{Kind}
 use Rattle.fr_program.specs.declared.parts.Kind.TheVariants.{Queue, Binary, Counting, Mutex, Recursive, Stream, Message}
 use Rattle.fr_program.specs.Program.{Program}
 use Rattle.fr_program.specs.Fault.{IsFaultless}
-use Rattle.fr_calls.specs.State.{State, Place, Done, Content, Dead, Values, Count, Free, Held, Bytes, Lengths, CanHave, Exists, IsWellFormed, kind_of, place_of, content_of, value_of, depth_in, depth_of, suspension_of, count_held, held_at, new_content}
-use Rattle.fr_calls.proofs.Built.{HasSizes, IsBuilt, is-built}
+use Rattle.fr_calls.specs.State.{State, Place, Done, Content, Dead, Held, CanHave, Exists, IsWellFormed, kind_of, place_of, content_of, value_of, depth_in, depth_of, suspension_of, count_held, held_at, new_content}
+use Rattle.fr_calls.proofs.Built.{HasSizes, is-built}
 use Rattle.fr_calls.proofs.Contents.{new-fits}
 use Rattle.fr_notes.specs.Note.{Alternative, Claim, NotHeld, Alive, Gone, HeldTimes, Meets, Within, HoldsOne, claim_of, range_of}
 use Rattle.fr_notes.specs.Fits.{CanClaim, AlternativeFits}

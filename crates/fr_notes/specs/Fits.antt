@@ -1,12 +1,12 @@
 -- Notes that fit an application: those that can be built for it.
-use Rattle.std.specs.Prelude.{◌≡◌, ◌≤◌, ◌≤ℤ◌, ℕ, List, length, All}
+use Rattle.std.specs.Prelude.{◌≡◌, ◌≤◌, ◌≤ℤ◌, ℕ, ℤ, pos, List, length, All, slice_index_or}
 use Rattle.fr_program.specs.declared.parts.Kind.{Kind}
 use Rattle.fr_program.specs.declared.parts.Kind.TheVariants.{Mutex, Recursive}
 use Rattle.fr_program.specs.Program.{Program}
 use Rattle.fr_program.specs.Lookup.{variable_at}
 use Rattle.fr_program.specs.Points.{points_of}
 use Rattle.fr_calls.specs.State.{kind_of}
-use Rattle.fr_notes.specs.Note.{Alternative, Note, Claim, HeldTimes, claim_of, range_of}
+use Rattle.fr_notes.specs.Note.{Alternative, Note, Claim, NotHeld, HeldTimes, claim_of, range_of}
 
 -- the most that a depth or a count in a note can be
 abbrev pub most_depth : ℕ
@@ -22,6 +22,18 @@ CanClaim Mutex (HeldTimes count) = count ≡ 1
 CanClaim Recursive (HeldTimes count) = (1 ≤ count) × (count ≤ most_depth)
 CanClaim kind (HeldTimes count) = ⊥
 CanClaim kind claim = Unit {0}
+
+-- a claim for each object, and each can be said of it
+abbrev pub ClaimsFit : Program → List Claim → Type 0
+ClaimsFit P claims = (length claims ≡ length P.objects) × ((o : ℕ) → CanClaim (kind_of P o) (slice_index_or claims o NotHeld))
+
+-- the range is inside the declared range of this variable
+abbrev pub IsWithinDeclared : Program → ℕ → ℤ × ℤ → Type 0
+IsWithinDeclared P x range = ((variable_at P x).lo ≤ℤ range.0) × (range.1 ≤ℤ (variable_at P x).hi)
+
+-- a range for each variable, and each is inside the declared one
+abbrev pub RangesFit : Program → List (ℤ × ℤ) → Type 0
+RangesFit P ranges = (length ranges ≡ length P.variables) × ((x : ℕ) → IsWithinDeclared P x (slice_index_or ranges x (pos 0, pos 0)))
 
 -- an alternative that can be built for the application: it has a claim for each object and, for each variable, a range
 -- inside the declared one

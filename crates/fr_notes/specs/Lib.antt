@@ -4,5 +4,6 @@ pub mod Noted
 pub mod Fits
 pub mod Parts
 pub mod Compare
+pub mod Implied
 pub mod Laws
 pub mod WorkedNotes

@@ -9,7 +9,7 @@
 -- | is_live_said            | whether the parts say that an object is live, or held                             |
 -- | IsCount, IsInside       | a count that an object can be held, a range inside the declared one               |
 -- | Stands                  | this fault stands in the parts                                                    |
-use Rattle.std.specs.Prelude.{◌≡◌, ◌<◌, ◌≤ℤ◌, ◌||◌, ℕ, ℤ, List, Option, None, Some, Bool, IsTrue, length, map, find, nat_eq, if◌then◌else◌, is_some, Any}
+use Rattle.std.specs.Prelude.{◌<◌, ◌≤ℤ◌, ◌||◌, ℕ, ℤ, List, Option, None, Some, Bool, IsTrue, length, map, find, nat_eq, if◌then◌else◌, is_some, Any}
 use Rattle.std.specs.List.{list_any, range_with_len}
 use Rattle.std.specs.Option.{option_map}
 use Rattle.fr_program.specs.declared.ids.ObjId.{ObjId}

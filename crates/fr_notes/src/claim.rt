@@ -1,4 +1,5 @@
 // What a note says of an object.
+ghost use Rattle.std.specs.Prelude.{◌↔◌, IsTrue};
 
 /// What an alternative of a note says of one object.
 #[derive(Clone, Copy, Debug, PartialEq, Eq)]
@@ -14,8 +15,12 @@ pub enum Claim {
 }
 
 impl Claim {
+    ghost use Rattle.fr_notes.specs.Implied.{ClaimImplies};
+
     /// Whether an actor of which this claim holds has the other one hold of it too.
-    pub fn implies(self, other: Claim) -> bool {
+    pub fn implies(self, other: Claim) -> bool
+        ensures { IsTrue result ↔ ClaimImplies self other }
+    {
         match (self, other) {
             (Claim::HeldTimes(count), Claim::HeldTimes(other)) => count == other,
             (Claim::HeldTimes(_), _) | (_, Claim::HeldTimes(_)) => false,

@@ -6,6 +6,8 @@
 mod change;
 mod claim;
 mod fault;
+mod fits;
+mod implying;
 mod laws;
 mod narrow;
 mod note;
@@ -17,6 +19,7 @@ mod worked;
 pub use change::{Change, change_by, keeps};
 pub use claim::Claim;
 pub use fault::{NoteFault, NotesFault};
+pub use implying::implies;
 pub use laws::fitting_can_hold;
 pub use note::{Alternative, Note, NoteParts};
 pub use notes::Notes;

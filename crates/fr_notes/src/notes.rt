@@ -1,8 +1,10 @@
 // The notes of an application: one for each point.
-ghost use Rattle.std.specs.Prelude.{◌≡◌, slice_get};
+ghost use Rattle.std.specs.Prelude.{◌≡◌, ◌≢◌, ◌↔◌, IsTrue, IfOk, IfErr, OnOk, OnErr, All, length, slice_get};
+ghost use Rattle.fr_program.specs.Points.{points_of};
 ghost use Rattle.std.specs.Option.{option_copied};
 
 use crate::fault::NotesFault;
+use crate::fits::note_fits;
 use crate::note::Note;
 use fr_program::App;
 use std::alloc::Global;
@@ -24,13 +26,24 @@ impl Model for Notes {
 }
 
 impl Notes {
+    ghost use Rattle.fr_notes.specs.Fits.{NoteFits, NotesFit};
+
     /// The notes of an application, one for each point, each `Never` or built for that application.
     /// `PointCount`: there are more or fewer notes than points. On a refusal the notes come back.
+    /// Takes no memory.
     pub fn build(
         _alloc: Global,
         app: &App,
         notes: Vec<Note>,
-    ) -> Result<Notes, (NotesFault, Vec<Note>)> {
+    ) -> Result<Notes, (NotesFault, Vec<Note>)>
+        ensures same { IfOk result (λ built. built ≡ notes.items) }
+        ensures points { OnOk result (length notes.items ≡ length (points_of app.now)) }
+        ensures fits { All (λ note. NoteFits app.now note) notes.items →
+            IfOk result (λ built. NotesFit app.now built) }
+        ensures fault { IfErr result (λ e. e.0 ≡ NotesFault.PointCount) }
+        ensures other { OnErr result (length notes.items ≢ length (points_of app.now)) }
+        ensures returned { IfErr result (λ e. e.1 ≡ notes) }
+    {
         if notes.len() == app.points() {
             Ok(Notes { notes })
         } else {
@@ -43,5 +56,12 @@ impl Notes {
         ensures { option_copied result ≡ slice_get self.now number }
     {
         self.notes.get(number)
+    }
+    /// Whether there is one note for each point, each of which could have been built for the
+    /// application. Takes no memory.
+    pub fn fits(&self, app: &App) -> bool
+        ensures { IsTrue result ↔ NotesFit app.now self.now }
+    {
+        self.notes.len() == app.points() && self.notes.iter().all(|note| note_fits(app, note))
     }
 }

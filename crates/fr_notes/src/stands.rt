@@ -10,7 +10,7 @@ use crate::said::{count_in, names, object_count, variable_count};
 use fr_program::{App, Kind, ObjId, Range, VarId};
 
 /// Whether something of this kind can be held so often, as a note can say.
-fn is_count(kind: Kind, count: u32) -> bool
+pub fn is_count(kind: Kind, count: u32) -> bool
     ensures { IsTrue result ↔ CanClaim kind (HeldTimes count) }
 {
     match kind {
@@ -26,7 +26,7 @@ fn may_be_held(app: &App, object: ObjId, count: u32) -> bool
     object.0 < object_count(app) && is_count(app.kind(object), count)
 }
 
-fn is_inside(app: &App, variable: VarId, range: Range) -> bool
+pub fn is_inside(app: &App, variable: VarId, range: Range) -> bool
     ensures { IsTrue result ↔ IsInside app.now (variable, range) }
 {
     variable.0 < variable_count(app) && range.within(app.range(variable))

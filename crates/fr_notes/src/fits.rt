@@ -1,0 +1,68 @@
+// Whether a note fits an application: whether it could have been built for it.
+ghost use Rattle.std.specs.Prelude.{◌↔◌, IsTrue, map};
+ghost use Rattle.fr_notes.specs.Fits.{CanClaim, ClaimsFit, RangesFit, AlternativeFits, NoteFits};
+ghost use Rattle.fr_notes.specs.View.{ends_of};
+
+use crate::claim::Claim;
+use crate::note::{Alternative, Note};
+use crate::said::{object_count, variable_count};
+use crate::stands::{is_count, is_inside};
+use fr_program::{App, Kind, ObjId, Range, VarId};
+
+const MOST_ALTERNATIVES: usize = 4;
+
+/// Whether this can be said of something of this kind.
+fn can_claim(kind: Kind, claim: Claim) -> bool
+    ensures { IsTrue result ↔ CanClaim kind claim }
+{
+    match claim {
+        Claim::HeldTimes(count) => is_count(kind, count),
+        Claim::NotHeld | Claim::Alive | Claim::Gone => true,
+    }
+}
+
+fn claims_fit(app: &App, claims: &[Claim]) -> bool
+    ensures { IsTrue result ↔ ClaimsFit app.now claims.now }
+{
+    if claims.len() != object_count(app) {
+        return false;
+    }
+    for (object, claim) in claims.iter().enumerate() {
+        if !can_claim(app.kind(ObjId(object)), *claim) {
+            return false;
+        }
+    }
+    true
+}
+
+fn ranges_fit(app: &App, ranges: &[Range]) -> bool
+    ensures { IsTrue result ↔ RangesFit app.now (map ends_of ranges.now) }
+{
+    if ranges.len() != variable_count(app) {
+        return false;
+    }
+    for (variable, range) in ranges.iter().enumerate() {
+        if !is_inside(app, VarId(variable), *range) {
+            return false;
+        }
+    }
+    true
+}
+
+fn alternative_fits(app: &App, alternative: &Alternative) -> bool
+    ensures { IsTrue result ↔ AlternativeFits app.now alternative.now }
+{
+    // Depths have a byte each, so that they fit.
+    let (_critical, _suspended) = (alternative.crit, alternative.susp);
+    claims_fit(app, &alternative.claims) && ranges_fit(app, &alternative.ranges)
+}
+
+pub fn note_fits(app: &App, note: &Note) -> bool
+    ensures { IsTrue result ↔ NoteFits app.now note.now }
+{
+    let alternatives = note.alternatives();
+    alternatives.len() <= MOST_ALTERNATIVES
+        && alternatives
+            .iter()
+            .all(|alternative| alternative_fits(app, alternative))
+}
