@@ -1,7 +1,9 @@
 -- One more entry of a list, and one more note that it stands for.
-use Rattle.std.proofs.Common.{◌≡◌, ◌≢◌, ℕ, zero, suc, ◌+◌, ◌<◌, ◌≤◌, List, [], ◌∷◌, ◌++◌, Some, length, get_or, take, refl, sym, ap, ◌∙◌, subst, arith}
+use Rattle.std.proofs.Common.{◌≡◌, ℕ, zero, suc, ◌+◌, ◌<◌, ◌≤◌, List, [], ◌∷◌, ◌++◌, Some, length, get_or, take, refl, sym, ap, ◌∙◌, subst, arith, ◌==◌, false}
+use Rattle.std.proofs.lemmas.Bool.{false≢true}
 use Rattle.std.proofs.lemmas.List.{take_more, take_all}
-use Rattle.serde_json.specs.Data.{Data}
+use Rattle.serde_json.specs.Data.{Data, Items, no_items, item}
+use Rattle.serde_json.specs.Events.{items_len}
 use Rattle.serde_json.specs.Find.{get_item}
 use Rattle.serde_json.specs.View.{items_view, view}
 use Rattle.serde_json.specs.declared.value.Value.{Value}
@@ -32,5 +34,16 @@ each_all P xs ys i notes same end h =
 
 -- a list that isn't empty has a first entry
 pub first_item : (xs : List Value) → 0 < length xs → (d : Data) × (get_item 0 (items_view xs) ≡ Some d)
-first_item [] h = absurd (omega arith)
+first_item [] h = absurd (omega (arith, h))
 first_item (x ∷ xs) h = (view x, refl)
+
+pub positive : (n : ℕ) → false ≡ (n == 0) → 0 < n
+positive zero h = absurd (false≢true h)
+positive (suc n) h = omega arith
+
+-- there are as many notes as entries
+pub each_length : (P : Program) (ds : Items) (notes : List Note) → EachNote P ds notes → length notes ≡ items_len ds
+each_length P no_items [] h = refl
+each_length P no_items (n ∷ notes) h = absurd h
+each_length P (item d ds) [] h = absurd h
+each_length P (item d ds) (n ∷ notes) h = ap suc (each_length P ds notes h.1)

@@ -1,10 +1,11 @@
 -- What plain parts of a note say, beside what an object has to say for them.
-use Rattle.std.proofs.Common.{◌≡◌, ◌⊎◌, ℕ, ℤ, zero, suc, ◌+◌, ◌<◌, ◌≤◌, ◌≤ℤ◌, List, [], ◌∷◌, Bool, true, false, Option, Some, None, option_map, length, get_or, cond, find, map, nat_eq, replicate, T, All, Any, unwrap_or, refl, sym, ap, ◌∙◌, subst, arith, inl, inr}
+use Rattle.std.proofs.Common.{◌≡◌, ◌≢◌, ◌⊎◌, true≢false, ℕ, ℤ, zero, suc, ◌+◌, ◌<◌, ◌≤◌, ◌≤ℤ◌, List, [], ◌∷◌, Bool, true, false, Option, Some, None, option_map, length, get_or, cond, find, map, nat_eq, replicate, T, All, Any, unwrap_or, refl, sym, ap, ◌∙◌, subst, arith, inl, inr}
 use Rattle.std.specs.List.{range_with_len}
 use Rattle.std.proofs.lemmas.Bool.{cases_lt}
 use Rattle.std.proofs.lemmas.List.{get_or_default, get_or-map, length-map}
 use Rattle.std.specs.Int.Signed.{le_z, le_z_yes}
 use Rattle.std.proofs.lemmas.List.Elements.{All-map}
+use Rattle.serde_json.specs.Data.{Members}
 use Rattle.fr_program.specs.declared.ids.VarId.{VarId}
 use Rattle.fr_program.specs.declared.range.Range.{Range}
 use Rattle.fr_program.specs.Program.{Program}
@@ -17,8 +18,10 @@ use Rattle.fr_notes.specs.declared.fault.NoteFault.TheVariants.{Memory, Count, L
 use Rattle.fr_notes.specs.Note.{Alternative}
 use Rattle.fr_notes.specs.View.{ends_of}
 use Rattle.fr_notes.specs.Parts.{said, claim_said, range_in, range_by, range_said, Stands}
-use Rattle.fr_cert.specs.Meaning.{NoteText, IsInside, range_at, note_said}
-use Rattle.fr_cert.specs.Views.{named_of, text_of, IsPlainParts}
+use Rattle.fr_cert.specs.Meaning.{IsNoteText, IsInside, range_at, note_said}
+use Rattle.fr_cert.specs.Faults.{Standing}
+use Rattle.fr_cert.specs.Stands.{InPlain}
+use Rattle.fr_cert.specs.Views.{named_of, text_of, IsPlainParts, refused_as}
 
 abbrev Given : Type 0
 Given = VarId × Range
@@ -104,3 +107,11 @@ plain_stands P parts Memory h s = absurd s
 plain_stands P parts Count h s = absurd (omega (arith, ap length h.held, s.2))
 plain_stands P parts Lives h s = absurd (omega (arith, ap length h.dead, s.2))
 plain_stands P parts Span h s = any_map named_of (λ x. IsInside P x → ⊥) parts.range.items s
+
+-- so it stands where the parts were read from
+pub plain_fault : (P : Program) (ms : Members) (parts : NoteParts) (f : NoteFault) → IsNoteText P ms (text_of parts) → IsPlainParts parts → (f ≢ Memory → Stands P parts f)
+    → Standing (InPlain P ms) (refused_as f)
+plain_fault P ms parts Memory text plain h named = absurd (true≢false named)
+plain_fault P ms parts Count text plain h named = inr (text_of parts, text, plain_stands P parts Count plain (h (λ e. cc)), refl)
+plain_fault P ms parts Lives text plain h named = inr (text_of parts, text, plain_stands P parts Lives plain (h (λ e. cc)), refl)
+plain_fault P ms parts Span text plain h named = inr (text_of parts, text, plain_stands P parts Span plain (h (λ e. cc)), refl)

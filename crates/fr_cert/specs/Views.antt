@@ -1,9 +1,13 @@
--- What ranges and the parts of a note stand for.
+-- What ranges and the parts of a note stand for, and what a fault of these parts is called.
 use Rattle.std.specs.Prelude.{◌≡◌, ℕ, ℤ, [], map}
 use Rattle.fr_program.specs.declared.ids.VarId.{VarId}
 use Rattle.fr_program.specs.declared.range.Range.{Range}
 use Rattle.fr_notes.specs.declared.note.NoteParts.{NoteParts}
+use Rattle.fr_notes.specs.declared.fault.NoteFault.{NoteFault}
+use Rattle.fr_notes.specs.declared.fault.NoteFault.TheVariants as note
 use Rattle.fr_notes.specs.View.{ends_of}
+use Rattle.fr_cert.specs.declared.fault.CertFault.{CertFault}
+use Rattle.fr_cert.specs.declared.fault.CertFault.TheVariants as cert
 use Rattle.fr_cert.specs.Meaning.{NoteText}
 
 -- a variable's number and the ends of its range
@@ -20,3 +24,8 @@ pub record IsPlainParts (parts : NoteParts) : Type 0 where
   pub susp : parts.susp ≡ 0
   pub live : parts.live.items ≡ []
   pub dead : parts.dead.items ≡ []
+
+-- what a certificate with a note that has this fault is refused for
+abbrev pub refused_as : NoteFault → CertFault
+refused_as note.Memory = cert.Memory
+refused_as f = cert.Note

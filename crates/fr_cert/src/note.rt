@@ -6,7 +6,8 @@ ghost use Rattle.fr_cert.specs.Keys.{field};
 ghost use Rattle.fr_cert.specs.Meaning.{IsDepthAt, RangesAt, IsNoteText, IsPlain, IsNote};
 ghost use Rattle.fr_cert.specs.Faults.{Standing, InDepth, InField, InRanges};
 ghost use Rattle.fr_cert.specs.Stands.{InKeysOfNote, InPlain, InNote};
-ghost use Rattle.fr_cert.specs.Views.{named_of, text_of, IsPlainParts};
+ghost use Rattle.fr_notes.specs.Fits.{NoteFits};
+ghost use Rattle.fr_cert.specs.Views.{named_of, text_of, IsPlainParts, refused_as};
 
 use crate::fault::CertFault;
 use crate::key::{Key, Place};
@@ -87,6 +88,16 @@ fn parts_of(
     })
 }
 
+// What a certificate with a note that has this fault is refused for.
+fn refused_as(fault: NoteFault) -> CertFault
+    ensures { result ≡ refused_as fault }
+{
+    match fault {
+        NoteFault::Memory => CertFault::Memory,
+        _ => CertFault::Note,
+    }
+}
+
 // The note that the object stands for.
 fn plain_note(
     alloc: Global,
@@ -94,12 +105,12 @@ fn plain_note(
     object: &Map<String, Value>,
 ) -> Result<Note, CertFault>
     ensures ok { IfOk result (IsPlain app.now (members_view object.now.entries)) }
+    ensures fits { IfOk result (NoteFits app.now) }
     ensures err { IfErr result (Standing (InPlain app.now (members_view object.now.entries))) }
 {
     match Note::build(alloc, app, parts_of(alloc, app, object)?) {
         Ok(note) => Ok(note),
-        Err(NoteFault::Memory) => Err(CertFault::Memory),
-        Err(_) => Err(CertFault::Note),
+        Err(fault) => Err(refused_as(fault)),
     }
 }
 
@@ -116,6 +127,7 @@ fn is_never(value: &Value) -> bool
 // The note that a value stands for: `"never"`, or an object whose keys are all optional.
 pub(crate) fn note_of(alloc: Global, app: &App, value: &Value) -> Result<Note, CertFault>
     ensures ok { IfOk result (IsNote app.now (view value.now)) }
+    ensures fits { IfOk result (NoteFits app.now) }
     ensures err { IfErr result (Standing (InNote app.now (view value.now))) }
 {
     if let Some(object) = value.as_object() {

@@ -1,9 +1,13 @@
 // Reading a certificate's bytes.
-ghost use Rattle.std.specs.Prelude.{◌≡◌, ◌∷◌, [], pos, Some, IfOk, IfErr, OnOk, option_and_then};
+ghost use Rattle.std.specs.Prelude.{◌≡◌, ℕ, List, pos, Some, All, IfOk, IfErr, OnOk, option_and_then, length};
 ghost use Rattle.serde_json.specs.Data.{no_items};
-ghost use Rattle.serde_json.specs.Find.{as_array, as_object, get_item};
+ghost use Rattle.serde_json.specs.Find.{as_array};
 ghost use Rattle.serde_json.specs.View.{view, items_view, members_view};
+ghost use Rattle.fr_program.specs.Program.{Program};
 ghost use Rattle.fr_program.specs.Points.{points_of};
+ghost use Rattle.fr_notes.specs.Fits.{NoteFits, NotesFit};
+ghost use Rattle.fr_ends.specs.Certificate.{Certificate as CertificateOf};
+ghost use Rattle.fr_ends.specs.Fits.{CertificateFits};
 ghost use Rattle.fr_cert.specs.Keys.{field, integer_of};
 ghost use Rattle.fr_cert.specs.Meaning.{EachNote, NotesAt, IsCertificate, IsTree, IsTreeText, Means};
 ghost use Rattle.fr_cert.specs.Faults.{Standing, InNeeded};
@@ -84,6 +88,7 @@ fn check_ends(alloc: Global, object: &Map<String, Value>) -> Result<(), CertFaul
 // The notes that the entries of a list stand for, in its order.
 fn each_note(alloc: Global, app: &App, list: &Vec<Value>) -> Result<Vec<Note>, CertFault>
     ensures ok { IfOk result (λ v. EachNote app.now (items_view list.now.items) v.items) }
+    ensures fits { IfOk result (λ v. All (NoteFits app.now) v.items) }
     ensures err { IfErr result (Standing (InEach app.now (items_view list.now.items))) }
 {
     let mut notes = Vec::new(alloc);
@@ -99,6 +104,7 @@ fn each_note(alloc: Global, app: &App, list: &Vec<Value>) -> Result<Vec<Note>, C
 // The notes that a value stands for, one for each point.
 fn notes_of(alloc: Global, app: &App, value: &Value) -> Result<Vec<Note>, CertFault>
     ensures ok { IfOk result (λ v. NotesAt app.now (Some (view value.now)) v.items) }
+    ensures fits { IfOk result (λ v. All (NoteFits app.now) v.items) }
     ensures err { IfErr result (Standing (InNotes app.now (view value.now))) }
 {
     let list = list_in(alloc, value)?;
@@ -117,6 +123,7 @@ fn notes_at(
 ) -> Result<Vec<Note>, CertFault>
     ensures ok { IfOk result
         (λ v. NotesAt app.now (field Key.Notes (members_view object.now.entries)) v.items) }
+    ensures fits { IfOk result (λ v. All (NoteFits app.now) v.items) }
     ensures err { IfErr result
         (Standing (InNeeded Key.Notes (InNotes app.now) (members_view object.now.entries))) }
 {
@@ -128,3 +135,91 @@ fn notes_at(
         Err(fault) => Err(within_key(alloc, Key::Notes.text(), fault)),
     }
 }
+
+// The same notes, which are one for each point, so they are not refused.
+fn built(alloc: Global, app: &App, notes: Vec<Note>) -> Result<Notes, CertFault>
+    requires points { length notes.items ≡ length (points_of app.now) }
+    requires fit { All (NoteFits app.now) notes.items }
+    ensures same { IfOk result (λ n. n ≡ notes.items) }
+    ensures fits { IfOk result (NotesFit app.now) }
+    ensures memory { IfErr result (λ f. f ≡ CertFault.Memory) }
+{
+    match Notes::build(alloc, app, notes) {
+        Ok(notes) => Ok(notes),
+        Err(_) => Err(CertFault::Memory),
+    }
+}
+
+// The certificate that the object stands for, key by key.
+fn certificate_of(
+    alloc: Global,
+    app: &App,
+    object: &Map<String, Value>,
+) -> Result<Certificate, CertFault>
+    ensures ok { IfOk result (IsCertificate app.now (members_view object.now.entries)) }
+    ensures fits { IfOk result (CertificateFits app.now) }
+    ensures err { IfErr result
+        (Standing (InCertificate app.now (members_view object.now.entries))) }
+{
+    known_keys(alloc, object, Place::Certificate)?;
+    check_version(alloc, object)?;
+    check_ends(alloc, object)?;
+    let notes = notes_at(alloc, app, object)?;
+    Ok(Certificate {
+        notes: built(alloc, app, notes)?,
+        ends: Ends::none(alloc),
+    })
+}
+
+// The certificate that the value of the whole text stands for.
+fn certificate_in(alloc: Global, app: &App, value: &Value) -> Result<Certificate, CertFault>
+    ensures ok { IfOk result (IsTree app.now (view value.now)) }
+    ensures fits { IfOk result (CertificateFits app.now) }
+    ensures err { IfErr result (Standing (InTree app.now (view value.now))) }
+{
+    match value.as_object() {
+        Some(object) => certificate_of(alloc, app, object),
+        None => Err(departs(alloc)),
+    }
+}
+
+// The value that the bytes are the text of.
+fn tree_of(alloc: Global, bytes: &[u8]) -> Result<Value, CertFault>
+    ensures ok { IfOk result (λ tree. IsTreeText bytes.now (view tree)) }
+    ensures err { IfErr result (Standing (InBytes bytes.now)) }
+{
+    if bytes.len() > MOST_BYTES {
+        return Err(CertFault::TooLong);
+    }
+    match Value::from_slice(alloc, bytes) {
+        Ok(tree) => Ok(tree),
+        Err(error) => Err(if error.is_memory() {
+            CertFault::Memory
+        } else {
+            CertFault::Json
+        }),
+    }
+}
+
+/// The certificate that the bytes stand for, for this application.
+///
+/// The bytes are a JSON text (RFC 8259), as the crate `serde_json` reads it, of at most 16,777,216
+/// bytes: an object of version 1, with an empty list of ends and one note for each point, each
+/// `"never"` or an object with the keys `crit` and `range`.
+///
+/// Its errors are those of `CertFault`: one that stands in the bytes, where they stand for no
+/// certificate. Of several, which one is named is open.
+pub fn read_cert(alloc: Global, app: &App, bytes: &[u8]) -> Result<Certificate, CertFault>
+    ensures ok { IfOk result (Means app.now bytes.now) }
+    ensures fits { IfOk result (CertificateFits app.now) }
+    ensures err { IfErr result (Standing (Stands app.now bytes.now)) }
+{
+    let tree = tree_of(alloc, bytes)?;
+    certificate_in(alloc, app, &tree)
+}
+
+/// Bytes stand, for an application, for one certificate at the most.
+pub fn one_meaning()
+    ensures { (P : Program) (bytes : List ℕ) (C D : CertificateOf) →
+        Means P bytes C → Means P bytes D → C ≡ D }
+{}

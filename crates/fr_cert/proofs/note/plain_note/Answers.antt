@@ -1,7 +1,7 @@
 use Rattle.std.proofs.Common.{◌≡◌, ◌∷◌, [], ◌∙◌, ap, inl, inr, subst}
 use Rattle.std.proofs.lemmas.Result.{err_from_is_err_and}
 use Rattle.fr_cert.specs.Views.{text_of}
-use Rattle.fr_cert.proofs.NoteLemmas.{said_plain, all_inside, plain_stands}
+use Rattle.fr_cert.proofs.NoteLemmas.{said_plain, all_inside, plain_fault}
 use Rattle.fr_cert.proofs.note.plain_note.Goals as goal
 
 pub returns-in_err-parts_of-clause-err : goal.returns-in_err-parts_of-clause-err
@@ -18,5 +18,6 @@ returns-in-Ok-clause-ok c =
       c.in-Ok.ensures.says ∙ ap (λ n. n ∷ []) (said_plain c.args.app.now parts c.in_ok-parts_of.ensures.plain),
     )
 
-pub returns-in_default-clause-err : goal.returns-in_default-clause-err
-returns-in_default-clause-err c = ?
+pub returns-in-Err-clause-err : goal.returns-in-Err-clause-err
+returns-in-Err-clause-err c =
+    rw c.refused_as.ensures (plain_fault _ _ c.in_ok-parts_of.field-0 c.in-Err.fault c.in_ok-parts_of.ensures.ok c.in_ok-parts_of.ensures.plain c.in-Err.ensures.stands)
