@@ -1,1 +1,7 @@
+pub mod Path
+pub mod Keys
+pub mod Meaning
+pub mod Faults
+pub mod Stands
+pub mod Views
 pub mod FaultText

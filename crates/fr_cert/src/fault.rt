@@ -30,6 +30,7 @@ pub enum CertFault {
 
 impl CertFault {
     ghost use Rattle.fr_cert.specs.FaultText.{text_of};
+    ghost use Rattle.fr_cert.specs.Faults.{is_memory};
 
     /// The number and the name, as a refusal's line shows them.
     pub fn text(&self) -> &'static str
@@ -48,7 +49,9 @@ impl CertFault {
     }
 
     /// Whether an allocation was refused.
-    pub fn is_memory(&self) -> bool {
+    pub fn is_memory(&self) -> bool
+        ensures { result ≡ is_memory self.now }
+    {
         matches!(self, CertFault::Memory)
     }
 }

@@ -2,11 +2,13 @@
 #![tactic(auto)]
 
 mod fault;
+mod key;
 mod note;
 mod path;
+mod ranges;
 mod reading;
 mod tree;
 
 pub use fault::CertFault;
 pub use path::{Path, Step};
-pub use reading::read_cert;
+pub use reading::{one_meaning, read_cert};

@@ -1,6 +1,10 @@
 // Where in a certificate's text a value stands.
+ghost use Rattle.std.specs.Prelude.{◌≡◌, [], ◌∷◌, OnOk};
+ghost use Rattle.fr_cert.specs.Path.{key, at};
+
 use std::alloc::{AllocError, Global};
 use std::fmt;
+use std::marker::Model;
 
 /// A step from a value of the text to one inside it.
 #[derive(Debug, Drop)]
@@ -12,40 +16,41 @@ pub enum Step {
 /// The steps from the whole text to a value. It is printed with a `/` between two steps.
 #[derive(Debug, Drop)]
 pub struct Path {
-    pub steps: Vec<Step>,
+    steps: Vec<Step>,
+}
+
+impl Model for Path {
+    ghost use Rattle.std.specs.Prelude.{List, map};
+    ghost use Rattle.fr_cert.specs.Path.{PathStep, step_of};
+
+    ghost Value = { List PathStep };
+
+    ghost view = { λ p. map step_of p.steps.items };
 }
 
 impl Path {
     /// The whole text. Takes no memory.
-    pub fn whole(alloc: Global) -> Path {
+    pub fn whole(alloc: Global) -> Path
+        ensures { result ≡ [] }
+    {
         Path {
             steps: Vec::new(alloc),
         }
     }
 
-    /// The value at a key of the text.
-    pub fn key(alloc: Global, name: &str) -> Result<Path, AllocError> {
-        let mut path = Path::whole(alloc);
-        path.within_key(alloc, name)?;
-        Ok(path)
-    }
-
-    /// The value at a position of the text.
-    pub fn position(alloc: Global, index: usize) -> Result<Path, AllocError> {
-        let mut path = Path::whole(alloc);
-        path.within_position(index)?;
-        Ok(path)
-    }
-
     /// The same value, seen from one that has this one's whole at a key.
-    pub fn within_key(&mut self, alloc: Global, name: &str) -> Result<(), AllocError> {
+    pub fn within_key(&mut self, alloc: Global, name: &str) -> Result<(), AllocError>
+        ensures { OnOk result (self.new ≡ key name.now ∷ self.old) }
+    {
         let name = String::from_str(alloc, name)?;
         self.steps.insert(0, Step::Key(name))?;
         Ok(())
     }
 
     /// The same value, seen from one that has this one's whole at a position.
-    pub fn within_position(&mut self, index: usize) -> Result<(), AllocError> {
+    pub fn within_position(&mut self, index: usize) -> Result<(), AllocError>
+        ensures { OnOk result (self.new ≡ at index ∷ self.old) }
+    {
         self.steps.insert(0, Step::At(index))?;
         Ok(())
     }

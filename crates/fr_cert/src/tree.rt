@@ -1,19 +1,28 @@
 // Reading values of a JSON tree by shape, each departure with its path.
+ghost use Rattle.std.specs.Prelude.{◌≡◌, ◌∷◌, [], false, Some, None, option_map, OnOk, IfOk, IfErr};
+ghost use Rattle.serde_json.specs.Find.{as_array};
+ghost use Rattle.serde_json.specs.View.{view, members_view, items_view};
+ghost use Rattle.fr_cert.specs.Path.{key, at};
+ghost use Rattle.fr_cert.specs.Keys.{key_text, field, integer_of, AreKnown};
+ghost use Rattle.fr_cert.specs.Faults.{is_memory, Standing, Departs, deeper, InKeys, InInteger};
+
 use crate::fault::CertFault;
+use crate::key::{Key, Place, is_key_of};
 use crate::path::Path;
 use serde_json::{Map, Value};
-use std::alloc::{AllocError, Global};
+use std::alloc::Global;
 
-/// The text departs at this path.
-pub fn departs(path: Result<Path, AllocError>) -> CertFault {
-    match path {
-        Ok(path) => CertFault::Shape(path),
-        Err(_) => CertFault::Memory,
-    }
+// The value itself departs.
+pub(crate) fn departs(alloc: Global) -> CertFault
+    ensures { Departs [] result }
+{
+    CertFault::Shape(Path::whole(alloc))
 }
 
-/// The same fault, seen from a value that has the one with the fault at a key.
-pub fn within_key(alloc: Global, name: &str, fault: CertFault) -> CertFault {
+// The same fault, seen from a value that has the one with the fault at a key.
+pub(crate) fn within_key(alloc: Global, name: &str, fault: CertFault) -> CertFault
+    ensures { Standing (λ f. f ≡ deeper (key name.now) fault) result }
+{
     let CertFault::Shape(mut path) = fault else {
         return fault;
     };
@@ -23,8 +32,10 @@ pub fn within_key(alloc: Global, name: &str, fault: CertFault) -> CertFault {
     }
 }
 
-/// The same fault, seen from a value that has the one with the fault at a position.
-pub fn within_position(index: usize, fault: CertFault) -> CertFault {
+// The same fault, seen from a value that has the one with the fault at a position.
+pub(crate) fn within_position(index: usize, fault: CertFault) -> CertFault
+    ensures { Standing (λ f. f ≡ deeper (at index) fault) result }
+{
     let CertFault::Shape(mut path) = fault else {
         return fault;
     };
@@ -34,62 +45,71 @@ pub fn within_position(index: usize, fault: CertFault) -> CertFault {
     }
 }
 
-/// The whole number that a value is: one for which the crate's `as_i64` or `as_u64` answers.
-pub fn integer_of(value: &Value) -> Option<i128> {
+// The value at this key departs.
+pub(crate) fn departs_at(alloc: Global, name: &str) -> CertFault
+    ensures { Standing (Departs (key name.now ∷ [])) result }
+{
+    within_key(alloc, name, departs(alloc))
+}
+
+// The value at this position departs.
+pub(crate) fn departs_in(alloc: Global, index: usize) -> CertFault
+    ensures { Standing (Departs (at index ∷ [])) result }
+{
+    within_position(index, departs(alloc))
+}
+
+// What the object holds at the key.
+pub(crate) fn found_at(map: &Map<String, Value>, key: Key) -> Option<&Value>
+    ensures { option_map (λ v. view v.now) result ≡ field key (members_view map.now.entries) }
+{
+    map.get(key.text())
+}
+
+// The whole number that a value is: one for which the crate's `as_i64` or `as_u64` answers.
+pub(crate) fn integer_of(value: &Value) -> Option<i128>
+    ensures { result ≡ integer_of (view value.now) }
+{
     match value.as_number() {
         Some(number) => number.as_i128(),
         None => None,
     }
 }
 
-/// The integer at a key of an object, if it has the key.
-pub fn integer_at(
+// The integer that the value has to be.
+pub(crate) fn integer_in(alloc: Global, value: &Value) -> Result<i128, CertFault>
+    ensures ok { IfOk result (λ z. integer_of (view value.now) ≡ Some z) }
+    ensures err { IfErr result (InInteger (view value.now)) }
+{
+    match integer_of(value) {
+        Some(number) => Ok(number),
+        None => Err(departs(alloc)),
+    }
+}
+
+// The list that the value has to be.
+pub(crate) fn list_in(alloc: Global, value: &Value) -> Result<&Vec<Value>, CertFault>
+    ensures ok { IfOk result (λ v. as_array (view value.now) ≡ Some (items_view v.now.items)) }
+    ensures err { IfErr result (λ f. (as_array (view value.now) ≡ None) × Departs [] f) }
+{
+    match value.as_array() {
+        Some(list) => Ok(list),
+        None => Err(departs(alloc)),
+    }
+}
+
+// No key of the object is unknown at its place.
+pub(crate) fn known_keys(
     alloc: Global,
     map: &Map<String, Value>,
-    name: &str,
-) -> Result<Option<i128>, CertFault> {
-    let Some(value) = map.get(name) else {
-        return Ok(None);
-    };
-    match integer_of(value) {
-        Some(number) => Ok(Some(number)),
-        None => Err(departs(Path::key(alloc, name))),
-    }
-}
-
-/// The list at a key that an object has to have.
-pub fn list_at<'a>(
-    alloc: Global,
-    map: &'a Map<String, Value>,
-    name: &str,
-) -> Result<&'a [Value], CertFault> {
-    if let Some(Value::Array(list)) = map.get(name) {
-        return Ok(list);
-    }
-    Err(departs(Path::key(alloc, name)))
-}
-
-/// An object of a certificate that has keys of its own.
-#[derive(Clone, Copy, Debug)]
-pub enum Place {
-    Certificate,
-    Note,
-}
-
-impl Place {
-    fn has_key(self, name: &str) -> bool {
-        match self {
-            Place::Certificate => name == "version" || name == "ends" || name == "notes",
-            Place::Note => name == "crit" || name == "range",
-        }
-    }
-}
-
-/// Refuses an object that has a key which is not one of its place.
-pub fn only_keys(alloc: Global, map: &Map<String, Value>, place: Place) -> Result<(), CertFault> {
+    place: Place,
+) -> Result<(), CertFault>
+    ensures ok { OnOk result (AreKnown place (members_view map.now.entries)) }
+    ensures err { IfErr result (Standing (InKeys place (members_view map.now.entries))) }
+{
     for name in map.keys() {
-        if !place.has_key(name.as_str()) {
-            return Err(departs(Path::key(alloc, name.as_str())));
+        if !is_key_of(place, name.as_str()) {
+            return Err(departs_at(alloc, name.as_str()));
         }
     }
     Ok(())

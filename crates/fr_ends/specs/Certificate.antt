@@ -2,8 +2,6 @@
 --
 -- | word               | meaning                                                                     |
 -- |--------------------|-----------------------------------------------------------------------------|
--- | Guard              | what an actor has while it is inside a call at an end of a buffer           |
--- | EndGuard           | the guard of one end of one buffer                                          |
 -- | Certificate        | the notes, in the order of the points, and the guards of ends               |
 -- | value_for          | the turn value that is listed for an actor                                  |
 -- | HasGuard           | the guard holds of an actor in a state                                      |
@@ -12,8 +10,12 @@
 use Rattle.std.specs.Prelude.{◌≡◌, ◌<◌, ℕ, ℤ, List, [], ◌∷◌, Option, None, Some, Bool, true, false, ◌&&◌, nat_eq, if◌then◌else◌, All}
 use Rattle.fr_calls.specs.State.{State, value_of, content_of, depth_of, count_held}
 use Rattle.fr_calls.specs.Rule.{End, Writer, Reader}
-pub use Rattle.fr_ends.specs.Guard.{Guard, Sole, ByMutex, InCritical, Turn, EndGuard}
-pub use Rattle.fr_ends.specs.declared.certificate.Certificate.{Certificate}
+use Rattle.fr_ends.specs.Guard.{Guard, Sole, ByMutex, InCritical, Turn, EndGuard}
+use Rattle.fr_ends.specs.declared.certificate.Certificate as declared
+
+-- a note for each point, in the order of the points' numbers, and the guards of ends
+abbrev pub Certificate : Type 0
+Certificate = declared.Certificate
 
 -- the turn value that is listed for an actor; an actor that isn't listed never has the guard
 abbrev pub value_for : List (ℕ × ℤ) → ℕ → Option ℤ

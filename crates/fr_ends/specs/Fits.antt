@@ -14,7 +14,8 @@ use Rattle.fr_program.specs.Program.{Program}
 use Rattle.fr_program.specs.Limits.{IsNumber}
 use Rattle.fr_calls.specs.State.{kind_of}
 use Rattle.fr_notes.specs.Fits.{NotesFit}
-use Rattle.fr_ends.specs.Certificate.{Guard, Sole, ByMutex, InCritical, Turn, EndGuard, Certificate, HasDistinctTurns}
+use Rattle.fr_ends.specs.Guard.{Guard, Sole, ByMutex, InCritical, Turn, EndGuard}
+use Rattle.fr_ends.specs.Certificate.{Certificate, HasDistinctTurns}
 
 -- whether this is a stream or a message buffer
 abbrev pub is_any_buffer : Kind → Bool

@@ -13,7 +13,8 @@ use Rattle.fr_calls.specs.State.{State}
 use Rattle.fr_calls.specs.Rule.{End, is_at_end}
 use Rattle.fr_notes.specs.Note.{Note}
 use Rattle.fr_notes.specs.Noted.{Noted}
-use Rattle.fr_ends.specs.Certificate.{Certificate, Guard, HasGuard, guard_for}
+use Rattle.fr_ends.specs.Guard.{Guard}
+use Rattle.fr_ends.specs.Certificate.{Certificate, HasGuard, guard_for}
 
 -- the point is inside a call on the object with this number, which does this
 abbrev pub IsInsideOn : Program → Point → ℕ → Action → Type 0

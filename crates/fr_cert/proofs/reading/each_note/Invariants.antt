@@ -1,0 +1,9 @@
+use Rattle.std.proofs.Common.{All, take}
+use Rattle.serde_json.specs.View.{items_view}
+use Rattle.fr_notes.specs.Fits.{NoteFits}
+use Rattle.fr_cert.specs.Meaning.{EachNote}
+use Rattle.fr_cert.proofs.reading.each_note.Given as goal
+
+abbrev pub invariant-loop-index : goal.invariant-loop-index
+invariant-loop-index l =
+    record { said : EachNote l.app (items_view (take l.index l.list.items)) l.notes.items; fits : All (NoteFits l.app) l.notes.items }
