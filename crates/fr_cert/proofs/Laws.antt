@@ -1,22 +1,16 @@
 -- One meaning at the most, and none where a fault stands.
-use Rattle.std.proofs.Common.{◌≡◌, ◌⊎◌, ◌<◌, ◌≤◌, ℕ, ℤ, pos, List, [], ◌∷◌, Bool, true, false, Option, Some, None, option_and_then, length, codes, All, Any, refl, sym, ap, ◌∙◌, subst, arith, inl, inr, zero, suc, get_or}
+use Rattle.std.proofs.Common.{◌≡◌, ℕ, ℤ, pos, List, [], ◌∷◌, Option, Some, None, codes, refl, sym, ap, ◌∙◌, subst, inl, inr}
 use Rattle.std.proofs.lemmas.Option.{same_Some}
-use Rattle.std.proofs.lemmas.Bool.{false≢true}
 use Rattle.serde_json.specs.Data.{Data, Items, no_items, item, Members, no_members, member, null, boolean, number, string, array, object}
-use Rattle.serde_json.specs.Find.{get_member, get_item, as_array, as_object, as_str}
+use Rattle.serde_json.specs.Find.{as_array, as_object, as_str}
 use Rattle.serde_json.specs.Read.{read}
-use Rattle.serde_json.specs.Events.{items_len}
 use Rattle.fr_program.specs.Program.{Program}
-use Rattle.fr_program.specs.Points.{points_of}
 use Rattle.fr_notes.specs.Note.{Note}
-use Rattle.fr_notes.specs.Fits.{most_depth}
 use Rattle.fr_ends.specs.Certificate.{Certificate}
 use Rattle.fr_ends.specs.Guard.{EndGuard}
-use Rattle.fr_cert.specs.Path.{PathStep}
-use Rattle.fr_cert.specs.Keys.{AreKnown, is_key_of, field, integer_of, end_at, variable_named}
-use Rattle.fr_cert.specs.Meaning.{NoteText, IsDepthAt, IsSpan, IsSpanOf, IsNamed, Named, RangesAt, IsNoteText, IsInside, note_said, IsPlain, IsNote, EachNote, NotesAt, IsCertificate, IsTree, IsTreeText, Means, most_bytes}
-use Rattle.fr_cert.proofs.EntryLemmas.{each_length}
-use Rattle.fr_cert.specs.declared.key.Key.TheVariants.{Version, Ends, Notes, Crit, Range}
+use Rattle.fr_cert.specs.Keys.{field, integer_of, end_at, variable_named}
+use Rattle.fr_cert.specs.Meaning.{NoteText, IsDepthAt, IsSpan, IsSpanOf, IsNamed, Named, RangesAt, IsNoteText, note_said, IsNote, EachNote, NotesAt, IsCertificate, IsTree, Means}
+use Rattle.fr_cert.specs.declared.key.Key.TheVariants.{Notes, Crit, Range}
 
 -- two values that one place has are the same
 pub both : {A : Type 0} (o : Option A) (x y : A) → o ≡ Some x → o ≡ Some y → x ≡ y

@@ -1,5 +1,5 @@
 -- What plain parts of a note say, beside what an object has to say for them.
-use Rattle.std.proofs.Common.{◌≡◌, ◌≢◌, ◌⊎◌, true≢false, ℕ, ℤ, zero, suc, ◌+◌, ◌<◌, ◌≤◌, ◌≤ℤ◌, List, [], ◌∷◌, Bool, true, false, Option, Some, None, option_map, length, get_or, cond, find, map, nat_eq, replicate, T, All, Any, unwrap_or, refl, sym, ap, ◌∙◌, subst, arith, inl, inr}
+use Rattle.std.proofs.Common.{◌≡◌, ◌≢◌, ◌⊎◌, true≢false, ℕ, ℤ, zero, suc, ◌+◌, ◌<◌, ◌≤ℤ◌, List, [], ◌∷◌, Bool, true, false, Option, Some, option_map, length, get_or, cond, find, map, nat_eq, replicate, T, All, Any, unwrap_or, refl, ap, ◌∙◌, arith, inl, inr}
 use Rattle.std.specs.List.{range_with_len}
 use Rattle.std.proofs.lemmas.Bool.{cases_lt}
 use Rattle.std.proofs.lemmas.List.{get_or_default, get_or-map, length-map}
@@ -16,7 +16,6 @@ use Rattle.fr_notes.specs.declared.note.NoteParts.{NoteParts}
 use Rattle.fr_notes.specs.declared.fault.NoteFault.{NoteFault}
 use Rattle.fr_notes.specs.declared.fault.NoteFault.TheVariants.{Memory, Count, Lives, Span}
 use Rattle.fr_notes.specs.Note.{Alternative}
-use Rattle.fr_notes.specs.View.{ends_of}
 use Rattle.fr_notes.specs.Parts.{said, claim_said, range_in, range_by, range_said, Stands}
 use Rattle.fr_cert.specs.Meaning.{IsNoteText, IsInside, range_at, note_said}
 use Rattle.fr_cert.specs.Faults.{Standing}

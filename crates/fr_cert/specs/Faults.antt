@@ -10,7 +10,7 @@
 -- | InInteger, InDepth       | a value is no integer; or it is none from 0 to 255                                 |
 -- | InEnds, InSpan           | a list is not two integers in order; a value is no such list                       |
 -- | InNamed, InMembers, InRanges | a range or its name has a fault; some range has; a value is no object of ranges |
-use Rattle.std.specs.Prelude.{◌≡◌, ◌⊎◌, ◌≤◌, ◌<ℤ◌, ℕ, ℤ, pos, List, [], ◌∷◌, Bool, true, false, Option, Some, None}
+use Rattle.std.specs.Prelude.{◌≡◌, ◌⊎◌, ◌≤◌, ◌<ℤ◌, ℕ, ℤ, pos, List, [], ◌∷◌, Bool, true, false, Some, None}
 use Rattle.serde_json.specs.Data.{Data, Items, Members, no_members, member}
 use Rattle.serde_json.specs.Find.{get_member, get_item, as_array, as_object}
 use Rattle.fr_program.specs.Program.{Program}

@@ -11,7 +11,7 @@
 -- | InTree              | a value is no object, or the fault stands in it                                    |
 -- | InBytes             | the fault stands in the bytes themselves                                           |
 -- | Stands              | the fault stands in the bytes, or in the value that they are the text of           |
-use Rattle.std.specs.Prelude.{◌≡◌, ◌⊎◌, ◌<◌, ℕ, ℤ, pos, List, [], ◌∷◌, Option, Some, None, Any, IsUtf8, codes, length}
+use Rattle.std.specs.Prelude.{◌≡◌, ◌⊎◌, ◌<◌, ℕ, ℤ, pos, List, [], ◌∷◌, Some, None, Any, IsUtf8, codes, length}
 use Rattle.serde_json.specs.Data.{Data, Items, Members}
 use Rattle.serde_json.specs.Find.{get_item, as_array, as_object, as_str}
 use Rattle.serde_json.specs.Read.{read}

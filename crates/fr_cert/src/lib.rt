@@ -11,4 +11,4 @@ mod tree;
 
 pub use fault::CertFault;
 pub use path::{Path, Step};
-pub use reading::{one_meaning, read_cert};
+pub use reading::{no_meaning, one_meaning, read_cert};

@@ -66,11 +66,7 @@ fn ranges_at(
 }
 
 // The parts that the object stands for, key by key.
-fn parts_of(
-    alloc: Global,
-    app: &App,
-    object: &Map<String, Value>,
-) -> Result<NoteParts, CertFault>
+fn parts_of(alloc: Global, app: &App, object: &Map<String, Value>) -> Result<NoteParts, CertFault>
     ensures plain { IfOk result IsPlainParts }
     ensures ok { IfOk result
         (λ parts. IsNoteText app.now (members_view object.now.entries) (text_of parts)) }
@@ -99,11 +95,7 @@ fn refused_as(fault: NoteFault) -> CertFault
 }
 
 // The note that the object stands for.
-fn plain_note(
-    alloc: Global,
-    app: &App,
-    object: &Map<String, Value>,
-) -> Result<Note, CertFault>
+fn plain_note(alloc: Global, app: &App, object: &Map<String, Value>) -> Result<Note, CertFault>
     ensures ok { IfOk result (IsPlain app.now (members_view object.now.entries)) }
     ensures fits { IfOk result (NoteFits app.now) }
     ensures err { IfErr result (Standing (InPlain app.now (members_view object.now.entries))) }

@@ -68,7 +68,9 @@ fn range_of(alloc: Global, value: &Value) -> Result<Range, CertFault>
 fn place_of(variables: &[Variable], name: &str) -> Option<usize>
     ensures { result ≡ position (λ v. bytes_eq (string_bytes v.name) name.now) variables.now }
 {
-    variables.iter().position(|variable| variable.name.as_str() == name)
+    variables
+        .iter()
+        .position(|variable| variable.name.as_str() == name)
 }
 
 // The number of the variable with this name.

@@ -12,6 +12,7 @@ ghost use Rattle.fr_cert.specs.Keys.{field, integer_of};
 ghost use Rattle.fr_cert.specs.Meaning.{EachNote, NotesAt, IsCertificate, IsTree, IsTreeText, Means};
 ghost use Rattle.fr_cert.specs.Faults.{Standing, InNeeded};
 ghost use Rattle.fr_cert.specs.Stands.{InVersion, InGuards, InEach, InNotes, InCertificate, InTree, InBytes, Stands};
+ghost use Rattle.fr_cert.specs.declared.fault.CertFault.{CertFault as Refusal};
 
 use crate::fault::CertFault;
 use crate::key::{Key, Place};
@@ -116,11 +117,7 @@ fn notes_of(alloc: Global, app: &App, value: &Value) -> Result<Vec<Note>, CertFa
 }
 
 // The notes of an object.
-fn notes_at(
-    alloc: Global,
-    app: &App,
-    object: &Map<String, Value>,
-) -> Result<Vec<Note>, CertFault>
+fn notes_at(alloc: Global, app: &App, object: &Map<String, Value>) -> Result<Vec<Note>, CertFault>
     ensures ok { IfOk result
         (λ v. NotesAt app.now (field Key.Notes (members_view object.now.entries)) v.items) }
     ensures fits { IfOk result (λ v. All (NoteFits app.now) v.items) }
@@ -222,4 +219,10 @@ pub fn read_cert(alloc: Global, app: &App, bytes: &[u8]) -> Result<Certificate, 
 pub fn one_meaning()
     ensures { (P : Program) (bytes : List ℕ) (C D : CertificateOf) →
         Means P bytes C → Means P bytes D → C ≡ D }
+{}
+
+/// Bytes in which a fault stands stand for no certificate.
+pub fn no_meaning()
+    ensures { (P : Program) (bytes : List ℕ) (f : Refusal) (C : CertificateOf) →
+        Stands P bytes f → Means P bytes C → ⊥ }
 {}

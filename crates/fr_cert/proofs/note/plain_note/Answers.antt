@@ -1,4 +1,4 @@
-use Rattle.std.proofs.Common.{◌≡◌, ◌∷◌, [], ◌∙◌, ap, inl, inr, subst}
+use Rattle.std.proofs.Common.{◌∷◌, [], ◌∙◌, ap, inl}
 use Rattle.std.proofs.lemmas.Result.{err_from_is_err_and}
 use Rattle.fr_cert.specs.Views.{text_of}
 use Rattle.fr_cert.proofs.NoteLemmas.{said_plain, all_inside, plain_fault}

@@ -1,4 +1,4 @@
-use Rattle.std.proofs.Common.{◌≡◌, List, [], ◌∷◌, ◌++◌, ℕ, map, append_assoc, append-nil, refl, sym, ap, ◌∙◌, subst, rules}
+use Rattle.std.proofs.Common.{◌≡◌, List, [], ◌∷◌, ◌++◌, ℕ, map, append_assoc, append-nil, sym, ap, ◌∙◌, subst, rules}
 use Rattle.std.proofs.lemmas.Result.{err_from_is_err_and}
 use Rattle.std.specs.Map.Iter.{deref_pair}
 use Rattle.std.proofs.lemmas.Map.Iter.{rest_more, rest_all}
@@ -37,7 +37,7 @@ loop-name-preserved c =
       inv.0 ++ e ∷ [],
       inv.1 ∙ ap (λ t. inv.0 ++ t) next ∙ sym (append_assoc inv.0 (e ∷ []) c.next.new.self),
       rw (c.in_ok-push.ensures.items, map_push named_of c.loop-name.ranges.items c.in_ok-named_range.field-0)
-      (named_push P inv.0 e (map named_of c.loop-name.ranges.items) x inv.2 (subst Here c.as_str.ensures.value c.in_ok-named_range.ensures.ok)),
+          (named_push P inv.0 e (map named_of c.loop-name.ranges.items) x inv.2 (subst Here c.as_str.ensures.value c.in_ok-named_range.ensures.ok)),
     )
 
 pub returns-clause-ok : goal.returns-clause-ok

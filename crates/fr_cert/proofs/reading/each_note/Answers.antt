@@ -1,7 +1,6 @@
 use Rattle.std.proofs.Common.{◌≡◌, ◌<◌, Some, length, get_or, sym, ap, ◌∙◌, subst}
 use Rattle.std.proofs.lemmas.List.Elements.{All-push}
 use Rattle.serde_json.specs.View.{view}
-use Rattle.serde_json.specs.declared.value.Value.{Value}
 use Rattle.serde_json.proofs.Views.{get_item_within}
 use Rattle.fr_notes.specs.Fits.{NoteFits}
 use Rattle.fr_cert.specs.Path.{at}
@@ -27,7 +26,7 @@ pub loop-index-preserved : goal.loop-index-preserved
 loop-index-preserved c =
     record {
       said = each_more c.args.app.now c.args.list.now.items _ c.loop-index.index c.value-item.result c.loop-index.notes.items c.push.new.self.items c.in-Ok.note
-      c.deref-value-items.ensures.value c.loop-index-test.true c.loop-index.invariant.said c.value-item.is c.in-Ok.ensures.ok c.in_ok-push-in-Ok.ensures.items;
+          c.deref-value-items.ensures.value c.loop-index-test.true c.loop-index.invariant.said c.value-item.is c.in-Ok.ensures.ok c.in_ok-push-in-Ok.ensures.items;
       fits = rw c.in_ok-push-in-Ok.ensures.items (All-push (NoteFits c.args.app.now) c.loop-index.notes.items c.in-Ok.note c.loop-index.invariant.fits c.in-Ok.ensures.fits);
     }
 

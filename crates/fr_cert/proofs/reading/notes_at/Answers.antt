@@ -1,8 +1,8 @@
-use Rattle.std.proofs.Common.{◌≡◌, Some, sym, subst, inr, ap, ◌∙◌, List, ℕ}
-use Rattle.serde_json.specs.View.{view, members_view}
-use Rattle.fr_cert.specs.Path.{PathStep, key}
+use Rattle.std.proofs.Common.{sym, inr, ap, ◌∙◌}
+use Rattle.serde_json.specs.View.{view}
+use Rattle.fr_cert.specs.Path.{key}
 use Rattle.fr_cert.specs.Keys.{key_text}
-use Rattle.fr_cert.specs.Faults.{Within, deeper}
+use Rattle.fr_cert.specs.Faults.{deeper}
 use Rattle.fr_cert.specs.Stands.{InNotes}
 use Rattle.fr_cert.specs.declared.key.Key.TheVariants.{Notes}
 use Rattle.fr_cert.proofs.FaultLemmas.{within_of}
@@ -15,5 +15,5 @@ returns-in-Err-clause-err c named =
       d,
       sym c.in-Some.ensures,
       within_of (key (key_text Notes)) (InNotes c.args.app.now d) c.in-Err.fault c.within_key.result c.in-Err.ensures.err named
-      (c.within_key.ensures named ∙ ap (λ name. deeper (key name) c.in-Err.fault) c.text-in-Err.ensures),
+          (c.within_key.ensures named ∙ ap (λ name. deeper (key name) c.in-Err.fault) c.text-in-Err.ensures),
     )

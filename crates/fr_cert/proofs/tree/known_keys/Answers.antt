@@ -1,4 +1,4 @@
-use Rattle.std.proofs.Common.{◌≡◌, ◌∷◌, [], ◌++◌, List, String, Global, string_bytes, append_assoc, append-nil, refl, sym, ap, ◌∙◌, subst, rules, IsTrue}
+use Rattle.std.proofs.Common.{◌∷◌, [], ◌++◌, List, String, Global, string_bytes, append_assoc, append-nil, sym, ap, ◌∙◌, subst, rules, IsTrue}
 use Rattle.std.specs.List.{AllByRecursion}
 use Rattle.std.specs.Map.{keys_of}
 use Rattle.std.specs.Map.Iter.{deref}
