@@ -1,23 +1,20 @@
 -- A text is one line at the most, and no line where a fault stands in it: each word and each number stands for one
 -- thing of its kind, a call's name for one call, and a fault in a place says that nothing stands there.
-use Rattle.std.proofs.Common.{◌≡◌, ◌≢◌, ◌⊎◌, ◌<◌, ◌≤◌, ◌^◌, ℕ, ℤ, pos, List, [], ◌∷◌, map, length, Bool, true, false, Option, Some, None, Result, Ok, Err, codes, refl, sym, ap, ◌∙◌, subst, inl, inr, arith, lit<, get_or}
-use Rattle.std.proofs.lemmas.Bool.{false≢true}
+use Rattle.std.proofs.Common.{◌≡◌, ◌<◌, ◌^◌, ℕ, ℤ, pos, List, [], ◌∷◌, map, length, Option, Some, None, Result, Ok, Err, refl, sym, ap, ◌∙◌, subst, inl, inr, arith, lit<}
 use Rattle.std.proofs.lemmas.Option.{same_Some}
 use Rattle.std.proofs.lemmas.List.Quantifiers.{position-Some}
 use Rattle.std.specs.Prelude.{FitsSigned}
 use Rattle.std.specs.Int.{w64}
-use Rattle.std.specs.Fmt.{signed_decimal}
 use Rattle.std.specs.Result.{IfOk, IfErr}
-use Rattle.std.specs.List.{slice_get}
 use Rattle.std.specs.Str.{bytes_eq}
 use Rattle.fr_instr.specs.Tokens.{Tok, Spells}
 use Rattle.fr_instr.specs.Shapes.{Word, name, numeral, Shape, set, set_to, branch, jump, pick, leave, call as calls, shape_toks}
 use Rattle.fr_instr.specs.ShapeReading.{shape_at}
 use Rattle.fr_instr.specs.Names.{NamesOf, place_of}
-use Rattle.fr_instr.specs.Numbers.{IsInteger, IsNatural, IsTarget, IsTicks, IsLength, most_target}
+use Rattle.fr_instr.specs.Numbers.{IsInteger, IsNatural}
 use Rattle.fr_instr.specs.Calls.{Place, object, operand, variable, length as a_length, time, ticks, null, row_of, parts_of, place_of_arg}
-use Rattle.fr_instr.specs.Lines.{IsVariable, IsObject, IsOperand, IsBlockTime, SaysObject, SaysVariable, SaysLength, SaysTicks, SaysNull, IsArg, AreArgs, IsElse, IsInto, IsCall, IsLineOf, IsLine, VariableIn, OperandIn, ArgIn, AreArgsIn, ElseIn, IntoIn, IsLineIn}
-use Rattle.fr_instr.specs.Faults.{IsWrongKind, NamesNothing, IsBadNumber, InNaming, InPlain, InPlace, InArgs, InPlaces, InVariable, InInteger, InTarget, InElse, InInto, InNamed, InCall, InShape, Stands}
+use Rattle.fr_instr.specs.Lines.{IsVariable, IsObject, IsOperand, IsBlockTime, IsArg, AreArgs, IsElse, IsInto, IsCall, IsLineOf, IsLine, OperandIn, ArgIn, AreArgsIn, ElseIn, IntoIn, IsLineIn}
+use Rattle.fr_instr.specs.Faults.{IsWrongKind, NamesNothing, IsBadNumber, InNaming, InPlain, InPlace, InArgs, InPlaces, InVariable, InElse, InInto, InNamed, InCall, InShape, Stands}
 use Rattle.fr_instr.specs.declared.fault.LineFault.{LineFault}
 use Rattle.fr_instr.specs.declared.fault.LineFault.TheVariants.{Memory, Syntax, UnknownName, UnknownCall, ArgCount, BadNumber}
 use Rattle.fr_program.specs.declared.instr.Instr.{Instr}

@@ -1,5 +1,5 @@
 -- Names and their places.
-use Rattle.std.proofs.Common.{◌≡◌, ◌≢◌, ℕ, suc, ◌+◌, ◌<◌, ◌≤◌, List, [], ◌∷◌, ◌++◌, map, length, get_or, take, Bool, true, false, cond, ◌||◌, nat_lt, ltb, Option, Some, None, position, refl, sym, ap, ◌∙◌, subst, All, AllPairs, String, string_bytes, Bor, Global, arith, length-append}
+use Rattle.std.proofs.Common.{◌≡◌, ◌≢◌, ℕ, ◌+◌, ◌<◌, List, [], ◌∷◌, ◌++◌, map, length, get_or, take, Bool, true, false, cond, ◌||◌, nat_lt, Option, Some, None, position, refl, sym, ap, ◌∙◌, subst, All, AllPairs, String, string_bytes, Global, arith, length-append}
 use Rattle.std.proofs.lemmas.List.{get_or_append_left, get_or-append-add, length-map, length-take-le, get_or-take, get_or-map, take_more, map-append, get_or_past}
 use Rattle.std.proofs.lemmas.List.Folds.{list_any_none}
 use Rattle.std.proofs.lemmas.List.Quantifiers.{position-Some}
@@ -11,7 +11,6 @@ use Rattle.std.specs.List.{position_or_len, list_any}
 use Rattle.std.specs.Str.{bytes_eq, IsUtf8, IsAscii}
 use Rattle.fr_program.specs.Limits.{IsName, is_letter, is_digit}
 use Rattle.fr_instr.specs.Names.{place_of}
-use Rattle.fr_instr.specs.Views.{texts}
 
 position_or_len-map : {A B : Type 0} (f : A → B) (p : B → Bool) (xs : List A) → position_or_len p (map f xs) ≡ position_or_len (λ x. p (f x)) xs
 position_or_len-map f p [] = refl

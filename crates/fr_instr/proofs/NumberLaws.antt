@@ -5,7 +5,7 @@ use Rattle.std.proofs.lemmas.Fmt.{signed_decimal_injective}
 use Rattle.std.specs.Prelude.{FitsSigned}
 use Rattle.std.specs.Int.{w64}
 use Rattle.std.specs.Fmt.{signed_decimal}
-use Rattle.fr_instr.specs.Numbers.{IsInteger, IsNatural}
+use Rattle.fr_instr.specs.Numbers.{IsNatural}
 use lib.Signed.{mag}
 
 pub small : (z : ℤ) → FitsSigned w64 z → mag z < 2 ^ 63

@@ -1,9 +1,9 @@
 -- A call is the one that has its parts: its arguments stand in the places of its row, `else` and `v =` only where the
 -- row allows them, and its name, its arguments, its target and its variable give it back.
-use Rattle.std.proofs.Common.{◌≡◌, ◌≢◌, ℕ, List, [], ◌∷◌, map, Bool, true, false, Option, Some, None, option_and_then, slice_get, refl, sym, ap, ◌∙◌}
+use Rattle.std.proofs.Common.{◌≡◌, ℕ, List, map, false, Option, Some, None, option_and_then, slice_get, refl, sym, ◌∙◌}
 use Rattle.std.proofs.lemmas.Bool.{false≢true}
 use Rattle.std.proofs.lemmas.Option.{same_Some}
-use Rattle.fr_instr.specs.Calls.{Place, row_of, Parts, parts_of, place_of_arg}
+use Rattle.fr_instr.specs.Calls.{row_of, parts_of, place_of_arg}
 use Rattle.fr_instr.specs.declared.call.CallName.{CallName}
 use Rattle.fr_instr.specs.declared.call.CallName.TheVariants.{Enter, Exit, SuspendAll, ResumeAll, Yield, Delay, DeleteSelf, Create, Delete, QueueSend, QueueReceive, Take, Give, Send, Receive, Reset}
 use Rattle.fr_instr.specs.declared.writing.Arg.{Arg}
@@ -15,9 +15,7 @@ use Rattle.fr_program.specs.declared.instr.GiveForm.TheVariants as give
 use Rattle.fr_program.specs.declared.instr.TakeForm.TheVariants as take
 use Rattle.fr_program.specs.declared.instr.Timing.TheVariants as timing
 use Rattle.fr_program.specs.declared.instr.BlockTime.{BlockTime}
-use Rattle.fr_program.specs.declared.instr.BlockTime.TheVariants.{Ticks, MaxDelay}
 use Rattle.fr_program.specs.declared.instr.Operand.{Operand}
-use Rattle.fr_program.specs.declared.instr.Operand.TheVariants.{Number, Variable}
 use Rattle.fr_program.specs.declared.instr.Action.TheVariants as action
 use Rattle.fr_program.specs.declared.instr.Call.{Call}
 use Rattle.fr_program.specs.declared.instr.Call.TheVariants as call

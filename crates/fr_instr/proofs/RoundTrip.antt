@@ -1,6 +1,6 @@
 -- What is written for a line is read again as the line: each piece stands for its part, and each token is one.
-use Rattle.std.proofs.Common.{◌≡◌, ◌≢◌, ◌<◌, ◌≤◌, ◌^◌, ◌+◌, ◌/◌, ◌%◌, ◌++◌, ◌&&◌, ◌||◌, ℕ, suc, ℤ, pos, negsuc, List, [], ◌∷◌, map, length, get_or, Bool, true, false, Option, Some, None, option_map, position, cond, ltb, codes, refl, sym, ap, ◌∙◌, subst, inl, inr, All, AllPairs, arith, lit<, append-nil}
-use Rattle.std.proofs.lemmas.Bool.{false≢true, and_parts, false_from_ne_true, ltb-true, ltb-false}
+use Rattle.std.proofs.Common.{◌≡◌, ◌≢◌, ◌<◌, ◌≤◌, ◌^◌, ◌+◌, ◌%◌, ◌++◌, ◌||◌, ℕ, suc, ℤ, pos, negsuc, List, [], ◌∷◌, map, length, get_or, Bool, true, false, Option, Some, None, option_map, cond, ltb, refl, sym, ap, ◌∙◌, inl, inr, All, AllPairs, arith}
+use Rattle.std.proofs.lemmas.Bool.{false≢true, false_from_ne_true, ltb-false}
 use Rattle.std.proofs.lemmas.Bool.Decides.{nat_tests}
 use Rattle.std.proofs.lemmas.Int.{ints}
 use Rattle.std.proofs.lemmas.Fmt.{decimal_by_steps}
@@ -9,19 +9,16 @@ use Rattle.std.proofs.lemmas.List.Sums.{position_or_len_is}
 use Rattle.std.proofs.lemmas.Slice.Eq.{bytes_eq-Decides}
 use Rattle.std.specs.List.{position_or_len, list_all, AllByRecursion}
 use Rattle.std.specs.Str.{bytes_eq}
-use Rattle.std.specs.Char.{is_ascii_digit, is_ascii_alphabetic}
+use Rattle.std.specs.Char.{is_ascii_digit}
 use Rattle.std.specs.Fmt.{signed_decimal, decimal}
-use Rattle.std.specs.Prelude.{FitsSigned}
-use Rattle.std.specs.Int.{w64}
 use Rattle.fr_program.specs.Limits as limits
 use Rattle.fr_program.specs.Limits.{IsName, IsNumber}
-use Rattle.fr_instr.specs.Tokens.{Tok, word, number, sign, tok_bytes, IsTok, IsDigits, is_letter, is_word_byte, first}
-use Rattle.fr_instr.specs.Shapes.{Word, name, numeral, Shape, set, set_to, branch, jump, pick, leave, call as calls, word_tok, more_toks, args_toks, else_toks, into_toks, shape_toks}
-use Rattle.fr_instr.specs.Names.{NamesOf, name_at, place_of, all_names, AreNames}
+use Rattle.fr_instr.specs.Tokens.{word, number, IsTok, IsDigits, is_letter, is_word_byte}
+use Rattle.fr_instr.specs.Shapes.{call as calls, word_tok, more_toks, args_toks, else_toks, shape_toks}
+use Rattle.fr_instr.specs.Names.{NamesOf, name_at, place_of, AreNames}
 use Rattle.fr_instr.specs.Calls.{row_of, parts_of}
-use Rattle.fr_instr.specs.Written.{written}
-use Rattle.fr_instr.specs.WrittenLine.{natural, operand_word, time_word, arg_word, into_name, call_shape, shape_of, written_line}
-use Rattle.fr_instr.specs.Lines.{IsVariable, IsOperand, IsBlockTime, IsArg, AreArgs, IsElse, IsInto, IsCall, IsLineOf, IsLine, VariableIn, OperandIn, ArgIn, AreArgsIn, ElseIn, IntoIn, IsLineIn}
+use Rattle.fr_instr.specs.WrittenLine.{natural, operand_word, time_word, arg_word, into_name, shape_of, written_line}
+use Rattle.fr_instr.specs.Lines.{IsOperand, IsBlockTime, IsArg, AreArgs, IsElse, IsInto, IsLineOf, IsLine, VariableIn, OperandIn, ArgIn, AreArgsIn, ElseIn, IntoIn, IsLineIn}
 use Rattle.fr_instr.specs.declared.call.CallName.{CallName}
 use Rattle.fr_instr.specs.declared.call.CallName.TheVariants.{Enter, Exit, SuspendAll, ResumeAll, Yield, Delay, DeleteSelf, Create, Delete, QueueSend, QueueReceive, Take, Give, Send, Receive, Reset}
 use Rattle.fr_instr.specs.declared.writing.Arg.{Arg}

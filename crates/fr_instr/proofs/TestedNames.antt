@@ -1,9 +1,9 @@
 -- Names by a test that computes: for texts that are written out, as a test of this crate or of one above has them.
-use Rattle.std.proofs.Common.{◌≡◌, ◌≢◌, ◌<◌, ◌≤◌, ◌&&◌, ◌||◌, ℕ, suc, zero, List, [], ◌∷◌, length, get_or, Bool, true, false, not, nat_le, leb, All, AllPairs, refl, sym, ap, ◌∙◌, arith}
-use Rattle.std.proofs.lemmas.Bool.{and_parts, false≢true, leb-true}
+use Rattle.std.proofs.Common.{◌≡◌, ◌≢◌, ◌≤◌, ◌&&◌, ◌||◌, ℕ, suc, zero, List, [], ◌∷◌, length, get_or, Bool, true, false, not, All, AllPairs, sym, ◌∙◌, arith}
+use Rattle.std.proofs.lemmas.Bool.{and_parts, false≢true}
 use Rattle.std.proofs.lemmas.List.Folds.{list_any_at}
 use Rattle.std.proofs.lemmas.Slice.Eq.{bytes_eq-Decides}
-use Rattle.std.specs.List.{list_all, list_any, Contains, AllByRecursion}
+use Rattle.std.specs.List.{list_all, list_any, Contains}
 use Rattle.std.specs.Str.{bytes_eq}
 use Rattle.fr_program.specs.Limits.{IsName, is_letter, is_digit, reserved}
 

@@ -1,5 +1,5 @@
 -- The token at the front is the one that the text begins with, and there is one at most.
-use Rattle.std.proofs.Common.{◌≡◌, ◌⊎◌, ℕ, suc, ◌+◌, ◌<◌, ◌≤◌, cond, eqb, ◌&&◌, ◌||◌, List, [], ◌∷◌, ◌++◌, length, get_or, take, drop, Bool, true, false, Some, None, Option, option_map, refl, sym, ap, ◌∙◌, subst, add-one, append_assoc, append-nil, arith, rules, Bor, length-append, map, inl, inr, ⊎_elim, slice_index}
+use Rattle.std.proofs.Common.{◌≡◌, ◌⊎◌, ℕ, suc, ◌+◌, ◌<◌, cond, eqb, ◌&&◌, List, [], ◌∷◌, ◌++◌, length, take, drop, Bool, true, false, Some, None, Option, option_map, refl, sym, ap, ◌∙◌, subst, add-one, append_assoc, append-nil, arith, Bor, length-append, inl, inr, slice_index}
 use Rattle.std.proofs.lemmas.List.{take_at, drop_at}
 use Rattle.std.proofs.lemmas.Option.{same_Some}
 use Rattle.std.proofs.lemmas.Bool.{and_parts, false≢true, eqb-true}
@@ -8,7 +8,7 @@ use Rattle.std.specs.List.{list_all}
 use Rattle.std.specs.Char.{is_ascii_digit}
 use Rattle.fr_instr.specs.Tokens.{Tok, word, number, sign, sign_bytes, is_space, is_letter, is_word_byte, first, IsDigits, IsTok, tok_bytes, sign_goes_on, goes_on, IsBlank, Begins, Spells}
 use Rattle.std.specs.Option.{IfSome, IfNone}
-use Rattle.fr_instr.specs.Views.{tok, toks}
+use Rattle.fr_instr.specs.Views.{tok}
 use Rattle.fr_instr.specs.declared.token.Token.{Token}
 use Rattle.fr_instr.specs.Reading.{front, after, sign_at, token_at}
 use Rattle.fr_instr.specs.declared.token.Sign.{Sign}

@@ -1,9 +1,8 @@
 -- What is written for tokens spells them.
-use Rattle.std.proofs.Common.{◌≡◌, ℕ, List, [], ◌∷◌, ◌++◌, Bool, true, false, cond, ◌||◌, length, refl, sym, ap, ◌∙◌, subst, append_assoc, append-nil, inl, inr}
+use Rattle.std.proofs.Common.{◌≡◌, ℕ, List, [], ◌∷◌, ◌++◌, Bool, true, false, cond, ◌||◌, refl, sym, ap, subst, append-nil}
 use Rattle.std.specs.List.{AllByRecursion}
-use Rattle.fr_instr.specs.Tokens.{Tok, word, number, sign, tok_bytes, IsTok, Spells, Begins, goes_on, first, sign_goes_on}
+use Rattle.fr_instr.specs.Tokens.{Tok, word, number, sign, tok_bytes, IsTok, Spells, goes_on, first}
 use Rattle.fr_instr.specs.Written.{is_open, leans, gap, written}
-use Rattle.fr_instr.specs.declared.token.Sign.{Sign}
 use Rattle.fr_instr.specs.declared.token.Sign.TheVariants.{Open, Close, Comma, Assign, Plus, Minus, Times, Less, LessEqual, Greater, GreaterEqual, Equal, NotEqual}
 
 -- bytes with which no token goes on

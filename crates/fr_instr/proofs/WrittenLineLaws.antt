@@ -1,15 +1,15 @@
 -- What is written for a line is the text in the code's pieces, and is read again as the line: each piece stands for
 -- its part, and each token is one.
-use Rattle.std.proofs.Common.{◌≡◌, ◌≢◌, ◌<◌, ◌≤◌, ◌^◌, ◌++◌, ℕ, ℤ, pos, negsuc, List, [], ◌∷◌, map, length, get_or, Bool, true, false, Option, Some, None, option_map, codes, refl, sym, ap, ◌∙◌, subst, inl, inr, append_assoc, append-nil, take, ◌+◌, All, AllPairs, arith, lit<, cond, nat_lt}
-use Rattle.fr_instr.specs.Tokens.{Tok, word, number, sign, tok_bytes}
-use Rattle.fr_instr.specs.Shapes.{Word, name, numeral, Shape, word_tok, more_toks, args_toks, else_toks, into_toks, shape_toks}
-use Rattle.fr_instr.specs.Names.{NamesOf, name_at}
+use Rattle.std.proofs.Common.{◌≡◌, ◌<◌, ◌++◌, ℕ, List, [], ◌∷◌, map, length, get_or, Option, Some, None, option_map, refl, sym, ap, ◌∙◌, append_assoc, append-nil, take, ◌+◌}
+use Rattle.fr_instr.specs.Tokens.{word, sign}
+use Rattle.fr_instr.specs.Shapes.{Word, name, numeral, word_tok, more_toks, args_toks, else_toks, into_toks}
+use Rattle.fr_instr.specs.Names.{NamesOf}
 use Rattle.fr_instr.specs.Calls.{row_of, parts_of}
 use Rattle.fr_instr.specs.Written.{written}
-use Rattle.fr_instr.specs.WrittenLine.{natural, operand_word, word_text, arg_word, more_text, args_text, into_name, into_text, else_text, set_text, if_text, call_text, call_shape, line_text, shape_of, written_line}
+use Rattle.fr_instr.specs.WrittenLine.{natural, word_text, arg_word, more_text, args_text, into_name, into_text, else_text, set_text, if_text, line_text, written_line}
 use Rattle.std.proofs.lemmas.List.{take_more, map-append}
 use Rattle.fr_instr.specs.declared.writing.Arg.{Arg}
-use Rattle.fr_instr.specs.declared.token.Sign.TheVariants.{Open, Close, Comma, Assign}
+use Rattle.fr_instr.specs.declared.token.Sign.TheVariants.{Open}
 use Rattle.fr_program.specs.declared.ids.VarId.{VarId}
 use Rattle.fr_program.specs.declared.instr.Operand.{Operand}
 use Rattle.fr_program.specs.declared.instr.Operand.TheVariants.{Number, Variable}
@@ -17,7 +17,6 @@ use Rattle.fr_program.specs.declared.instr.Operator.{Operator}
 use Rattle.fr_program.specs.declared.instr.Operator.TheVariants as operator
 use Rattle.fr_program.specs.declared.instr.Comparison.{Comparison}
 use Rattle.fr_program.specs.declared.instr.Comparison.TheVariants as comparison
-use Rattle.fr_program.specs.declared.instr.Call.{Call}
 use Rattle.fr_program.specs.declared.instr.Instr.{Instr}
 use Rattle.fr_program.specs.declared.instr.Instr.TheVariants as line
 

@@ -9,7 +9,7 @@
 -- | Parts                    | what a call is made of: its row, its arguments, its target, variable   |
 -- | parts_of                 | the parts of each call                                                 |
 -- | place_of_arg             | the kind of place in which an argument stands                          |
-use Rattle.std.specs.Prelude.{ℕ, List, [], ◌∷◌, ◌++◌, Bool, true, false, Option, None, Some, codes}
+use Rattle.std.specs.Prelude.{ℕ, List, [], ◌∷◌, Bool, true, false, Option, None, codes}
 use Rattle.fr_instr.specs.declared.call.CallName.{CallName}
 use Rattle.fr_instr.specs.declared.call.CallName.TheVariants.{Enter, Exit, SuspendAll, ResumeAll, Yield, Delay, DeleteSelf, Create, Delete, QueueSend, QueueReceive, Take, Give, Send, Receive, Reset}
 use Rattle.fr_instr.specs.declared.writing.Arg.{Arg}

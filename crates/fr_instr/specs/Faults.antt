@@ -12,10 +12,10 @@
 -- | InCall        | the fault stands in a call                                                           |
 -- | InShape       | the fault stands in the shape                                                        |
 -- | Stands        | the fault stands in the text                                                         |
-use Rattle.std.specs.Prelude.{◌≡◌, ◌≢◌, ◌⊎◌, ℕ, ℤ, List, [], ◌∷◌, Option, Some, None, false, codes, length as list_length}
+use Rattle.std.specs.Prelude.{◌≡◌, ◌≢◌, ◌⊎◌, ℕ, ℤ, List, ◌∷◌, Option, Some, None, false, codes, length as list_length}
 use Rattle.fr_instr.specs.declared.call.CallName.{CallName}
 use Rattle.fr_instr.specs.declared.fault.LineFault.{LineFault}
-use Rattle.fr_instr.specs.declared.fault.LineFault.TheVariants.{Memory, Syntax, UnknownName, UnknownCall, ArgCount, BadNumber}
+use Rattle.fr_instr.specs.declared.fault.LineFault.TheVariants.{Syntax, UnknownName, UnknownCall, ArgCount, BadNumber}
 use Rattle.fr_instr.specs.Tokens.{Spells}
 use Rattle.fr_instr.specs.Shapes.{Word, name, numeral, Shape, set, set_to, branch, jump, pick, leave, call, shape_toks}
 use Rattle.fr_instr.specs.Names.{NamesOf, place_of}

@@ -12,7 +12,7 @@
 -- | IsLine            | the text is the line                                               |
 -- | IsLineIn          | the line's names exist, and its numbers are within their limits    |
 use Rattle.std.specs.Prelude.{◌≡◌, ◌<◌, ◌≤◌, ℕ, ℤ, pos, List, [], ◌∷◌, Option, Some, None, codes, length}
-use Rattle.fr_program.specs.Limits.{IsNumber, LengthInLimits, most_ticks, BlockTimeInLimits, OperandInLimits}
+use Rattle.fr_program.specs.Limits.{IsNumber, LengthInLimits, most_ticks, BlockTimeInLimits}
 use Rattle.fr_program.specs.declared.ids.ObjId.{ObjId}
 use Rattle.fr_program.specs.declared.ids.VarId.{VarId}
 use Rattle.fr_program.specs.declared.instr.Operand.{Operand}

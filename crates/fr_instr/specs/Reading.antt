@@ -1,7 +1,7 @@
 -- The token at the front of a text, as a function: for private clauses.
-use Rattle.std.specs.Prelude.{ℕ, ◌+◌, ◌==◌, ◌&&◌, if◌then◌else◌, List, [], ◌∷◌, length, take, drop, slice_index, Bool, true, false, Option, Some, None, option_map}
+use Rattle.std.specs.Prelude.{ℕ, ◌+◌, ◌==◌, ◌&&◌, if◌then◌else◌, List, [], ◌∷◌, length, take, drop, slice_index, Bool, Option, Some, None, option_map}
 use Rattle.std.specs.Char.{is_ascii_digit}
-use Rattle.fr_instr.specs.Tokens.{Tok, word, number, sign, is_space, is_letter, is_word_byte, first}
+use Rattle.fr_instr.specs.Tokens.{Tok, word, number, sign, is_letter, is_word_byte, first}
 use Rattle.fr_instr.specs.declared.token.Sign.{Sign}
 use Rattle.fr_instr.specs.declared.token.Sign.TheVariants.{Open, Close, Comma, Assign, Plus, Minus, Times, Less, LessEqual, Greater, GreaterEqual, Equal, NotEqual}
 

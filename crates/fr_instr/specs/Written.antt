@@ -1,8 +1,7 @@
 -- The one text in which a list of tokens is written.
-use Rattle.std.specs.Prelude.{◌≡◌, ℕ, List, [], ◌∷◌, ◌++◌, Bool, true, false, if◌then◌else◌, ◌||◌, not}
+use Rattle.std.specs.Prelude.{ℕ, List, [], ◌∷◌, ◌++◌, Bool, true, false, if◌then◌else◌, ◌||◌}
 use Rattle.std.specs.List.{AllByRecursion}
-use Rattle.fr_instr.specs.Tokens.{Tok, word, number, sign, tok_bytes, IsTok, Spells}
-use Rattle.fr_instr.specs.declared.token.Sign.{Sign}
+use Rattle.fr_instr.specs.Tokens.{Tok, sign, tok_bytes, IsTok, Spells}
 use Rattle.fr_instr.specs.declared.token.Sign.TheVariants.{Open, Close, Comma}
 
 abbrev pub is_open : Tok → Bool

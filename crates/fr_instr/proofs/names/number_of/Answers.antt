@@ -1,4 +1,4 @@
-use Rattle.std.proofs.Common.{◌≡◌, ◌∙◌, sym, string_bytes}
+use Rattle.std.proofs.Common.{◌∙◌, sym, string_bytes}
 use Rattle.std.specs.Str.{bytes_eq}
 use Rattle.fr_instr.proofs.NameLaws.{position-map}
 use Rattle.fr_instr.proofs.names.number_of.Goals as goal

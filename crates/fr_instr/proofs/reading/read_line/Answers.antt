@@ -1,11 +1,8 @@
-use Rattle.std.proofs.Common.{◌≡◌, ◌∙◌, sym, ap, subst, List, ℕ, Some, None, Option, option_map}
+use Rattle.std.proofs.Common.{◌∙◌, sym, ap, subst, List, ℕ, option_map}
 use Rattle.fr_instr.specs.Tokens.{Spells}
 use Rattle.fr_instr.specs.ShapeReading.{shape_at}
 use Rattle.fr_instr.specs.Views.{toks, shape_view}
-use Rattle.fr_instr.specs.Faults.{Stands}
-use Rattle.fr_instr.specs.Lines.{IsLine}
 use Rattle.fr_instr.specs.declared.fault.LineFault.TheVariants.{Syntax}
-use Rattle.std.specs.Result.{IfOk, IfErr}
 use Rattle.fr_instr.proofs.LineLaws.{line_ok, line_one, line_within, line_err, line_none, no_shape, no_line}
 use Rattle.fr_instr.proofs.reading.read_line.Goals as goal
 

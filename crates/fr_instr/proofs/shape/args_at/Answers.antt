@@ -1,4 +1,4 @@
-use Rattle.std.proofs.Common.{◌≡◌, ◌∷◌, [], ◌∙◌, ap, sym, drop, Some, None}
+use Rattle.std.proofs.Common.{◌∷◌, [], ◌∙◌, ap, drop, Some, None}
 use Rattle.std.proofs.lemmas.List.{map-append, take_rest}
 use Rattle.fr_instr.specs.Views.{toks, words, word_of}
 use Rattle.fr_instr.specs.ShapeReading.{arg_before_close}

@@ -1,4 +1,4 @@
-use Rattle.std.proofs.Common.{◌≡◌, ◌≤◌, ◌+◌, ◌∙◌, ap, sym, length, length-drop, arith}
+use Rattle.std.proofs.Common.{◌∙◌, ap, sym, length, length-drop, arith}
 use Rattle.std.proofs.lemmas.List.{take_rest}
 use Rattle.fr_instr.specs.Views.{toks}
 use Rattle.fr_instr.specs.ShapeReading.{arg_before_comma}

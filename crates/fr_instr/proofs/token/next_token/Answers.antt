@@ -1,4 +1,4 @@
-use Rattle.std.proofs.Common.{◌≡◌, ◌∙◌, ap, rules}
+use Rattle.std.proofs.Common.{◌≡◌, ◌∙◌, ap}
 use Rattle.fr_instr.specs.Reading.{token_at}
 use Rattle.fr_instr.proofs.TokenLaws.{seen, next, found_by, none_by, shorter_by}
 use Rattle.fr_instr.proofs.token.next_token.Goals as goal

@@ -1,4 +1,4 @@
-use Rattle.std.proofs.Common.{◌≡◌, ◌++◌, ◌∙◌, ap, map, take, string_bytes}
+use Rattle.std.proofs.Common.{◌++◌, ◌∙◌, ap, map, string_bytes}
 use Rattle.std.proofs.lemmas.List.{take_all}
 use Rattle.fr_instr.specs.WrittenLine.{arg_word, more_text}
 use Rattle.fr_instr.proofs.WrittenLineLaws.{more_turn}

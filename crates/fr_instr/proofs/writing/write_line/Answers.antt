@@ -1,4 +1,4 @@
-use Rattle.std.proofs.Common.{◌≡◌, ◌++◌, ◌∙◌, ap, sym, subst, List, ℕ}
+use Rattle.std.proofs.Common.{◌++◌, ◌∙◌, ap, sym, subst, List, ℕ}
 use Rattle.fr_instr.specs.Lines.{IsLine}
 use Rattle.fr_instr.specs.WrittenLine.{line_text}
 use Rattle.fr_instr.proofs.WrittenLineLaws.{pieces_written}

@@ -1,4 +1,4 @@
-use Rattle.std.proofs.Common.{◌≡◌, ◌∙◌, ap, map, ◌++◌, string_bytes}
+use Rattle.std.proofs.Common.{◌∙◌, ap, map, ◌++◌, string_bytes}
 use Rattle.fr_program.specs.Limits.{IsName}
 use Rattle.fr_instr.specs.Names.{NamesOf, place_of}
 use Rattle.fr_instr.proofs.NameLaws.{no_text_named, all_left, all_right}
