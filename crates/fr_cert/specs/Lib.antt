@@ -5,3 +5,4 @@ pub mod Faults
 pub mod Stands
 pub mod Views
 pub mod FaultText
+pub mod Written

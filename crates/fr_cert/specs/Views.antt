@@ -2,6 +2,7 @@
 use Rattle.std.specs.Prelude.{◌≡◌, ℕ, ℤ, [], map}
 use Rattle.fr_program.specs.declared.ids.VarId.{VarId}
 use Rattle.fr_program.specs.declared.range.Range.{Range}
+use Rattle.fr_program.specs.Limits.{IsNumber}
 use Rattle.fr_notes.specs.declared.note.NoteParts.{NoteParts}
 use Rattle.fr_notes.specs.declared.fault.NoteFault.{NoteFault}
 use Rattle.fr_notes.specs.declared.fault.NoteFault.TheVariants as note
@@ -29,3 +30,7 @@ pub record IsPlainParts (parts : NoteParts) : Type 0 where
 abbrev pub refused_as : NoteFault → CertFault
 refused_as note.Memory = cert.Memory
 refused_as f = cert.Note
+
+-- both ends of the range are numbers
+abbrev pub HasNumbers : Range → Type 0
+HasNumbers r = IsNumber r.lo × IsNumber r.hi
