@@ -1,5 +1,10 @@
 // Why a command has no answer, with its exit status and its line.
+ghost use Rattle.std.specs.Prelude.{◌≡◌, IfOk, string_bytes};
+ghost use Rattle.fr_check.specs.declared.fault.CheckFault.TheVariants.{Memory};
+ghost use Rattle.fr_check.specs.Checked.{fault_status, line_of};
+
 use fr_cert::CertFault;
+use fr_judge::TextFault;
 use fr_reader::ReadFault;
 use std::alloc::{AllocError, Global};
 
@@ -25,33 +30,44 @@ pub enum CheckFault {
 }
 
 impl CheckFault {
-    /// The fault, with each inner fault of memory as `Memory`.
-    pub fn of_app(fault: ReadFault) -> CheckFault {
-        if fault.is_memory() {
-            CheckFault::Memory
-        } else {
-            CheckFault::App(fault)
-        }
-    }
+    ghost use Rattle.fr_check.specs.Checked.{check_fault};
 
-    /// The same, of a certificate's fault.
-    pub fn of_cert(fault: CertFault) -> CheckFault {
-        if fault.is_memory() {
-            CheckFault::Memory
-        } else {
-            CheckFault::Cert(fault)
+    /// The fault that refused bytes come to, with each inner fault of memory as `Memory`.
+    pub fn of_text(fault: TextFault) -> CheckFault
+        ensures { result ≡ check_fault fault }
+    {
+        match fault {
+            TextFault::Memory => CheckFault::Memory,
+            TextFault::App(fault) => {
+                if fault.is_memory() {
+                    CheckFault::Memory
+                } else {
+                    CheckFault::App(fault)
+                }
+            }
+            TextFault::Cert(fault) => {
+                if fault.is_memory() {
+                    CheckFault::Memory
+                } else {
+                    CheckFault::Cert(fault)
+                }
+            }
         }
     }
 }
 
 impl From<AllocError> for CheckFault {
+    ghost from_gives = { λ _ e. e ≡ Memory };
+
     fn from(_refused: AllocError) -> CheckFault {
         CheckFault::Memory
     }
 }
 
 /// The exit status: 2 where the input or the words are refused, 3 where the machine failed.
-pub fn status(fault: &CheckFault) -> u8 {
+pub fn status(fault: &CheckFault) -> u8
+    ensures { result ≡ fault_status fault.now }
+{
     match fault {
         CheckFault::App(_)
         | CheckFault::Cert(_)
@@ -62,8 +78,10 @@ pub fn status(fault: &CheckFault) -> u8 {
     }
 }
 
-/// The line for standard error, without its newline.
-pub fn fault_line(alloc: Global, fault: &CheckFault) -> Result<String, AllocError> {
+/// The line for standard error, without its newline. An error says that an allocation was refused.
+pub fn fault_line(alloc: Global, fault: &CheckFault) -> Result<String, AllocError>
+    ensures { IfOk result (λ line. string_bytes line ≡ line_of fault.now) }
+{
     match fault {
         CheckFault::App(fault) => format!(in alloc; "refused: app {fault}"),
         CheckFault::Cert(fault) => format!(in alloc; "refused: cert {fault}"),

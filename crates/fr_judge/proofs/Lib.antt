@@ -8,3 +8,5 @@ pub mod WorkedVerdicts
 pub mod WorkedFaultless
 pub mod Telling
 pub mod Judging
+pub mod OwnParts
+pub mod OneAnswer

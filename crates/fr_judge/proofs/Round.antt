@@ -16,7 +16,7 @@ use Rattle.fr_calls.specs.Step.{Way, Works, Fails, StepBy, Row, landing}
 use Rattle.fr_notes.specs.Note.{Alternative, Note, HoldsOne}
 use Rattle.fr_notes.specs.Noted.{note_at, IsAt}
 use Rattle.fr_edge.specs.Own.{KeepsRule, Goes, is_own}
-use Rattle.fr_ends.specs.declared.certificate.Certificate.{Certificate}
+use Rattle.fr_ends.specs.Certificate.{Certificate}
 use Rattle.fr_ends.specs.Guarded.{Guarded, Near}
 use Rattle.fr_judge.specs.WorkedVerdicts.{first}
 

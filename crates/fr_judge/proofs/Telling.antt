@@ -13,8 +13,8 @@ use Rattle.fr_program.specs.Lookup.{IsPoint, instr_of}
 use Rattle.fr_program.specs.Fault.{IsFaultless, IsJudgedYet}
 use Rattle.fr_calls.specs.Rule.{Rule, OneWriter, OneReader, number_of, End}
 use Rattle.fr_edge.specs.Own.{is_own}
-use Rattle.fr_ends.specs.Certificate.{EndGuard, Guard, Sole, ByMutex, InCritical, Turn, HasDistinctTurns, AllHaveDistinctTurns}
-use Rattle.fr_ends.specs.declared.certificate.Certificate.{Certificate}
+use Rattle.fr_ends.specs.Guard.{EndGuard, Guard, Sole, ByMutex, InCritical, Turn}
+use Rattle.fr_ends.specs.Certificate.{Certificate, HasDistinctTurns, AllHaveDistinctTurns}
 use Rattle.fr_ends.specs.Fits.{GuardFits, EndFits, EndsFit}
 use Rattle.fr_ends.specs.Guarded.{IsInsideOn, Guarded, Near}
 use Rattle.fr_interfere.specs.Undisturbed.{Undisturbed}

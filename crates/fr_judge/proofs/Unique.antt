@@ -8,7 +8,7 @@ use Rattle.fr_program.specs.Program.{Program}
 use Rattle.fr_program.specs.Points.{point_number}
 use Rattle.fr_program.specs.Uses.{object_named}
 use Rattle.fr_calls.specs.Rule.{Rule, OneWriter, OneReader, GivenByHolder, AllowedInCritical, AllowedSuspended, AllowedInInterrupt, IsLive, LifeInOrder, SuitsSemaphore, DepthAboveZero, EndsInOrder, InRange, number_of, End, Writer, Reader}
-use Rattle.fr_ends.specs.declared.certificate.Certificate.{Certificate}
+use Rattle.fr_ends.specs.Certificate.{Certificate}
 use Rattle.fr_judge.specs.Part.{Part, EntryPart, RulePart, GoesPart, GuardPart, NearPart, SpoiledPart, end_number, place_in_order, ComesBefore}
 use Rattle.fr_judge.specs.Verdict.{Yes, No, IsFirstPart, IsVerdictOne}
 use Rattle.fr_judge.specs.Owed.{IsOwed}

@@ -4,3 +4,4 @@ pub mod Owed
 pub mod Sound
 pub mod WorkedVerdicts
 pub mod Told
+pub mod Texts

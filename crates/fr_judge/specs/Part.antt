@@ -6,7 +6,7 @@ use Rattle.fr_program.specs.Points.{point_number}
 use Rattle.fr_calls.specs.Rule.{Rule, number_of, End, Writer, Reader}
 use Rattle.fr_edge.specs.Own.{Entry, KeepsRule, Goes}
 use Rattle.fr_interfere.specs.Undisturbed.{Undisturbed}
-use Rattle.fr_ends.specs.declared.certificate.Certificate.{Certificate}
+use Rattle.fr_ends.specs.Certificate.{Certificate}
 use Rattle.fr_ends.specs.Guarded.{Guarded, Near}
 
 -- one part: the entry, a rule, the way to a point, the guard of an end, a delete at another point, another point's steps

@@ -17,8 +17,7 @@ use Rattle.fr_calls.specs.Step.{Step}
 use Rattle.fr_calls.specs.Run.{IsRun, IsSafe}
 use Rattle.fr_notes.specs.Note.{Holds}
 use Rattle.fr_notes.specs.Noted.{note_at, IsAt}
-use Rattle.fr_ends.specs.Certificate.{AllHaveDistinctTurns}
-use Rattle.fr_ends.specs.declared.certificate.Certificate.{Certificate}
+use Rattle.fr_ends.specs.Certificate.{Certificate, AllHaveDistinctTurns}
 use Rattle.fr_judge.specs.Verdict.{IsCertified}
 
 -- a well-formed state in which the note of each actor's point holds of it; an actor that is done has none

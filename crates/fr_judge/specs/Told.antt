@@ -16,7 +16,7 @@ use Rattle.fr_program.specs.Points.{point_number}
 use Rattle.fr_calls.specs.Rule.{number_of, End, Writer, Reader}
 use Rattle.fr_edge.specs.declared.failing.Own.{Own}
 use Rattle.fr_edge.specs.declared.failing.Own.TheVariants.{Entry as OwnEntry, Rule as OwnRule, Goes as OwnGoes}
-use Rattle.fr_ends.specs.declared.certificate.Certificate.{Certificate}
+use Rattle.fr_ends.specs.Certificate.{Certificate}
 use Rattle.fr_judge.specs.declared.part.Part.{Part as Told}
 use Rattle.fr_judge.specs.declared.part.Part.TheVariants.{Entry, Rule, Goes, Guard, Near, Spoiled}
 use Rattle.fr_judge.specs.declared.part.Verdict.{Verdict as ToldVerdict}

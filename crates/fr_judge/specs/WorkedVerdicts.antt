@@ -20,7 +20,7 @@ use Rattle.fr_program.specs.declared.parts.ActorKind.TheVariants.{Task}
 use Rattle.fr_program.specs.Program.{Program, VariableOf, ActorOf}
 use Rattle.fr_calls.specs.Rule.{EndsInOrder}
 use Rattle.fr_notes.specs.Note.{Alternative}
-use Rattle.fr_ends.specs.declared.certificate.Certificate.{Certificate}
+use Rattle.fr_ends.specs.Certificate.{Certificate}
 use Rattle.fr_judge.specs.Part.{RulePart, SpoiledPart}
 use Rattle.fr_judge.specs.Verdict.{Yes, No, IsVerdict}
 use Rattle.fr_judge.specs.Sound.{Certified}

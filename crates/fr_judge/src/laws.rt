@@ -2,6 +2,7 @@
 ghost use Rattle.fr_judge.specs.Sound.{StartKeepsNotes, StepKeepsNotes, NotesExcludeBreaches, IsSound};
 ghost use Rattle.fr_judge.specs.Verdict.{IsVerdictOne};
 ghost use Rattle.fr_judge.specs.Owed.{OnlyOwedPartsFail};
+ghost use Rattle.fr_judge.specs.Texts.{IsAnswerOne};
 
 /// Where an application has no build fault, the turns of its certificate are distinct and every
 /// part is kept at every point, no state of any run breaches a rule; and every such state is well
@@ -36,4 +37,10 @@ pub fn the_verdict_is_one()
 /// application, and an end that the point is inside.
 pub fn only_owed_parts_fail()
     ensures { OnlyOwedPartsFail }
+{}
+
+/// The bytes of an application and of a certificate have one answer at the most: one application,
+/// one verdict.
+pub fn the_answer_is_one()
+    ensures { IsAnswerOne }
 {}

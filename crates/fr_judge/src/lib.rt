@@ -6,15 +6,17 @@
 
 mod laws;
 mod part;
+mod passed;
 mod text;
 mod verdict;
 mod worked;
 
 pub use laws::{
     a_step_keeps_notes, certified_is_safe, notes_exclude_breaches, only_owed_parts_fail,
-    the_start_keeps_notes, the_verdict_is_one,
+    the_answer_is_one, the_start_keeps_notes, the_verdict_is_one,
 };
 pub use part::{Part, Verdict};
+pub use passed::Passed;
 pub use text::{Judged, TextFault, judge_text};
 pub use verdict::{job, judge};
 pub use worked::verdicts_as_worked;

@@ -1,4 +1,9 @@
 // From the bytes of an application and of a certificate to the verdict.
+ghost use Rattle.std.specs.Prelude.{◌≡◌, IfOk, IfErr};
+ghost use Rattle.fr_calls.specs.Run.{IsSafe};
+ghost use Rattle.fr_judge.specs.Told.{Speaks};
+ghost use Rattle.fr_judge.specs.Texts.{IsJudged, FaultStands};
+
 use crate::part::Verdict;
 use crate::verdict::judge;
 use fr_cert::{CertFault, read_cert};
@@ -16,6 +21,7 @@ pub struct Judged {
 /// Why there is no verdict.
 #[derive(Debug, Drop)]
 pub enum TextFault {
+    /// An allocation was refused.
     Memory,
     /// The application's bytes are refused.
     App(ReadFault),
@@ -24,9 +30,26 @@ pub enum TextFault {
 }
 
 /// Reads the application, then the certificate for it, and judges it.
-pub fn judge_text(alloc: Global, app: &[u8], certificate: &[u8]) -> Result<Judged, TextFault> {
-    let app = read_app(alloc, app).map_err(TextFault::App)?;
-    let certificate = read_cert(alloc, &app, certificate).map_err(TextFault::Cert)?;
+///
+/// Ok is the application that the first bytes stand for, and the verdict on it and on the
+/// certificate that the second ones stand for: one function of the bytes. Where the verdict is
+/// `Yes`, no state of any run of the application breaches any of the twelve rules. A refusal names
+/// a fault that stands in the bytes, the application's before the certificate's; `is_memory` of
+/// both tells the refusal of an allocation.
+pub fn judge_text(alloc: Global, app: &[u8], certificate: &[u8]) -> Result<Judged, TextFault>
+    ensures judged { IfOk result (λ judged. IsJudged app.now certificate.now judged.app judged.verdict) }
+    ensures safe { IfOk result (λ judged. judged.verdict ≡ Verdict.Yes → IsSafe judged.app) }
+    ensures speaks { IfOk result (λ judged. Speaks judged.app judged.verdict) }
+    ensures stands { IfErr result (FaultStands app.now certificate.now) }
+{
+    let app = match read_app(alloc, app) {
+        Ok(app) => app,
+        Err(fault) => return Err(TextFault::App(fault)),
+    };
+    let certificate = match read_cert(alloc, &app, certificate) {
+        Ok(certificate) => certificate,
+        Err(fault) => return Err(TextFault::Cert(fault)),
+    };
     let verdict = judge(&app, &certificate);
     Ok(Judged { app, verdict })
 }

@@ -1,26 +1,59 @@
 // Judging a certificate, point by point.
-ghost use Rattle.std.specs.Prelude.{◌<◌, length};
+ghost use Rattle.std.specs.Prelude.{◌≡◌, ◌<◌, Some, length, slice_get, IfSome};
+ghost use Rattle.fr_program.specs.declared.ids.Point.{Point as PointOf};
 ghost use Rattle.fr_program.specs.Points.{points_of};
+ghost use Rattle.fr_calls.specs.Run.{IsSafe};
+ghost use Rattle.fr_edge.specs.declared.failing.Own.{Own as OwnPart};
+ghost use Rattle.fr_ends.specs.Fits.{CertificateFits};
+ghost use Rattle.fr_judge.specs.Told.{TellsFirst, TellsVerdict, IsOf, Speaks, part_of_own};
 
 use crate::part::{Part, Verdict};
 use fr_edge::{Own, own};
 use fr_ends::Certificate;
 use fr_program::App;
 
-/// The first part that fails at the point with this number, or None where all are kept there. Takes
-/// no memory.
-pub fn job(app: &App, certificate: &Certificate, number: usize) -> Option<Part>
-    requires { number < length (points_of app.now) }
+/// The part that an own obligation is.
+fn part_of_own(failing: Own) -> Part
+    ensures { result ≡ part_of_own failing }
 {
-    match own(app, &certificate.notes, number)? {
-        Own::Entry => Some(Part::Entry),
-        Own::Rule(rule) => Some(Part::Rule(rule)),
-        Own::Goes(point) => Some(Part::Goes(point)),
+    match failing {
+        Own::Entry => Part::Entry,
+        Own::Rule(rule) => Part::Rule(rule),
+        Own::Goes(point) => Part::Goes(point),
     }
 }
 
-/// The verdict on an application and a certificate. Takes no memory.
-pub fn judge(app: &App, certificate: &Certificate) -> Verdict {
+/// The first part that fails at the point with this number, or None where all are kept there. The
+/// number is below that of the points, and the certificate fits the application. Takes no memory.
+///
+/// Applications have one task and no object today, so no part fails but the point's own.
+pub fn job(app: &App, certificate: &Certificate, number: usize) -> Option<Part>
+    requires number { number < length (points_of app.now) }
+    requires fits { CertificateFits app.now certificate.now }
+    ensures first { (p : PointOf) → slice_get (points_of app.now) number ≡ Some p →
+        TellsFirst app.now certificate.now p result }
+    ensures speaks { IfSome result (λ part. IsOf app.now part) }
+{
+    app.is_faultless();
+    app.is_numbered();
+    let _point = app.point(number);
+    match own(app, &certificate.notes, number) {
+        Some(failing) => Some(part_of_own(failing)),
+        None => None,
+    }
+}
+
+/// The verdict on an application and a certificate that fits it: `Yes` where every part is kept at
+/// every point, otherwise the least point at which one isn't, with the first such part. Where it is
+/// `Yes`, no state of any run of the application breaches any of the twelve rules. Takes no memory.
+pub fn judge(app: &App, certificate: &Certificate) -> Verdict
+    requires fits { CertificateFits app.now certificate.now }
+    ensures verdict { TellsVerdict app.now certificate.now result }
+    ensures safe { result ≡ Verdict.Yes → IsSafe app.now }
+    ensures speaks { Speaks app.now result }
+{
+    app.is_faultless();
+    app.is_numbered();
     for number in 0..app.points() {
         if let Some(part) = job(app, certificate, number) {
             return Verdict::No {

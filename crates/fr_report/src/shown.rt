@@ -1,5 +1,11 @@
 // Points and rules as reports show them.
-use fr_program::{App, Point, Side};
+ghost use Rattle.std.specs.Prelude.{◌≡◌, ◌≤◌, Some};
+ghost use Rattle.fr_program.specs.Lookup.{IsPoint, actor_at, object_at};
+ghost use Rattle.fr_program.specs.Points.{point_number};
+ghost use Rattle.fr_report.specs.Report.{point_text, rule_text, side_text, end_text};
+ghost use Rattle.fr_report.specs.Shown.{shown_text};
+
+use fr_program::{ActorId, App, ObjId, Point, Side};
 use std::fmt;
 
 /// A point with its number and its actor's name.
@@ -12,34 +18,81 @@ pub struct ShownPoint<'a> {
 }
 
 impl<'a> ShownPoint<'a> {
-    /// The point, as this application has it.
-    pub fn of(app: &'a App, point: Point) -> ShownPoint<'a> {
-        let actor = match app.actors().get(point.actor.0) {
-            Some(actor) => actor.name.as_str(),
-            None => "",
-        };
+    /// The point, which is one of this application's.
+    pub fn of(app: &'a App, point: Point) -> ShownPoint<'a>
+        requires { IsPoint app.now point }
+        ensures { shown_text result ≡ point_text app.now point }
+    {
         ShownPoint {
-            number: app.number(point).unwrap_or(0),
-            actor,
+            number: number_of(app, point),
+            actor: actor_name(app, point.actor),
             pc: point.pc,
             side: point.side,
         }
     }
 }
 
+/// The number of a point of the application.
+fn number_of(app: &App, point: Point) -> usize
+    requires { IsPoint app.now point }
+    ensures { result ≡ point_number app.now point }
+{
+    app.number(point).unwrap_or(0)
+}
+
+/// The name of an actor of the application, or no text where there is none.
+fn actor_name(app: &App, actor: ActorId) -> &str
+    ensures { result.now ≡ (actor_at app.now actor.0).name }
+{
+    match app.actors().get(actor.0) {
+        Some(actor) => actor.name.as_str(),
+        None => "",
+    }
+}
+
+/// The name of an object of the application, or no text where there is none.
+pub fn object_name(app: &App, object: ObjId) -> &str
+    ensures { result.now ≡ (object_at app.now object.0).name }
+{
+    match app.objects().get(object.0) {
+        Some(object) => object.name.as_str(),
+        None => "",
+    }
+}
+
+fn side_name(side: Side) -> &'static str
+    ensures { result.now ≡ side_text side }
+{
+    match side {
+        Side::Before => "before",
+        Side::Inside => "inside",
+    }
+}
+
+/// Which end of a buffer it is.
+pub fn end_name(writer: bool) -> &'static str
+    ensures { result.now ≡ end_text writer }
+{
+    if writer { "writer" } else { "reader" }
+}
+
 impl fmt::Display for ShownPoint<'_> {
+    ghost use Rattle.fr_report.specs.Shown.{shown_text};
+
+    ghost output = { λ point. Some (shown_text point) };
+
     fn fmt<W: fmt::Write>(&self, f: &mut fmt::Formatter<W>) -> fmt::Result {
-        let (number, actor, pc) = (self.number, self.actor, self.pc);
-        let side = match self.side {
-            Side::Before => "before",
-            Side::Inside => "inside",
-        };
+        let (number, actor, pc, side) = (self.number, self.actor, self.pc, side_name(self.side));
         write!(f, "point {number} ({actor} {pc} {side})")
     }
 }
 
-/// What a report says of a breached rule.
-pub fn rule_text(rule: u8) -> &'static str {
+/// What a report says of a breached rule, by its number, 3 to 12.
+pub fn rule_text(rule: u8) -> &'static str
+    requires least { 3 ≤ rule }
+    requires most { rule ≤ 12 }
+    ensures { result.now ≡ rule_text rule }
+{
     match rule {
         3 => "mutex given by an actor that does not hold it",
         4 => "call not allowed in a critical section",

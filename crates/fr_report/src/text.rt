@@ -1,16 +1,21 @@
 // The report of a verdict.
-ghost use Rattle.std.specs.Prelude.{◌≡◌, IfOk, codes, string_bytes};
+ghost use Rattle.std.specs.Prelude.{◌≡◌, IfOk, string_bytes};
+ghost use Rattle.fr_program.specs.Lookup.{IsPoint};
+ghost use Rattle.fr_judge.specs.Told.{Speaks, IsOf};
+ghost use Rattle.fr_report.specs.Report.{report_text, part_text};
 
-use crate::shown::{ShownPoint, rule_text};
+use crate::shown::{ShownPoint, end_name, object_name, rule_text};
 use fr_ends::EndName;
 use fr_judge::{Part, Verdict};
 use fr_program::{App, Point};
 use std::alloc::{AllocError, Global};
 
 /// The line that tells the verdict, with its newline: `yes`, or `no`, the first failing point and
-/// what fails there.
+/// what fails there. The verdict is one on this application. An error says that an allocation was
+/// refused. The line's form is this project's own.
 pub fn report(alloc: Global, app: &App, verdict: &Verdict) -> Result<String, AllocError>
-    ensures yes { verdict.now ≡ Verdict.Yes → IfOk result (λ text. string_bytes text ≡ codes "yes\n") }
+    requires { Speaks app.now verdict.now }
+    ensures { IfOk result (λ text. string_bytes text ≡ report_text app.now verdict.now) }
 {
     match verdict {
         Verdict::Yes => String::from_str(alloc, "yes\n"),
@@ -18,13 +23,20 @@ pub fn report(alloc: Global, app: &App, verdict: &Verdict) -> Result<String, All
     }
 }
 
-fn refusal(alloc: Global, app: &App, point: Point, part: Part) -> Result<String, AllocError> {
+fn refusal(alloc: Global, app: &App, point: Point, part: Part) -> Result<String, AllocError>
+    requires point { IsPoint app.now point }
+    requires part { IsOf app.now part }
+    ensures { IfOk result (λ text. string_bytes text ≡ report_text app.now (Verdict.No point part)) }
+{
     let at = ShownPoint::of(app, point);
     let why = part_text(alloc, app, part)?;
     format!(in alloc; "no: {at}: {why}\n")
 }
 
-fn part_text(alloc: Global, app: &App, part: Part) -> Result<String, AllocError> {
+fn part_text(alloc: Global, app: &App, part: Part) -> Result<String, AllocError>
+    requires { IsOf app.now part }
+    ensures { IfOk result (λ text. string_bytes text ≡ part_text app.now part) }
+{
     match part {
         Part::Entry => String::from_str(alloc, "entry"),
         Part::Rule(rule) => {
@@ -47,11 +59,9 @@ fn part_text(alloc: Global, app: &App, part: Part) -> Result<String, AllocError>
     }
 }
 
-fn guard_text(alloc: Global, app: &App, end: EndName) -> Result<String, AllocError> {
-    let buffer = match app.objects().get(end.buffer.0) {
-        Some(object) => object.name.as_str(),
-        None => "",
-    };
-    let side = if end.writer { "writer" } else { "reader" };
+fn guard_text(alloc: Global, app: &App, end: EndName) -> Result<String, AllocError>
+    ensures { IfOk result (λ text. string_bytes text ≡ part_text app.now (Part.Guard end)) }
+{
+    let (buffer, side) = (object_name(app, end.buffer), end_name(end.writer));
     format!(in alloc; "guard {buffer} {side}")
 }

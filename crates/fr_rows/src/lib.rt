@@ -7,3 +7,7 @@ mod answer;
 mod first_path;
 #[cfg(test)]
 mod long_texts;
+#[cfg(test)]
+mod own_obligations;
+#[cfg(test)]
+mod plain_notes;

@@ -1,0 +1,78 @@
+-- What a check answers and writes, and what a refusal's line shows.
+--
+-- | word                    | meaning                                                                       |
+-- |-------------------------|-------------------------------------------------------------------------------|
+-- | status_of               | the exit status of a verdict                                                  |
+-- | fault_status, line_of   | the exit status and the line of a fault                                       |
+-- | IsAnswer                | the status and what was written are those of the verdict on the bytes         |
+-- | IsSafeText              | the bytes stand for an application that is safe                               |
+-- | check_fault             | the fault of a check that refused bytes come to; inner ones of memory are one |
+-- | CanRefuse               | the bytes are refused with this fault, or the machine failed                  |
+use Rattle.std.specs.Prelude.{◌≡◌, ◌++◌, ℕ, List, Option, false, codes, if◌then◌else◌}
+use Rattle.std.specs.Io.KnownBytes.{Appends}
+use Rattle.fr_program.specs.Program.{Program}
+use Rattle.fr_calls.specs.Run.{IsSafe}
+use Rattle.fr_reader.specs.FaultText.{fault_text}
+use Rattle.fr_reader.specs.Meaning.{Means}
+use Rattle.fr_reader.specs.Faults.{is_memory as app_is_memory}
+use Rattle.fr_cert.specs.FaultText.{text_of}
+use Rattle.fr_cert.specs.Faults.{is_memory as cert_is_memory}
+use Rattle.fr_judge.specs.declared.text.TextFault.{TextFault}
+use Rattle.fr_judge.specs.declared.text.TextFault.TheVariants.{Memory as NoMemory, App as AppRefused, Cert as CertRefused}
+use Rattle.fr_judge.specs.Texts.{IsJudged, FaultStands}
+use Rattle.fr_judge.specs.declared.part.Verdict.{Verdict}
+use Rattle.fr_judge.specs.declared.part.Verdict.TheVariants.{Yes, No}
+use Rattle.fr_report.specs.Report.{report_text}
+use Rattle.fr_check.specs.declared.fault.CheckFault.{CheckFault}
+use Rattle.fr_check.specs.declared.fault.CheckFault.TheVariants.{App, Cert, Workers, Rounds, Polls, Memory, Thread, Write}
+
+-- 0 where the verdict is yes, and 1 where it is no
+abbrev pub status_of : Verdict → ℕ
+status_of Yes = 0
+status_of (No p part) = 1
+
+-- 2 where the input or the words are refused, and 3 where the machine failed
+abbrev pub fault_status : CheckFault → ℕ
+fault_status (App f) = 2
+fault_status (Cert f) = 2
+fault_status Workers = 2
+fault_status Rounds = 2
+fault_status Polls = 2
+fault_status Memory = 3
+fault_status Thread = 3
+fault_status Write = 3
+
+-- the line for standard error, without its newline
+abbrev pub line_of : CheckFault → List ℕ
+line_of (App f) = codes "refused: app " ++ fault_text f
+line_of (Cert f) = codes "refused: cert " ++ text_of f
+line_of Workers = codes "refused: workers"
+line_of Rounds = codes "refused: rounds"
+line_of Polls = codes "refused: polls"
+line_of Memory = codes "machine: memory"
+line_of Thread = codes "machine: thread"
+line_of Write = codes "machine: file"
+
+-- the bytes stand for an application and for a certificate; the status tells the verdict on them, and its report was
+-- written after what the writer had, and nothing else
+abbrev pub IsAnswer : List ℕ → List ℕ → ℕ → Option (List ℕ) → Option (List ℕ) → Type 0
+IsAnswer app certificate status old new =
+    (P : Program) × (verdict : Verdict) × IsJudged app certificate P verdict × (status ≡ status_of verdict) × Appends old new (report_text P verdict)
+
+-- the bytes stand for an application, no state of any run of which breaches a rule
+abbrev pub IsSafeText : List ℕ → Type 0
+IsSafeText app = (P : Program) × Means app P × IsSafe P
+
+-- the fault of a check, where this one refused the bytes: each inner fault of memory is `Memory`
+abbrev pub check_fault : TextFault → CheckFault
+check_fault NoMemory = Memory
+check_fault (AppRefused f) = if app_is_memory f then Memory else App f
+check_fault (CertRefused f) = if cert_is_memory f then Memory else Cert f
+
+-- the fault stands in the bytes, or the machine had no memory, or the writer failed
+abbrev pub CanRefuse : List ℕ → List ℕ → CheckFault → Type 0
+CanRefuse app certificate (App f) = (app_is_memory f ≡ false) × FaultStands app certificate (AppRefused f)
+CanRefuse app certificate (Cert f) = (cert_is_memory f ≡ false) × FaultStands app certificate (CertRefused f)
+CanRefuse app certificate Memory = Unit {0}
+CanRefuse app certificate Write = Unit {0}
+CanRefuse app certificate fault = ⊥

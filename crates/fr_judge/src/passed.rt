@@ -1,0 +1,49 @@
+// Applications that have passed.
+ghost use Rattle.std.specs.Prelude.{◌≡◌, ◌≢◌, IfOk, IfErr, OnOk};
+ghost use Rattle.fr_calls.specs.Run.{IsSafe};
+ghost use Rattle.fr_ends.specs.Fits.{CertificateFits};
+ghost use Rattle.fr_judge.specs.Told.{TellsVerdict};
+ghost use Rattle.fr_judge.specs.Verdict.{IsCertified};
+
+use crate::part::Verdict;
+use crate::verdict::judge;
+use fr_ends::Certificate;
+use fr_program::App;
+
+/// An application with a certificate for it on which the verdict is `Yes`.
+#[derive(Debug, Drop)]
+pub struct Passed {
+    app: App,
+    certificate: Certificate,
+    ghost fits: { CertificateFits app certificate },
+    ghost certified: { IsCertified app certificate },
+}
+
+impl Passed {
+    /// The application with its certificate, which fits it, where the verdict on them is `Yes`; so
+    /// no state of any run of it breaches any of the twelve rules. Where the verdict is `No`, all
+    /// comes back with it. Takes no memory.
+    pub fn check(
+        app: App,
+        certificate: Certificate,
+    ) -> Result<Passed, (App, Certificate, Verdict)>
+        requires fits { CertificateFits app certificate }
+        ensures passed { IfOk result (λ passed. (passed.app ≡ app) × (passed.certificate ≡ certificate)) }
+        ensures certified { OnOk result (IsCertified app certificate) }
+        ensures safe { OnOk result (IsSafe app) }
+        ensures returned { IfErr result (λ r. (r.0 ≡ app) × (r.1 ≡ certificate)) }
+        ensures no { IfErr result (λ r. (r.2 ≢ Verdict.Yes) × TellsVerdict app certificate r.2) }
+    {
+        match judge(&app, &certificate) {
+            Verdict::Yes => Ok(Passed { app, certificate }),
+            no => Err((app, certificate, no)),
+        }
+    }
+
+    /// The application that has passed.
+    pub fn app(&self) -> &App
+        ensures { result.now ≡ self.now.app }
+    {
+        &self.app
+    }
+}
