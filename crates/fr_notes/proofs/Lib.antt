@@ -1,1 +1,2 @@
+pub mod NarrowLaws
 pub mod WorkedNotes
