@@ -1,5 +1,5 @@
 // What a step leaves of an alternative.
-ghost use Rattle.std.specs.Prelude.{◌≡◌, None};
+ghost use Rattle.std.specs.Prelude.{◌≡◌, ◌≤◌, None};
 
 use crate::claim::Claim;
 use crate::narrow::{narrowed, negated};
@@ -55,8 +55,9 @@ impl Alternative {
 
     /// The change that leaves all as it is.
     fn unchanged(&self) -> Change
-        ensures crit { result.crit ≡ self.now.crit }
-        ensures susp { result.susp ≡ self.now.susp }
+        ensures crit { result.crit ≡ self.now.critical }
+        ensures susp { result.susp ≡ self.now.suspended }
+        ensures small { result.crit ≤ 255 }
         ensures claim { result.claim ≡ None }
         ensures first { result.first ≡ None }
         ensures second { result.second ≡ None }

@@ -9,8 +9,8 @@ pub enum Claim {
     Alive,
     /// It is dead.
     Gone,
-    /// The actor holds it so often; so it is live.
-    HeldTimes(u8),
+    /// The actor holds it so often; so it is live. A note's count is at most 255; a step can leave one more.
+    HeldTimes(u32),
 }
 
 impl Claim {

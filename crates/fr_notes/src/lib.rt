@@ -6,6 +6,7 @@
 mod change;
 mod claim;
 mod fault;
+mod laws;
 mod narrow;
 mod note;
 mod notes;
@@ -14,6 +15,7 @@ mod worked;
 pub use change::{Change, change_by, keeps};
 pub use claim::Claim;
 pub use fault::{NoteFault, NotesFault};
+pub use laws::fitting_can_hold;
 pub use note::{Alternative, Note, NoteParts};
 pub use notes::Notes;
 pub use worked::notes_as_worked;

@@ -1,8 +1,11 @@
 // Notes: what a certificate says of an actor at a point.
+ghost use Rattle.std.specs.Prelude.{◌≡◌, []};
+
 use crate::claim::Claim;
 use crate::fault::NoteFault;
 use fr_program::{App, Kind, ObjId, Object, Range, VarId, Variable};
 use std::alloc::Global;
+use std::marker::Model;
 
 /// One alternative of a note: exact depths, a claim for each object and a range for each variable,
 /// by their numbers.
@@ -14,11 +17,29 @@ pub struct Alternative {
     pub ranges: Vec<Range>,
 }
 
+impl Model for Alternative {
+    ghost use Rattle.fr_notes.specs.Note.{Alternative as AlternativeOf};
+
+    ghost Value = { AlternativeOf };
+
+    ghost use Rattle.fr_notes.specs.View.{alternative_of};
+
+    ghost view = { alternative_of };
+}
+
 /// What a certificate says of an actor at a point: one of these alternatives holds. With none of
 /// them it is the note `Never`, which says that the actor never stands there.
 #[derive(Debug, Drop)]
 pub struct Note {
     alternatives: Vec<Alternative>,
+}
+
+impl Model for Note {
+    ghost use Rattle.fr_notes.specs.Note.{Note as NoteOf};
+
+    ghost Value = { NoteOf };
+
+    ghost view = { λ n. n.alternatives.items };
 }
 
 /// What a plain note says, where it says more than the default: no mutex held, depth 0, objects
@@ -49,7 +70,9 @@ impl NoteParts {
 
 impl Note {
     /// The note that holds of no actor in no state. Takes no memory.
-    pub fn never(alloc: Global) -> Note {
+    pub fn never(alloc: Global) -> Note
+        ensures { result ≡ [] }
+    {
         Note {
             alternatives: Vec::new(alloc),
         }
@@ -72,7 +95,9 @@ impl Note {
     }
 
     /// The alternatives, of which one holds.
-    pub fn alternatives(&self) -> &[Alternative] {
+    pub fn alternatives(&self) -> &[Alternative]
+        ensures { result.now ≡ self.now }
+    {
         &self.alternatives
     }
 }
@@ -128,7 +153,7 @@ fn mark_held(
             if *claim == Claim::Gone {
                 return Err(NoteFault::Lives);
             }
-            *claim = Claim::HeldTimes(u8::try_from(*count).unwrap_or(u8::MAX));
+            *claim = Claim::HeldTimes(*count);
         }
     }
     Ok(())
