@@ -154,10 +154,12 @@ apart-turned = record { to = λ x y h e. h (sym e); from = λ x y h e. h (sym e)
 pub turned-least : (a b new : Range) → IsLeast (λ x y. x ≢ y) a b new → IsLeast (turned (λ x y. x ≢ y)) a b new
 turned-least a b new h = least-same (λ x y. x ≢ y) (turned (λ x y. x ≢ y)) a b new (record { to = λ x y p e. p (sym e); from = λ x y p e. p (sym e) }) h
 
-pub below-made : (low high left right : Range) (gap : ℤ) → left.lo ≡ low.lo → left.hi ≡ int_min low.hi (high.hi -ℤ gap) → right.lo ≡ int_max high.lo (low.lo +ℤ gap) → right.hi ≡ high.hi → (low.lo +ℤ gap) ≤ℤ high.hi → AreLeast (IsBelow gap) low high left right
-below-made low high left right gap a b c d le =
+pub below-made : (low high left right : Range) (gap : ℤ) → left.lo ≡ low.lo → left.hi ≡ int_min low.hi (high.hi -ℤ gap) → right.lo ≡ int_max high.lo (low.lo +ℤ gap) → right.hi ≡ high.hi → AreLeast (IsBelow gap) low high left right
+below-made low high left right gap a b c d =
     let o = low.ordered in
     let p = high.ordered in
+    let q = left.ordered in
+    let le : (low.lo +ℤ gap) ≤ℤ high.hi = omega (arith, ints, clamps) in
     record {
       left = record {
         inside = λ x y h. (omega (arith, ints), omega (arith, ints, clamps));
