@@ -1,3 +1,4 @@
 pub mod NarrowLaws
 pub mod WorkedNotes
 pub mod Shown
+pub mod ChangeLaws

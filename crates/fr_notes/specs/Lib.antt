@@ -4,5 +4,6 @@ pub mod Noted
 pub mod Fits
 pub mod Compare
 pub mod Narrow
+pub mod Change
 pub mod Laws
 pub mod WorkedNotes
