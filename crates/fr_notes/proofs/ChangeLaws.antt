@@ -1,8 +1,9 @@
 -- From ranges in code to what an alternative says: the spans of results, and the least ranges of an `if`'s operands.
-use Rattle.std.proofs.Common.{List, length, map, get_or, ◌<◌,  ◌≡◌, ℕ, sym, ◌∙◌, ap, subst, refl, arith}
+use Rattle.std.proofs.Common.{List, length, map, get_or, ◌<◌, ◌≡◌, ℕ, sym, ◌∙◌, ap, subst, refl, arith}
 use Rattle.std.specs.Prelude.{slice_index_or, pos, ℤ, ◌≤ℤ◌, ◌*ℤ◌}
 use Rattle.std.proofs.lemmas.Int.{ints}
 use Rattle.std.proofs.Math.IntN.{*ℤ_comm}
+use Rattle.std.proofs.lemmas.List.{get_or-map}
 use Rattle.fr_program.specs.declared.instr.Operand.{Operand}
 use Rattle.fr_program.specs.declared.instr.Operand.TheVariants.{Number}
 use Rattle.fr_program.specs.declared.instr.Operator.{Operator}

@@ -216,7 +216,7 @@ fn keeps_ranges(ranges: &[Range], change: &Change, others: &[Range]) -> bool
     requires { length others.now ≡ length ranges.now }
     ensures { IsTrue result ↔ ((x : ℕ) → x < length ranges.now →
         IsCovered (new_range change.now x (slice_index_or (map ends_of ranges.now) x (pos 0, pos 0)))
-            (slice_index_or (map ends_of others.now) x (pos 0, pos 0))) }
+        (slice_index_or (map ends_of others.now) x (pos 0, pos 0))) }
 {
     for (variable, range) in ranges.iter().enumerate() {
         if !keeps_range(change, variable, *range, others[variable]) {
