@@ -26,7 +26,7 @@ pub fn own(app: &App, notes: &Notes, number: usize) -> Option<Own>
     app.is_numbered();
     let note = notes.get(number)?;
     let instr = app.instr(point)?;
-    if !enters(app, note, point) {
+    if !enters(app, notes, note, point) {
         return Some(Own::Entry);
     }
     if let Some(rule) = least_rule(app, note, point, instr) {
