@@ -1,3 +1,5 @@
 pub mod Standing
 pub mod Rules
 pub mod Lists
+pub mod StartLaws
+pub mod Steps

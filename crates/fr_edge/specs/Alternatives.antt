@@ -69,7 +69,7 @@ StaysIn P n i = Unit {0}
 -- after every such step
 abbrev pub GoesBy : Program → List Note → Point → Way → Point → Type 0
 GoesBy P notes p way t =
-    (n : Alternative) → Contains (note_at P notes p) n →
+    t.actor ≡ p.actor → (n : Alternative) → Contains (note_at P notes p) n →
     (S : State) (c : ℤ) (S' : State) → NotedBy P p n S → StepBy P way S p.actor.0 c S' → IsAt S' t →
     (m : Alternative) × Contains (note_at P notes t) m
     × ((T : State) (d : ℤ) (T' : State) → NotedBy P p n T → StepBy P way T p.actor.0 d T' → IsAt T' t → HoldsOne m p.actor.0 T')

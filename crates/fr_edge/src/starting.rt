@@ -20,10 +20,10 @@ fn is_declared_claim(claim: Claim, object: &Object) -> bool {
     }
 }
 
-fn has_number(range: Range, number: i64) -> bool
-    ensures { IsTrue result ↔ Within (ends_of range) number }
+fn begins_in(range: Range, variable: &Variable) -> bool
+    ensures { IsTrue result ↔ Within (ends_of range) variable.now.init }
 {
-    let number = i128::from(number);
+    let number = i128::from(variable.init);
     range.lo <= number && number <= range.hi
 }
 
@@ -42,7 +42,7 @@ fn begins_with_ranges(variables: &[Variable], ranges: &[Range]) -> bool
     ensures { IsTrue result ↔ ((x : ℕ) → x < length variables.now → BeginsWithin ranges.now variables.now x) }
 {
     for (x, variable) in variables.iter().enumerate() {
-        if !has_number(ranges[x], variable.init) {
+        if !begins_in(ranges[x], variable) {
             return false;
         }
     }
@@ -55,10 +55,16 @@ fn holds_at_start(app: &App, alternative: &Alternative) -> bool
     ensures { (a : ℕ) → (IsTrue result ↔ HoldsOne alternative.now a (start app.now)) }
 {
     app.is_faultless();
-    alternative.crit == 0
-        && alternative.susp == 0
-        && begins_with_claims(app.objects(), &alternative.claims)
-        && begins_with_ranges(app.variables(), &alternative.ranges)
+    if alternative.crit != 0 {
+        return false;
+    }
+    if alternative.susp != 0 {
+        return false;
+    }
+    if !begins_with_claims(app.objects(), &alternative.claims) {
+        return false;
+    }
+    begins_with_ranges(app.variables(), &alternative.ranges)
 }
 
 /// Whether some alternative of the note holds of an actor when the scheduler starts.
