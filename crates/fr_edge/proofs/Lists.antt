@@ -4,6 +4,8 @@ use Rattle.std.proofs.lemmas.Bool.{cases_lt}
 use Rattle.fr_program.specs.declared.ids.Point.{Point}
 use Rattle.fr_program.specs.Program.{Program}
 use Rattle.fr_calls.specs.Rule.{Rule, number_of}
+use Rattle.std.specs.Prelude.{All, Contains}
+use Rattle.fr_notes.specs.Fits.{AlternativeFits}
 use Rattle.fr_notes.specs.Note.{Alternative, Note}
 use Rattle.fr_edge.specs.Alternatives.{KeepsRuleBy, BreaksRuleBy, RuleOutcome, IsAmong, NoteOutcome, lesser_of}
 
@@ -44,3 +46,11 @@ module _ (P : Program) (p : Point) (note : Note) (k : ℕ) (x : Alternative) (l 
       subst (λ v. NoteOutcome P p note (k + 1) (Some v)) (sym e) (still-least i before (λ other less. now.3 other (omega arith)))) (λ ge.
       let e : min i j ≡ j = omega arith in
       subst (λ v. NoteOutcome P p note (k + 1) (Some v)) (sym e) (now-least j now (λ other less n m. before.3 other (omega arith) n m))) (cases_lt i j)
+
+-- an alternative that the code meets in a note fits
+pub item-fits : (P : Program) (items note : Note) (k : ℕ) (x : Alternative) → items ≡ note → k < length items → x ≡ get_or items k x → All (λ n. AlternativeFits P n) note → AlternativeFits P x
+item-fits P items note k x same l is all =
+    subst (λ n. AlternativeFits P n) (sym is) (subst (λ xs. AlternativeFits P (get_or xs k x)) (sym same) (all k x (omega (arith, ap length same))))
+
+pub contained : (note : Note) (n : Alternative) (Q : Alternative → Type 0) → Contains note n → All Q note → Q n
+contained note n Q m all = subst Q m.2 (all m.0 n m.1)

@@ -86,5 +86,11 @@ pub fn enters(app: &App, notes: &Notes, note: &Note, point: Point) -> bool
     requires note { note.now ≡ note_at app.now notes.now point }
     ensures { IsTrue result ↔ Entry app.now notes.now point }
 {
-    point.pc != 0 || point.side == Side::Inside || some_holds_at_start(app, note)
+    if point.pc != 0 {
+        return true;
+    }
+    match point.side {
+        Side::Before => some_holds_at_start(app, note),
+        Side::Inside => true,
+    }
 }
