@@ -3,3 +3,4 @@ pub mod Rules
 pub mod Lists
 pub mod StartLaws
 pub mod Steps
+pub mod Targets

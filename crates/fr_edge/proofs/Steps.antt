@@ -4,7 +4,8 @@ use Rattle.std.specs.Prelude.{ℤ, pos, ◌≤ℤ◌, ◌⊎◌, nat_eq, IsTrue,
 use Rattle.std.proofs.lemmas.Int.{ints}
 use Rattle.std.proofs.lemmas.Option.{same_Some}
 use Rattle.std.proofs.lemmas.List.{get_or_past, get_or-set_same}
-use Rattle.std.proofs.Math.ListN.{get_or-set_other, length-set}
+use Rattle.std.proofs.Common.{get_or-set_other}
+use Rattle.std.proofs.Math.ListN.{length-set}
 use Rattle.std.proofs.lemmas.Bool.{cases_lt, eqb-true}
 use Rattle.fr_program.specs.declared.instr.Instr.{Instr}
 use Rattle.fr_program.specs.declared.instr.Instr.TheVariants.{Set, If, Goto, Pick, Call as Calls, Return}
@@ -193,3 +194,23 @@ step-here P p i n way S c T judged point is noted t =
       free = subst (λ s. IsFree P S p.actor.0 s i) before (subst (λ j. IsFree P S p.actor.0 t.side j) one t.free);
       moved = t.moved ∙ ap (λ k. goes_to p.actor.0 (landing k t.side t.instr way) t.mid) pc ∙ ap (λ s. goes_to p.actor.0 (landing p.pc s t.instr way) t.mid) before ∙ ap (λ j. goes_to p.actor.0 (landing p.pc Before j way) t.mid) one;
     }
+
+-- a row leaves every actor where it was
+pub places-row : (P : Program) (S : State) (a : ℕ) (i : Instr) (way : Way) (c : ℤ) (T : State) → IsInstrJudgedYet i → Row P S a Before i way c T → T.places ≡ S.places
+places-row P S a (Set x l op r) Works c T j row = ap (λ U. U.places) row.1
+places-row P S a (If l comparison r target) Works c T j row = ap (λ U. U.places) row.2
+places-row P S a (If l comparison r target) Fails c T j row = ap (λ U. U.places) row.2
+places-row P S a (Goto target) Works c T j row = ap (λ U. U.places) row.1
+places-row P S a Return Works c T j row = ap (λ U. U.places) row.1
+places-row P S a (Calls (EnterCritical form)) Works c T j row = ap (λ U. U.places) row.2
+places-row P S a (Calls (ExitCritical form)) Works c T j row = ap (λ U. U.places) row.1
+places-row P S a (Calls (Delay ticks)) Works c T j row = ap (λ U. U.places) row.1
+places-row P S a (Calls DeleteSelf) Works c T j row = ap (λ U. U.places) row.1
+places-row P S a (Calls (EnterCritical form)) Fails c T j row = absurd row
+places-row P S a (Calls (ExitCritical form)) Fails c T j row = absurd row
+places-row P S a (Calls (Delay ticks)) Fails c T j row = absurd row
+places-row P S a (Calls DeleteSelf) Fails c T j row = absurd row
+places-row P S a (Set x l op r) Fails c T j row = absurd row
+places-row P S a (Goto target) Fails c T j row = absurd row
+places-row P S a Return Fails c T j row = absurd row
+places-row P S a i way c T j row = absurd j

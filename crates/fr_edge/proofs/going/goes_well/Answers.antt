@@ -13,7 +13,7 @@ change_by-requires c =
 
 pub returns-in-Some : goal.returns-in-Some
 returns-in-Some c = record {
-  well = λ t. inr (c.in-Some.change, c.in-Some.ensures.some, c.is_kept.ensures.kept t);
+  well = λ t. let k = c.is_kept.ensures.kept t in inr (c.in-Some.change, c.in-Some.ensures.some, k.0, k.1, k.2);
   misses = λ t. (c.in-Some.change, c.in-Some.ensures.some, c.is_kept.ensures.missed t);
 }
 
