@@ -4,3 +4,6 @@ pub mod Lists
 pub mod StartLaws
 pub mod Steps
 pub mod Targets
+pub mod Attained
+pub mod Missing
+pub mod Firsts

@@ -39,7 +39,7 @@ zeros (x ∷ xs) (suc a) = zeros xs a
 abbrev pub BeginsIn : Program → Alternative → Type 0
 BeginsIn P n = (x : ℕ) → x < length P.variables → Within (range_of n x) (variable_at P x).init
 
-no-claim : (n : Alternative) (o : ℕ) → n.claims ≡ [] → claim_of n o ≡ NotHeld
+pub no-claim : (n : Alternative) (o : ℕ) → n.claims ≡ [] → claim_of n o ≡ NotHeld
 no-claim n o e = rw e
 
 pub nothing-claimed : (P : Program) (n : Alternative) → P.objects ≡ [] → AlternativeFits P n → n.claims ≡ []

@@ -34,7 +34,7 @@ use Rattle.fr_notes.specs.Noted.{IsAt, NotedBy}
 use Rattle.fr_notes.specs.Fits.{AlternativeFits}
 use Rattle.fr_notes.specs.View.{ends_of}
 use Rattle.fr_notes.specs.Change.{CanBe, HasOperands, Turns, IsResult, IsBranch, same, branched, narrowed_to, range_after, new_range, IsCovered, HasChange, HasCallChange, HasNone, Keeps}
-use Rattle.fr_notes.proofs.Shown.{held_at-same}
+use Rattle.fr_notes.proofs.Shown.{held_at-same, depth_for-same}
 use Rattle.fr_edge.proofs.Standing.{operand-can, side-before}
 use Rattle.fr_edge.proofs.Rules.{no-objects}
 use Rattle.fr_edge.proofs.StartLaws.{nothing-claimed, no-claim}
@@ -90,7 +90,7 @@ module _ (P : Program) (n : Alternative) (a : ℕ) (S : State) (h : HoldsOne n a
 
   after-enter : After n (record (same n) { crit = n.critical + 1 }) a S (in_critical a (depth_of S a + 1) S)
   after-enter = record {
-    critical = held_at-same a (suc (depth_of S a)) ∙ (let e = h.critical in omega arith);
+    critical = depth_for-same a (depth_of S a + 1) ∙ ap (λ d. d + 1) h.critical;
     suspended = h.suspended;
     variables = h.variables;
     objects = refl;

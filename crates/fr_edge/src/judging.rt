@@ -32,6 +32,8 @@ pub fn own(app: &App, notes: &Notes, number: usize) -> Option<Own>
     if let Some(rule) = least_rule(app, note, point, instr) {
         return Some(Own::Rule(rule));
     }
-    let missed = least_missed(app, notes, note, point, instr)?;
-    Some(Own::Goes(app.point(missed)))
+    match least_missed(app, notes, note, point, instr) {
+        Some(missed) => Some(Own::Goes(app.point(missed))),
+        None => None,
+    }
 }
