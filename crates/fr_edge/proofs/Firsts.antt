@@ -9,6 +9,10 @@ use Rattle.fr_program.specs.Lookup.{actor_at, instr_at, instr_of, no_actor, IsPo
 use Rattle.fr_program.specs.Points.{points_of, point_number}
 use Rattle.fr_program.specs.PointNumbers.{PointsAreNumbered}
 use Rattle.fr_program.specs.Fault.{IsFaultless}
+use Rattle.fr_program.specs.declared.ids.ActorId.{ActorId}
+use Rattle.fr_calls.specs.declared.way.Landing.TheVariants.{At as LandsAt}
+use Rattle.fr_calls.specs.Landing.{landing_of}
+use Rattle.fr_calls.specs.State.{Place, At, Done}
 use Rattle.fr_calls.specs.Rule.{Rule, number_of}
 use Rattle.fr_notes.specs.Note.{Alternative, Note}
 use Rattle.fr_notes.specs.Noted.{note_at, Noted, NotedBy}
@@ -79,3 +83,23 @@ module _ (P : Program) (notes : List Note) (p : Point) (note : Note) (is_note : 
 
   pub missed-below : (k : ℕ) → PointsAreNumbered P → GoesOutcome P notes p (Some k) → k < length (points_of P)
   missed-below k numbered o = let l = below-get (points_of P) (point_number P o.0) o.0 (numbered.at o.0 o.1) in omega (arith, o.2)
+
+pub get-none : {A : Type 0} (xs : List A) (k : ℕ) → None ≡ slice_get xs k → k < length xs → ⊥
+get-none [] k e l = omega arith
+get-none (x ∷ xs) zero e l = cc
+get-none (x ∷ xs) (suc k) e l = get-none xs k e (omega arith)
+
+-- every point's note is one of the notes, and it fits
+pub note-there : (P : Program) (notes : List Note) (q : Point) → PointsAreNumbered P → NotesFit P notes → IsPoint P q → point_number P q < length notes
+note-there P notes q numbered fit at =
+    let l = below-get (points_of P) (point_number P q) q (numbered.at q at) in omega (arith, fit.0)
+
+pub note-fits : (P : Program) (notes : List Note) (q : Point) → PointsAreNumbered P → NotesFit P notes → IsPoint P q → All (λ n. AlternativeFits P n) (note_at P notes q)
+note-fits P notes q numbered fit at = (fit.1 (point_number P q) [] (note-there P notes q numbered fit at)).1
+
+-- where the code lands
+pub landed : (a : ActorId) (place : Place) (target : Point) → LandsAt target ≡ landing_of a place → (target.actor ≡ a) × (place ≡ At target.pc target.side)
+landed a (At pc side) target e =
+    let f : target ≡ record { actor = a; pc = pc; side = side } = cc in
+    (ap (λ q. q.actor) f, sym (ap (λ q. At q.pc q.side) f))
+landed a Done target e = cc

@@ -91,12 +91,16 @@ fn missed(
     let Landing::At(target) = lands_at(point, point.pc + 1, instr, way) else {
         return None;
     };
-    let number = app.number(target)?;
-    let next = notes.get(number)?;
-    if all_go_well(app, note, point, instr, way, next) {
-        None
-    } else {
-        Some(number)
+    match app.number(target) {
+        None => None,
+        Some(number) => match notes.get(number) {
+            None => None,
+            Some(next) => if all_go_well(app, note, point, instr, way, next) {
+                None
+            } else {
+                Some(number)
+            },
+        },
     }
 }
 

@@ -44,4 +44,27 @@ pub least_missed-requires-clause-rules : goal.least_missed-requires-clause-rules
 least_missed-requires-clause-rules c =
     let P = c.args.app.now in
     let h = here-facts P c.args.notes.now c.args.number c.point-point.result c.in_ok-note.note.now c.is_numbered.ensures c.requires.fit c.point-point.ensures (sym c.in_ok-note.ensures) in
-    all-rules P c.args.notes.now c.point-point.result c.in_ok-note.note.now h.is_note ?
+    all-rules P c.args.notes.now c.point-point.result c.in_ok-note.note.now h.is_note c.in_default.ensures
+
+pub point-requires : goal.point-requires
+point-requires c =
+    let P = c.args.app.now in
+    let h = here-facts P c.args.notes.now c.args.number c.point-point.result c.in_ok-note.note.now c.is_numbered.ensures c.requires.fit c.point-point.ensures (sym c.in_ok-note.ensures) in
+    missed-below P c.args.notes.now c.point-point.result c.in_ok-note.note.now h.is_note c.in-Some-least_missed.missed c.is_numbered.ensures c.in-Some-least_missed.ensures
+
+pub returns-in-Some-least_missed : goal.returns-in-Some-least_missed
+returns-in-Some-least_missed c = λ p e.
+    let P = c.args.app.now in
+    let h = here-facts P c.args.notes.now c.args.number c.point-point.result c.in_ok-note.note.now c.is_numbered.ensures c.requires.fit c.point-point.ensures (sym c.in_ok-note.ensures) in
+    let same = same_Some _ _ (sym c.point-point.ensures ∙ e) in
+    let rules = all-rules P c.args.notes.now c.point-point.result c.in_ok-note.note.now h.is_note c.in_default.ensures in
+    let g = goes-first P c.args.notes.now c.point-point.result c.in_ok-note.note.now h.is_note c.in-Some-least_missed.missed c.point.result c.is_numbered.ensures c.point.ensures c.in-Some-least_missed.ensures in
+    subst (λ q. IsFirstOwn P c.args.notes.now q (Some (FailsGoes c.point.result))) same (c.enters.ensures.0 c.if-not-enters.false, rules, g.0, g.1, g.2)
+
+pub returns-in-None : goal.returns-in-None
+returns-in-None c = λ p e.
+    let P = c.args.app.now in
+    let h = here-facts P c.args.notes.now c.args.number c.point-point.result c.in_ok-note.note.now c.is_numbered.ensures c.requires.fit c.point-point.ensures (sym c.in_ok-note.ensures) in
+    let same = same_Some _ _ (sym c.point-point.ensures ∙ e) in
+    let rules = all-rules P c.args.notes.now c.point-point.result c.in_ok-note.note.now h.is_note c.in_default.ensures in
+    subst (λ q. IsFirstOwn P c.args.notes.now q None) same (c.enters.ensures.0 c.if-not-enters.false, rules, c.in-None.ensures)
