@@ -67,7 +67,7 @@ returns-else-all_go_well c =
       n.0,
       d.0,
       sym n.1,
-      missing P c.args.notes.now c.args.point c.args.instr.now c.args.way f.faultless f.judged c.requires.point c.requires.instr c.requires.rules m.0 k fits_m m.2 m.3 c.in-At.target c.in-Some-get.next.now (sym q) d.0 to m.4,
+      missing P c.args.notes.now c.args.point c.args.instr.now c.args.way f.faultless f.judged c.requires.point c.requires.instr c.requires.rules m.0 k fits_m m.2.0 m.2.1 c.in-At.target c.in-Some-get.next.now (sym q) d.0 to m.2.2,
       λ other at lt.
           others P c.args.notes.now c.args.point c.args.instr.now c.args.way f.faultless f.judged c.requires.point c.requires.instr fits c.in-At.target d.0 to other (λ e. let s = ap (λ t. point_number P t) e in omega (arith, n.1, lt)),
     )
