@@ -1,4 +1,11 @@
 // The rows of an instruction in the step table, and where they lead.
+ghost use Rattle.std.specs.Prelude.{◌≡◌, ◌+◌};
+ghost use Rattle.fr_program.specs.Uses.{else_of};
+ghost use Rattle.fr_calls.specs.Step.{landing};
+ghost use Rattle.fr_calls.specs.Landing.{landing_of};
+ghost use Rattle.fr_calls.specs.State.{At};
+ghost use Rattle.fr_program.specs.declared.ids.Side.TheVariants.{Before};
+
 use fr_program::{Action, ActorId, Call, Instr, Point, Side};
 
 /// Which row of an instruction a step goes by. Each instruction has one row or two: an `if` whose
@@ -17,7 +24,9 @@ pub enum Landing {
 }
 
 /// The `else` target of an object call, where its line names one.
-fn else_of(action: &Action) -> Option<usize> {
+fn else_of(action: &Action) -> Option<usize>
+    ensures { result ≡ else_of action.now }
+{
     match action {
         Action::QueueSend { or_else, .. }
         | Action::QueueReceive { or_else, .. }
@@ -28,21 +37,29 @@ fn else_of(action: &Action) -> Option<usize> {
     }
 }
 
-/// Where an actor's step from a side of an instruction leads by this row. The next instruction
-/// stands at `next`.
-pub fn lands_at(point: Point, next: usize, instr: &Instr, way: Way) -> Landing {
-    let before = |pc: usize| Landing::At(Point {
-        actor: point.actor,
+fn before(actor: ActorId, pc: usize) -> Landing
+    ensures { result ≡ landing_of actor (At pc Before) }
+{
+    Landing::At(Point {
+        actor,
         pc,
         side: Side::Before,
-    });
+    })
+}
+
+/// Where an actor's step from a side of an instruction leads by this row. The next instruction
+/// stands at `next`.
+pub fn lands_at(point: Point, next: usize, instr: &Instr, way: Way) -> Landing
+    requires { next ≡ point.pc + 1 }
+    ensures { result ≡ landing_of point.actor (landing point.pc point.side instr.now way) }
+{
     match (point.side, instr, way) {
-        (Side::Before, Instr::If { target, .. }, Way::Works) => before(*target),
-        (Side::Before, Instr::Goto { target }, _) => before(*target),
-        (Side::Before, Instr::Return, _) => before(0),
+        (Side::Before, Instr::If { target, .. }, Way::Works) => before(point.actor, *target),
+        (Side::Before, Instr::Goto { target }, _) => before(point.actor, *target),
+        (Side::Before, Instr::Return, _) => before(point.actor, 0),
         (Side::Before, Instr::Call(Call::DeleteSelf), _) => Landing::Done,
         (Side::Before, Instr::Call(Call::Create { or_else, .. }), Way::Fails) => {
-            before(or_else.unwrap_or(next))
+            before(point.actor, or_else.unwrap_or(next))
         }
         (Side::Before, Instr::Call(Call::On { .. }), _) => {
             Landing::At(Point {
@@ -51,8 +68,8 @@ pub fn lands_at(point: Point, next: usize, instr: &Instr, way: Way) -> Landing {
             })
         }
         (Side::Inside, Instr::Call(Call::On { action, .. }), Way::Fails) => {
-            before(else_of(action).unwrap_or(next))
+            before(point.actor, else_of(action).unwrap_or(next))
         }
-        _ => before(next),
+        _ => before(point.actor, next),
     }
 }

@@ -1,1 +1,4 @@
 pub mod Own
+pub mod Alternatives
+pub mod FirstOwn
+pub mod Starts

@@ -9,7 +9,8 @@ use Rattle.fr_program.specs.Program.{Program}
 use Rattle.fr_program.specs.Lookup.{IsPoint, instr_of}
 use Rattle.fr_calls.specs.State.{State, start}
 use Rattle.fr_calls.specs.Rule.{Rule, OneWriter, OneReader, LifeInOrder, Breach}
-use Rattle.fr_calls.specs.Step.{Way, StepBy}
+use Rattle.fr_calls.specs.declared.way.Way.{Way}
+use Rattle.fr_calls.specs.Step.{StepBy}
 use Rattle.fr_notes.specs.Note.{Alternative, Note, HoldsOne, Holds}
 use Rattle.fr_notes.specs.Noted.{note_at, IsAt, Noted, NotedBy}
 

@@ -2,7 +2,10 @@
 #![tactic(auto)]
 
 mod failing;
+mod going;
 mod judging;
+mod ruling;
+mod starting;
 
 pub use failing::Own;
 pub use judging::own;

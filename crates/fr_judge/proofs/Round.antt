@@ -12,7 +12,9 @@ use Rattle.fr_program.specs.Program.{Program}
 use Rattle.fr_program.specs.Lookup.{instr_at}
 use Rattle.fr_calls.specs.State.{State, Place, At, Done, place_of, goes_to}
 use Rattle.fr_calls.specs.Rule.{Rule, OneWriter, OneReader, GivenByHolder, IsLive, LifeInOrder, InRange, End, Stands, Breaches}
-use Rattle.fr_calls.specs.Step.{Way, Works, Fails, StepBy, Row, landing}
+use Rattle.fr_calls.specs.declared.way.Way.{Way}
+use Rattle.fr_calls.specs.declared.way.Way.TheVariants.{Works, Fails}
+use Rattle.fr_calls.specs.Step.{StepBy, Row, landing}
 use Rattle.fr_notes.specs.Note.{Alternative, Note, HoldsOne}
 use Rattle.fr_notes.specs.Noted.{note_at, IsAt}
 use Rattle.fr_edge.specs.Own.{KeepsRule, Goes, is_own}

@@ -12,7 +12,8 @@ use Rattle.fr_program.specs.Lookup.{HasSide, IsPlace, IsPoint}
 use Rattle.fr_program.specs.Points.{point_number}
 use Rattle.fr_calls.specs.State.{State, At, Exists, IsWellFormed, place_of, value_of, suspension_of, start, write, goes_to}
 use Rattle.fr_calls.specs.Rule.{Rule, OneWriter, OneReader, GivenByHolder, IsLive, LifeInOrder, EndsInOrder, InRange, Breaches, number_of}
-use Rattle.fr_calls.specs.Step.{Works, StepBy}
+use Rattle.fr_calls.specs.declared.way.Way.TheVariants.{Works}
+use Rattle.fr_calls.specs.Step.{StepBy}
 use Rattle.fr_calls.proofs.Free.{before-free, no-use}
 use Rattle.fr_notes.specs.Note.{HoldsOne, Within, range_of}
 use Rattle.fr_notes.specs.Noted.{NotedBy}

@@ -5,3 +5,4 @@ pub mod Sound
 pub mod WorkedVerdicts
 pub mod Told
 pub mod Texts
+pub mod Approved

@@ -9,14 +9,23 @@ use crate::part::Verdict;
 use crate::verdict::judge;
 use fr_ends::Certificate;
 use fr_program::App;
+use std::marker::Model;
 
 /// An application with a certificate for it on which the verdict is `Yes`.
 #[derive(Debug, Drop)]
 pub struct Passed {
     app: App,
     certificate: Certificate,
-    ghost fits: { CertificateFits app certificate },
-    ghost certified: { IsCertified app certificate },
+}
+
+impl Model for Passed {
+    ghost use Rattle.fr_judge.specs.Approved.{Approved, HasPassed};
+
+    ghost Value = { Approved };
+
+    ghost view = { λ p. record { app = p.app; certificate = p.certificate } };
+
+    ghost invariant = { λ p. HasPassed (record { app = p.app; certificate = p.certificate }) };
 }
 
 impl Passed {

@@ -1,5 +1,7 @@
+pub mod NarrowLaws
 pub mod WorkedNotes
 pub mod Shown
 pub mod SaidLemmas
 pub mod FitLemmas
 pub mod ImpliedLemmas
+pub mod ChangeLaws

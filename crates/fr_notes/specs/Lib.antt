@@ -5,5 +5,7 @@ pub mod Fits
 pub mod Parts
 pub mod Compare
 pub mod Implied
+pub mod Narrow
+pub mod Change
 pub mod Laws
 pub mod WorkedNotes

@@ -1,5 +1,9 @@
 // What a step leaves of an alternative.
-ghost use Rattle.std.specs.Prelude.{◌≡◌, ◌≤◌, None};
+ghost use Rattle.std.specs.Prelude.{◌≡◌, ◌≤◌, ◌<◌, ◌⊎◌, ◌↔◌, ℕ, ℤ, pos, [], None, Some, length, map, slice_index_or, IsTrue, IfSome, IfNone, Contains};
+ghost use Rattle.fr_program.specs.Fault.{IsConstant, OperandsFit};
+ghost use Rattle.fr_program.specs.Spans.{IsNarrow};
+ghost use Rattle.fr_calls.specs.Step.{compare};
+ghost use Rattle.fr_notes.specs.View.{ends_of};
 
 use crate::claim::Claim;
 use crate::narrow::{narrowed, negated};
@@ -19,48 +23,50 @@ pub struct Change {
 }
 
 impl Alternative {
+    ghost use Rattle.fr_notes.specs.Change.{operand_range, HasOperand, HasNumbers, IsResult};
+
     /// The numbers that an operand can be.
-    pub fn operand(&self, operand: Operand) -> Option<Range> {
+    fn operand(&self, operand: Operand) -> Range
+        requires { HasOperand self.now operand }
+        ensures { ends_of result ≡ operand_range self.now operand }
+    {
         match operand {
             Operand::Number(number) => {
                 let number = i128::from(number);
-                Some(Range {
+                Range {
                     lo: number,
                     hi: number,
-                })
+                }
             }
-            Operand::Variable(variable) => self.ranges.get(variable.0).copied(),
+            Operand::Variable(variable) => self.ranges[variable.0],
         }
     }
 
-    /// The numbers that a `set` can give its target.
-    pub fn result(&self, operator: Operator, left: Operand, right: Operand) -> Option<Range> {
-        let (left, right) = (self.operand(left)?, self.operand(right)?);
-        match operator {
-            Operator::Plus => {
-                Range::new(
-                    left.lo.checked_add(right.lo)?,
-                    left.hi.checked_add(right.hi)?,
-                )
-            }
-            Operator::Minus => {
-                Range::new(
-                    left.lo.checked_sub(right.hi)?,
-                    left.hi.checked_sub(right.lo)?,
-                )
-            }
-            Operator::Times => product(left, right),
+    /// The exact span of the numbers that a `set` can give its target. A product has a number among
+    /// its operands.
+    pub fn result(&self, operator: Operator, left: Operand, right: Operand) -> Range
+        requires numbers { HasNumbers self.now }
+        requires left { HasOperand self.now left }
+        requires right { HasOperand self.now right }
+        requires product { operator ≡ Operator.Times → IsConstant left ⊎ IsConstant right }
+        ensures { IsResult self.now operator left right result }
+    {
+        let (one, other) = (self.operand(left), self.operand(right));
+        match (operator, left, right) {
+            (Operator::Plus, _, _) => one.add(other),
+            (Operator::Minus, _, _) => one.sub(other),
+            (Operator::Times, Operand::Number(by), _) => other.scale(by),
+            (Operator::Times, _, Operand::Number(by)) => one.scale(by),
+            (Operator::Times, _, _) => one,
         }
     }
+
+    ghost use Rattle.fr_notes.specs.Change.{same};
 
     /// The change that leaves all as it is.
     fn unchanged(&self) -> Change
-        ensures crit { result.crit ≡ self.now.critical }
-        ensures susp { result.susp ≡ self.now.suspended }
+        ensures same { result ≡ same self.now }
         ensures small { result.crit ≤ 255 }
-        ensures claim { result.claim ≡ None }
-        ensures first { result.first ≡ None }
-        ensures second { result.second ≡ None }
     {
         Change {
             crit: u32::from(self.crit),
@@ -72,36 +78,46 @@ impl Alternative {
     }
 }
 
-/// The products of two ranges one of which has one number alone.
-fn product(left: Range, right: Range) -> Option<Range> {
-    let (range, by) = if left.lo == left.hi {
-        (right, left.lo)
-    } else {
-        (left, right.lo)
-    };
-    let (one, other) = (range.lo.checked_mul(by)?, range.hi.checked_mul(by)?);
-    Range::new(one.min(other), one.max(other))
-}
+ghost use Rattle.fr_notes.specs.Change.{HasOperand, HasOperands, HasNumbers, Turns, IsResult, same, narrowed_to, IsBranch, NoBranch, HasCallChange, HasChange, HasNone, range_after, new_range, IsCovered, Keeps};
 
 /// The variable's new range, where the operand is one.
-fn narrowed_to(operand: Operand, range: Range) -> Option<(VarId, Range)> {
+fn narrowed_to(operand: Operand, range: Range) -> Option<(VarId, Range)>
+    ensures { result ≡ narrowed_to operand range }
+{
     match operand {
         Operand::Number(_) => None,
         Operand::Variable(variable) => Some((variable, range)),
     }
 }
 
+/// The comparison that is true where an `if` goes this way.
+fn comparison_for(comparison: Comparison, way: Way) -> Comparison
+    ensures { (u v : ℤ) → (IsTrue (compare result u v) ↔ Turns way comparison u v) }
+{
+    match way {
+        Way::Works => comparison,
+        Way::Fails => negated(comparison),
+    }
+}
+
+/// What an `if` leaves on one of its ways; None where it never goes that way.
 fn branch(
     alternative: &Alternative,
     comparison: Comparison,
+    way: Way,
     left: Operand,
     right: Operand,
-) -> Option<Change> {
-    let (low, high) = narrowed(
-        comparison,
-        alternative.operand(left)?,
-        alternative.operand(right)?,
-    )?;
+) -> Option<Change>
+    requires numbers { HasNumbers alternative.now }
+    requires left { HasOperand alternative.now left }
+    requires right { HasOperand alternative.now right }
+    ensures some { IfSome result
+        (λ change. IsBranch (Turns way comparison) alternative.now left right change) }
+    ensures none { IfNone result (NoBranch (Turns way comparison) alternative.now left right) }
+{
+    let comparison = comparison_for(comparison, way);
+    let (one, other) = (alternative.operand(left), alternative.operand(right));
+    let (low, high) = narrowed(comparison, one, other)?;
     Some(Change {
         first: narrowed_to(left, low),
         second: narrowed_to(right, high),
@@ -111,7 +127,13 @@ fn branch(
 
 /// What a step by this row leaves of the alternative, for an actor that is at no breach which stops
 /// it: None where no state has that row.
-pub fn change_by(alternative: &Alternative, instr: &Instr, way: Way) -> Option<Change> {
+pub fn change_by(alternative: &Alternative, instr: &Instr, way: Way) -> Option<Change>
+    requires numbers { HasNumbers alternative.now }
+    requires operands { HasOperands alternative.now instr.now }
+    requires fit { OperandsFit instr.now }
+    ensures some { IfSome result (λ change. HasChange alternative.now instr.now way change) }
+    ensures none { IfNone result (HasNone alternative.now instr.now way) }
+{
     match (instr, way) {
         (
             Instr::If {
@@ -120,17 +142,8 @@ pub fn change_by(alternative: &Alternative, instr: &Instr, way: Way) -> Option<C
                 right,
                 ..
             },
-            Way::Works,
-        ) => { branch(alternative, *comparison, *left, *right) }
-        (
-            Instr::If {
-                left,
-                comparison,
-                right,
-                ..
-            },
-            Way::Fails,
-        ) => { branch(alternative, negated(*comparison), *left, *right) }
+            _,
+        ) => { branch(alternative, *comparison, way, *left, *right) }
         (
             Instr::Set {
                 target,
@@ -140,7 +153,7 @@ pub fn change_by(alternative: &Alternative, instr: &Instr, way: Way) -> Option<C
             },
             Way::Works,
         ) => {
-            let result = alternative.result(*operator, *left, *right)?;
+            let result = alternative.result(*operator, *left, *right);
             Some(Change {
                 first: Some((*target, result)),
                 ..alternative.unchanged()
@@ -152,54 +165,75 @@ pub fn change_by(alternative: &Alternative, instr: &Instr, way: Way) -> Option<C
     }
 }
 
-fn change_of_call(alternative: &Alternative, call: &Call) -> Option<Change> {
+fn change_of_call(alternative: &Alternative, call: &Call) -> Option<Change>
+    ensures some { IfSome result (λ change. HasCallChange alternative.now call.now change) }
+    ensures none { IfNone result (HasNone alternative.now (Instr.Call call.now) Way.Works) }
+{
     let same = alternative.unchanged();
     match call {
         Call::EnterCritical(_) => Some(Change {
             crit: same.crit + 1,
             ..same
         }),
-        Call::ExitCritical(_) => Some(Change {
-            crit: same.crit.checked_sub(1)?,
-            ..same
-        }),
+        Call::ExitCritical(_) => if same.crit == 0 {
+            None
+        } else {
+            Some(Change {
+                crit: same.crit - 1,
+                ..same
+            })
+        },
         Call::Delay(_) | Call::Yield | Call::DeleteSelf => Some(same),
         _ => None,
     }
 }
 
-fn keeps_claim(object: usize, claim: Claim, change: &Change, other: Claim) -> bool {
-    match change.claim {
-        Some((changed, new)) if changed.0 == object => new.implies(other),
-        _ => claim.implies(other),
-    }
-}
-
-fn changed_range(variable: usize, range: Range, change: &Change) -> Range {
-    match (change.first, change.second) {
-        (Some((first, new)), _) if first.0 == variable => new,
-        (_, Some((second, new))) if second.0 == variable => new,
+/// The range that a change has for the variable, or the one before where it has none.
+fn range_after(new: Option<(VarId, Range)>, variable: usize, range: Range) -> Range
+    ensures { ends_of result ≡ range_after new variable (ends_of range) }
+{
+    match new {
+        Some((changed, new)) if changed.0 == variable => new,
         _ => range,
     }
 }
 
-fn keeps_claims(claims: &[Claim], change: &Change, others: &[Claim]) -> bool {
-    claims.iter().zip(others).enumerate().all(|(object, (claim, other))| keeps_claim(
-        object, *claim, change, *other,
-    ))
+/// Whether the first range lies in the second.
+fn is_covered(range: Range, other: Range) -> bool
+    ensures { IsTrue result ↔ IsCovered (ends_of range) (ends_of other) }
+{
+    other.lo <= range.lo && range.hi <= other.hi
 }
 
-fn keeps_ranges(ranges: &[Range], change: &Change, others: &[Range]) -> bool {
-    ranges.iter().zip(others).enumerate().all(|(variable, (range, other))| {
-        let range = changed_range(variable, *range, change);
-        other.lo <= range.lo && range.hi <= other.hi
-    })
+fn keeps_range(change: &Change, variable: usize, range: Range, other: Range) -> bool
+    ensures { IsTrue result ↔ IsCovered (new_range change.now variable (ends_of range)) (ends_of other) }
+{
+    let before = range_after(change.second, variable, range);
+    is_covered(range_after(change.first, variable, before), other)
 }
 
-/// Whether the other alternative holds after each step that makes this change of this one.
-pub fn keeps(alternative: &Alternative, change: &Change, other: &Alternative) -> bool {
+fn keeps_ranges(ranges: &[Range], change: &Change, others: &[Range]) -> bool
+    requires { length others.now ≡ length ranges.now }
+    ensures { IsTrue result ↔ ((x : ℕ) → x < length ranges.now →
+        IsCovered (new_range change.now x (slice_index_or (map ends_of ranges.now) x (pos 0, pos 0)))
+        (slice_index_or (map ends_of others.now) x (pos 0, pos 0))) }
+{
+    for (variable, range) in ranges.iter().enumerate() {
+        if !keeps_range(change, variable, *range, others[variable]) {
+            return false;
+        }
+    }
+    true
+}
+
+/// Whether the other alternative holds after each step that makes this change of this one. Today no
+/// application has objects, so that there are no claims.
+pub fn keeps(alternative: &Alternative, change: &Change, other: &Alternative) -> bool
+    requires claims { alternative.now.claims ≡ [] }
+    requires ranges { length other.now.ranges ≡ length alternative.now.ranges }
+    ensures { IsTrue result ↔ Keeps alternative.now change.now other.now }
+{
     change.crit == u32::from(other.crit)
         && change.susp == u32::from(other.susp)
-        && keeps_claims(&alternative.claims, change, &other.claims)
         && keeps_ranges(&alternative.ranges, change, &other.ranges)
 }

@@ -1,0 +1,9 @@
+pub mod Standing
+pub mod Rules
+pub mod Lists
+pub mod StartLaws
+pub mod Steps
+pub mod Targets
+pub mod Attained
+pub mod Missing
+pub mod Firsts

@@ -1,0 +1,56 @@
+-- The first alternatives of a note, one more at a time.
+use Rattle.std.proofs.Common.{◌≡◌, ℕ, zero, suc, ◌+◌, ◌<◌, ◌≤◌, List, [], ◌∷◌, length, get_or, Option, Some, None, refl, sym, ap, ◌∙◌, subst, arith, ⊎_elim, inl, inr, min}
+use Rattle.std.proofs.lemmas.Bool.{cases_lt}
+use Rattle.fr_program.specs.declared.ids.Point.{Point}
+use Rattle.fr_program.specs.Program.{Program}
+use Rattle.fr_calls.specs.Rule.{Rule, number_of}
+use Rattle.std.specs.Prelude.{All, Contains}
+use Rattle.fr_notes.specs.Fits.{AlternativeFits}
+use Rattle.fr_notes.specs.Note.{Alternative, Note}
+use Rattle.fr_edge.specs.Alternatives.{KeepsRuleBy, BreaksRuleBy, RuleOutcome, IsAmong, NoteOutcome, lesser_of}
+
+-- an element of a list doesn't depend on what stands for one past its end
+pub same-element : {A : Type 0} (xs : List A) (k : ℕ) (d e : A) → k < length xs → get_or xs k d ≡ get_or xs k e
+same-element [] k d e l = absurd (omega arith)
+same-element (x ∷ xs) zero d e l = refl
+same-element (x ∷ xs) (suc k) d e l = same-element xs k d e (omega arith)
+
+-- one of the first k + 1 is one of the first k, or the one at k
+pub among-case : (Q : Type 0) (note : Note) (k : ℕ) (x n : Alternative) → k < length note → x ≡ get_or note k x → IsAmong note (k + 1) n → (IsAmong note k n → Q) → (x ≡ n → Q) → Q
+among-case Q note k x n l e m old here =
+    ⊎_elim (λ lt. old (m.0, lt, m.2)) (λ ge. let s : m.0 ≡ k = (let lt = m.1 in omega arith) in
+    here (e ∙ same-element note k x n l ∙ subst (λ j. get_or note j n ≡ n) s m.2)) (cases_lt m.0 k)
+
+pub among-more : (note : Note) (k : ℕ) (n : Alternative) → IsAmong note k n → IsAmong note (k + 1) n
+among-more note k n m = (m.0, (let lt = m.1 in omega arith), m.2)
+
+module _ (P : Program) (p : Point) (note : Note) (k : ℕ) (x : Alternative) (l : k < length note) (is : x ≡ get_or note k x) where
+  keeps-more : (rule : Rule) → ((n : Alternative) → IsAmong note k n → KeepsRuleBy P p n rule) → KeepsRuleBy P p x rule → (n : Alternative) → IsAmong note (k + 1) n → KeepsRuleBy P p n rule
+  keeps-more rule before now n m =
+      among-case (KeepsRuleBy P p n rule) note k x n l is m (λ old. before n old) (λ e. subst (λ q. KeepsRuleBy P p q rule) e now)
+
+  now-least : (j : ℕ) → RuleOutcome P p x (Some j) → ((other : Rule) → number_of other < j → (n : Alternative) → IsAmong note k n → KeepsRuleBy P p n other) → NoteOutcome P p note (k + 1) (Some j)
+  now-least j now before =
+      (now.0, now.1, (x, (k, omega arith, sym is), now.2), λ other lt n m. keeps-more other (before other lt) (now.3 other lt) n m)
+
+  still-least : (j : ℕ) → NoteOutcome P p note k (Some j) → ((other : Rule) → number_of other < j → KeepsRuleBy P p x other) → NoteOutcome P p note (k + 1) (Some j)
+  still-least j before now =
+      (before.0, before.1, (before.2.0, among-more note k before.2.0 before.2.1, before.2.2), λ other lt n m. keeps-more other (before.3 other lt) (now other lt) n m)
+
+  pub note-step : (least now : Option ℕ) → NoteOutcome P p note k least → RuleOutcome P p x now → NoteOutcome P p note (k + 1) (lesser_of least now)
+  note-step None None before now = λ n m rule. keeps-more rule (λ q o. before q o rule) (now rule) n m
+  note-step None (Some j) before now = now-least j now (λ other lt n m. before n m other)
+  note-step (Some i) None before now = still-least i before (λ other lt. now other)
+  note-step (Some i) (Some j) before now =
+      ⊎_elim (λ lt. let e : min i j ≡ i = omega arith in
+      subst (λ v. NoteOutcome P p note (k + 1) (Some v)) (sym e) (still-least i before (λ other less. now.3 other (omega arith)))) (λ ge.
+      let e : min i j ≡ j = omega arith in
+      subst (λ v. NoteOutcome P p note (k + 1) (Some v)) (sym e) (now-least j now (λ other less n m. before.3 other (omega arith) n m))) (cases_lt i j)
+
+-- an alternative that the code meets in a note fits
+pub item-fits : (P : Program) (items note : Note) (k : ℕ) (x : Alternative) → items ≡ note → k < length items → x ≡ get_or items k x → All (λ n. AlternativeFits P n) note → AlternativeFits P x
+item-fits P items note k x same l is all =
+    subst (λ n. AlternativeFits P n) (sym is) (subst (λ xs. AlternativeFits P (get_or xs k x)) (sym same) (all k x (omega (arith, ap length same))))
+
+pub contained : (note : Note) (n : Alternative) (Q : Alternative → Type 0) → Contains note n → All Q note → Q n
+contained note n Q m all = subst Q m.2 (all m.0 n m.1)

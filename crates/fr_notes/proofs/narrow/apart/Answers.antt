@@ -1,0 +1,27 @@
+use Rattle.std.proofs.Common.{arith, ◌≡◌, sym, ap, ◌∙◌, inl, inr}
+use Rattle.std.specs.Prelude.{◌≢◌, ◌≤ℤ◌, ◌+ℤ◌, ℤ, pos, negsuc, FitsSigned}
+use Rattle.std.proofs.lemmas.Int.{ints, clamps}
+use Rattle.std.proofs.lemmas.Option.{IfSome_then}
+use mir.Val.{to_z, of_z}
+use mir.Syntax.{w64, w128}
+use Rattle.fr_program.specs.declared.instr.Comparison.TheVariants.{Less, AtMost, Greater, AtLeast, Equal, NotEqual}
+use Rattle.fr_notes.specs.Narrow.{Compares, IsBelow, IsLeast, AreLeast, NoPair, IsWithout, turned}
+use Rattle.fr_notes.proofs.NarrowLaws.{if_none, none_then, apart-turned, are-least-same, are-least-turned, no-pair-same, no-pair-turned, less, at-most, greater, at-least, equal, not-equal, without-made, without-none, least-apart, least-without, none-without, IsMoved, below-made, same-made, turned-least, exchanged-some, exchanged-none}
+use Rattle.fr_notes.proofs.narrow.apart.Goals as goal
+
+pub returns-then-other-clause-some : goal.returns-then-other-clause-some
+returns-then-other-clause-some c = least-apart c.args.range c.args.other (λ e. c.if-other.true (ap (λ z. of_z w128 z) e))
+
+pub returns-clause-some : goal.returns-clause-some
+returns-clause-some c =
+    let a = c.args.range in
+    let b = c.args.other in
+    let one : b.lo ≡ b.hi = omega (arith, ints) in
+    IfSome_then c.without.result c.without.ensures.some (λ new h. least-without a b new one h)
+
+pub returns-clause-none : goal.returns-clause-none
+returns-clause-none c =
+    let a = c.args.range in
+    let b = c.args.other in
+    let one : b.lo ≡ b.hi = omega (arith, ints) in
+    none_then c.without.result c.without.ensures.none (λ h. none-without a b one h)
