@@ -26,8 +26,7 @@ use Rattle.fr_calls.proofs.Formed.{map_case, start-formed, step-formed}
 use Rattle.fr_notes.specs.Note.{HoldsOne, Holds}
 use Rattle.fr_notes.specs.Noted.{note_at, IsAt, Noted, NotedBy}
 use Rattle.fr_edge.specs.Own.{is_own}
-use Rattle.fr_ends.specs.Guard.{Guard}
-use Rattle.fr_ends.specs.Certificate.{Certificate, HasGuard, guard_for}
+use Rattle.fr_ends.specs.Certificate.{Certificate, Guard, HasGuard, guard_for}
 use Rattle.fr_judge.specs.Part.{EntryPart, RulePart, GoesPart, GuardPart, NearPart, SpoiledPart}
 use Rattle.fr_judge.specs.Sound.{KeepsNotes, Certified, StartKeepsNotes, StepKeepsNotes, NotesExcludeBreaches, IsSound}
 use Rattle.fr_judge.proofs.Turns.{guard-alone, distinct-listed}

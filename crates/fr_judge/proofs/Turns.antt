@@ -6,8 +6,7 @@ use Rattle.std.proofs.lemmas.Bool.{eqb-true}
 use Rattle.std.proofs.lemmas.List.Elements.{All-head, All-tail}
 use Rattle.fr_calls.specs.State.{State, Content, Held, content_of, depth_in, count_held}
 use Rattle.fr_calls.specs.Rule.{End}
-use Rattle.fr_ends.specs.Guard.{Guard, Sole, ByMutex, InCritical, Turn, EndGuard}
-use Rattle.fr_ends.specs.Certificate.{HasGuard, HasDistinctTurns, AllHaveDistinctTurns, same_end, guard_for}
+use Rattle.fr_ends.specs.Certificate.{Guard, Sole, ByMutex, InCritical, Turn, EndGuard, HasGuard, HasDistinctTurns, AllHaveDistinctTurns, same_end, guard_for}
 
 positive_if : (b : Bool) (n : ℕ) → 0 < (if b then n else 0) → b ≡ true
 positive_if true n h = refl
