@@ -1,4 +1,8 @@
-// Certificate files: JSON (RFC 8259), read for an application by shape.
+// Certificates as files: `read_cert` gives the certificate that the bytes of a JSON text (RFC 8259) stand for, for an
+// application, or a fault that stands in them. The text is read by the crate `serde_json`, its objects key by key here,
+// and its notes are built by `fr_notes`. `specs/Meaning.antt` says what bytes stand for, and `specs/Stands.antt` which
+// fault stands in them; `one_meaning` and `no_meaning` are the laws of both. `write_cert` gives the bytes of
+// `specs/Written.antt`. The crates above rely on `read_cert`'s contract.
 #![tactic(auto)]
 
 mod fault;

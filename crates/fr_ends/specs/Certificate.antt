@@ -10,7 +10,7 @@
 use Rattle.std.specs.Prelude.{◌≡◌, ◌<◌, ℕ, ℤ, List, [], ◌∷◌, Option, None, Some, Bool, true, false, ◌&&◌, nat_eq, if◌then◌else◌, All}
 use Rattle.fr_calls.specs.State.{State, value_of, content_of, depth_of, count_held}
 use Rattle.fr_calls.specs.Rule.{End, Writer, Reader}
-use Rattle.fr_ends.specs.Guard.{Guard, Sole, ByMutex, InCritical, Turn, EndGuard}
+pub use Rattle.fr_ends.specs.Guard.{Guard, Sole, ByMutex, InCritical, Turn, EndGuard}
 use Rattle.fr_ends.specs.declared.certificate.Certificate as declared
 
 -- a note for each point, in the order of the points' numbers, and the guards of ends
