@@ -10,6 +10,9 @@
 -- | GoesBy                           | the part `Goes`, for steps by one row                                       |
 -- | WayOutcome                       | the point to which steps by one row lead without keeping its note, or none  |
 -- | GoesOutcome                      | the least such point of both rows, or none                                  |
+-- | GoesWell, Misses                 | an alternative of the next note says no more than what a row leaves; none   |
+-- | IsOutBy                          | a `set` gives some number out of its target's declared range                |
+-- | lesser_of                        | the lesser of two numbers, where there are any                              |
 use Rattle.std.specs.Prelude.{◌≡◌, ◌<◌, ◌≤ℤ◌, ◌⊎◌, ℕ, ℤ, List, Option, None, Some, length, slice_get, slice_index_or, IsTrue, Contains, min}
 use Rattle.fr_program.specs.declared.instr.Instr.{Instr}
 use Rattle.fr_program.specs.declared.instr.Instr.TheVariants.{Set}
