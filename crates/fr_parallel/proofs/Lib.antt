@@ -1,0 +1,5 @@
+pub mod Workers
+pub mod Least
+pub mod Sizes
+pub mod Verdicts
+pub mod StandIn
