@@ -2,4 +2,3 @@ pub mod Workers
 pub mod Least
 pub mod Sizes
 pub mod Verdicts
-pub mod StandIn

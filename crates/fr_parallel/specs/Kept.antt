@@ -1,5 +1,14 @@
 -- The jobs of a board for an application: job n is the point with the number n, and it is kept where the point keeps every part.
-use Rattle.std.specs.Prelude.{◌≡◌, ℕ, Some, Option, length, slice_get}
+--
+-- | word                  | meaning                                                                                      |
+-- |-----------------------|----------------------------------------------------------------------------------------------|
+-- | KeepsAt               | the point with this number keeps every part                                                  |
+-- | IsFor                 | the board has a job for each point                                                           |
+-- | IsNewFor              | a pass of the board that has done nothing                                                    |
+-- | IsWorked, IsWorkedBy  | a worker's pass after its turn; those of so many workers, as one                             |
+-- | IsLeastFailing        | the least number of a point that doesn't keep every part, or None                            |
+-- | IsNoCrew              | there can't be so many workers                                                               |
+use Rattle.std.specs.Prelude.{◌≡◌, ◌<◌, ◌⊎◌, ℕ, Some, Option, length, slice_get}
 use Rattle.fr_board.specs.Progress.{new_progress}
 use Rattle.fr_board.specs.Values.{BoardValue, PassValue, IsOf}
 use Rattle.fr_program.specs.declared.ids.Point.{Point}
@@ -32,3 +41,7 @@ IsNewFor b p = IsOf b p × (p.progress ≡ new_progress b.jobs 1)
 -- the passes of so many workers after their turns, as one
 abbrev pub IsWorkedBy : BoardValue → Program → Certificate → ℕ → PassValue → Type 0
 IsWorkedBy b P C count p = IsGathered b (KeepsAt P C) count p
+
+-- there can't be so many workers
+abbrev pub IsNoCrew : ℕ → Type 0
+IsNoCrew workers = (workers ≡ 0) ⊎ (64 < workers)

@@ -1,4 +1,4 @@
 pub mod Worked
 pub mod Kept
-pub mod StandIn
 pub mod Tasks
+pub mod Bytes

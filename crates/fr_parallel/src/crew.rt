@@ -1,9 +1,8 @@
 // Workers in threads of their own, and their passes as one.
-ghost use Rattle.std.specs.Prelude.{◌≡◌, ◌≢◌, ◌<◌, length, All, IfOk, IfErr, MatchResult};
+ghost use Rattle.std.specs.Prelude.{◌≡◌, ◌≢◌, ◌<◌, length, All, IfOk, IfErr};
 ghost use Rattle.fr_parallel.specs.declared.fault.ParFault.TheVariants.{Workers};
 ghost use Rattle.fr_ends.specs.Fits.{CertificateFits};
 ghost use Rattle.fr_parallel.specs.Kept.{IsFor, IsNewFor, IsWorked, IsWorkedBy};
-ghost use Rattle.fr_parallel.specs.StandIn.{certificate_of};
 ghost use Rattle.fr_parallel.specs.Tasks.{IsDoneBy, IsNewOf, IsReady};
 
 use crate::fault::ParFault;
@@ -56,8 +55,11 @@ fn start_all<'s, E, R: Threads, G: Gate>(
         let Ok(handle) = scope.spawn_with(
             task,
             move || -> Pass
-                requires { IsFor app.now board.now × CertificateFits app.now (certificate_of certificate.now) × IsNewFor board.now pass }
-                ensures { IsWorked board.entry.now app.entry.now (certificate_of certificate.entry.now) result }
+                requires jobs { IsFor app.now board.now }
+                requires fits { CertificateFits app.now certificate.now }
+                requires new { IsNewFor board.now pass }
+                ensures { IsWorked board.entry.now app.entry.now
+                    certificate.entry.now result }
             { work(app, certificate, board, pass, worker, gate) },
         ) else {
             join_all(rt, handles);
@@ -108,16 +110,21 @@ pub(crate) fn worked_by_all<R: Threads + Wait + Sync, G: Gate>(
     requires some { 0 < length passes.items }
     requires new { All (λ p. IsNewFor board.now p) passes.items }
     requires jobs { IsFor app.now board.now }
-    requires fits { CertificateFits app.now (certificate_of certificate.now) }
-    ensures all { IfOk result (λ p. IsWorkedBy board.now app.now (certificate_of certificate.now) (length passes.items) p) }
+    requires fits { CertificateFits app.now certificate.now }
+    ensures all { IfOk result (λ p. IsWorkedBy board.now app.now
+        certificate.now (length passes.items) p) }
     ensures fault { IfErr result (λ e. e ≢ Workers) }
 {
     thread::scope(
         thread::scope_env(),
         rt,
         |scope| -> Result<Pass, ParFault>
-            requires { (0 < length passes.items) × All (λ p. IsNewFor board.now p) passes.items × IsFor app.now board.now × CertificateFits app.now (certificate_of certificate.now) }
-            ensures all { IfOk result (λ p. IsWorkedBy board.entry.now app.entry.now (certificate_of certificate.entry.now) (length passes.items) p) }
+            requires some { 0 < length passes.items }
+            requires new { All (λ p. IsNewFor board.now p) passes.items }
+            requires jobs { IsFor app.now board.now }
+            requires fits { CertificateFits app.now certificate.now }
+            ensures all { IfOk result (λ p. IsWorkedBy board.entry.now app.entry.now
+                certificate.entry.now (length passes.items) p) }
             ensures fault { IfErr result (λ e. e ≢ Workers) }
         {
             let task = Task {

@@ -5,12 +5,16 @@
 //! that failed. The judging takes no lock and no memory; only `judge_with` and `judge_bytes` wait, for the threads that they start.
 #![tactic(auto)]
 
+mod bytes;
 mod crew;
 mod fault;
 mod gate;
 mod judging;
+#[cfg(test)]
+mod tests;
 mod worker;
 
+pub use bytes::{BytesFault, judge_bytes};
 pub use fault::ParFault;
 pub use gate::{Gate, Open};
 pub use judging::judge_with;

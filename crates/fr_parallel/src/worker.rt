@@ -1,34 +1,19 @@
 // One worker's turn.
-ghost use Rattle.std.specs.Prelude.{◌≡◌, ◌<◌, length, slice_get, Some, IfSome};
+ghost use Rattle.std.specs.Prelude.{◌≡◌, ◌<◌, Some};
 ghost use Rattle.fr_board.specs.declared.progress.Outcome.TheVariants.{Open};
 ghost use Rattle.fr_board.specs.Drawn.{outcome_of};
 ghost use Rattle.fr_board.specs.Progress.{new_progress};
 ghost use Rattle.fr_board.specs.Values.{IsOf};
-ghost use Rattle.fr_program.specs.declared.ids.Point.{Point};
-ghost use Rattle.fr_program.specs.Points.{points_of};
 ghost use Rattle.fr_ends.specs.Fits.{CertificateFits};
-ghost use Rattle.fr_judge.specs.Told.{TellsFirst, IsOf as SpeaksOf};
 ghost use Rattle.fr_parallel.specs.Kept.{IsFor, IsWorked};
-ghost use Rattle.fr_parallel.specs.StandIn.{certificate_of};
 ghost use Rattle.fr_parallel.specs.Tasks.{IsReady, KeepsIn};
 ghost use Rattle.fr_parallel.specs.Worked.{Settles};
 
 use crate::gate::Gate;
 use fr_board::{Board, Claim, Pass};
 use fr_ends::Certificate;
-use fr_judge::{Part, job};
+use fr_judge::job;
 use fr_program::App;
-
-// Stands in for `fr_judge::job` until that has this contract.
-pub(crate) fn failing(app: &App, certificate: &Certificate, number: usize) -> Option<Part>
-    requires number { number < length (points_of app.now) }
-    requires fits { CertificateFits app.now (certificate_of certificate.now) }
-    ensures first { (p : Point) → slice_get (points_of app.now) number ≡ Some p →
-        TellsFirst app.now (certificate_of certificate.now) p result }
-    ensures speaks { IfSome result (λ part. SpeaksOf app.now part) }
-{
-    job(app, certificate, number)
-}
 
 /// What workers work on: the points of an application, by a certificate that fits it, and the board that hands them out.
 #[derive(Clone, Copy)]
@@ -53,7 +38,7 @@ fn settle<G: Gate>(task: Task, pass: &mut Pass, claim: Claim, worker: usize, gat
         return;
     }
     gate.arrive(worker, number);
-    match failing(task.app, task.certificate, number as usize) {
+    match job(task.app, task.certificate, number as usize) {
         None => task.board.passed(pass, claim),
         Some(_) => task.board.failed(pass, claim),
     }
@@ -77,8 +62,8 @@ pub fn work<G: Gate>(
     requires own { IsOf board.now pass }
     requires new { pass.progress ≡ new_progress board.now.jobs 1 }
     requires jobs { IsFor app.now board.now }
-    requires fits { CertificateFits app.now (certificate_of certificate.now) }
-    ensures { IsWorked board.now app.now (certificate_of certificate.now) result }
+    requires fits { CertificateFits app.now certificate.now }
+    ensures { IsWorked board.now app.now certificate.now result }
 {
     let task = Task {
         app,

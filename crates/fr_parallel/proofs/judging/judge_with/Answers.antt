@@ -1,9 +1,10 @@
 use Rattle.std.proofs.Common.{ℕ, sym, ◌∙◌, subst, arith}
 use Rattle.fr_board.specs.Tally.{IsTallyOf}
+use Rattle.fr_judge.specs.declared.part.Verdict.{Verdict}
+use Rattle.fr_judge.specs.Told.{TellsVerdict}
+use Rattle.fr_judge.proofs.Judging.{yes-safe}
 use Rattle.fr_parallel.specs.Kept.{KeepsAt}
-use Rattle.fr_parallel.specs.StandIn.{certificate_of}
 use Rattle.fr_parallel.proofs.Least.{all-done, tally-least}
-use Rattle.fr_parallel.proofs.Verdicts.{yes-safe}
 use Rattle.fr_parallel.proofs.judging.judge_with.Goals as goal
 
 pub verdict_at-requires-clause-least : goal.verdict_at-requires-clause-least
@@ -12,7 +13,7 @@ verdict_at-requires-clause-least g c =
     let all = c.in_ok-all.ensures.all in
     let heavy = all.weight ∙ made.count ∙ sym made.seats_are in
     let tally = (c.in-Ok.ensures.whole heavy).1 in
-    let Keeps : ℕ → Type 0 = KeepsAt c.args.app.now (certificate_of c.args.certificate.now) in
+    let Keeps : ℕ → Type 0 = KeepsAt c.args.app.now c.args.certificate.now in
     tally-least Keeps _ c.in-Ok.tally.least c.in_ok-all.all.progress all.right
     (subst (λ (n : ℕ). IsTallyOf n c.in-Ok.tally.least c.in_ok-all.all.progress) made.jobs_are tally)
 
@@ -22,10 +23,12 @@ unreachable-requires g c =
     let all = c.in_ok-all.ensures.all in
     let ended = c.in-Err.ensures in
     let heavy = all.weight ∙ made.count ∙ sym made.seats_are in
-    let Keeps : ℕ → Type 0 = KeepsAt c.args.app.now (certificate_of c.args.certificate.now) in
+    let Keeps : ℕ → Type 0 = KeepsAt c.args.app.now c.args.certificate.now in
     let done = ended.whole heavy ∙ all-done Keeps _ c.in_ok-all.all.progress all.right (ended.drew_each heavy all.dry) in
     omega (arith, ended.unfinished.0)
 
 pub returns-clause-safe : goal.returns-clause-safe
-returns-clause-safe g c =
-    yes-safe c.args.app.now (certificate_of c.args.certificate.now) _ c.is_faultless.ensures.faultless c.requires.fits c.verdict_at.ensures.verdict
+returns-clause-safe g c is_yes =
+    let P = c.args.app.now in
+    let C = c.args.certificate.now in
+    yes-safe P C c.is_faultless.ensures.faultless c.requires.fits (subst (λ (v : Verdict). TellsVerdict P C v) is_yes c.verdict_at.ensures.verdict)

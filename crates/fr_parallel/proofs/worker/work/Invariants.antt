@@ -1,7 +1,6 @@
 use Rattle.std.proofs.Common.{◌≡◌, ◌-◌}
 use Rattle.fr_board.specs.Values.{IsOf}
 use Rattle.fr_parallel.specs.Kept.{KeepsAt}
-use Rattle.fr_parallel.specs.StandIn.{certificate_of}
 use Rattle.fr_parallel.specs.Worked.{AreRight}
 use Rattle.fr_parallel.proofs.Workers.{end_of}
 use Rattle.fr_parallel.proofs.worker.work.Given as goal
@@ -10,7 +9,7 @@ abbrev pub invariant-loop-claim : goal.invariant-loop-claim
 invariant-loop-claim g l = record {
   own : IsOf l.board l.pass;
   weight : l.pass.progress.weight ≡ 1;
-  right : AreRight (KeepsAt l.app (certificate_of l.certificate)) l.pass.progress.drawn;
+  right : AreRight (KeepsAt l.app l.certificate) l.pass.progress.drawn;
 }
 
 abbrev pub decreases-loop-claim : goal.decreases-loop-claim
