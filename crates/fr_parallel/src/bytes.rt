@@ -42,9 +42,9 @@ pub enum BytesFault {
 ///
 /// # Errors
 ///
-/// `Par(Workers)` exactly where `workers` isn't 1 to 64, before anything is read; then a fault that stands in the application's bytes;
-/// then one that stands in the certificate's; then `Memory` or `Threads` of `judge_with`. `is_memory` of both other faults tells the
-/// refusal of an allocation.
+/// `Par(Workers)` exactly where `workers` isn't 1 to 64, before anything is read; then a fault that stands in the application's
+/// bytes; then one that stands in the certificate's; then `Memory` or `Threads` of `judge_with`. `is_memory` of both other faults
+/// tells the refusal of an allocation.
 pub fn judge_bytes<R: Threads + Wait + Sync, G: Gate>(
     rt: &R,
     alloc: Global,

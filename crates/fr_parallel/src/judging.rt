@@ -78,8 +78,8 @@ fn verdict_at(app: &App, certificate: &Certificate, least: Option<u64>) -> Verdi
 ///
 /// # Errors
 ///
-/// `Workers` exactly where `workers` isn't 1 to 64, before any memory is asked for; `Memory` where memory is refused; `Threads` where
-/// a thread can't be started. Threads that were started have ended then.
+/// `Workers` exactly where `workers` isn't 1 to 64, before any memory is asked for; `Memory` where memory is refused; `Threads`
+/// where a thread can't be started. Threads that were started have ended then.
 pub fn judge_with<R: Threads + Wait + Sync, G: Gate>(
     rt: &R,
     alloc: Global,

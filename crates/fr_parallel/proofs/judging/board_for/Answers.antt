@@ -1,4 +1,4 @@
-use Rattle.std.proofs.Common.{◌≡◌, ◌≤◌, ◌^◌, length, sym, subst, arith}
+use Rattle.std.proofs.Common.{subst, arith}
 use Rattle.fr_board.specs.declared.board.BoardFault.TheVariants.{Jobs}
 use Rattle.fr_board.specs.Tally.{FaultStands}
 use Rattle.fr_parallel.proofs.Sizes.{points-few}
