@@ -1,0 +1,4 @@
+pub mod Workers
+pub mod Least
+pub mod Sizes
+pub mod Verdicts

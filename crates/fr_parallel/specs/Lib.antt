@@ -1,0 +1,4 @@
+pub mod Worked
+pub mod Kept
+pub mod Tasks
+pub mod Bytes

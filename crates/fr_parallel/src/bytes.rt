@@ -1,0 +1,78 @@
+// From the bytes of an application and of a certificate to the verdict, found by several workers.
+ghost use Rattle.std.specs.Prelude.{◌≡◌, ◌↔◌, IfOk, IfErr, IsErrOf};
+ghost use Rattle.fr_calls.specs.Run.{IsSafe};
+ghost use Rattle.fr_judge.specs.declared.part.Verdict.TheVariants.{Yes};
+ghost use Rattle.fr_judge.specs.Texts.{IsJudged};
+ghost use Rattle.fr_judge.specs.Told.{Speaks};
+ghost use Rattle.fr_parallel.specs.declared.bytes.BytesFault.TheVariants.{Par};
+ghost use Rattle.fr_parallel.specs.declared.fault.ParFault.TheVariants.{Workers};
+ghost use Rattle.fr_parallel.specs.Bytes.{FaultStands};
+ghost use Rattle.fr_parallel.specs.Kept.{IsNoCrew};
+
+use crate::fault::ParFault;
+use crate::gate::Gate;
+use crate::judging::{is_crew, judge_with};
+use fr_cert::{CertFault, read_cert};
+use fr_judge::Judged;
+use fr_reader::{ReadFault, read_app};
+use std::alloc::Global;
+use std::sync::Wait;
+use std::thread::Threads;
+use thiserror::Error;
+
+/// Why there is no verdict.
+#[derive(Debug, Drop, Error)]
+pub enum BytesFault {
+    /// The workers gave none.
+    #[error("{0}")]
+    Par(ParFault),
+    /// The application's bytes are refused.
+    #[error("{0}")]
+    App(ReadFault),
+    /// The certificate's bytes are refused, for the application that was read.
+    #[error("{0}")]
+    Cert(CertFault),
+}
+
+/// Reads the application, then the certificate for it, and judges it by this many workers, each in a thread of its own.
+///
+/// Ok is the application that the first bytes stand for, and the verdict on it and on the certificate that the second ones stand
+/// for: one function of the bytes, whatever the workers do. Where the verdict is `Yes`, no state of any run of the application
+/// breaches any of the twelve rules.
+///
+/// # Errors
+///
+/// `Par(Workers)` exactly where `workers` isn't 1 to 64, before anything is read; then a fault that stands in the application's
+/// bytes; then one that stands in the certificate's; then `Memory` or `Threads` of `judge_with`. `is_memory` of both other faults
+/// tells the refusal of an allocation.
+pub fn judge_bytes<R: Threads + Wait + Sync, G: Gate>(
+    rt: &R,
+    alloc: Global,
+    app: &[u8],
+    certificate: &[u8],
+    workers: usize,
+    gate: &G,
+) -> Result<Judged, BytesFault>
+    ensures judged { IfOk result
+        (λ judged. IsJudged app.now certificate.now judged.app judged.verdict) }
+    ensures safe { IfOk result (λ judged. judged.verdict ≡ Yes → IsSafe judged.app) }
+    ensures speaks { IfOk result (λ judged. Speaks judged.app judged.verdict) }
+    ensures workers { IsErrOf result (Par Workers) ↔ IsNoCrew workers }
+    ensures stands { IfErr result (FaultStands app.now certificate.now) }
+{
+    if !is_crew(workers) {
+        return Err(BytesFault::Par(ParFault::Workers));
+    }
+    let app = match read_app(alloc, app) {
+        Ok(app) => app,
+        Err(fault) => return Err(BytesFault::App(fault)),
+    };
+    let certificate = match read_cert(alloc, &app, certificate) {
+        Ok(certificate) => certificate,
+        Err(fault) => return Err(BytesFault::Cert(fault)),
+    };
+    match judge_with(rt, alloc, &app, &certificate, workers, gate) {
+        Ok(verdict) => Ok(Judged { app, verdict }),
+        Err(fault) => Err(BytesFault::Par(fault)),
+    }
+}

@@ -1,0 +1,139 @@
+// Workers in threads of their own, and their passes as one.
+ghost use Rattle.std.specs.Prelude.{◌≡◌, ◌≢◌, ◌<◌, length, All, IfOk, IfErr};
+ghost use Rattle.fr_parallel.specs.declared.fault.ParFault.TheVariants.{Workers};
+ghost use Rattle.fr_ends.specs.Fits.{CertificateFits};
+ghost use Rattle.fr_parallel.specs.Kept.{IsFor, IsNewFor, IsWorked, IsWorkedBy};
+ghost use Rattle.fr_parallel.specs.Tasks.{IsDoneBy, IsNewOf, IsReady};
+
+use crate::fault::ParFault;
+use crate::gate::Gate;
+use crate::worker::{Task, work};
+use fr_board::{Board, Pass};
+use fr_ends::Certificate;
+use fr_program::App;
+use std::alloc::Global;
+use std::sync::Wait;
+use std::thread;
+use std::thread::{Promise, PromisedHandle, Scope, Threads};
+
+impl<'s> Promise<Pass> for Task<'s> {
+    ghost use Rattle.fr_parallel.specs.Tasks.{IsDoneBy};
+
+    ghost kept_by = { λ t p. IsDoneBy t 1 p };
+}
+
+// Waits for the threads that were started.
+fn join_all<'s, R: Threads>(rt: &R, mut handles: Vec<PromisedHandle<Pass, Task<'s>>>) {
+    while let Some(handle) = handles.pop() {
+        handle.join(rt);
+    }
+}
+
+// One thread for each pass. Where one can't be started, those that were are joined.
+fn start_all<'s, E, R: Threads, G: Gate>(
+    rt: &R,
+    scope: &Scope<'s, E>,
+    alloc: Global,
+    task: Task<'s>,
+    mut passes: Vec<Pass>,
+    gate: &'s G,
+) -> Result<Vec<PromisedHandle<Pass, Task<'s>>>, ParFault>
+    requires ready { IsReady task }
+    requires new { All (λ p. IsNewOf task p) passes.items }
+    ensures count { IfOk result (λ h. length h.items ≡ length passes.items) }
+    ensures each { IfOk result (λ h. All (λ x. x.promise ≡ task.entry) h.items) }
+    ensures fault { IfErr result (λ e. e ≢ Workers) }
+{
+    let Task {
+        app,
+        certificate,
+        board,
+    } = task;
+    let mut handles = Vec::new(alloc);
+    while let Some(pass) = passes.pop() {
+        let worker = passes.len();
+        let Ok(handle) = scope.spawn_with(
+            task,
+            move || -> Pass
+                requires jobs { IsFor app.now board.now }
+                requires fits { CertificateFits app.now certificate.now }
+                requires new { IsNewFor board.now pass }
+                ensures { IsWorked board.entry.now app.entry.now
+                    certificate.entry.now result }
+            { work(app, certificate, board, pass, worker, gate) },
+        ) else {
+            join_all(rt, handles);
+            return Err(ParFault::Threads);
+        };
+        match handles.push(handle) {
+            Ok(()) => {}
+            Err(refused) => {
+                refused.value.join(rt);
+                join_all(rt, handles);
+                return Err(ParFault::Memory);
+            }
+        }
+    }
+    Ok(handles)
+}
+
+// Joins all threads, and their passes into one.
+fn gather<'s, R: Threads>(
+    rt: &R,
+    task: Task<'s>,
+    mut handles: Vec<PromisedHandle<Pass, Task<'s>>>,
+) -> Pass
+    requires some { 0 < length handles.items }
+    requires each { All (λ x. x.promise ≡ task) handles.items }
+    ensures { IsDoneBy task.entry (length handles.entry.items) result }
+{
+    let Some(first) = handles.pop() else {
+        unreachable!()
+    };
+    let mut all = first.join(rt);
+    while let Some(handle) = handles.pop() {
+        all = task.board.join(all, handle.join(rt));
+    }
+    all
+}
+
+/// The pass that all workers' turns make together, one worker for each of these passes.
+pub(crate) fn worked_by_all<R: Threads + Wait + Sync, G: Gate>(
+    rt: &R,
+    alloc: Global,
+    app: &App,
+    certificate: &Certificate,
+    board: &Board,
+    passes: Vec<Pass>,
+    gate: &G,
+) -> Result<Pass, ParFault>
+    requires some { 0 < length passes.items }
+    requires new { All (λ p. IsNewFor board.now p) passes.items }
+    requires jobs { IsFor app.now board.now }
+    requires fits { CertificateFits app.now certificate.now }
+    ensures all { IfOk result (λ p. IsWorkedBy board.now app.now
+        certificate.now (length passes.items) p) }
+    ensures fault { IfErr result (λ e. e ≢ Workers) }
+{
+    thread::scope(
+        thread::scope_env(),
+        rt,
+        |scope| -> Result<Pass, ParFault>
+            requires some { 0 < length passes.items }
+            requires new { All (λ p. IsNewFor board.now p) passes.items }
+            requires jobs { IsFor app.now board.now }
+            requires fits { CertificateFits app.now certificate.now }
+            ensures all { IfOk result (λ p. IsWorkedBy board.entry.now app.entry.now
+                certificate.entry.now (length passes.items) p) }
+            ensures fault { IfErr result (λ e. e ≢ Workers) }
+        {
+            let task = Task {
+                app,
+                certificate,
+                board,
+            };
+            let handles = start_all(rt, scope, alloc, task, passes, gate)?;
+            Ok(gather(rt, task, handles))
+        },
+    )
+}

@@ -1,0 +1,21 @@
+//! Workers that judge the points of an application between them: each draws numbers of points from one board, and judges what it
+//! draws.
+//!
+//! It stands on `fr_judge`, which judges one point (`job`), and on `fr_board`, which hands out each number once and keeps the least
+//! that failed. The judging takes no lock and no memory; only `judge_with` and `judge_bytes` wait, for the threads that they start.
+#![tactic(auto)]
+
+mod bytes;
+mod crew;
+mod fault;
+mod gate;
+mod judging;
+#[cfg(test)]
+mod tests;
+mod worker;
+
+pub use bytes::{BytesFault, judge_bytes};
+pub use fault::ParFault;
+pub use gate::{Gate, Open};
+pub use judging::judge_with;
+pub use worker::work;

@@ -1,0 +1,77 @@
+// One worker's turn.
+ghost use Rattle.std.specs.Prelude.{◌≡◌, ◌<◌, Some};
+ghost use Rattle.fr_board.specs.declared.progress.Outcome.TheVariants.{Open};
+ghost use Rattle.fr_board.specs.Drawn.{outcome_of};
+ghost use Rattle.fr_board.specs.Progress.{new_progress};
+ghost use Rattle.fr_board.specs.Values.{IsOf};
+ghost use Rattle.fr_ends.specs.Fits.{CertificateFits};
+ghost use Rattle.fr_parallel.specs.Kept.{IsFor, IsWorked};
+ghost use Rattle.fr_parallel.specs.Tasks.{IsReady, KeepsIn};
+ghost use Rattle.fr_parallel.specs.Worked.{Settles};
+
+use crate::gate::Gate;
+use fr_board::{Board, Claim, Pass};
+use fr_ends::Certificate;
+use fr_judge::job;
+use fr_program::App;
+
+/// What workers work on: the points of an application, by a certificate that fits it, and the board that hands them out.
+#[derive(Clone, Copy)]
+pub(crate) struct Task<'s> {
+    pub app: &'s App,
+    pub certificate: &'s Certificate,
+    pub board: &'s Board,
+}
+
+// What a worker does with one claim: it leaves it where a lower number has failed, and judges it otherwise.
+fn settle<G: Gate>(task: Task, pass: &mut Pass, claim: Claim, worker: usize, gate: &G)
+    requires ready { IsReady task }
+    requires own { IsOf task.board.now pass.old }
+    requires number { claim < task.board.now.jobs }
+    requires claim { outcome_of claim pass.old.progress.drawn ≡ Some Open }
+    ensures own { IsOf task.entry.board.now pass.new }
+    ensures settled { Settles (KeepsIn task.entry) pass.old.progress claim pass.new.progress }
+{
+    let number = claim.number();
+    if task.board.look(pass) < number {
+        task.board.skip(pass, claim);
+        return;
+    }
+    gate.arrive(worker, number);
+    match job(task.app, task.certificate, number as usize) {
+        None => task.board.passed(pass, claim),
+        Some(_) => task.board.failed(pass, claim),
+    }
+}
+
+/// A worker's whole turn: it draws numbers of points until none is left, and says of each what it is.
+///
+/// After each draw it looks. Where a lower number has failed it leaves the point, and otherwise it arrives at the gate and judges
+/// the point. It takes no memory, and no lock stands round the judging.
+///
+/// The pass comes back with weight 1 and a dry mark, each passed number without a failing part, each failed one with one, and none
+/// open.
+pub fn work<G: Gate>(
+    app: &App,
+    certificate: &Certificate,
+    board: &Board,
+    mut pass: Pass,
+    worker: usize,
+    gate: &G,
+) -> Pass
+    requires own { IsOf board.now pass }
+    requires new { pass.progress ≡ new_progress board.now.jobs 1 }
+    requires jobs { IsFor app.now board.now }
+    requires fits { CertificateFits app.now certificate.now }
+    ensures { IsWorked board.now app.now certificate.now result }
+{
+    let task = Task {
+        app,
+        certificate,
+        board,
+    };
+    while let Some(claim) = board.draw(&mut pass) {
+        settle(task, &mut pass, claim, worker, gate);
+    }
+    pass
+}
