@@ -32,10 +32,7 @@ impl Passed {
     /// The application with its certificate, which fits it, where the verdict on them is `Yes`; so
     /// no state of any run of it breaches any of the twelve rules. Where the verdict is `No`, all
     /// comes back with it. Takes no memory.
-    pub fn check(
-        app: App,
-        certificate: Certificate,
-    ) -> Result<Passed, (App, Certificate, Verdict)>
+    pub fn check(app: App, certificate: Certificate) -> Result<Passed, (App, Certificate, Verdict)>
         requires fits { CertificateFits app certificate }
         ensures passed { IfOk result (λ passed. (passed.app ≡ app) × (passed.certificate ≡ certificate)) }
         ensures certified { OnOk result (IsCertified app certificate) }

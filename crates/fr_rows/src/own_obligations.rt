@@ -13,7 +13,8 @@ const DELAYED_INSIDE: &[u8] = br#"variable = [{name="x", lo=0, hi=1, init=0}]
 actor = [{name="t", kind="task", code=["taskENTER_CRITICAL()", "set x = 1", "vTaskDelay(1)", "taskEXIT_CRITICAL()", "goto 0"]}]
 "#;
 
-const COUNTING: &[u8] = br#"variable = [{name="x", lo=-2147483648, hi=2147483647, init=0, owner="t"}]
+const COUNTING: &[u8] =
+    br#"variable = [{name="x", lo=-2147483648, hi=2147483647, init=0, owner="t"}]
 actor = [{name="t", kind="task", code=["if x < 2147483647 goto 2", "goto 0", "set x = x + 1", "goto 0"]}]
 "#;
 
@@ -48,7 +49,8 @@ fn first_application_keeps_all(rt: HostRuntime) {
 
 #[test]
 fn delay_in_a_critical_section(rt: HostRuntime) {
-    let certificate = br#"{"version":1,"ends":[],"notes":[{},{"crit":1},{"crit":1},{"crit":1},{}]}"#;
+    let certificate =
+        br#"{"version":1,"ends":[],"notes":[{},{"crit":1},{"crit":1},{"crit":1},{}]}"#;
     assert!(rt; own_at(rt.alloc(), DELAYED_INSIDE, certificate, 0) == Some(None));
     assert!(rt; own_at(rt.alloc(), DELAYED_INSIDE, certificate, 1) == Some(None));
     assert!(rt; own_at(rt.alloc(), DELAYED_INSIDE, certificate, 2) == Some(Some(Own::Rule(4))));
@@ -58,7 +60,8 @@ fn delay_in_a_critical_section(rt: HostRuntime) {
 
 #[test]
 fn entry_with_another_depth(rt: HostRuntime) {
-    let certificate = br#"{"version":1,"ends":[],"notes":[{"crit":1},{"crit":1},{"crit":1},{},{}]}"#;
+    let certificate =
+        br#"{"version":1,"ends":[],"notes":[{"crit":1},{"crit":1},{"crit":1},{},{}]}"#;
     assert!(rt; own_at(rt.alloc(), FIRST, certificate, 0) == Some(Some(Own::Entry)));
 }
 
@@ -71,20 +74,23 @@ fn step_to_a_note_with_another_depth(rt: HostRuntime) {
 
 #[test]
 fn step_to_a_note_with_another_range(rt: HostRuntime) {
-    let certificate = br#"{"version":1,"ends":[],"notes":[{},{"crit":1},{"crit":1,"range":{"x":[0,0]}},{},{}]}"#;
+    let certificate =
+        br#"{"version":1,"ends":[],"notes":[{},{"crit":1},{"crit":1,"range":{"x":[0,0]}},{},{}]}"#;
     let to_next = Some(Some(Own::Goes(before(2))));
     assert!(rt; own_at(rt.alloc(), FIRST, certificate, 1) == to_next);
 }
 
 #[test]
 fn comparison_that_keeps_a_sum_in_range(rt: HostRuntime) {
-    let narrow = br#"{"version":1,"ends":[],"notes":[{},{},{"range":{"x":[-2147483648,2147483646]}},{}]}"#;
+    let narrow =
+        br#"{"version":1,"ends":[],"notes":[{},{},{"range":{"x":[-2147483648,2147483646]}},{}]}"#;
     for number in 0..4 {
         assert!(rt; own_at(rt.alloc(), COUNTING, narrow, number) == Some(None));
     }
     let wide = br#"{"version":1,"ends":[],"notes":[{},{},{},{}]}"#;
     assert!(rt; own_at(rt.alloc(), COUNTING, wide, 2) == Some(Some(Own::Rule(12))));
-    let too_narrow = br#"{"version":1,"ends":[],"notes":[{},{},{"range":{"x":[-2147483648,2147483645]}},{}]}"#;
+    let too_narrow =
+        br#"{"version":1,"ends":[],"notes":[{},{},{"range":{"x":[-2147483648,2147483645]}},{}]}"#;
     let to_sum = Some(Some(Own::Goes(before(2))));
     assert!(rt; own_at(rt.alloc(), COUNTING, too_narrow, 0) == to_sum);
 }

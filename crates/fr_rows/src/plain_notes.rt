@@ -8,7 +8,8 @@ const APP: &[u8] = br#"variable = [{name="x", lo=0, hi=3, init=0}]
 actor = [{name="t", kind="task", code=["goto 1", "goto 2", "goto 3", "goto 0"]}]
 "#;
 
-const CERTIFICATE: &[u8] = br#"{"version":1,"ends":[],"notes":["never",{"range":{"x":[1,1]}},{"range":{"x":[0,1]}},{"crit":1}]}"#;
+const CERTIFICATE: &[u8] =
+    br#"{"version":1,"ends":[],"notes":["never",{"range":{"x":[1,1]}},{"range":{"x":[0,1]}},{"crit":1}]}"#;
 
 /// Whether the note of the first point implies that of the second; None where a text is refused or there is no such
 /// point.
