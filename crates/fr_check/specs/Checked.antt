@@ -7,7 +7,7 @@
 -- | IsAnswer                | the status and what was written are those of the verdict on the bytes         |
 -- | IsSafeText              | the bytes stand for an application that is safe                               |
 -- | check_fault             | the fault of a check that refused bytes come to; inner ones of memory are one |
--- | CanRefuse               | the bytes are refused with this fault, or the machine failed                  |
+-- | CanRefuse, IsRefused    | this fault can be the answer to the bytes and workers; one of status 2 can    |
 use Rattle.std.specs.Prelude.{◌≡◌, ◌++◌, ℕ, List, Option, false, codes, if◌then◌else◌}
 use Rattle.std.specs.Io.KnownBytes.{Appends}
 use Rattle.fr_program.specs.Program.{Program}
@@ -17,9 +17,12 @@ use Rattle.fr_reader.specs.Meaning.{Means}
 use Rattle.fr_reader.specs.Faults.{is_memory as app_is_memory}
 use Rattle.fr_cert.specs.FaultText.{text_of}
 use Rattle.fr_cert.specs.Faults.{is_memory as cert_is_memory}
-use Rattle.fr_judge.specs.declared.text.TextFault.{TextFault}
-use Rattle.fr_judge.specs.declared.text.TextFault.TheVariants.{Memory as NoMemory, App as AppRefused, Cert as CertRefused}
-use Rattle.fr_judge.specs.Texts.{IsJudged, FaultStands}
+use Rattle.fr_judge.specs.Texts.{IsJudged}
+use Rattle.fr_parallel.specs.declared.bytes.BytesFault.{BytesFault}
+use Rattle.fr_parallel.specs.declared.bytes.BytesFault.TheVariants.{Par, App as AppRefused, Cert as CertRefused}
+use Rattle.fr_parallel.specs.declared.fault.ParFault.TheVariants.{Memory as NoMemory, Workers as NoWorkers, Threads as NoThreads}
+use Rattle.fr_parallel.specs.Bytes.{FaultStands}
+use Rattle.fr_parallel.specs.Kept.{IsNoCrew}
 use Rattle.fr_judge.specs.declared.part.Verdict.{Verdict}
 use Rattle.fr_judge.specs.declared.part.Verdict.TheVariants.{Yes, No}
 use Rattle.fr_report.specs.Report.{report_text}
@@ -63,16 +66,24 @@ IsAnswer app certificate status old new =
 abbrev pub IsSafeText : List ℕ → Type 0
 IsSafeText app = (P : Program) × Means app P × IsSafe P
 
--- the fault of a check, where this one refused the bytes: each inner fault of memory is `Memory`
-abbrev pub check_fault : TextFault → CheckFault
-check_fault NoMemory = Memory
+-- the fault of a check, where the bytes were given no verdict by this one: each inner fault of memory is `Memory`
+abbrev pub check_fault : BytesFault → CheckFault
+check_fault (Par NoMemory) = Memory
+check_fault (Par NoWorkers) = Workers
+check_fault (Par NoThreads) = Thread
 check_fault (AppRefused f) = if app_is_memory f then Memory else App f
 check_fault (CertRefused f) = if cert_is_memory f then Memory else Cert f
 
--- the fault stands in the bytes, or the machine had no memory, or the writer failed
-abbrev pub CanRefuse : List ℕ → List ℕ → CheckFault → Type 0
-CanRefuse app certificate (App f) = (app_is_memory f ≡ false) × FaultStands app certificate (AppRefused f)
-CanRefuse app certificate (Cert f) = (cert_is_memory f ≡ false) × FaultStands app certificate (CertRefused f)
-CanRefuse app certificate Memory = Unit {0}
-CanRefuse app certificate Write = Unit {0}
-CanRefuse app certificate fault = ⊥
+-- the fault stands in the bytes or in the number of workers; or the machine had no memory or no thread, or the writer failed
+abbrev pub CanRefuse : List ℕ → List ℕ → ℕ → CheckFault → Type 0
+CanRefuse app certificate workers (App f) = (app_is_memory f ≡ false) × FaultStands app certificate (AppRefused f)
+CanRefuse app certificate workers (Cert f) = (cert_is_memory f ≡ false) × FaultStands app certificate (CertRefused f)
+CanRefuse app certificate workers Workers = IsNoCrew workers
+CanRefuse app certificate workers Memory = Unit {0}
+CanRefuse app certificate workers Thread = Unit {0}
+CanRefuse app certificate workers Write = Unit {0}
+CanRefuse app certificate workers fault = ⊥
+
+-- the bytes or the number of workers are refused: a fault of status 2 stands in them
+abbrev pub IsRefused : List ℕ → List ℕ → ℕ → Type 0
+IsRefused app certificate workers = (fault : CheckFault) × CanRefuse app certificate workers fault × (fault_status fault ≡ 2)

@@ -4,7 +4,7 @@ ghost use Rattle.fr_check.specs.declared.fault.CheckFault.TheVariants.{Memory};
 ghost use Rattle.fr_check.specs.Checked.{fault_status, line_of};
 
 use fr_cert::CertFault;
-use fr_judge::TextFault;
+use fr_parallel::{BytesFault, ParFault};
 use fr_reader::ReadFault;
 use std::alloc::{AllocError, Global};
 
@@ -32,20 +32,22 @@ pub enum CheckFault {
 impl CheckFault {
     ghost use Rattle.fr_check.specs.Checked.{check_fault};
 
-    /// The fault that refused bytes come to, with each inner fault of memory as `Memory`.
-    pub fn of_text(fault: TextFault) -> CheckFault
+    /// The fault that bytes without a verdict come to, with each inner fault of memory as `Memory`.
+    pub fn of_bytes(fault: BytesFault) -> CheckFault
         ensures { result ≡ check_fault fault }
     {
         match fault {
-            TextFault::Memory => CheckFault::Memory,
-            TextFault::App(fault) => {
+            BytesFault::Par(ParFault::Memory) => CheckFault::Memory,
+            BytesFault::Par(ParFault::Workers) => CheckFault::Workers,
+            BytesFault::Par(ParFault::Threads) => CheckFault::Thread,
+            BytesFault::App(fault) => {
                 if fault.is_memory() {
                     CheckFault::Memory
                 } else {
                     CheckFault::App(fault)
                 }
             }
-            TextFault::Cert(fault) => {
+            BytesFault::Cert(fault) => {
                 if fault.is_memory() {
                     CheckFault::Memory
                 } else {

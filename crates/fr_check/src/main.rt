@@ -8,13 +8,16 @@ mod fault;
 mod loading;
 mod words;
 
-use checking::check_one;
+use checking::check_with;
 use clap::error::ErrorKind;
 use fault::{CheckFault, fault_line, status};
+use fr_parallel::Open;
 use loading::{LoadFault, load};
 use std::alloc::Global;
 use std::fs::File;
 use std::process::ExitCode;
+use std::sync::Wait;
+use std::thread::Threads;
 use std::{env, io};
 use words::{Request, asked, matched};
 
@@ -58,7 +61,13 @@ fn not_loaded(rt: &HostRuntime, fault: LoadFault) -> io::Result<u8> {
     }
 }
 
-fn check(rt: &HostRuntime, app: &str, certificate: &str) -> io::Result<u8> {
+fn check<R: Threads + Wait + Sync>(
+    rt: &HostRuntime,
+    threads: &R,
+    app: &str,
+    certificate: &str,
+    workers: u16,
+) -> io::Result<u8> {
     let app = match file_bytes(rt, app, MOST_APP_BYTES) {
         Ok(bytes) => bytes,
         Err(fault) => return not_loaded(rt, fault),
@@ -68,7 +77,16 @@ fn check(rt: &HostRuntime, app: &str, certificate: &str) -> io::Result<u8> {
         Err(fault) => return not_loaded(rt, fault),
     };
     let mut out = io::writer(rt);
-    match check_one(rt.alloc(), &app, &certificate, &mut out) {
+    let workers = usize::from(workers);
+    match check_with(
+        threads,
+        rt.alloc(),
+        &app,
+        &certificate,
+        workers,
+        &Open,
+        &mut out,
+    ) {
         Ok(status) => Ok(status),
         Err(fault) => refuse(rt, &fault),
     }
@@ -82,7 +100,8 @@ fn refuse_words(rt: &HostRuntime, error: &clap::Error) -> io::Result<u8> {
     Ok(error.exit_code() as u8)
 }
 
-fn answer(rt: &HostRuntime) -> io::Result<u8> {
+/// Does what the words ask for. The handle `threads` is the runtime's own, by which threads are started.
+fn answer<R: Threads + Wait + Sync>(rt: &HostRuntime, threads: &R) -> io::Result<u8> {
     let alloc: Global = rt.alloc();
     let Ok(words) = env::args(rt) else {
         eprintln!(rt; "refused: words")?;
@@ -91,7 +110,13 @@ fn answer(rt: &HostRuntime) -> io::Result<u8> {
     let words: Vec<String> = words.collect(alloc)?;
     match matched(alloc, &words) {
         Ok(matches) => match asked(&matches) {
-            Some(Request::Check { app, certificate }) => check(rt, app, certificate),
+            Some(
+                Request::Check {
+                    app,
+                    certificate,
+                    workers,
+                },
+            ) => check(rt, threads, app, certificate, workers),
             None => Ok(REFUSED),
         },
         Err(error) => refuse_words(rt, &error),
@@ -99,5 +124,5 @@ fn answer(rt: &HostRuntime) -> io::Result<u8> {
 }
 
 fn main(rt: HostRuntime) -> ExitCode {
-    ExitCode::from(answer(&rt).unwrap_or(MACHINE))
+    ExitCode::from(answer(&rt, &rt).unwrap_or(MACHINE))
 }

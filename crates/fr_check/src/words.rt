@@ -1,12 +1,16 @@
 // The words of the command line.
-use clap::{Arg, ArgAction, ArgMatches, Command, Error};
+use clap::{Arg, ArgAction, ArgMatches, Command, Error, value_parser};
 use std::alloc::{AllocError, Global};
 
 /// What the command line asks for.
 #[derive(Clone, Copy, Debug)]
 pub enum Request<'a> {
-    /// The verdict on the application and the certificate in these files.
-    Check { app: &'a str, certificate: &'a str },
+    /// The verdict on the application and the certificate in these files, by this many workers.
+    Check {
+        app: &'a str,
+        certificate: &'a str,
+        workers: u16,
+    },
 }
 
 fn file_arg<'a>(alloc: Global, id: &'a str, help: &'a str) -> Arg<'a> {
@@ -17,11 +21,21 @@ fn file_arg<'a>(alloc: Global, id: &'a str, help: &'a str) -> Arg<'a> {
         .help(help)
 }
 
+fn workers_arg<'a>(alloc: Global) -> Arg<'a> {
+    Arg::new(alloc, "workers")
+        .long("workers")
+        .value_name("N")
+        .value_parser(value_parser!(u16).range(1..=64))
+        .default_value("4")
+        .help("Threads that judge, 1 to 64")
+}
+
 fn check_command<'a>(alloc: Global) -> Result<Command<'a>, AllocError> {
     Command::new(alloc, "check")
         .about("Prints the verdict on an application and a certificate")
         .arg(file_arg(alloc, "APP", "The application, in TOML"))?
-        .arg(file_arg(alloc, "CERT", "The certificate, in JSON"))
+        .arg(file_arg(alloc, "CERT", "The certificate, in JSON"))?
+        .arg(workers_arg(alloc))
 }
 
 fn command<'a>(alloc: Global) -> Result<Command<'a>, AllocError> {
@@ -47,6 +61,7 @@ pub fn asked<'a>(matches: &ArgMatches<'a>) -> Option<Request<'a>> {
             Some(Request::Check {
                 app: words.get_str("APP")?,
                 certificate: words.get_str("CERT")?,
+                workers: words.get_one::<u16>("workers")?,
             })
         }
         _ => None,
