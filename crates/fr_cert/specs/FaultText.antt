@@ -3,6 +3,7 @@ use Rattle.std.specs.Prelude.{ℕ, List, codes}
 use Rattle.fr_cert.specs.declared.fault.CertFault.{CertFault}
 use Rattle.fr_cert.specs.declared.fault.CertFault.TheVariants.{Memory, TooLong, Json, Shape, Version, PointCount, UnknownName, Note}
 
+-- the number and the name of a certificate fault, without the path of a departure
 abbrev pub text_of : CertFault → List ℕ
 text_of Memory = codes "0 Memory"
 text_of TooLong = codes "1 TooLong"

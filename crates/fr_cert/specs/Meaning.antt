@@ -127,6 +127,7 @@ pub record IsCertificate (P : Program) (ms : Members) (C : Certificate) : Type 0
 abbrev pub IsTree : Program → Data → Certificate → Type 0
 IsTree P d C = (ms : Members) × (as_object d ≡ Some ms) × IsCertificate P ms C
 
+-- how many bytes the text of a certificate has at the most
 abbrev pub most_bytes : ℕ
 most_bytes = 16777216
 

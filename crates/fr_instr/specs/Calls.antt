@@ -45,6 +45,7 @@ pub data Place : Type 0 where
   ticks : Place
   null : Place
 
+-- a call's name, the places of its arguments, whether `else` may follow it, and whether `v =` may stand before it
 pub record Row : Type 0 where
   pub name : List ℕ
   pub places : List Place
@@ -84,6 +85,7 @@ abbrev pub wait_of : Form → List Place
 wait_of Task = time ∷ []
 wait_of FromIsr = []
 
+-- the name of the call that creates objects of this kind
 abbrev pub create_name : CreatedKind → List ℕ
 create_name created.Queue = codes "xQueueCreate"
 create_name created.Binary = codes "xSemaphoreCreateBinary"
@@ -93,15 +95,18 @@ create_name created.Recursive = codes "xSemaphoreCreateRecursiveMutex"
 create_name created.Stream = codes "xStreamBufferCreate"
 create_name created.Message = codes "xMessageBufferCreate"
 
+-- the name of the call that deletes objects of this kind: one call is for all semaphores and mutexes
 abbrev pub delete_name : DeletedKind → List ℕ
 delete_name deleted.Queue = codes "vQueueDelete"
 delete_name deleted.Semaphore = codes "vSemaphoreDelete"
 delete_name deleted.Stream = codes "vStreamBufferDelete"
 delete_name deleted.Message = codes "vMessageBufferDelete"
 
+-- the name of the send to buffers of this kind, in this form
 abbrev pub send_name : BufferKind → Form → List ℕ
 send_name b f = either_buffer b (either_form f (codes "xStreamBufferSend") (codes "xStreamBufferSendFromISR")) (either_form f (codes "xMessageBufferSend") (codes "xMessageBufferSendFromISR"))
 
+-- the name of the receive from buffers of this kind, in this form
 abbrev pub receive_name : BufferKind → Form → List ℕ
 receive_name b f =
     either_buffer b (either_form f (codes "xStreamBufferReceive") (codes "xStreamBufferReceiveFromISR")) (either_form f (codes "xMessageBufferReceive") (codes "xMessageBufferReceiveFromISR"))
@@ -112,6 +117,7 @@ take_wait_of give.Plain = time ∷ []
 take_wait_of give.Recursive = time ∷ []
 take_wait_of give.FromIsr = []
 
+-- the table: the row of each call
 abbrev pub row_of : CallName → Row
 row_of (Enter f) = plain (either_form f (codes "taskENTER_CRITICAL") (codes "taskENTER_CRITICAL_FROM_ISR")) []
 row_of (Exit f) = plain (either_form f (codes "taskEXIT_CRITICAL") (codes "taskEXIT_CRITICAL_FROM_ISR")) []
@@ -149,24 +155,29 @@ or_else name args e = record { name = name; args = args; or_else = e; into = Non
 abbrev pub into : CallName → List Arg → Option VarId → Parts
 into name args v = record { name = name; args = args; or_else = None; into = v }
 
+-- the form of a queue or buffer call, without its block time
 abbrev pub form_of : Timing → Form
 form_of (timing.Waits t) = Task
 form_of timing.FromIsr = FromIsr
 
+-- the block time of a queue or buffer call as an argument: the form for interrupts has none
 abbrev pub time_of : Timing → List Arg
 time_of (timing.Waits t) = arg.Time t ∷ []
 time_of timing.FromIsr = []
 
+-- the form of a take, without its block time
 abbrev pub take_form_of : TakeForm → GiveForm
 take_form_of (take.Plain t) = give.Plain
 take_form_of (take.Recursive t) = give.Recursive
 take_form_of take.FromIsr = give.FromIsr
 
+-- the block time of a take as an argument: the form for interrupts has none
 abbrev pub take_time_of : TakeForm → List Arg
 take_time_of (take.Plain t) = arg.Time t ∷ []
 take_time_of (take.Recursive t) = arg.Time t ∷ []
 take_time_of take.FromIsr = []
 
+-- the parts of an object call on this object
 abbrev pub action_parts : ObjId → Action → Parts
 action_parts o (action.QueueSend value t e) = or_else (QueueSend (form_of t)) (arg.Object o ∷ arg.Operand value ∷ time_of t) e
 action_parts o (action.QueueReceive x t e) = or_else (QueueReceive (form_of t)) (arg.Object o ∷ arg.Variable x ∷ time_of t) e
@@ -176,6 +187,7 @@ action_parts o (action.Send b n t v) = into (Send b (form_of t)) (arg.Object o �
 action_parts o (action.Receive b n t v) = into (Receive b (form_of t)) (arg.Object o ∷ arg.Length n ∷ time_of t) v
 action_parts o (action.Reset b e) = or_else (Reset b) (arg.Object o ∷ []) e
 
+-- the parts of each call
 abbrev pub parts_of : Call → Parts
 parts_of (call.EnterCritical f) = only (Enter f) []
 parts_of (call.ExitCritical f) = only (Exit f) []
@@ -188,6 +200,7 @@ parts_of (call.Create k o e) = or_else (Create k) (arg.Object o ∷ []) e
 parts_of (call.Delete k o) = only (Delete k) (arg.Object o ∷ [])
 parts_of (call.On o a) = action_parts o a
 
+-- the kind of place in which the argument stands
 abbrev pub place_of_arg : Arg → Place
 place_of_arg (arg.Object o) = object
 place_of_arg (arg.Operand a) = operand

@@ -3,6 +3,7 @@ use Rattle.std.specs.Prelude.{ℕ, List, codes}
 use Rattle.fr_instr.specs.declared.fault.LineFault.{LineFault}
 use Rattle.fr_instr.specs.declared.fault.LineFault.TheVariants.{Memory, Syntax, UnknownName, UnknownCall, ArgCount, BadNumber}
 
+-- the number and the name of a line fault
 abbrev pub text_of : LineFault → List ℕ
 text_of Memory = codes "0 Memory"
 text_of Syntax = codes "1 Syntax"

@@ -22,6 +22,7 @@ use Rattle.fr_instr.specs.Names.{NamesOf, place_of}
 use Rattle.fr_instr.specs.Numbers.{IsInteger, IsTarget, IsTicks, IsLength}
 use Rattle.fr_instr.specs.Calls.{Place, object, operand, variable, length, time, ticks, null, row_of}
 
+-- a number where only a word may stand, a word where only a number may, or another word than the one that may
 abbrev pub IsWrongKind : Place → Word → Type 0
 IsWrongKind object (numeral d) = Unit {0}
 IsWrongKind variable (numeral d) = Unit {0}
@@ -32,12 +33,14 @@ IsWrongKind null (name w) = w ≢ codes "NULL"
 IsWrongKind null (numeral d) = Unit {0}
 IsWrongKind p w = ⊥
 
+-- a word that names no object where one has to be named, or no variable where one has to
 abbrev pub NamesNothing : NamesOf → Place → Word → Type 0
 NamesNothing N object (name w) = place_of N.objects w ≡ None
 NamesNothing N operand (name w) = place_of N.variables w ≡ None
 NamesNothing N variable (name w) = place_of N.variables w ≡ None
 NamesNothing N p w = ⊥
 
+-- a number, but with a text that no number within the limits of this place has
 abbrev pub IsBadNumber : Place → Word → Type 0
 IsBadNumber operand (numeral d) = (z : ℤ) → ¬ IsInteger d z
 IsBadNumber length (numeral d) = (n : ℕ) → ¬ IsLength d n
@@ -58,6 +61,7 @@ InPlain p w Syntax = IsWrongKind p w
 InPlain p w BadNumber = IsBadNumber p w
 InPlain p w f = ⊥
 
+-- the fault stands in what is written in a place of this kind
 abbrev pub InPlace : NamesOf → Place → Word → LineFault → Type 0
 InPlace N object w f = InNaming N object w f
 InPlace N operand w f = InNaming N operand w f
@@ -67,6 +71,7 @@ InPlace N time w f = InPlain time w f
 InPlace N ticks w f = InPlain ticks w f
 InPlace N null w f = InPlain null w f
 
+-- the fault stands in one of the arguments, each in its place
 abbrev pub InArgs : NamesOf → List Place → List Word → LineFault → Type 0
 InArgs N (p ∷ ps) (w ∷ ws) f = InPlace N p w f ⊎ InArgs N ps ws f
 InArgs N ps ws f = ⊥
@@ -75,12 +80,15 @@ InArgs N ps ws f = ⊥
 abbrev pub InPlaces : NamesOf → List Place → List Word → LineFault → Type 0
 InPlaces N ps ws f = ((f ≡ ArgCount) × (list_length ws ≢ list_length ps)) ⊎ InArgs N ps ws f
 
+-- the word names no variable
 abbrev pub InVariable : NamesOf → List ℕ → LineFault → Type 0
 InVariable N w f = (f ≡ UnknownName) × (place_of N.variables w ≡ None)
 
+-- the text is that of no number of 64 bits with a sign
 abbrev pub InInteger : List ℕ → LineFault → Type 0
 InInteger d f = (f ≡ BadNumber) × ((z : ℤ) → ¬ IsInteger d z)
 
+-- the text is that of no target
 abbrev pub InTarget : List ℕ → LineFault → Type 0
 InTarget d f = (f ≡ BadNumber) × ((k : ℕ) → ¬ IsTarget d k)
 
@@ -102,6 +110,7 @@ InNamed N c v ws e f = InElse c e f ⊎ (InInto N c v f ⊎ InPlaces N (row_of c
 abbrev pub InCall : NamesOf → Option (List ℕ) → List ℕ → List Word → Option (List ℕ) → LineFault → Type 0
 InCall N v k ws e f = ((f ≡ UnknownCall) × ((c : CallName) → k ≢ (row_of c).name)) ⊎ ((c : CallName) × (k ≡ (row_of c).name) × InNamed N c v ws e f)
 
+-- the fault stands in the shape: in one of its words or numbers, or in its call
 abbrev pub InShape : NamesOf → Shape → LineFault → Type 0
 InShape N (set x a) f = InVariable N x f ⊎ InPlace N operand a f
 InShape N (set_to x a op b) f = InVariable N x f ⊎ (InPlace N operand a f ⊎ InPlace N operand b f)

@@ -3,6 +3,7 @@ use Rattle.std.specs.Prelude.{◌≢◌, ◌++◌, ℕ, List, [], Option, All, A
 use Rattle.std.specs.Str.{bytes_eq}
 use Rattle.fr_program.specs.Limits.{IsName}
 
+-- the names of variables, of objects and of actors
 pub record NamesOf : Type 0 where
   pub variables : List (List ℕ)
   pub objects : List (List ℕ)
@@ -16,6 +17,7 @@ place_of names w = position (λ v. bytes_eq w v) names
 abbrev pub name_at : List (List ℕ) → ℕ → List ℕ
 name_at names i = slice_index_or names i []
 
+-- all three lists together
 abbrev pub all_names : NamesOf → List (List ℕ)
 all_names N = N.variables ++ (N.objects ++ N.actors)
 

@@ -15,6 +15,7 @@ IsNatural least most text n = (text ≡ signed_decimal (pos n)) × (least ≤ n)
 abbrev pub most_target : ℕ
 most_target = 2147483647
 
+-- a target, which is an instruction's number
 abbrev pub IsTarget : List ℕ → ℕ → Type 0
 IsTarget text k = IsNatural 0 most_target text k
 
@@ -22,5 +23,6 @@ IsTarget text k = IsNatural 0 most_target text k
 abbrev pub IsTicks : List ℕ → ℕ → Type 0
 IsTicks text n = IsNatural 0 most_ticks text n
 
+-- a length of a buffer call, which is at least 1
 abbrev pub IsLength : List ℕ → ℕ → Type 0
 IsLength text n = IsNatural 1 most_size text n

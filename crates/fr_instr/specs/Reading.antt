@@ -10,6 +10,7 @@ abbrev pub front : (ℕ → Bool) → List ℕ → List ℕ
 front p [] = []
 front p (b ∷ bs) = if p b then b ∷ front p bs else []
 
+-- what follows that front
 abbrev pub after : (ℕ → Bool) → List ℕ → List ℕ
 after p [] = []
 after p (b ∷ bs) = if p b then after p bs else b ∷ bs
@@ -29,6 +30,7 @@ sign_at a b =
     else if a == 42 then Some (Times, 1)
     else None
 
+-- the token with which the text begins, with no space before it, and what follows it
 unfoldable pub token_at : List ℕ → Option (Tok × List ℕ)
 token_at text =
     if is_letter (first text) then Some (word (front is_word_byte text), after is_word_byte text)

@@ -18,6 +18,7 @@ use Rattle.fr_program.specs.declared.instr.Operator.TheVariants as operator
 use Rattle.fr_program.specs.declared.instr.Comparison.{Comparison}
 use Rattle.fr_program.specs.declared.instr.Comparison.TheVariants as comparison
 
+-- what stands in the place of an operand or an argument: a word or a number, as its text
 pub data Word : Type 0 where
   name : List ℕ → Word
   numeral : List ℕ → Word
@@ -32,15 +33,18 @@ pub data Shape : Type 0 where
   leave : Shape
   call : Option (List ℕ) → List ℕ → List Word → Option (List ℕ) → Shape
 
+-- the token of such a word or number
 abbrev pub word_tok : Word → Tok
 word_tok (name w) = word w
 word_tok (numeral d) = number d
 
+-- the sign of an operator
 abbrev pub operator_sign : Operator → Sign
 operator_sign operator.Plus = Plus
 operator_sign operator.Minus = Minus
 operator_sign operator.Times = Times
 
+-- the sign of a comparison
 abbrev pub comparison_sign : Comparison → Sign
 comparison_sign comparison.Less = Less
 comparison_sign comparison.AtMost = LessEqual
@@ -54,18 +58,22 @@ abbrev pub more_toks : List Word → List Tok
 more_toks [] = sign Close ∷ []
 more_toks (a ∷ bs) = sign Comma ∷ word_tok a ∷ more_toks bs
 
+-- arguments with commas between them, and the closing bracket
 abbrev pub args_toks : List Word → List Tok
 args_toks [] = sign Close ∷ []
 args_toks (a ∷ bs) = word_tok a ∷ more_toks bs
 
+-- the `else` behind a call with its target, if it has one
 abbrev pub else_toks : Option (List ℕ) → List Tok
 else_toks None = []
 else_toks (Some l) = word (codes "else") ∷ number l ∷ []
 
+-- the variable before a call with its `=`, if it has one
 abbrev pub into_toks : Option (List ℕ) → List Tok
 into_toks None = []
 into_toks (Some x) = word x ∷ sign Assign ∷ []
 
+-- the tokens of a shape
 abbrev pub shape_toks : Shape → List Tok
 shape_toks (set x a) = word (codes "set") ∷ word x ∷ sign Assign ∷ word_tok a ∷ []
 shape_toks (set_to x a op b) = word (codes "set") ∷ word x ∷ sign Assign ∷ word_tok a ∷ sign (operator_sign op) ∷ word_tok b ∷ []

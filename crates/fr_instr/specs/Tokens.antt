@@ -1,15 +1,28 @@
 -- The tokens of a line, and how a text spells them.
+--
+-- | word                              | meaning                                                       |
+-- |-----------------------------------|---------------------------------------------------------------|
+-- | Tok                               | a word, a number or a sign                                    |
+-- | sign_bytes, tok_bytes             | the bytes of a sign, of a token                               |
+-- | is_space, is_letter, is_word_byte | kinds of byte: a space, the first of a word, any of a word    |
+-- | first                             | the byte at the front of a text                               |
+-- | IsDigits, IsTok                   | one digit or more; bytes that this token can have             |
+-- | sign_goes_on, goes_on             | a byte right behind it would belong to the sign, to the token |
+-- | IsBlank                           | the text is nothing but spaces                                |
+-- | Begins, Spells                    | a text begins with a token; a text's tokens are these         |
 use Rattle.std.specs.Prelude.{◌≡◌, ◌⊎◌, ℕ, ◌||◌, ◌==◌, List, [], ◌∷◌, ◌++◌, Bool, true, false, codes, slice_index}
 use Rattle.std.specs.Char.{is_ascii_digit, is_ascii_alphabetic}
 use Rattle.std.specs.List.{list_all}
 use Rattle.fr_instr.specs.declared.token.Sign.{Sign}
 use Rattle.fr_instr.specs.declared.token.Sign.TheVariants.{Open, Close, Comma, Assign, Plus, Minus, Times, Less, LessEqual, Greater, GreaterEqual, Equal, NotEqual}
 
+-- a word, a number or a sign; a word and a number are their bytes
 pub data Tok : Type 0 where
   word : List ℕ → Tok
   number : List ℕ → Tok
   sign : Sign → Tok
 
+-- the bytes of a sign
 abbrev pub sign_bytes : Sign → List ℕ
 sign_bytes Open = codes "("
 sign_bytes Close = codes ")"
@@ -25,12 +38,15 @@ sign_bytes GreaterEqual = codes ">="
 sign_bytes Equal = codes "=="
 sign_bytes NotEqual = codes "!="
 
+-- a space, which is all that may stand between tokens
 abbrev pub is_space : ℕ → Bool
 is_space b = b == 32
 
+-- an ASCII letter or an underscore
 abbrev pub is_letter : ℕ → Bool
 is_letter b = is_ascii_alphabetic b || b == 95
 
+-- an ASCII letter, an underscore or a digit
 abbrev pub is_word_byte : ℕ → Bool
 is_word_byte b = is_letter b || is_ascii_digit b
 
@@ -48,6 +64,7 @@ IsTok (word w) = (is_letter (first w) ≡ true) × (list_all is_word_byte w ≡ 
 IsTok (number d) = IsDigits d ⊎ ((ds : List ℕ) × (d ≡ 45 ∷ ds) × IsDigits ds)
 IsTok (sign s) = Unit {0}
 
+-- the bytes of a token
 abbrev pub tok_bytes : Tok → List ℕ
 tok_bytes (word w) = w
 tok_bytes (number d) = d
@@ -67,6 +84,7 @@ goes_on (word w) b = is_word_byte b
 goes_on (number d) b = is_ascii_digit b
 goes_on (sign s) b = sign_goes_on s b
 
+-- nothing but spaces
 abbrev pub IsBlank : List ℕ → Type 0
 IsBlank text = list_all is_space text ≡ true
 

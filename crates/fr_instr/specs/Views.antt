@@ -1,4 +1,13 @@
 -- What the crate's types mean.
+--
+-- | word                  | meaning                                       |
+-- |-----------------------|-----------------------------------------------|
+-- | tok, toks             | tokens in code                                |
+-- | is_of                 | a class of bytes                              |
+-- | texts, text_in        | references to texts                           |
+-- | word_of, words        | words and numbers in code                     |
+-- | call_view, shape_view | shapes in code                                |
+-- | args_words            | the arguments of a call, by how many they are |
 use Rattle.std.specs.Prelude.{ℕ, Bool, List, [], ◌∷◌, Option, map, option_map}
 use Rattle.std.specs.Char.{is_ascii_digit}
 use denote.Ref.{Bor}
@@ -16,6 +25,7 @@ use Rattle.fr_instr.specs.declared.token.Token.TheVariants as token
 use Rattle.fr_instr.specs.declared.token.Class.{Class}
 use Rattle.fr_instr.specs.declared.token.Class.TheVariants as class
 
+-- the token that one in code stands for
 abbrev pub tok : Token → Tok
 tok (token.Word w) = word w.now
 tok (token.Number d) = number d.now
@@ -27,6 +37,7 @@ is_of class.Space b = is_space b
 is_of class.Word b = is_word_byte b
 is_of class.Digit b = is_ascii_digit b
 
+-- the tokens that those in code stand for
 abbrev pub toks : List Token → List Tok
 toks ts = map tok ts
 
@@ -34,19 +45,24 @@ toks ts = map tok ts
 abbrev pub texts : List (Bor (List ℕ)) → List (List ℕ)
 texts ts = map (λ t. t.now) ts
 
+-- the text that a reference is to, if there is one
 abbrev pub text_in : Option (Bor (List ℕ)) → Option (List ℕ)
 text_in t = option_map (λ w. w.now) t
 
+-- the word or number that one in code stands for
 abbrev pub word_of : Value → meaning.Word
 word_of (value.Name w) = meaning.name w.now
 word_of (value.Number d) = meaning.numeral d.now
 
+-- the words and numbers that those in code stand for
 abbrev pub words : List Value → List meaning.Word
 words vs = map word_of vs
 
+-- the shape that a call's shape in code stands for
 abbrev pub call_view : CallShape → meaning.Shape
 call_view c = meaning.call (text_in c.into) c.name.now (words c.args.items) (text_in c.or_else)
 
+-- the shape that one in code stands for
 abbrev pub shape_view : Shape → meaning.Shape
 shape_view (shape.Set x a) = meaning.set x.now (word_of a)
 shape_view (shape.SetTo x a op b) = meaning.set_to x.now (word_of a) op (word_of b)

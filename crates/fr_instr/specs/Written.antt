@@ -4,6 +4,7 @@ use Rattle.std.specs.List.{AllByRecursion}
 use Rattle.fr_instr.specs.Tokens.{Tok, sign, tok_bytes, IsTok, Spells}
 use Rattle.fr_instr.specs.declared.token.Sign.TheVariants.{Open, Close, Comma}
 
+-- an opening bracket: no space stands behind it
 abbrev pub is_open : Tok → Bool
 is_open (sign Open) = true
 is_open _ = false
@@ -19,6 +20,7 @@ leans _ = false
 abbrev pub gap : Tok → Tok → List ℕ
 gap t u = if is_open t || leans u then [] else 32 ∷ []
 
+-- the text that is written for the tokens
 abbrev pub written : List Tok → List ℕ
 written [] = []
 written (t ∷ []) = tok_bytes t

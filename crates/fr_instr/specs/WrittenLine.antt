@@ -27,17 +27,21 @@ use Rattle.fr_instr.specs.Shapes.{Word, name, numeral, Shape, set_to, branch, ju
 use Rattle.fr_instr.specs.Calls.{row_of, parts_of}
 use Rattle.fr_instr.specs.Written.{written}
 
+-- the text of a number from 0 on
 abbrev pub natural : ℕ → List ℕ
 natural n = signed_decimal (pos n)
 
+-- the word or number that is written for an operand
 abbrev pub operand_word : NamesOf → Operand → Word
 operand_word N (Number z) = numeral (signed_decimal z)
 operand_word N (Variable x) = name (name_at N.variables x.0)
 
+-- the word or number that is written for a block time
 abbrev pub time_word : BlockTime → Word
 time_word (Ticks n) = numeral (natural n)
 time_word MaxDelay = name (codes "portMAX_DELAY")
 
+-- the word or number that is written for an argument
 abbrev pub arg_word : NamesOf → Arg → Word
 arg_word N (arg.Object o) = name (name_at N.objects o.0)
 arg_word N (arg.Operand a) = operand_word N a
@@ -47,12 +51,15 @@ arg_word N (arg.Time t) = time_word t
 arg_word N (arg.Ticks n) = numeral (natural n)
 arg_word N arg.Null = name (codes "NULL")
 
+-- the name of the variable before a call, if it has one
 abbrev pub into_name : NamesOf → Option VarId → Option (List ℕ)
 into_name N v = option_map (λ x. name_at N.variables x.0) v
 
+-- the shape of a call
 abbrev pub call_shape : NamesOf → Call → Shape
 call_shape N c = call (into_name N (parts_of c).into) (row_of (parts_of c).name).name (map (arg_word N) (parts_of c).args) (option_map natural (parts_of c).or_else)
 
+-- the shape of a line: a `set` always has an operator and two operands
 abbrev pub shape_of : NamesOf → Instr → Shape
 shape_of N (line.Set x a op b) = set_to (name_at N.variables x.0) (operand_word N a) op (operand_word N b)
 shape_of N (line.If a c b k) = branch (operand_word N a) c (operand_word N b) (natural k)
@@ -67,6 +74,7 @@ written_line N l = written (shape_toks (shape_of N l))
 
 -- ---- the pieces
 
+-- the text of a word or number
 abbrev pub word_text : Word → List ℕ
 word_text (name w) = w
 word_text (numeral d) = d
@@ -76,23 +84,28 @@ abbrev pub more_text : List Word → List ℕ
 more_text [] = []
 more_text (a ∷ more) = codes ", " ++ (word_text a ++ more_text more)
 
+-- arguments with a comma and a space between them
 abbrev pub args_text : List Word → List ℕ
 args_text [] = []
 args_text (a ∷ more) = word_text a ++ more_text more
 
+-- the `else` behind a call and its target, with their spaces, if the call has one
 abbrev pub else_text : Option (List ℕ) → List ℕ
 else_text None = []
 else_text (Some d) = codes " else " ++ d
 
+-- the variable before a call and its `=`, with their spaces, if the call has one
 abbrev pub into_text : Option (List ℕ) → List ℕ
 into_text None = []
 into_text (Some x) = x ++ codes " = "
 
+-- an operator between spaces
 abbrev pub operator_text : Operator → List ℕ
 operator_text operator.Plus = codes " + "
 operator_text operator.Minus = codes " - "
 operator_text operator.Times = codes " * "
 
+-- a comparison between spaces
 abbrev pub comparison_text : Comparison → List ℕ
 comparison_text comparison.Less = codes " < "
 comparison_text comparison.AtMost = codes " <= "
@@ -101,26 +114,33 @@ comparison_text comparison.AtLeast = codes " >= "
 comparison_text comparison.Equal = codes " == "
 comparison_text comparison.NotEqual = codes " != "
 
+-- an operand's name or number
 abbrev pub operand_text : NamesOf → Operand → List ℕ
 operand_text N a = word_text (operand_word N a)
 
+-- a `set`
 abbrev pub set_text : NamesOf → VarId → Operand → Operator → Operand → List ℕ
 set_text N x a op b = codes "set " ++ (name_at N.variables x.0 ++ (codes " = " ++ (operand_text N a ++ (operator_text op ++ operand_text N b))))
 
+-- an `if`
 abbrev pub if_text : NamesOf → Operand → Comparison → Operand → ℕ → List ℕ
 if_text N a c b k = codes "if " ++ (operand_text N a ++ (comparison_text c ++ (operand_text N b ++ (codes " goto " ++ natural k))))
 
+-- a `goto`
 abbrev pub goto_text : ℕ → List ℕ
 goto_text k = codes "goto " ++ natural k
 
+-- a `pick`
 abbrev pub pick_text : NamesOf → VarId → ℤ → ℤ → List ℕ
 pick_text N x lo hi = codes "pick " ++ (name_at N.variables x.0 ++ (codes " " ++ (signed_decimal lo ++ (codes " " ++ signed_decimal hi))))
 
+-- a call
 abbrev pub call_text : NamesOf → Call → List ℕ
 call_text N c =
     into_text (into_name N (parts_of c).into)
     ++ ((row_of (parts_of c).name).name ++ (codes "(" ++ (args_text (map (arg_word N) (parts_of c).args) ++ (codes ")" ++ else_text (option_map natural (parts_of c).or_else)))))
 
+-- a line
 abbrev pub line_text : NamesOf → Instr → List ℕ
 line_text N (line.Set x a op b) = set_text N x a op b
 line_text N (line.If a c b k) = if_text N a c b k

@@ -1,4 +1,12 @@
 -- Notes that fit an application: those that can be built for it.
+--
+-- | word                          | meaning                                                           |
+-- |-------------------------------|-------------------------------------------------------------------|
+-- | most_depth, most_alternatives | the greatest depth or count, the most alternatives of a note      |
+-- | CanClaim, ClaimsFit           | what can be said of a kind of object; claims that fit the objects |
+-- | IsWithinDeclared, RangesFit   | a range inside the declared one; ranges that fit the variables    |
+-- | AlternativeFits, NoteFits     | an alternative, a note that can be built for the application      |
+-- | NotesFit                      | one note for each point, and each of them fits                    |
 use Rattle.std.specs.Prelude.{◌≡◌, ◌≤◌, ◌≤ℤ◌, ℕ, ℤ, pos, List, length, All, slice_index_or}
 use Rattle.fr_program.specs.declared.parts.Kind.{Kind}
 use Rattle.fr_program.specs.declared.parts.Kind.TheVariants.{Mutex, Recursive}

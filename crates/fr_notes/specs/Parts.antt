@@ -33,6 +33,7 @@ names objects o = list_any (λ named. nat_eq named.0 o) objects
 abbrev pub count_in : List (ObjId × ℕ) → ℕ → Option ℕ
 count_in held o = option_map (λ h. h.1) (find (λ h. nat_eq h.0.0 o) held)
 
+-- how often the parts say that the object is held, if they name it as held
 abbrev pub count_said : NoteParts → ℕ → Option ℕ
 count_said parts o = count_in parts.held.items o
 
@@ -40,6 +41,7 @@ count_said parts o = count_in parts.held.items o
 abbrev pub unheld_said : NoteParts → ℕ → Claim
 unheld_said parts o = if names parts.dead.items o then Gone else (if names parts.live.items o then Alive else NotHeld)
 
+-- held so often where a count is said, else the other claim
 abbrev pub claim_by : Option ℕ → Claim → Claim
 claim_by None other = other
 claim_by (Some count) other = HeldTimes count
@@ -52,6 +54,7 @@ claim_said parts o = claim_by (count_said parts o) (unheld_said parts o)
 abbrev pub range_in : List (VarId × Range) → ℕ → Option Range
 range_in narrower x = option_map (λ r. r.1) (find (λ r. nat_eq r.0.0 x) narrower)
 
+-- the range that is named, if there is one, else the declared one
 abbrev pub range_by : Option Range → ℤ × ℤ → ℤ × ℤ
 range_by None declared = declared
 range_by (Some range) declared = ends_of range

@@ -56,6 +56,7 @@ is_shared P x = elim (slice_get P.variables x.0) [ None ↦ false | Some v ↦ i
 abbrev pub HasKind : Program → ℕ → (Kind → Bool) → Type 0
 HasKind P o test = IfSome (slice_get P.objects o) (λ object. IsTrue (test object.kind))
 
+-- the object of a create, a delete or an object call, where there is one, is of a kind that the call is for
 abbrev pub SuitsKind : Program → Instr → Type 0
 SuitsKind P (Calls (Create created o e)) = HasKind P o.0 (makes_kind created)
 SuitsKind P (Calls (Delete deleted o)) = HasKind P o.0 (drops_kind deleted)
@@ -78,15 +79,18 @@ TakesIn P kind (Send buffer n timing result) = IfSome result (λ x. Covers P x (
 TakesIn P kind (Receive buffer n timing result) = IfSome result (λ x. Covers P x (pos 0) (pos n))
 TakesIn P kind action = Unit {0}
 
+-- the range of a variable has all that a `pick` or an object call can give it
 abbrev pub ResultsFit : Program → Instr → Type 0
 ResultsFit P (Pick x lo hi) = Covers P x lo hi
 ResultsFit P (Calls (On o action)) = IfSome (slice_get P.objects o.0) (λ object. TakesIn P object.kind action)
 ResultsFit P i = Unit {0}
 
+-- the operand is a number
 abbrev pub IsConstant : Operand → Type 0
 IsConstant (Number z) = Unit {0}
 IsConstant (Variable x) = ⊥
 
+-- the operands are not both one variable
 abbrev pub AreApart : Operand → Operand → Type 0
 AreApart (Variable x) (Variable y) = x ≢ y
 AreApart l r = Unit {0}

@@ -3,6 +3,7 @@ use Rattle.std.specs.Prelude.{ℕ, List, codes}
 use Rattle.fr_program.specs.declared.fault.BuildFault.{BuildFault}
 use Rattle.fr_program.specs.declared.fault.BuildFault.TheVariants.{Memory, TooMany, BadRange, BadTarget, FallsOff, TwoShared, NotOwner, KindMismatch, FromIsrInTask, ResultRange, Operands, Names, NotYet}
 
+-- the number and the name of a build fault
 abbrev pub text_of : BuildFault → List ℕ
 text_of Memory = codes "0 Memory"
 text_of TooMany = codes "1 TooMany"

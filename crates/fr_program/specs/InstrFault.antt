@@ -74,5 +74,6 @@ pub record IsInstrFaultless (P : Program) (a : ℕ) (actor : ActorOf) (i : Instr
 abbrev pub IsCodeFreeOf : Program → BuildFault → Type 0
 IsCodeFreeOf P fault = EachInstr P (λ a i. IsInstrFreeOf P a (actor_at P a) i fault)
 
+-- no instruction has any of these faults
 abbrev pub IsCodeFaultless : Program → Type 0
 IsCodeFaultless P = EachInstr P (λ a i. IsInstrFaultless P a (actor_at P a) i)

@@ -31,21 +31,27 @@ use Rattle.fr_program.specs.Program.{Program, VariableOf}
 abbrev pub IsNumber : ℤ → Type 0
 IsNumber z = FitsSigned w64 z
 
+-- how many actors an application has at the most
 abbrev pub most_actors : ℕ
 most_actors = 32
 
+-- how many variables an application has at the most
 abbrev pub most_variables : ℕ
 most_variables = 64
 
+-- how many objects an application has at the most
 abbrev pub most_objects : ℕ
 most_objects = 64
 
+-- how many instructions an actor has at the most
 abbrev pub most_instructions : ℕ
 most_instructions = 512
 
+-- the greatest size of an object, and the greatest length of a buffer call
 abbrev pub most_size : ℕ
 most_size = 65535
 
+-- the greatest number of ticks in a block time or a delay
 abbrev pub most_ticks : ℕ
 most_ticks = 2147483647
 
@@ -60,6 +66,7 @@ pub record VariableInLimits (v : VariableOf) : Type 0 where
   pub from : v.lo ≤ℤ v.init
   pub to : v.init ≤ℤ v.hi
 
+-- the size, the range and the first count of a kind of object, where it has them, are within their limits
 abbrev pub KindInLimits : Kind → Type 0
 KindInLimits (Queue size lo hi) = IsSize size × (lo ≤ℤ hi) × IsNumber lo × IsNumber hi
 KindInLimits (Counting size first) = IsSize size × (pos 0 ≤ℤ first) × (first ≤ℤ size)
@@ -67,14 +74,17 @@ KindInLimits (Stream size) = IsSize size
 KindInLimits (Message size) = IsSize size
 KindInLimits kind = Unit {0}
 
+-- the number, if the operand is one, has 64 bits with a sign
 abbrev pub OperandInLimits : Operand → Type 0
 OperandInLimits (Number z) = IsNumber z
 OperandInLimits (Variable x) = Unit {0}
 
+-- the number of ticks, if the block time is one, is within its limit
 abbrev pub BlockTimeInLimits : BlockTime → Type 0
 BlockTimeInLimits (Ticks n) = n ≤ most_ticks
 BlockTimeInLimits MaxDelay = Unit {0}
 
+-- the same of the block time of a queue or buffer call, if it has one
 abbrev pub TimingInLimits : Timing → Type 0
 TimingInLimits (Waits time) = BlockTimeInLimits time
 TimingInLimits FromIsr = Unit {0}
@@ -83,6 +93,7 @@ TimingInLimits FromIsr = Unit {0}
 abbrev pub LengthInLimits : ℕ → Type 0
 LengthInLimits n = (1 ≤ n) × (n ≤ most_size)
 
+-- the operand, the length and the block time of an object call, where it has them, are within their limits
 abbrev pub ActionInLimits : Action → Type 0
 ActionInLimits (QueueSend value timing e) = OperandInLimits value × TimingInLimits timing
 ActionInLimits (QueueReceive into timing e) = TimingInLimits timing
@@ -94,6 +105,7 @@ ActionInLimits (Send kind n timing result) = LengthInLimits n × TimingInLimits 
 ActionInLimits (Receive kind n timing result) = LengthInLimits n × TimingInLimits timing
 ActionInLimits (Reset kind e) = Unit {0}
 
+-- the numbers of an instruction, but for targets, are within their limits, and a `pick` has its lower bound first
 abbrev pub InstrInLimits : Instr → Type 0
 InstrInLimits (Set x l op r) = OperandInLimits l × OperandInLimits r
 InstrInLimits (If l comparison r target) = OperandInLimits l × OperandInLimits r
@@ -106,6 +118,7 @@ InstrInLimits i = Unit {0}
 abbrev pub is_letter : ℕ → Bool
 is_letter c = (nat_le 65 c && nat_le c 90) || (nat_le 97 c && nat_le c 122) || nat_eq c 95
 
+-- an ASCII digit
 abbrev pub is_digit : ℕ → Bool
 is_digit c = nat_le 48 c && nat_le c 57
 

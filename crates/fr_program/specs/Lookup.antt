@@ -23,9 +23,11 @@ use Rattle.fr_program.specs.Program.{Program, VariableOf, ObjectOf, ActorOf}
 abbrev pub no_actor : ActorOf
 no_actor = record { name = []; kind = Task; code = [] }
 
+-- what stands for an object that the application doesn't have
 abbrev pub no_object : ObjectOf
 no_object = record { name = []; kind = Mutex; live = false }
 
+-- what stands for a variable that the application doesn't have
 abbrev pub no_variable : VariableOf
 no_variable = record { name = []; lo = pos 0; hi = pos 0; init = pos 0; owner = None }
 
@@ -33,9 +35,11 @@ no_variable = record { name = []; lo = pos 0; hi = pos 0; init = pos 0; owner = 
 abbrev pub actor_at : Program → ℕ → ActorOf
 actor_at P a = slice_index_or P.actors a no_actor
 
+-- the object with this number
 abbrev pub object_at : Program → ℕ → ObjectOf
 object_at P o = slice_index_or P.objects o no_object
 
+-- the variable with this number
 abbrev pub variable_at : Program → ℕ → VariableOf
 variable_at P x = slice_index_or P.variables x no_variable
 

@@ -33,14 +33,17 @@ use Rattle.fr_program.specs.declared.instr.Timing.TheVariants.{Waits, FromIsr as
 use Rattle.fr_program.specs.declared.instr.TakeForm.TheVariants.{FromIsr as TakeFromIsr}
 use Rattle.fr_program.specs.declared.instr.GiveForm.TheVariants.{FromIsr as GiveFromIsr}
 
+-- the variable that an operand is, if it is one
 abbrev pub operand_variables : Operand → List VarId
 operand_variables (Number z) = []
 operand_variables (Variable x) = x ∷ []
 
+-- a list of the variable, if there is one
 abbrev pub option_list : Option VarId → List VarId
 option_list None = []
 option_list (Some x) = x ∷ []
 
+-- the variables of an object call: an operand, or the one that takes a value or a result
 abbrev pub action_variables : Action → List VarId
 action_variables (QueueSend value timing e) = operand_variables value
 action_variables (QueueReceive into timing e) = into ∷ []
@@ -81,6 +84,7 @@ TargetsBelow n (Calls (Create kind o e)) = IfSome e (λ target. target < n)
 TargetsBelow n (Calls (On o action)) = IfSome (else_of action) (λ target. target < n)
 TargetsBelow n i = Unit {0}
 
+-- whether the create makes objects of this kind
 abbrev pub makes_kind : CreatedKind → Kind → Bool
 makes_kind MakesQueue (Queue size lo hi) = true
 makes_kind MakesBinary Binary = true
@@ -99,6 +103,7 @@ is_semaphore Mutex = true
 is_semaphore Recursive = true
 is_semaphore kind = false
 
+-- whether the delete is for objects of this kind
 abbrev pub drops_kind : DeletedKind → Kind → Bool
 drops_kind DropsQueue (Queue size lo hi) = true
 drops_kind DropsSemaphore kind = is_semaphore kind
@@ -106,11 +111,13 @@ drops_kind DropsStream (Stream size) = true
 drops_kind DropsMessage (Message size) = true
 drops_kind deleted kind = false
 
+-- whether this is the kind of buffer that the call is for
 abbrev pub is_buffer : BufferKind → Kind → Bool
 is_buffer OfStream (Stream size) = true
 is_buffer OfMessage (Message size) = true
 is_buffer buffer kind = false
 
+-- whether the object call is for objects of this kind
 abbrev pub acts_on : Action → Kind → Bool
 acts_on (QueueSend value timing e) (Queue size lo hi) = true
 acts_on (QueueReceive into timing e) (Queue size lo hi) = true
@@ -121,6 +128,7 @@ acts_on (Receive buffer n timing result) kind = is_buffer buffer kind
 acts_on (Reset buffer e) kind = is_buffer buffer kind
 acts_on action kind = false
 
+-- whether a queue or buffer call is in the form for interrupts
 abbrev pub is_timing_from_isr : Timing → Bool
 is_timing_from_isr (Waits time) = false
 is_timing_from_isr TimedFromIsr = true

@@ -6,6 +6,7 @@ use Rattle.fr_instr.specs.FaultText as line
 use Rattle.fr_reader.specs.declared.fault.ReadFault.{ReadFault}
 use Rattle.fr_reader.specs.declared.fault.ReadFault.TheVariants.{Memory, TooLong, Toml, Missing, WrongType, UnknownKey, Twice, BadName, Line, Build}
 
+-- a fault's number and name; of a line also its actor, its number and its fault, of a build its fault
 abbrev pub fault_text : ReadFault → List ℕ
 fault_text Memory = codes "0 Memory"
 fault_text TooLong = codes "1 TooLong"

@@ -66,6 +66,7 @@ pub record Says (texts : Texts) (P : Program) : Type 0 where
   pub objects : P.objects ≡ texts.objects
   pub actors : AllZip (IsCoded (lists_in texts)) texts.actors P.actors
 
+-- how many bytes the text of an application has at the most
 abbrev pub most_bytes : ℕ
 most_bytes = 1048576
 
