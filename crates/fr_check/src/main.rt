@@ -34,8 +34,17 @@ fn file_bytes(rt: &HostRuntime, path: &str, limit: usize) -> Result<Vec<u8>, Loa
 {
     match File::open(rt, path) {
         Ok(mut file) => load(rt.alloc(), &mut file, limit),
-        Err(_) => Err(LoadFault::Device),
+        Err(error) => Err(if is_memory(&error) {
+            LoadFault::Memory
+        } else {
+            LoadFault::Device
+        }),
     }
+}
+
+/// Whether an allocation was refused.
+fn is_memory(error: &io::Error) -> bool {
+    matches!(error.kind(), io::ErrorKind::OutOfMemory)
 }
 
 /// Prints a fault's line and gives its exit status.
@@ -100,14 +109,26 @@ fn refuse_words(rt: &HostRuntime, error: &clap::Error) -> io::Result<u8> {
     Ok(error.exit_code() as u8)
 }
 
+/// Where the words couldn't be had: there was no memory for them, or they are not UTF-8.
+fn no_words(rt: &HostRuntime, error: &io::Error) -> io::Result<u8> {
+    if is_memory(error) {
+        return machine(rt, "memory");
+    }
+    eprintln!(rt; "refused: words")?;
+    Ok(REFUSED)
+}
+
 /// Does what the words ask for. The handle `threads` is the runtime's own, by which threads are started.
 fn answer<R: Threads + Wait + Sync>(rt: &HostRuntime, threads: &R) -> io::Result<u8> {
     let alloc: Global = rt.alloc();
-    let Ok(words) = env::args(rt) else {
-        eprintln!(rt; "refused: words")?;
-        return Ok(REFUSED);
+    let words = match env::args(rt) {
+        Ok(words) => words,
+        Err(error) => return no_words(rt, &error),
     };
-    let words: Vec<String> = words.collect(alloc)?;
+    let words: Vec<String> = match words.collect(alloc) {
+        Ok(words) => words,
+        Err(_) => return machine(rt, "memory"),
+    };
     match matched(alloc, &words) {
         Ok(matches) => match asked(&matches) {
             Some(
