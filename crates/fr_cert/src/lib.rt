@@ -2,7 +2,7 @@
 // application, or a fault that stands in them. The text is read by the crate `serde_json`, its objects key by key here,
 // and its notes are built by `fr_notes`. `specs/Meaning.antt` says what bytes stand for, and `specs/Stands.antt` which
 // fault stands in them; `one_meaning` and `no_meaning` are the laws of both. `write_cert` gives the bytes of
-// `specs/Written.antt`. The crates above rely on `read_cert`'s contract.
+// `specs/Written.antt`, which stand for the certificate again. The crates above rely on `read_cert`'s contract.
 #![tactic(auto)]
 
 mod fault;

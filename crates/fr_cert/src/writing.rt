@@ -1,5 +1,5 @@
 // Writing a certificate.
-ghost use Rattle.std.specs.Prelude.{◌≡◌, ◌++◌, IsTrue, All, IfOk, OnOk, map, length, false, string_bytes};
+ghost use Rattle.std.specs.Prelude.{◌≡◌, ◌≤◌, ◌++◌, IsTrue, All, IfOk, OnOk, map, length, false, string_bytes};
 ghost use Rattle.serde_json.specs.Data.{number, object, array, no_members};
 ghost use Rattle.serde_json.specs.Find.{of_integer};
 ghost use Rattle.serde_json.specs.View.{view, items_view, members_view};
@@ -9,6 +9,7 @@ ghost use Rattle.fr_notes.specs.View.{ends_of};
 ghost use Rattle.fr_notes.specs.Fits.{AlternativeFits, NoteFits, NotesFit};
 ghost use Rattle.fr_ends.specs.Fits.{CertificateFits};
 ghost use Rattle.fr_cert.specs.Written.{range_tree, is_declared, with_named, with_ranges, with_crit, with_range, alternative_tree, note_tree, notes_tree, cert_tree, cert_text, IsSaid};
+ghost use Rattle.fr_cert.specs.Meaning.{Means, most_bytes};
 ghost use Rattle.fr_cert.specs.Views.{HasNumbers};
 
 use crate::key::Key;
@@ -173,12 +174,17 @@ fn cert_value(alloc: Global, app: &App, certificate: &Certificate) -> Result<Val
 }
 
 /// The text of a certificate that fits the application and whose notes say no more than a depth in
-/// the critical section and ranges: compact JSON with its keys in the order of their bytes.
+/// the critical section and ranges: compact JSON with its keys in the order of their bytes. A text
+/// of no more bytes than a reader takes stands for the certificate again.
 pub fn write_cert(alloc: Global, app: &App, certificate: &Certificate) -> Result<String, AllocError>
     requires fits { CertificateFits app.now certificate.now }
     requires said { All (IsSaid app.now) certificate.now.notes }
-    ensures { IfOk result (λ s. string_bytes s ≡ cert_text app.now certificate.now) }
+    ensures written { IfOk result (λ s. string_bytes s ≡ cert_text app.now certificate.now) }
+    ensures again { IfOk result (λ s. length (string_bytes s) ≤ most_bytes
+        → Means app.now (string_bytes s) certificate.now) }
 {
+    app.is_faultless();
+    certificate.ends.are_none();
     let value = cert_value(alloc, app, certificate)?;
     value.to_string(alloc)
 }

@@ -38,6 +38,13 @@ impl Ends {
         }
     }
 
+    /// No end has a guard yet.
+    pub fn are_none(&self)
+        ensures { self.now ≡ [] }
+    {
+        let _ = &self.listed;
+    }
+
     /// How many ends have a guard.
     pub fn len(&self) -> usize
         ensures { result ≡ length self.now }
