@@ -1,5 +1,5 @@
 -- One meaning at the most, and none where a fault stands.
-use Rattle.std.proofs.Common.{◌≡◌, ℕ, ℤ, pos, List, [], ◌∷◌, Option, Some, None, codes, refl, sym, ap, ◌∙◌, subst, inl, inr}
+use Rattle.std.proofs.Common.{◌≡◌, ◌<◌, ℕ, ℤ, zero, suc, pos, List, [], ◌∷◌, Option, Some, None, All, codes, refl, sym, ap, ◌∙◌, subst, inl, inr, arith}
 use Rattle.std.proofs.lemmas.Option.{same_Some}
 use Rattle.serde_json.specs.Data.{Data, Items, no_items, item, Members, no_members, member, null, boolean, number, string, array, object}
 use Rattle.serde_json.specs.Find.{as_array, as_object, as_str}
@@ -10,6 +10,7 @@ use Rattle.fr_ends.specs.Certificate.{Certificate}
 use Rattle.fr_ends.specs.Guard.{EndGuard}
 use Rattle.fr_cert.specs.Keys.{field, integer_of, end_at, variable_named}
 use Rattle.fr_cert.specs.Meaning.{NoteText, IsDepthAt, IsSpan, IsSpanOf, IsNamed, Named, RangesAt, IsNoteText, note_said, IsNote, EachNote, NotesAt, IsCertificate, IsTree, Means}
+use Rattle.fr_cert.specs.Written.{IsSaid}
 use Rattle.fr_cert.specs.declared.key.Key.TheVariants.{Notes, Crit, Range}
 
 -- two values that one place has are the same
@@ -110,3 +111,26 @@ pub one_meaning : (P : Program) (bytes : List ℕ) (C D : Certificate) → Means
 one_meaning P bytes C D h k =
     let tree : h.tree ≡ k.tree = both (read bytes) h.tree k.tree h.text.parsed k.text.parsed in
     one_tree P h.tree C D h.stands (subst (λ d. IsTree P d D) (sym tree) k.stands)
+
+-- what a text stands for is what keys can say
+
+note_is_said : (P : Program) (d : Data) (note : Note) → IsNote P d note → IsSaid P note
+note_is_said P d note (inl h) = inr (h.2.0, h.2.3)
+note_is_said P d note (inr h) = inl h.1
+
+one_more : {A : Type 0} (Q : A → Type 0) (x : A) (xs : List A) → Q x → All Q xs → All Q (x ∷ xs)
+one_more Q x xs h more zero d within = h
+one_more Q x xs h more (suc k) d within = more k d (omega (arith, within))
+
+each_is_said : (P : Program) (ds : Items) (notes : List Note) → EachNote P ds notes → All (IsSaid P) notes
+each_is_said P no_items [] h = λ k d within. absurd (omega (arith, within))
+each_is_said P no_items (note ∷ notes) h = absurd h
+each_is_said P (item d ds) [] h = absurd h
+each_is_said P (item d ds) (note ∷ notes) h = one_more (IsSaid P) note notes (note_is_said P d note h.0) (each_is_said P ds notes h.1)
+
+list_is_said : (P : Program) (o : Option Data) (notes : List Note) → NotesAt P o notes → All (IsSaid P) notes
+list_is_said P None notes h = absurd h
+list_is_said P (Some d) notes h = each_is_said P h.0 notes h.2
+
+pub tree_is_said : (P : Program) (d : Data) (C : Certificate) → IsTree P d C → All (IsSaid P) C.notes
+tree_is_said P d C h = list_is_said P (field Notes h.0) C.notes h.2.notes

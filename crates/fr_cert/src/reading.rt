@@ -11,6 +11,7 @@ ghost use Rattle.fr_ends.specs.Fits.{CertificateFits};
 ghost use Rattle.fr_cert.specs.Keys.{field, integer_of};
 ghost use Rattle.fr_cert.specs.Meaning.{EachNote, NotesAt, IsCertificate, IsTree, IsTreeText, Means};
 ghost use Rattle.fr_cert.specs.Faults.{Standing, InNeeded};
+ghost use Rattle.fr_cert.specs.Written.{IsSaid};
 ghost use Rattle.fr_cert.specs.Stands.{InVersion, InGuards, InEach, InNotes, InCertificate, InTree, InBytes, Stands};
 ghost use Rattle.fr_cert.specs.declared.fault.CertFault.{CertFault as Refusal};
 
@@ -202,13 +203,14 @@ fn tree_of(alloc: Global, bytes: &[u8]) -> Result<Value, CertFault>
 ///
 /// The bytes are a JSON text (RFC 8259), as the crate `serde_json` reads it, of at most 16,777,216
 /// bytes: an object of version 1, with an empty list of ends and one note for each point, each
-/// `"never"` or an object with the keys `crit` and `range`.
+/// `"never"` or an object with the keys `crit` and `range`. `write_cert` can write it.
 ///
 /// Its errors are those of `CertFault`: one that stands in the bytes, where they stand for no
 /// certificate. Of several, which one is named is open.
 pub fn read_cert(alloc: Global, app: &App, bytes: &[u8]) -> Result<Certificate, CertFault>
     ensures ok { IfOk result (Means app.now bytes.now) }
     ensures fits { IfOk result (CertificateFits app.now) }
+    ensures said { IfOk result (λ c. All (IsSaid app.now) c.notes) }
     ensures err { IfErr result (Standing (Stands app.now bytes.now)) }
 {
     let tree = tree_of(alloc, bytes)?;

@@ -6,6 +6,8 @@ ghost use Rattle.std.specs.Prelude.{◌≤◌};
 mod checking;
 mod fault;
 mod loading;
+#[cfg(test)]
+mod tests;
 mod words;
 
 use checking::check_with;

@@ -5,13 +5,23 @@ use std::alloc::{AllocError, Global};
 use std::process::Abort;
 use std::test::Fail;
 
+/// Whether an allocation was refused.
+pub fn is_memory(fault: &TextFault) -> bool {
+    match fault {
+        TextFault::Memory => true,
+        TextFault::App(fault) => fault.is_memory(),
+        TextFault::Cert(fault) => fault.is_memory(),
+    }
+}
+
 /// The report, or the line of the refusal.
 pub fn answer_of(alloc: Global, app: &[u8], certificate: &[u8]) -> Result<String, AllocError> {
     match judge_text(alloc, app, certificate) {
         Ok(judged) => report(alloc, &judged.app, &judged.verdict),
-        Err(TextFault::Memory) => String::from_str(alloc, "machine: memory\n"),
+        Err(fault) if is_memory(&fault) => Err(AllocError),
         Err(TextFault::App(fault)) => format!(in alloc; "refused: app {fault}\n"),
         Err(TextFault::Cert(fault)) => format!(in alloc; "refused: cert {fault}\n"),
+        Err(TextFault::Memory) => Err(AllocError),
     }
 }
 

@@ -4,10 +4,18 @@
 #[cfg(test)]
 mod answer;
 #[cfg(test)]
+mod built_notes;
+#[cfg(test)]
+mod certificates;
+#[cfg(test)]
 mod first_path;
 #[cfg(test)]
 mod long_texts;
 #[cfg(test)]
 mod own_obligations;
 #[cfg(test)]
+mod passing;
+#[cfg(test)]
 mod plain_notes;
+#[cfg(test)]
+mod want_of_memory;

@@ -1,0 +1,104 @@
+// Certificates that are read and written again, and where a value of a wrong shape stands.
+use fr_cert::{CertFault, read_cert, write_cert};
+use fr_reader::read_app;
+use std::alloc::Global;
+
+const FIRST: &[u8] = br#"variable = [{name="x", lo=0, hi=1, init=0}]
+actor = [{name="t", kind="task", code=["taskENTER_CRITICAL()", "set x = 1", "taskEXIT_CRITICAL()", "vTaskDelay(1)", "goto 0"]}]
+"#;
+
+const LOOP: &[u8] = br#"variable = [{name="b", lo=0, hi=9, init=0}, {name="a", lo=-5, hi=5, init=0}]
+actor = [{name="t", kind="task", code=["goto 0"]}]
+"#;
+
+/// What is written for the certificate that the text stands for; None where a text is refused or
+/// there is no memory.
+fn written(alloc: Global, app: &[u8], certificate: &[u8]) -> Option<String> {
+    let app = read_app(alloc, app).ok()?;
+    let certificate = read_cert(alloc, &app, certificate).ok()?;
+    write_cert(alloc, &app, &certificate).ok()
+}
+
+/// Whether this text is written for the certificate that the other stands for, and for its own.
+fn writes(alloc: Global, app: &[u8], certificate: &[u8], text: &str) -> bool {
+    let first = written(alloc, app, certificate);
+    let again = written(alloc, app, text.as_bytes());
+    matches!(&first, Some(first) if first.as_str() == text)
+        && matches!(&again, Some(again) if again.as_str() == text)
+}
+
+/// Where the value of a wrong shape stands, as it is printed; None where that is not the fault.
+fn misshapen_at(alloc: Global, certificate: &[u8]) -> Option<String> {
+    let app = read_app(alloc, LOOP).ok()?;
+    match read_cert(alloc, &app, certificate) {
+        Err(CertFault::Shape(path)) => format!(in alloc; "{path}").ok(),
+        _ => None,
+    }
+}
+
+#[test]
+fn empty_certificate(rt: HostRuntime) {
+    let text = r#"{"ends":[],"notes":[],"version":1}"#;
+    assert!(rt;
+        writes(
+            rt.alloc(),
+            b"",
+            br#"{"version":1,"ends":[],"notes":[]}"#,
+            text
+        )
+    );
+}
+
+#[test]
+fn first_certificate(rt: HostRuntime) {
+    let certificate = br#"{"version":1,"ends":[],"notes":[{},{"crit":1},{"crit":1},{},{}]}"#;
+    let text = r#"{"ends":[],"notes":[{},{"crit":1},{"crit":1},{},{}],"version":1}"#;
+    assert!(rt; writes(rt.alloc(), FIRST, certificate, text));
+}
+
+#[test]
+fn never(rt: HostRuntime) {
+    let certificate = br#" { "notes" : [ "never" ] , "ends" : [ ] , "version" : 1 } "#;
+    let text = r#"{"ends":[],"notes":["never"],"version":1}"#;
+    assert!(rt; writes(rt.alloc(), LOOP, certificate, text));
+}
+
+#[test]
+fn range_as_declared(rt: HostRuntime) {
+    let certificate =
+        br#"{"version":1,"ends":[],"notes":[{"crit":0,"range":{"b":[0,9],"a":[-5,5]}}]}"#;
+    let text = r#"{"ends":[],"notes":[{}],"version":1}"#;
+    assert!(rt; writes(rt.alloc(), LOOP, certificate, text));
+}
+
+#[test]
+fn ranges_by_name(rt: HostRuntime) {
+    let certificate =
+        br#"{"version":1,"ends":[],"notes":[{"range":{"b":[1,9],"a":[-5,-1]},"crit":255}]}"#;
+    let text = r#"{"ends":[],"notes":[{"crit":255,"range":{"a":[-5,-1],"b":[1,9]}}],"version":1}"#;
+    assert!(rt; writes(rt.alloc(), LOOP, certificate, text));
+}
+
+#[test]
+fn paths_of_wrong_shapes(rt: HostRuntime) {
+    let cases: [(&str, &str); 5] = [
+        ("[]", ""),
+        (r#"{"version":1,"notes":[{}]}"#, "ends"),
+        (
+            r#"{"version":1,"ends":[],"notes":[{"held":1}]}"#,
+            "notes/0/held",
+        ),
+        (
+            r#"{"version":1,"ends":[],"notes":[{"crit":"1"}]}"#,
+            "notes/0/crit",
+        ),
+        (
+            r#"{"version":1,"ends":[],"notes":[{"range":{"b":[1,"2"]}}]}"#,
+            "notes/0/range/b/1",
+        ),
+    ];
+    for (certificate, path) in cases {
+        let found = misshapen_at(rt.alloc(), certificate.as_bytes());
+        assert!(rt; matches!(&found, Some(found) if found.as_str() == path));
+    }
+}

@@ -1,0 +1,44 @@
+// Applications that pass with their certificate, and those that come back.
+use fr_cert::read_cert;
+use fr_judge::{Part, Passed, Verdict};
+use fr_program::App;
+use fr_reader::read_app;
+use std::alloc::Global;
+
+const RETURNING: &[u8] = br#"actor = [{name="t", kind="task", code=["return"]}]"#;
+
+const ROUND: &[u8] = br#"actor = [{name="t", kind="task", code=["goto 0"]}]"#;
+
+const CERTIFICATE: &[u8] = br#"{"version":1,"ends":[],"notes":[{}]}"#;
+
+/// What comes of the application with a note that says nothing: whether it passes, as itself, or
+/// comes back with its certificate and this failing part. None where a text is refused.
+fn passes(alloc: Global, text: &[u8]) -> Option<Result<bool, (bool, Option<Part>)>> {
+    let app = read_app(alloc, text).ok()?;
+    let certificate = read_cert(alloc, &app, CERTIFICATE).ok()?;
+    Some(match Passed::check(app, certificate) {
+        Ok(passed) => Ok(has_one_task(passed.app())),
+        Err((app, certificate, Verdict::No { part, .. })) => {
+            Err((
+                has_one_task(&app) && certificate.notes.get(0).is_some(),
+                Some(part),
+            ))
+        }
+        Err((_, _, Verdict::Yes)) => Err((false, None)),
+    })
+}
+
+fn has_one_task(app: &App) -> bool {
+    app.points() == 1 && app.actors().len() == 1
+}
+
+#[test]
+fn passes_where_the_verdict_is_yes(rt: HostRuntime) {
+    assert!(rt; passes(rt.alloc(), ROUND) == Some(Ok(true)));
+}
+
+#[test]
+fn comes_back_where_the_verdict_is_no(rt: HostRuntime) {
+    let returned = Some(Err((true, Some(Part::Rule(11)))));
+    assert!(rt; passes(rt.alloc(), RETURNING) == returned);
+}

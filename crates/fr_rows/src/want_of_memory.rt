@@ -1,0 +1,83 @@
+// The true answer, or that there was no memory: so each of these tests passes whichever allocation is refused
+// (`rt try --test --fail-alloc N`).
+use crate::answer::is_memory;
+use fr_cert::{CertFault, read_cert, write_cert};
+use fr_judge::{Part, TextFault, Verdict, judge_text};
+use fr_reader::{ReadFault, read_app};
+use fr_report::report;
+use std::alloc::Global;
+
+const FIRST: &[u8] = br#"variable = [{name="x", lo=0, hi=1, init=0}]
+actor = [{name="t", kind="task", code=["taskENTER_CRITICAL()", "set x = 1", "taskEXIT_CRITICAL()", "vTaskDelay(1)", "goto 0"]}]
+"#;
+
+const DELAYED_INSIDE: &[u8] = br#"variable = [{name="x", lo=0, hi=1, init=0}]
+actor = [{name="t", kind="task", code=["taskENTER_CRITICAL()", "set x = 1", "vTaskDelay(1)", "taskEXIT_CRITICAL()", "goto 0"]}]
+"#;
+
+const FIRST_NOTES: &[u8] =
+    br#"{"version":1,"ends":[],"notes":[{},{"crit":1},{"crit":1,"range":{"x":[1,1]}},{},{}]}"#;
+
+const DELAYED_NOTES: &[u8] =
+    br#"{"version":1,"ends":[],"notes":[{},{"crit":1},{"crit":1},{"crit":1},{}]}"#;
+
+#[test]
+fn verdict_yes(rt: HostRuntime) {
+    let kept = match &judge_text(rt.alloc(), FIRST, FIRST_NOTES) {
+        Ok(judged) => judged.verdict == Verdict::Yes,
+        Err(fault) => is_memory(fault),
+    };
+    assert!(rt; kept);
+}
+
+#[test]
+fn verdict_no(rt: HostRuntime) {
+    let kept = match &judge_text(rt.alloc(), DELAYED_INSIDE, DELAYED_NOTES) {
+        Ok(judged) => match judged.verdict {
+            Verdict::No { point, part } => point.pc == 2 && part == Part::Rule(4),
+            Verdict::Yes => false,
+        },
+        Err(fault) => is_memory(fault),
+    };
+    assert!(rt; kept);
+}
+
+#[test]
+fn refused_application(rt: HostRuntime) {
+    let kept = match &judge_text(rt.alloc(), b"alarm = 1", FIRST_NOTES) {
+        Err(TextFault::App(ReadFault::UnknownKey(_))) => true,
+        Err(fault) => is_memory(fault),
+        Ok(_) => false,
+    };
+    assert!(rt; kept);
+}
+
+#[test]
+fn refused_certificate(rt: HostRuntime) {
+    let kept = match &judge_text(rt.alloc(), FIRST, DELAYED_INSIDE) {
+        Err(TextFault::Cert(CertFault::Json)) => true,
+        Err(fault) => is_memory(fault),
+        Ok(_) => false,
+    };
+    assert!(rt; kept);
+}
+
+/// What is written for the first certificate, and the report on it; None where there is no memory.
+fn texts(alloc: Global) -> Option<(String, String)> {
+    let app = read_app(alloc, FIRST).ok()?;
+    let certificate = read_cert(alloc, &app, FIRST_NOTES).ok()?;
+    let written = write_cert(alloc, &app, &certificate).ok()?;
+    let judged = judge_text(alloc, FIRST, FIRST_NOTES).ok()?;
+    Some((written, report(alloc, &judged.app, &judged.verdict).ok()?))
+}
+
+#[test]
+fn written_texts(rt: HostRuntime) {
+    let certificate =
+        r#"{"ends":[],"notes":[{},{"crit":1},{"crit":1,"range":{"x":[1,1]}},{},{}],"version":1}"#;
+    let kept = match &texts(rt.alloc()) {
+        Some((written, line)) => written.as_str() == certificate && line.as_str() == "yes\n",
+        None => true,
+    };
+    assert!(rt; kept);
+}
