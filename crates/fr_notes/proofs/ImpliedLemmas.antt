@@ -192,7 +192,7 @@ module _ (P : Program) (a : ℕ) (l : a < length P.actors) where
           }
 
 -- of a note with one alternative that alternative holds
-only-one : (m : Alternative) (a : ℕ) (S : State) → Holds (m ∷ []) a S → HoldsOne m a S
+pub only-one : (m : Alternative) (a : ℕ) (S : State) → Holds (m ∷ []) a S → HoldsOne m a S
 only-one m a S h = go h.0 h.1.0 h.1.1 h.1.2 h.2
   where
     go : (n : Alternative) (k : ℕ) → k < 1 → get_or (m ∷ []) k n ≡ n → HoldsOne n a S → HoldsOne m a S

@@ -1,5 +1,6 @@
 pub mod NarrowLaws
 pub mod WorkedNotes
+pub mod WorkedParts
 pub mod Shown
 pub mod SaidLemmas
 pub mod FitLemmas

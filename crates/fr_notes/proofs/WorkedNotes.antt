@@ -28,10 +28,10 @@ worked-claims = record {
 }
 
 -- a state by the value of x, the mutex, the critical section and both suspension depths
-abbrev state : ℤ → Content → Option (ℕ × ℕ) → ℕ → ℕ → State
+abbrev pub state : ℤ → Content → Option (ℕ × ℕ) → ℕ → ℕ → State
 state v content critical s t = record { places = At 0 Before ∷ At 0 Before ∷ []; values = v ∷ []; objects = content ∷ []; critical = critical; suspended = s ∷ t ∷ [] }
 
-formed : (v : ℤ) (content : Content) (critical : Option (ℕ × ℕ)) (s t : ℕ) → CanHave two_tasks Mutex content → IfSome critical (λ c. (c.0 < 2) × (1 ≤ c.1)) → IsWellFormed two_tasks (state v content critical s t)
+pub formed : (v : ℤ) (content : Content) (critical : Option (ℕ × ℕ)) (s t : ℕ) → CanHave two_tasks Mutex content → IfSome critical (λ c. (c.0 < 2) × (1 ≤ c.1)) → IsWellFormed two_tasks (state v content critical s t)
 formed v content critical s t f h = record { actors = refl; suspensions = refl; variables = refl; objects = refl; places = places; contents = contents; critical = h }
   where
     places : (a : ℕ) → Exists two_tasks a (place_of (state v content critical s t) a)
@@ -44,7 +44,7 @@ formed v content critical s t f h = record { actors = refl; suspensions = refl; 
     contents (suc o) = tt
 
 -- an alternative holds where its four parts do
-holds : (a : ℕ) (v : ℤ) (content : Content) (critical : Option (ℕ × ℕ)) (s t k n : ℕ) (claim : Claim) (range : ℤ × ℤ) → depth_in critical a ≡ k → get_or (s ∷ t ∷ []) a 0 ≡ n → Meets a claim content → Within range v → HoldsOne (says k n claim range) a (state v content critical s t)
+pub holds : (a : ℕ) (v : ℤ) (content : Content) (critical : Option (ℕ × ℕ)) (s t k n : ℕ) (claim : Claim) (range : ℤ × ℤ) → depth_in critical a ≡ k → get_or (s ∷ t ∷ []) a 0 ≡ n → Meets a claim content → Within range v → HoldsOne (says k n claim range) a (state v content critical s t)
 holds a v content critical s t k n claim range depth suspended meets within =
     record { critical = depth; suspended = suspended; objects = objects; variables = variables }
   where
@@ -56,7 +56,7 @@ holds a v content critical s t k n claim range depth suspended meets within =
     variables zero = within
     variables (suc x) = (omega (arith, ints), omega (arith, ints))
 
-in-any : Within any (pos 0)
+pub in-any : Within any (pos 0)
 in-any = (omega (arith, ints), omega (arith, ints))
 
 -- an actor with a depth is the one in the critical section

@@ -9,3 +9,4 @@ pub mod Narrow
 pub mod Change
 pub mod Laws
 pub mod WorkedNotes
+pub mod WorkedParts

@@ -23,4 +23,4 @@ pub use implying::implies;
 pub use laws::fitting_can_hold;
 pub use note::{Alternative, Note, NoteParts};
 pub use notes::Notes;
-pub use worked::notes_as_worked;
+pub use worked::{notes_as_worked, parts_as_worked};

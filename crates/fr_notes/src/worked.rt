@@ -1,9 +1,17 @@
-// Worked notes, as theorems. The function does nothing: it is there for its contract.
+// Worked notes, as theorems. The functions do nothing: they are there for their contracts.
 ghost use Rattle.fr_notes.specs.WorkedNotes.{WorkedClaims, WorkedTogether};
+ghost use Rattle.fr_notes.specs.WorkedParts.{WorkedFaults, WorkedImplied};
 
 /// Claims that are true of a mutex and claims that aren't, and alternatives of two tasks that hold
 /// in one state and alternatives that don't.
 pub fn notes_as_worked()
     ensures claims { WorkedClaims }
     ensures together { WorkedTogether }
+{}
+
+/// Parts in which a fault stands and parts in which it doesn't, and notes of which one implies the
+/// other or doesn't.
+pub fn parts_as_worked()
+    ensures faults { WorkedFaults }
+    ensures implied { WorkedImplied }
 {}

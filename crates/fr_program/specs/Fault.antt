@@ -6,6 +6,7 @@
 -- | Leaves           | the instruction doesn't go on to the next one                                       |
 -- | SuitsKind        | the call names an object of the kind that it is for                                 |
 -- | Covers           | the range of a variable has the whole of these numbers                              |
+-- | ResultsFit       | the range of a variable has all that a `pick` or a call can give it                 |
 -- | SuitsActor       | a task makes no call that is for interrupts                                         |
 -- | OperandsFit      | no variable is both operands, and `*` has a number among its operands               |
 -- | NamesThings      | each number in the instruction names a variable or an object                        |
@@ -22,6 +23,7 @@ use Rattle.fr_program.specs.declared.instr.Action.TheVariants.{QueueReceive, Sen
 use Rattle.fr_program.specs.declared.instr.Operand.{Operand}
 use Rattle.fr_program.specs.declared.instr.Operand.TheVariants.{Number, Variable}
 use Rattle.fr_program.specs.declared.instr.Operator.TheVariants.{Times}
+use Rattle.fr_program.specs.declared.ids.ObjId.{ObjId}
 use Rattle.fr_program.specs.declared.ids.VarId.{VarId}
 use Rattle.fr_program.specs.declared.parts.Kind.{Kind}
 use Rattle.fr_program.specs.declared.parts.Kind.TheVariants.{Queue}
@@ -72,17 +74,22 @@ SuitsActor actor i = Unit {0}
 abbrev pub Covers : Program → VarId → ℤ → ℤ → Type 0
 Covers P x lo hi = IfSome (slice_get P.variables x.0) (λ v. (v.lo ≤ℤ lo) × (hi ≤ℤ v.hi))
 
--- a result variable has 0 to the call's length, a receiving variable the queue's range
-abbrev pub TakesIn : Program → Kind → Action → Type 0
-TakesIn P (Queue size lo hi) (QueueReceive into timing e) = Covers P into lo hi
-TakesIn P kind (Send buffer n timing result) = IfSome result (λ x. Covers P x (pos 0) (pos n))
-TakesIn P kind (Receive buffer n timing result) = IfSome result (λ x. Covers P x (pos 0) (pos n))
-TakesIn P kind action = Unit {0}
+-- the range of a receiving variable has all that a queue can hold
+abbrev pub CoversQueue : Program → VarId → Kind → Type 0
+CoversQueue P x (Queue size lo hi) = Covers P x lo hi
+CoversQueue P x kind = Unit {0}
 
--- the range of a variable has all that a `pick` or an object call can give it
+-- a receiving variable has the range of the queue, where there is one; a result variable has 0 to the call's length
+abbrev pub TakesIn : Program → ObjId → Action → Type 0
+TakesIn P o (QueueReceive into timing e) = IfSome (slice_get P.objects o.0) (λ object. CoversQueue P into object.kind)
+TakesIn P o (Send buffer n timing result) = IfSome result (λ x. Covers P x (pos 0) (pos n))
+TakesIn P o (Receive buffer n timing result) = IfSome result (λ x. Covers P x (pos 0) (pos n))
+TakesIn P o action = Unit {0}
+
+-- both bounds of a `pick` are in the range of its variable, and that of an object call's has all that the call can give
 abbrev pub ResultsFit : Program → Instr → Type 0
-ResultsFit P (Pick x lo hi) = Covers P x lo hi
-ResultsFit P (Calls (On o action)) = IfSome (slice_get P.objects o.0) (λ object. TakesIn P object.kind action)
+ResultsFit P (Pick x lo hi) = Covers P x lo lo × Covers P x hi hi
+ResultsFit P (Calls (On o action)) = TakesIn P o action
 ResultsFit P i = Unit {0}
 
 -- the operand is a number

@@ -1,9 +1,9 @@
 // Results that don't fit their variables, and operands that don't go together.
 ghost use Rattle.std.specs.Prelude.{◌↔◌, IsTrue, pos, IfSome};
-ghost use Rattle.fr_program.specs.Fault.{Covers, TakesIn, ResultsFit, OperandsFit, IsConstant, AreApart};
+ghost use Rattle.fr_program.specs.Fault.{Covers, CoversQueue, TakesIn, ResultsFit, OperandsFit, IsConstant, AreApart};
 ghost use Rattle.fr_program.specs.View.{program_of};
 
-use crate::ids::VarId;
+use crate::ids::{ObjId, VarId};
 use crate::instr::{Action, Call, Instr, Operand, Operator};
 use crate::parts::{Kind, Parts};
 
@@ -11,22 +11,20 @@ pub fn results_fit(parts: &Parts, instr: Instr) -> bool
     ensures { IsTrue result ↔ ResultsFit (program_of parts.now) instr }
 {
     match instr {
-        Instr::Pick { target, lo, hi } => covers(parts, target, lo, hi),
-        Instr::Call(Call::On { object, action }) => match parts.objects.get(object.0) {
-            Some(found) => takes_in(parts, found.kind, action),
-            None => true,
-        },
+        Instr::Pick { target, lo, hi } => covers(parts, target, lo, lo)
+            && covers(parts, target, hi, hi),
+        Instr::Call(Call::On { object, action }) => takes_in(parts, object, action),
         _ => true,
     }
 }
 
-fn takes_in(parts: &Parts, kind: Kind, action: Action) -> bool
-    ensures { IsTrue result ↔ TakesIn (program_of parts.now) kind action }
+fn takes_in(parts: &Parts, object: ObjId, action: Action) -> bool
+    ensures { IsTrue result ↔ TakesIn (program_of parts.now) object action }
 {
     match action {
-        Action::QueueReceive { into, .. } => match kind {
-            Kind::Queue { size: _, lo, hi } => covers(parts, into, lo, hi),
-            _ => true,
+        Action::QueueReceive { into, .. } => match parts.objects.get(object.0) {
+            Some(found) => covers_queue(parts, into, found.kind),
+            None => true,
         },
         Action::Send {
             length,
@@ -38,6 +36,15 @@ fn takes_in(parts: &Parts, kind: Kind, action: Action) -> bool
             result: count,
             ..
         } => covers_count(parts, count, length),
+        _ => true,
+    }
+}
+
+fn covers_queue(parts: &Parts, x: VarId, kind: Kind) -> bool
+    ensures { IsTrue result ↔ CoversQueue (program_of parts.now) x kind }
+{
+    match kind {
+        Kind::Queue { size: _, lo, hi } => covers(parts, x, lo, hi),
         _ => true,
     }
 }
