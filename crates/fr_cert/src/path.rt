@@ -1,5 +1,5 @@
 // Where in a certificate's text a value stands.
-ghost use Rattle.std.specs.Prelude.{◌≡◌, [], ◌∷◌, OnOk};
+ghost use Rattle.std.specs.Prelude.{◌≡◌, [], ◌∷◌, Some, OnOk};
 ghost use Rattle.fr_cert.specs.Path.{key, at};
 
 use std::alloc::{AllocError, Global};
@@ -57,6 +57,10 @@ impl Path {
 }
 
 impl fmt::Display for Step {
+    ghost use Rattle.fr_cert.specs.Path.{step_of, step_text};
+
+    ghost output = { λ step. Some (step_text (step_of step)) };
+
     fn fmt<W: fmt::Write>(&self, f: &mut fmt::Formatter<W>) -> fmt::Result {
         match self {
             Step::Key(name) => f.write_str(name.as_str()),
@@ -66,12 +70,17 @@ impl fmt::Display for Step {
 }
 
 impl fmt::Display for Path {
+    ghost use Rattle.fr_cert.specs.Path.{path_text};
+
+    ghost output = { λ path. Some (path_text path) };
+
     fn fmt<W: fmt::Write>(&self, f: &mut fmt::Formatter<W>) -> fmt::Result {
-        let mut between = "";
-        for step in &self.steps {
-            f.write_str(between)?;
-            write!(f, "{step}")?;
-            between = "/";
+        let Some((first, rest)) = self.steps.split_first() else {
+            return Ok(());
+        };
+        write!(f, "{first}")?;
+        for step in rest {
+            write!(f, "/{step}")?;
         }
         Ok(())
     }

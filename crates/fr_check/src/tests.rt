@@ -83,7 +83,15 @@ fn reports_and_statuses(rt: HostRuntime) {
     assert!(rt; matches!(&yes, Ok(0)));
     assert!(rt; out.as_slice() == b"yes\n".as_slice());
     let mut no_out = Vec::new(alloc);
-    let no = check_to(&rt, alloc, RETURNING.as_bytes(), plain, 1, &Open, &mut no_out);
+    let no = check_to(
+        &rt,
+        alloc,
+        RETURNING.as_bytes(),
+        plain,
+        1,
+        &Open,
+        &mut no_out,
+    );
     assert!(rt; no == 1);
     let line = b"no: point 0 (t 0 before): rule 11: actor ends in the wrong way\n";
     assert!(rt; no_out.as_slice() == line.as_slice());

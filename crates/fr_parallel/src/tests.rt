@@ -1,10 +1,13 @@
 // Whole judgements by workers in threads. A gate that waits gives up after a while, and notes it.
-use crate::{BytesFault, Gate, Open, ParFault, judge_bytes};
+use crate::{BytesFault, Gate, Open, ParFault, judge_bytes, judge_with};
+use fr_cert::read_cert;
 use fr_judge::{Judged, Part, Verdict};
+use fr_reader::read_app;
 use std::alloc::{AllocError, Global};
+use std::sync::Wait;
 use std::sync::atomic::{AtomicU64, Ordering};
 use std::test::Fail;
-use std::thread;
+use std::thread::{self, Threads};
 
 const MOST_TURNS: usize = 1_000_000;
 
@@ -199,4 +202,27 @@ fn one_worker_stops_at_the_first_failure(rt: HostRuntime) -> Result<(), Fail> {
     assert!(rt; gate.count.load(Ordering::SeqCst) == 4);
     assert!(rt; gate.disordered.load(Ordering::SeqCst) == 0);
     Ok(())
+}
+
+// The verdict of three workers on a task that was read already; None where something is refused.
+fn verdict_on<R: Threads + Wait + Sync>(
+    rt: &R,
+    alloc: Global,
+    count: usize,
+    exits: &[usize],
+) -> Option<Verdict> {
+    let (text, notes) = (task(alloc, count, exits).ok()?, plain(alloc, count).ok()?);
+    let app = read_app(alloc, text.as_bytes()).ok()?;
+    let certificate = read_cert(alloc, &app, notes.as_bytes()).ok()?;
+    judge_with(rt, alloc, &app, &certificate, 3, &Open).ok()
+}
+
+#[test]
+fn a_task_that_was_read_already(rt: HostRuntime) {
+    assert!(rt; verdict_on(&rt, rt.alloc(), 7, &[]) == Some(Verdict::Yes));
+    let failing = match verdict_on(&rt, rt.alloc(), 7, &[2, 5]) {
+        Some(Verdict::No { point, part }) => point.pc == 2 && part == Part::Rule(10),
+        _ => false,
+    };
+    assert!(rt; failing);
 }
