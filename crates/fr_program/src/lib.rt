@@ -15,6 +15,7 @@ mod table;
 mod tests;
 
 pub use app::App;
+pub use check::is_name;
 pub use fault::BuildFault;
 pub use ids::{ActorId, ObjId, Point, Side, VarId};
 pub use instr::{

@@ -88,23 +88,3 @@ names_more names keys i d below is new name h =
 pub map-square : {A B C D : Type 0} (f : B → D) (g : A → B) (h : C → D) (k : A → C) → ((x : A) → f (g x) ≡ h (k x)) → (xs : List A) → map f (map g xs) ≡ map h (map k xs)
 map-square f g h k e [] = refl
 map-square f g h k e (x ∷ xs) = rw (e x, map-square f g h k e xs) refl
-
-none_found : (t : List ℕ) (ks : List (List ℕ)) (b : Bool) → list_any (bytes_eq t) ks ≡ b → (Contains ks t → ⊥) → not b ≡ true
-none_found t ks true e free = absurd (free (found t ks e))
-none_found t ks false e free = refl
-
-not_true : (b : Bool) → not b ≡ true → b ≡ false
-not_true false e = refl
-not_true true e = cc
-
--- what is left of a name's test, once all but the reserved words have passed
-pub free_names : (t : List ℕ) (r : Bool) → 1 ≤ length t → length t ≤ 32 → All (λ c. (is_letter c || is_digit c) ≡ true) t
-    → is_digit (slice_index t 0) ≡ false → r ≡ list_any (bytes_eq t) reserved → (not r ≡ true → IsName t) × (IsName t → not r ≡ true)
-free_names t r some short letters first is = (
-  λ free. record { some = some; short = short; letters = letters; first = first; free = not_found t reserved (sym is ∙ not_true r free) },
-  λ h. none_found t reserved r (sym is) h.free,
-)
-
-pub some_bytes : (n : ℕ) → (n == 0) ≡ false → 1 ≤ n
-some_bytes zero e = cc
-some_bytes (suc n) e = omega arith

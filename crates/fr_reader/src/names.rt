@@ -1,8 +1,5 @@
 // Names: what a name is, and that each one stands once among variables, objects and actors.
-ghost use Rattle.std.specs.Prelude.{◌≡◌, ◌↔◌, ◌++◌, ◌||◌, IsTrue, true, All, OnOk, IfOk, IfErr, map};
-ghost use Rattle.std.specs.Str.{bytes_eq};
-ghost use Rattle.std.specs.List.{list_any};
-ghost use Rattle.fr_program.specs.Limits.{IsName, is_letter, is_digit, reserved};
+ghost use Rattle.std.specs.Prelude.{◌≡◌, ◌++◌, OnOk, IfOk, IfErr, map};
 ghost use Rattle.fr_reader.specs.Meaning.{AreNames, lists_in};
 ghost use Rattle.fr_reader.specs.Faults.{Standing};
 ghost use Rattle.fr_reader.specs.Stands.{InNames};
@@ -13,6 +10,7 @@ use crate::fault::ReadFault;
 use crate::object::ObjectText;
 use crate::texts::Texts;
 use crate::variable::VariableText;
+use fr_program::is_name;
 use indexmap::IndexSet;
 use std::alloc::{AllocError, Global};
 
@@ -22,47 +20,6 @@ pub(crate) struct NameLists<'a> {
     pub variables: Vec<&'a str>,
     pub objects: Vec<&'a str>,
     pub actors: Vec<&'a str>,
-}
-
-const MOST_BYTES: usize = 32;
-
-fn is_name_byte(byte: u8) -> bool
-    ensures { result ≡ (is_letter byte || is_digit byte) }
-{
-    byte.is_ascii_alphabetic() || byte == b'_' || byte.is_ascii_digit()
-}
-
-fn is_word(bytes: &[u8]) -> bool
-    ensures { IsTrue result ↔ All (λ c. (is_letter c || is_digit c) ≡ true) bytes.now }
-{
-    bytes.iter().all(|byte| is_name_byte(*byte))
-}
-
-fn is_reserved(text: &str) -> bool
-    ensures { result ≡ list_any (bytes_eq text.now) reserved }
-{
-    text == "set"
-        || text == "if"
-        || text == "goto"
-        || text == "pick"
-        || text == "return"
-        || text == "else"
-        || text == "NULL"
-        || text == "portMAX_DELAY"
-}
-
-// Whether this is 1 to 32 ASCII letters, digits and underscores, with no digit first, and no reserved word.
-fn is_name(text: &str) -> bool
-    ensures { IsTrue result ↔ IsName text.now }
-{
-    let bytes = text.as_bytes();
-    if bytes.is_empty() || bytes.len() > MOST_BYTES {
-        return false;
-    }
-    if bytes[0].is_ascii_digit() || !is_word(bytes) {
-        return false;
-    }
-    !is_reserved(text)
 }
 
 fn variable_names<'a>(alloc: Global, texts: &[VariableText<'a>]) -> Result<Vec<&'a str>, AllocError>

@@ -30,7 +30,10 @@ pub fn are_names(names: &[&str]) -> bool
     names.iter().all(|name| is_name(name))
 }
 
-fn is_name(name: &str) -> bool
+/// Whether a variable, an object or an actor can have this name: 1 to 32 ASCII letters, digits and
+/// underscores, with no digit first, and none of the words that lines of code have for themselves
+/// (`set`, `if`, `goto`, `pick`, `return`, `else`, `NULL`, `portMAX_DELAY`). This project's profile.
+pub fn is_name(name: &str) -> bool
     ensures { IsTrue result ↔ IsName name.now }
 {
     is_word(name.as_bytes()) && !is_reserved(name)
