@@ -44,15 +44,19 @@ impl Gate for Holds {
     }
 }
 
-// Jobs 2i and 2i+1 wait for one another.
+// Jobs 2i and 2i+1 wait for one another, and each worker's are counted.
 #[derive(Drop)]
 struct Pairs {
     arrived: Vec<AtomicU64>,
+    by_worker: Vec<AtomicU64>,
     alone: AtomicU64,
 }
 
 impl Gate for Pairs {
-    fn arrive(&self, _worker: usize, job: u64) {
+    fn arrive(&self, worker: usize, job: u64) {
+        if let Some(count) = self.by_worker.get(worker) {
+            count.fetch_add(1, Ordering::SeqCst);
+        }
         let (Some(mine), Some(other)) = (
             self.arrived.get(job as usize),
             self.arrived.get((job ^ 1) as usize),
@@ -169,22 +173,31 @@ fn the_least_failure_though_it_comes_last(rt: HostRuntime) -> Result<(), Fail> {
     Ok(())
 }
 
+// So many counters at zero.
+fn zeros(alloc: Global, count: usize) -> Result<Vec<AtomicU64>, AllocError> {
+    let mut counters = Vec::new(alloc);
+    for _ in 0..count {
+        counters.push(AtomicU64::new(0))?;
+    }
+    Ok(counters)
+}
+
 #[test]
 fn two_workers_share(rt: HostRuntime) -> Result<(), Fail> {
     let alloc = rt.alloc();
     let app = task(alloc, LONG, &[])?;
     let certificate = plain(alloc, LONG)?;
-    let mut arrived = Vec::new(alloc);
-    for _ in 0..LONG {
-        arrived.push(AtomicU64::new(0))?;
-    }
     let gate = Pairs {
-        arrived,
+        arrived: zeros(alloc, LONG)?,
+        by_worker: zeros(alloc, 2)?,
         alone: AtomicU64::new(0),
     };
     let answer = judge_bytes(&rt, alloc, app.as_bytes(), certificate.as_bytes(), 2, &gate);
     assert!(rt; is_yes(&answer));
     assert!(rt; gate.alone.load(Ordering::SeqCst) == 0);
+    for count in &gate.by_worker {
+        assert!(rt; count.load(Ordering::SeqCst) == 256);
+    }
     Ok(())
 }
 
