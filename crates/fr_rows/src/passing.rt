@@ -12,20 +12,17 @@ const ROUND: &[u8] = br#"actor = [{name="t", kind="task", code=["goto 0"]}]"#;
 const CERTIFICATE: &[u8] = br#"{"version":1,"ends":[],"notes":[{}]}"#;
 
 /// What comes of the application with a note that says nothing: whether it passes, as itself, or
-/// comes back with its certificate and this failing part. None where a text is refused.
-fn passes(alloc: Global, text: &[u8]) -> Option<Result<bool, (bool, Option<Part>)>> {
+/// comes back with its certificate and this verdict. None where a text is refused.
+fn passes(alloc: Global, text: &[u8]) -> Option<Result<bool, (bool, Verdict)>> {
     let app = read_app(alloc, text).ok()?;
     let certificate = read_cert(alloc, &app, CERTIFICATE).ok()?;
-    Some(match Passed::check(app, certificate) {
-        Ok(passed) => Ok(has_one_task(passed.app())),
-        Err((app, certificate, Verdict::No { part, .. })) => {
-            Err((
-                has_one_task(&app) && certificate.notes.get(0).is_some(),
-                Some(part),
-            ))
+    match Passed::check(app, certificate) {
+        Ok(passed) => Some(Ok(has_one_task(passed.app()))),
+        Err((app, certificate, verdict)) => {
+            let same = has_one_task(&app) && certificate.notes.get(0).is_some();
+            Some(Err((same, verdict)))
         }
-        Err((_, _, Verdict::Yes)) => Err((false, None)),
-    })
+    }
 }
 
 fn has_one_task(app: &App) -> bool {
@@ -39,6 +36,11 @@ fn passes_where_the_verdict_is_yes(rt: HostRuntime) {
 
 #[test]
 fn comes_back_where_the_verdict_is_no(rt: HostRuntime) {
-    let returned = Some(Err((true, Some(Part::Rule(11)))));
-    assert!(rt; passes(rt.alloc(), RETURNING) == returned);
+    let returned = match passes(rt.alloc(), RETURNING) {
+        Some(Err((same, Verdict::No { point, part }))) => {
+            same && point.pc == 0 && part == Part::Rule(11)
+        }
+        _ => false,
+    };
+    assert!(rt; returned);
 }
