@@ -18,4 +18,6 @@ mod passing;
 #[cfg(test)]
 mod plain_notes;
 #[cfg(test)]
+mod refused_lines;
+#[cfg(test)]
 mod want_of_memory;
