@@ -1,6 +1,7 @@
 // What is written and answered, each fault's line, words, and readers and writers that fail.
 use crate::checking::{check_to, check_with};
 use crate::fault::{CheckFault, fault_line, status};
+use crate::file_bytes;
 use crate::loading::{LoadFault, load};
 use crate::words::{Request, asked, matched};
 use fr_parallel::Open;
@@ -190,4 +191,11 @@ fn words_of_a_check(rt: HostRuntime) {
     assert!(rt; matches!(asks(alloc, &words, 64), Ok(true)));
     assert!(rt; matches!(asks(alloc, &words[..4], 4), Ok(true)));
     assert!(rt; matches!(asks(alloc, &words[..3], 4), Ok(false)));
+    assert!(rt; matches!(asks(alloc, &words[..1], 4), Ok(false)));
+}
+
+#[test]
+fn files_that_are_missing(rt: HostRuntime) {
+    let answer = file_bytes(&rt, "no-such-folder/missing.toml", 16);
+    assert!(rt; matches!(&answer, Err(LoadFault::Device)));
 }

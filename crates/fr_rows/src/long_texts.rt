@@ -24,6 +24,15 @@ fn application_too_long(rt: HostRuntime) -> Result<(), Fail> {
 }
 
 #[test]
+fn certificate_of_sixteen_mebibytes(rt: HostRuntime) -> Result<(), Fail> {
+    let mut longest = vec![in rt.alloc(); b' '; 16_777_216]?;
+    for (place, byte) in longest.iter_mut().zip(EMPTY_CERTIFICATE) {
+        *place = *byte;
+    }
+    answers(&rt, b"", &longest, "yes")
+}
+
+#[test]
 fn certificate_too_long(rt: HostRuntime) -> Result<(), Fail> {
     let longer = vec![in rt.alloc(); b' '; 16_777_217]?;
     answers(&rt, b"", &longer, "refused: cert 1 TooLong")
