@@ -9,8 +9,6 @@
 mod board;
 mod pass;
 mod progress;
-#[cfg(test)]
-mod tests;
 mod words;
 
 pub use board::{Board, BoardFault, Tally, Unfinished};

@@ -1,5 +1,6 @@
 // Reading a file's bytes.
 ghost use Rattle.std.specs.Prelude.{◌≤◌, ◌+◌, IfOk, vec_len};
+ghost use Rattle.std.specs.Io.KnownBytes.{Consumes, IsAtEnd};
 
 use std::alloc::Global;
 use std::io::Read;
@@ -13,25 +14,24 @@ pub enum LoadFault {
     Device,
 }
 
-/// Reads to the end, or to `limit` plus 1 bytes, so that a text that is too long shows as such.
+/// Reads to the end, or to `limit` plus 1 bytes, so that a text that is too long shows as such. Ok
+/// is what was read. A read that fails is `Device`, with no second try.
 pub fn load<R: Read>(alloc: Global, reader: &mut R, limit: usize) -> Result<Vec<u8>, LoadFault>
     requires { limit ≤ 16777216 }
-    ensures { IfOk result (λ bytes. vec_len bytes ≤ limit + 1) }
+    ensures read { IfOk result
+        (λ bytes. Consumes (R.remaining reader.old) (R.remaining reader.new) bytes.items) }
+    ensures most { IfOk result (λ bytes. vec_len bytes ≤ limit + 1) }
+    ensures whole { IfOk result (λ bytes. vec_len bytes ≤ limit → IsAtEnd (R.remaining reader.new)) }
 {
     let mut bytes = Vec::new(alloc);
     let mut chunk = [0u8; 4096];
-    for _ in 0..u64::MAX {
+    while bytes.len() <= limit {
         let want = (limit + 1 - bytes.len()).min(chunk.len());
-        if want == 0 {
-            break;
-        }
         let got = match reader.read(&mut chunk[..want]) {
+            Ok(0) => return Ok(bytes),
             Ok(got) => got,
             Err(_) => return Err(LoadFault::Device),
         };
-        if got == 0 {
-            break;
-        }
         if bytes.extend_from_slice(&chunk[..got]).is_err() {
             return Err(LoadFault::Memory);
         }

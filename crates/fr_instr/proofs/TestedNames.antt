@@ -1,4 +1,4 @@
--- Names by a test that computes: for texts that are written out, as a test of this crate or of one above has them.
+-- Names by a test that computes: for texts that are written out, as the tests of a crate above have them.
 use Rattle.std.proofs.Common.{◌≡◌, ◌≢◌, ◌≤◌, ◌&&◌, ◌||◌, ℕ, suc, zero, List, [], ◌∷◌, length, get_or, Bool, true, false, not, All, AllPairs, sym, ◌∙◌, arith}
 use Rattle.std.proofs.lemmas.Bool.{and_parts, false≢true}
 use Rattle.std.proofs.lemmas.List.Folds.{list_any_at}

@@ -19,6 +19,3 @@ pub use fr_program::Instr as Line;
 pub use names::Names;
 pub use reading::read_line;
 pub use writing::write_line;
-
-#[cfg(test)]
-mod tests;

@@ -10,8 +10,6 @@ mod crew;
 mod fault;
 mod gate;
 mod judging;
-#[cfg(test)]
-mod tests;
 mod worker;
 
 pub use bytes::{BytesFault, judge_bytes};

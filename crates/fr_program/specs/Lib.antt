@@ -11,3 +11,4 @@ pub mod ListFault
 pub mod PointNumbers
 pub mod Built
 pub mod Spans
+pub mod WorkedPoints

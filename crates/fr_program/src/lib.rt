@@ -11,8 +11,7 @@ mod instr;
 mod parts;
 mod range;
 mod table;
-#[cfg(test)]
-mod tests;
+mod worked;
 
 pub use app::App;
 pub use check::is_name;
@@ -24,3 +23,4 @@ pub use instr::{
 };
 pub use parts::{Actor, ActorKind, Kind, Object, Parts, Variable};
 pub use range::Range;
+pub use worked::points_as_worked;

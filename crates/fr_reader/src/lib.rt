@@ -12,8 +12,6 @@ mod names;
 mod object;
 mod parts;
 mod table;
-#[cfg(test)]
-mod tests;
 mod texts;
 mod variable;
 

@@ -4,11 +4,19 @@
 #[cfg(test)]
 mod answer;
 #[cfg(test)]
+mod application_texts;
+#[cfg(test)]
+mod board_draws;
+#[cfg(test)]
+mod built_applications;
+#[cfg(test)]
 mod built_notes;
 #[cfg(test)]
 mod certificates;
 #[cfg(test)]
 mod first_path;
+#[cfg(test)]
+mod lines;
 #[cfg(test)]
 mod long_texts;
 #[cfg(test)]
@@ -21,3 +29,5 @@ mod plain_notes;
 mod refused_lines;
 #[cfg(test)]
 mod want_of_memory;
+#[cfg(test)]
+mod workers;

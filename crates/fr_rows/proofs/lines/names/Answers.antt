@@ -2,7 +2,7 @@ use Rattle.std.proofs.Common.{◌∷◌, [], refl, lit≤, ℕ, List, codes}
 use Rattle.std.proofs.lemmas.List.Elements.{All-from_recursion}
 use Rattle.fr_program.specs.Limits.{IsName}
 use Rattle.fr_instr.proofs.TestedNames.{tested_name, tested_apart}
-use Rattle.fr_instr.proofs.tests.names.Goals as goal
+use Rattle.fr_rows.proofs.lines.names.Goals as goal
 
 abbrev tested : List (List ℕ)
 tested = codes "x" ∷ codes "n" ∷ codes "y_1" ∷ codes "q" ∷ codes "s" ∷ codes "m" ∷ codes "sb" ∷ codes "mb" ∷ codes "t" ∷ []

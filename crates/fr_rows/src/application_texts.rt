@@ -1,5 +1,5 @@
 // Small texts, each with its answer, and every cut and every changed byte of one of them.
-use crate::read_app;
+use fr_reader::read_app;
 use std::alloc::{AllocError, Global};
 use std::process::Abort;
 use std::test::Fail;

@@ -1,4 +1,5 @@
-use super::*;
+// Lines that are read, each with the line that is written for it, and texts that are none.
+use fr_instr::{LineFault, Names, read_line, write_line};
 use std::alloc::Global;
 use std::test::Fail;
 

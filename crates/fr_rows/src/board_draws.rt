@@ -4,7 +4,7 @@ ghost use Rattle.fr_board.specs.Drawn.{outcome_of};
 ghost use Rattle.fr_board.specs.Progress.{new_progress};
 ghost use Rattle.fr_board.specs.Values.{IsOf};
 
-use crate::{Board, BoardFault, Claim, Pass};
+use fr_board::{Board, BoardFault, Claim, Pass};
 use std::alloc::Global;
 use std::process::Abort;
 

@@ -1,7 +1,7 @@
 // Whole judgements by workers in threads. A gate that waits gives up after a while, and notes it.
-use crate::{BytesFault, Gate, Open, ParFault, judge_bytes, judge_with};
 use fr_cert::read_cert;
 use fr_judge::{Judged, Part, Verdict};
+use fr_parallel::{BytesFault, Gate, Open, ParFault, judge_bytes, judge_with};
 use fr_reader::read_app;
 use std::alloc::{AllocError, Global};
 use std::sync::Wait;

@@ -1,10 +1,8 @@
 // What no clause says: that builds succeed, the sizes that are taken, and examples of refusals.
-use crate::app::App;
-use crate::fault::BuildFault;
-use crate::ids::{ActorId, ObjId, Point, Side, VarId};
-use crate::instr::{Action, BlockTime, BufferKind, Call, Instr, Timing};
-use crate::parts::{Actor, ActorKind, Kind, Object, Parts, Variable};
-use crate::table::{Table, table_of};
+use fr_program::{
+    Action, Actor, ActorId, ActorKind, App, BlockTime, BufferKind, BuildFault, Call, Instr, Kind,
+    ObjId, Object, Parts, Point, Side, Timing, VarId, Variable,
+};
 use std::alloc::{AllocError, Global};
 use std::process::Abort;
 use std::test::Fail;
@@ -113,22 +111,6 @@ fn points_have_their_numbers(rt: HostRuntime) -> Result<(), Fail> {
         side: Side::Inside,
     };
     assert_eq!(rt; app.number(inside), None);
-    Ok(())
-}
-
-#[test]
-fn two_calls_have_six_points(rt: HostRuntime) -> Result<(), Fail> {
-    let alloc = rt.alloc();
-    let mut actors = Vec::new(alloc);
-    actors.push(actor(alloc, "tx", ActorKind::Task, send(8))?)?;
-    actors.push(actor(alloc, "rx", ActorKind::Task, send(8))?)?;
-    let Table { points, starts } = table_of(alloc, &actors)?;
-    assert_eq!(rt; points.len(), 6);
-    assert_eq!(rt; points[4].actor.0, 1);
-    assert_eq!(rt; points[4].pc, 0);
-    assert_eq!(rt; points[4].side, Side::Inside);
-    assert_eq!(rt; starts.len(), 2);
-    assert_eq!(rt; starts[1].as_slice(), [3, 5].as_slice());
     Ok(())
 }
 
