@@ -21,9 +21,9 @@ between lo a b hi low high p q r = (omega (arith, ints, low, high, p, q, r), ome
 
 pub fit_numbers : (P : Program) (n : Alternative) → IsInLimits P → AlternativeFits P n → All AreNumbers n.ranges
 fit_numbers P n limits fits k d within =
-    let in_variables : k < length P.variables = omega (arith, within, fits.variables) in
+    let in_variables : k < length P.variables = omega (arith, within, fits.ranges.0) in
     let v : VariableInLimits (variable_at P k) = limits.variables k no_variable in_variables in
-    let inside = fits.inside k in
+    let inside = fits.ranges.1 k in
     subst AreNumbers (sym (get_or_default n.ranges k d (pos 0, pos 0) within)) (between _ _ _ _ v.lo v.hi inside.0 (fits.order k) inside.1)
 
 pub all_numbers : (ranges : List Range) → All AreNumbers (map ends_of ranges) → All HasNumbers ranges

@@ -230,9 +230,9 @@ at_from P (v ∷ vs) (r ∷ rs) i same h = (
 
 fits_at : (P : Program) (n : Alternative) → IsFaultless P → AlternativeFits P n → AreAt P P.variables n.ranges 0
 fits_at P n faultless fits =
-    at_from P P.variables n.ranges 0 fits.variables (λ k within.
+    at_from P P.variables n.ranges 0 fits.ranges.0 (λ k within.
     let at : IsAt P (variable_at P k) (get_or n.ranges k (pos 0, pos 0)) k =
-    record { here = refl; named = named_at P faultless k within; within = within; low = (fits.inside k).0; order = fits.order k; high = (fits.inside k).1 } in
+    record { here = refl; named = named_at P faultless k within; within = within; low = (fits.ranges.1 k).0; order = fits.order k; high = (fits.ranges.1 k).1 } in
     subst (IsAt P (variable_at P k) (get_or n.ranges k (pos 0, pos 0))) (omega arith) at)
 
 -- ---- a note

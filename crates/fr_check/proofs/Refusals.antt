@@ -12,7 +12,7 @@ use Rattle.fr_parallel.specs.Bytes.{FaultStands}
 use Rattle.fr_parallel.specs.Kept.{IsNoCrew}
 use Rattle.fr_check.specs.declared.fault.CheckFault.{CheckFault}
 use Rattle.fr_check.specs.declared.fault.CheckFault.TheVariants.{App, Cert, Workers, Rounds, Polls, Memory, Thread, Write}
-use Rattle.fr_check.specs.Checked.{status_of, fault_status, check_fault, CanRefuse, IsRefused}
+use Rattle.fr_check.specs.Checked.{status_of, fault_status, check_fault, CanRefuse}
 
 pub refused-by : (a c : List ℕ) (w : ℕ) (f : BytesFault) → FaultStands a c f → (f ≡ Par NoWorkers → IsNoCrew w) → CanRefuse a c w (check_fault f)
 refused-by a c w (Par NoMemory) s none = tt

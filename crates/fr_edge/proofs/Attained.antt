@@ -1,13 +1,13 @@
 -- States to show after a row: each end of each range that a change leaves is the variable's number after some step.
-use Rattle.std.proofs.Common.{◌≡◌, ◌≢◌, ℕ, zero, suc, ◌+◌, ◌-◌, ◌<◌, ◌≤◌, List, length, get_or, get_or-set_other, Option, Some, None, Bool, true, false, refl, sym, ap, ◌∙◌, subst, arith, ⊎_elim, inl, inr, eq-eqb}
-use Rattle.std.specs.Prelude.{ℤ, pos, ◌≤ℤ◌, ◌⊎◌, nat_eq, IsTrue, IsFalse, IfSome, Contains, All, if◌then◌else◌}
+use Rattle.std.proofs.Common.{◌≡◌, ℕ, zero, suc, ◌+◌, ◌-◌, ◌<◌, length, get_or-set_other, Some, Bool, true, false, refl, sym, ap, ◌∙◌, subst, arith, ⊎_elim, inl, inr, eq-eqb}
+use Rattle.std.specs.Prelude.{ℤ, pos, ◌≤ℤ◌, ◌⊎◌, nat_eq, IfSome}
 use Rattle.std.proofs.lemmas.Int.{ints}
 use Rattle.std.proofs.lemmas.List.{get_or-set_same}
 use Rattle.std.proofs.lemmas.Bool.{eqb-true}
 use Rattle.fr_program.specs.declared.instr.Instr.{Instr}
-use Rattle.fr_program.specs.declared.instr.Instr.TheVariants.{Set, If, Goto, Pick, Call as Calls, Return}
+use Rattle.fr_program.specs.declared.instr.Instr.TheVariants.{Set, If, Goto, Call as Calls, Return}
 use Rattle.fr_program.specs.declared.instr.Call.{Call}
-use Rattle.fr_program.specs.declared.instr.Call.TheVariants.{EnterCritical, ExitCritical, Yield, Delay, DeleteSelf}
+use Rattle.fr_program.specs.declared.instr.Call.TheVariants.{EnterCritical, ExitCritical, Delay, DeleteSelf}
 use Rattle.fr_program.specs.declared.instr.Comparison.{Comparison}
 use Rattle.fr_program.specs.declared.instr.Operand.{Operand}
 use Rattle.fr_program.specs.declared.instr.Operand.TheVariants.{Number, Variable}
@@ -17,8 +17,8 @@ use Rattle.fr_program.specs.declared.ids.VarId.{VarId}
 use Rattle.fr_program.specs.declared.ids.Point.{Point}
 use Rattle.fr_program.specs.declared.ids.Side.TheVariants.{Before}
 use Rattle.fr_program.specs.Program.{Program}
-use Rattle.fr_program.specs.Lookup.{instr_of, IsPoint}
-use Rattle.fr_program.specs.Fault.{IsFaultless, IsJudgedYet, IsInstrJudgedYet, OperandsFit, AreApart}
+use Rattle.fr_program.specs.Lookup.{IsPoint}
+use Rattle.fr_program.specs.Fault.{IsFaultless, IsInstrJudgedYet, OperandsFit, AreApart}
 use Rattle.fr_calls.specs.declared.way.Way.{Way}
 use Rattle.fr_calls.specs.declared.way.Way.TheVariants.{Works, Fails}
 use Rattle.fr_calls.specs.State.{State, value_of, depth_of, write, in_critical, critical_at, held_at}
@@ -30,7 +30,7 @@ use Rattle.fr_notes.specs.Fits.{AlternativeFits}
 use Rattle.fr_notes.specs.View.{ends_of}
 use Rattle.fr_notes.specs.Change.{CanBe, HasOperand, HasOperands, Turns, IsResult, IsBranch, same, branched, narrowed_to, range_after, new_range, HasChange, HasCallChange}
 use Rattle.fr_edge.proofs.Standing.{choose, choose-within, AreWithin, state-of, noted-here, value-here, left-here, right-here}
-use Rattle.fr_edge.proofs.Rules.{has-operands, set-apart}
+use Rattle.fr_edge.proofs.Rules.{set-apart}
 
 -- one of the two ends of a range
 abbrev pub end_of : Bool → ℤ × ℤ → ℤ
@@ -129,7 +129,7 @@ module _ (P : Program) (p : Point) (n : Alternative) (free : IsFaultless P) (poi
             mid = write y.0 w S;
             row = (refl, refl);
             fact = λ lt.
-                rw e (subst (λ j. value_of (write y.0 w S) j ≡ end_of b (ends_of span)) (eqb-true y.0 x e) (get_or-set_same S.values y.0 w (pos 0) (omega (arith, has.0, fits.variables, long)) ∙ value));
+                rw e (subst (λ j. value_of (write y.0 w S) j ≡ end_of b (ends_of span)) (eqb-true y.0 x e) (get_or-set_same S.values y.0 w (pos 0) (omega (arith, has.0, fits.ranges.0, long)) ∙ value));
           }
       go false e =
           let S = here (base b) in

@@ -1,11 +1,11 @@
 -- The first own obligation that fails, from what is known of each alternative and each row.
-use Rattle.std.proofs.Common.{◌≡◌, ℕ, zero, suc, ◌+◌, ◌<◌, ◌≤◌, List, [], ◌∷◌, length, get_or, Some, None, Option, refl, sym, ap, ◌∙◌, subst, arith}
+use Rattle.std.proofs.Common.{◌≡◌, ℕ, zero, suc, ◌<◌, List, [], ◌∷◌, length, get_or, Some, None, sym, ap, ◌∙◌, subst, arith}
 use Rattle.std.specs.Prelude.{All, Contains, slice_get}
 use Rattle.std.proofs.lemmas.Option.{same_Some}
 use Rattle.fr_program.specs.declared.instr.Instr.{Instr}
 use Rattle.fr_program.specs.declared.ids.Point.{Point}
 use Rattle.fr_program.specs.Program.{Program}
-use Rattle.fr_program.specs.Lookup.{actor_at, instr_at, instr_of, no_actor, IsPoint}
+use Rattle.fr_program.specs.Lookup.{actor_at, instr_at, no_actor, IsPoint}
 use Rattle.fr_program.specs.Points.{points_of, point_number}
 use Rattle.fr_program.specs.PointNumbers.{PointsAreNumbered}
 use Rattle.fr_program.specs.Fault.{IsFaultless}
@@ -13,10 +13,10 @@ use Rattle.fr_program.specs.declared.ids.ActorId.{ActorId}
 use Rattle.fr_calls.specs.declared.way.Landing.TheVariants.{At as LandsAt}
 use Rattle.fr_calls.specs.Landing.{landing_of}
 use Rattle.fr_calls.specs.State.{Place, At, Done}
-use Rattle.fr_calls.specs.Rule.{Rule, number_of}
+use Rattle.fr_calls.specs.Rule.{Rule}
 use Rattle.fr_notes.specs.Note.{Alternative, Note}
-use Rattle.fr_notes.specs.Noted.{note_at, Noted, NotedBy}
-use Rattle.fr_notes.specs.Fits.{AlternativeFits, NoteFits, NotesFit}
+use Rattle.fr_notes.specs.Noted.{note_at}
+use Rattle.fr_notes.specs.Fits.{AlternativeFits, NotesFit}
 use Rattle.fr_edge.specs.Own.{KeepsRule, Goes}
 use Rattle.fr_edge.specs.Alternatives.{KeepsRuleBy, BreaksRuleBy, IsAmong, NoteOutcome, GoesOutcome}
 use Rattle.fr_edge.specs.FirstOwn.{KeepsRules, IsLeastRule}

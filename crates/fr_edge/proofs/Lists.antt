@@ -1,5 +1,5 @@
 -- The first alternatives of a note, one more at a time.
-use Rattle.std.proofs.Common.{◌≡◌, ℕ, zero, suc, ◌+◌, ◌<◌, ◌≤◌, List, [], ◌∷◌, length, get_or, Option, Some, None, refl, sym, ap, ◌∙◌, subst, arith, ⊎_elim, inl, inr, min}
+use Rattle.std.proofs.Common.{◌≡◌, ℕ, zero, suc, ◌+◌, ◌<◌, List, [], ◌∷◌, length, get_or, Option, Some, None, refl, sym, ap, ◌∙◌, subst, arith, ⊎_elim, min}
 use Rattle.std.proofs.lemmas.Bool.{cases_lt}
 use Rattle.fr_program.specs.declared.ids.Point.{Point}
 use Rattle.fr_program.specs.Program.{Program}
@@ -7,7 +7,7 @@ use Rattle.fr_calls.specs.Rule.{Rule, number_of}
 use Rattle.std.specs.Prelude.{All, Contains}
 use Rattle.fr_notes.specs.Fits.{AlternativeFits}
 use Rattle.fr_notes.specs.Note.{Alternative, Note}
-use Rattle.fr_edge.specs.Alternatives.{KeepsRuleBy, BreaksRuleBy, RuleOutcome, IsAmong, NoteOutcome, lesser_of}
+use Rattle.fr_edge.specs.Alternatives.{KeepsRuleBy, RuleOutcome, IsAmong, NoteOutcome, lesser_of}
 
 -- an element of a list doesn't depend on what stands for one past its end
 pub same-element : {A : Type 0} (xs : List A) (k : ℕ) (d e : A) → k < length xs → get_or xs k d ≡ get_or xs k e

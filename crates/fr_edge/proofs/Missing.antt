@@ -1,8 +1,7 @@
 -- Where no alternative of the next note says no more than a change, the part `Goes` fails: if one of them held after
 -- every step, it would say no more, since every end of the change's ranges is a number after some step.
-use Rattle.std.proofs.Common.{◌≡◌, ℕ, ◌+◌, ◌<◌, ◌≤◌, List, length, Some, None, Bool, true, false, refl, sym, ap, ◌∙◌, subst, arith}
-use Rattle.std.specs.Prelude.{ℤ, ◌≤ℤ◌, All, Contains, IsTrue}
-use Rattle.std.proofs.lemmas.Int.{ints}
+use Rattle.std.proofs.Common.{◌≡◌, ℕ, ◌<◌, List, length, Some, Bool, true, false, refl, sym, ap, ◌∙◌, subst, arith}
+use Rattle.std.specs.Prelude.{◌≤ℤ◌, Contains, IsTrue}
 use Rattle.std.proofs.lemmas.List.{get_or-set_same}
 use Rattle.fr_program.specs.declared.instr.Instr.{Instr}
 use Rattle.fr_program.specs.declared.ids.Point.{Point}
@@ -11,20 +10,20 @@ use Rattle.fr_program.specs.Program.{Program}
 use Rattle.fr_program.specs.Lookup.{instr_of, IsPoint}
 use Rattle.fr_program.specs.Fault.{IsFaultless, IsJudgedYet}
 use Rattle.fr_calls.specs.declared.way.Way.{Way}
-use Rattle.fr_calls.specs.State.{State, At, Done, place_of, value_of, goes_to}
-use Rattle.fr_calls.specs.Rule.{Rule, OneWriter, OneReader, GivenByHolder, AllowedInCritical, AllowedSuspended, AllowedInInterrupt, IsLive, LifeInOrder, SuitsSemaphore, DepthAboveZero, EndsInOrder, InRange, Breaches}
+use Rattle.fr_calls.specs.State.{State, At, Done, place_of, goes_to}
+use Rattle.fr_calls.specs.Rule.{Rule, OneWriter, OneReader, GivenByHolder, AllowedInCritical, AllowedSuspended, AllowedInInterrupt, IsLive, LifeInOrder, SuitsSemaphore, DepthAboveZero, EndsInOrder, InRange}
 use Rattle.fr_calls.specs.Step.{StepBy, IsFree, SuitsInside, Row, landing, stops}
 use Rattle.fr_notes.specs.declared.change.Change.{Change}
 use Rattle.fr_notes.specs.Note.{Alternative, Note, HoldsOne, range_of}
-use Rattle.fr_notes.specs.Noted.{note_at, IsAt, Noted, NotedBy}
+use Rattle.fr_notes.specs.Noted.{note_at, IsAt, NotedBy}
 use Rattle.fr_notes.specs.Fits.{AlternativeFits}
-use Rattle.fr_notes.specs.Change.{HasChange, Keeps, new_range}
+use Rattle.fr_notes.specs.Change.{HasChange, Keeps}
 use Rattle.fr_edge.specs.Own.{is_own}
-use Rattle.fr_edge.specs.Alternatives.{GoesBy, Misses}
+use Rattle.fr_edge.specs.Alternatives.{GoesBy}
 use Rattle.fr_edge.specs.FirstOwn.{KeepsRules}
-use Rattle.fr_edge.proofs.Standing.{actor-there, side-before, state-of, noted-here}
+use Rattle.fr_edge.proofs.Standing.{actor-there, side-before, noted-here}
 use Rattle.fr_edge.proofs.Rules.{has-operands}
-use Rattle.fr_edge.proofs.Steps.{After, after-row, places-row}
+use Rattle.fr_edge.proofs.Steps.{After, after-row}
 use Rattle.fr_edge.proofs.Attained.{here, Moves, Ends, attained}
 
 stops-own : (i : Instr) (rule : Rule) → IsTrue (stops rule) → IsTrue (is_own i rule)
@@ -74,7 +73,7 @@ module _ (P : Program) (notes : List Note) (p : Point) (i : Instr) (way : Way) (
 
     made : (b : Bool) (x : ℕ) → After n change p.actor.0 (here P p n free point fits (moves b x).values) (moves b x).mid
     made b x =
-        after-row P n p.actor.0 (here P p n free point fits (moves b x).values) (noted-at b x).holds ((noted-at b x).formed.variables ∙ sym fits.variables) i way change (moves b x).choice (moves b x).mid (judged.code p.actor.0 p.pc i is) (has-operands P n fits i (free.names.things p.actor.0 p.pc i is)) has (moves b x).row
+        after-row P n p.actor.0 (here P p n free point fits (moves b x).values) (noted-at b x).holds ((noted-at b x).formed.variables ∙ sym fits.ranges.0) i way change (moves b x).choice (moves b x).mid (judged.code p.actor.0 p.pc i is) (has-operands P n fits i (free.names.things p.actor.0 p.pc i is)) has (moves b x).row
 
     arrives : (b : Bool) (x : ℕ) (target : Point) → target.actor ≡ p.actor → landing p.pc Before i way ≡ At target.pc target.side → IsAt (after-state b x) target
     arrives b x target actor to =
@@ -88,7 +87,7 @@ module _ (P : Program) (notes : List Note) (p : Point) (i : Instr) (way : Way) (
       critical = sym (made false 0).critical ∙ (holds false 0).critical;
       suspended = sym (made false 0).suspended ∙ (holds false 0).suspended;
       variables = λ x l.
-          let there : x < length P.variables = omega (arith, fits.variables) in
+          let there : x < length P.variables = omega (arith, fits.ranges.0) in
           let lo = (moves false x).fact there in
           let hi = (moves true x).fact there in
           let from = (holds false x).variables x in

@@ -1,10 +1,9 @@
 -- The rules that an alternative keeps, and the least one that it breaks.
-use Rattle.std.proofs.Common.{◌≡◌, ℕ, zero, suc, ◌+◌, ◌<◌, ◌≤◌, List, [], ◌∷◌, length, get_or, Option, Some, None, Bool, true, false, refl, sym, ap, ◌∙◌, subst, arith, ⊎_elim, inl, inr, lit<}
+use Rattle.std.proofs.Common.{◌≡◌, ℕ, ◌<◌, ◌≤◌, List, [], ◌∷◌, length, Option, Some, None, Bool, true, false, refl, sym, ap, ◌∙◌, subst, arith, ⊎_elim, inl, inr, lit<}
 use Rattle.std.proofs.lemmas.List.{get_or_past}
 use Rattle.std.proofs.lemmas.Bool.{cases_lt}
 use Rattle.std.specs.Prelude.{ℤ, pos, ◌≤ℤ◌, ◌⊎◌, IsTrue, find, if◌then◌else◌}
 use Rattle.std.specs.Option.{option_map}
-use Rattle.std.specs.List.{list_any}
 use Rattle.std.proofs.lemmas.Int.{ints, by_lt_z}
 use Rattle.std.proofs.lemmas.Option.{same_Some}
 use Rattle.fr_program.specs.declared.instr.Instr.{Instr}
@@ -21,8 +20,8 @@ use Rattle.fr_program.specs.declared.ids.Side.TheVariants.{Before}
 use Rattle.fr_program.specs.Program.{Program}
 use Rattle.fr_program.specs.Lookup.{actor_at, instr_at, instr_of, is_interrupt, variable_at, no_variable, IsPoint}
 use Rattle.fr_program.specs.Fault.{IsFaultless, IsJudgedYet, IsInstrJudgedYet, NamesThings, OperandsFit, AreApart, IsConstant}
-use Rattle.fr_calls.specs.State.{State, IsWellFormed, suspension_of, depth_of}
-use Rattle.fr_calls.specs.Rule.{Rule, OneWriter, OneReader, GivenByHolder, AllowedInCritical, AllowedSuspended, AllowedInInterrupt, IsLive, LifeInOrder, SuitsSemaphore, DepthAboveZero, EndsInOrder, InRange, number_of, decided_rules, first_forbidden, forbids, holds_some, GivesUnheld, UsesDead, LifeOutOfOrder, PutsOut, IsForbidden, Breaches, Breach, IsOutside, result_of, operand_of}
+use Rattle.fr_calls.specs.State.{State, IsWellFormed, suspension_of}
+use Rattle.fr_calls.specs.Rule.{Rule, OneWriter, OneReader, GivenByHolder, AllowedInCritical, AllowedSuspended, AllowedInInterrupt, IsLive, LifeInOrder, SuitsSemaphore, DepthAboveZero, EndsInOrder, InRange, number_of, decided_rules, first_forbidden, forbids, holds_some, GivesUnheld, UsesDead, LifeOutOfOrder, PutsOut, IsForbidden, Breaches, IsOutside, result_of, operand_of}
 use Rattle.fr_notes.specs.Note.{Alternative, HoldsOne, range_of}
 use Rattle.fr_notes.specs.Noted.{NotedBy}
 use Rattle.fr_notes.specs.Fits.{AlternativeFits}
@@ -130,7 +129,7 @@ no-out P n S a i stays h b = absurd b
 -- the alternative has a range for each variable of an instruction of the application
 module _ (P : Program) (n : Alternative) (fits : AlternativeFits P n) where
   there : (x : ℕ) → x < length P.variables → x < length n.ranges
-  there x l = omega (arith, fits.variables)
+  there x l = omega (arith, fits.ranges.0)
 
   pub set-operands : (x : VarId) (l r : Operand) (op : Operator) → NamesThings P (Set x l op r) → HasOperands n (Set x l op r)
   set-operands x (Number y) (Number z) op h = (there x.0 (h.0 0 x (omega arith)), tt, tt)
@@ -292,13 +291,13 @@ has-numbers P n free fits x = ⊎_elim (λ l. inside l) (λ l. past l) (cases_lt
     inside : x < length P.variables → IsNumber (range_of n x).0 × IsNumber (range_of n x).1
     inside l =
         let v = free.limits.variables x no_variable l in
-        let f = fits.inside x in
+        let f = fits.ranges.1 x in
         let o = fits.order x in
         let lo = v.lo in
         let hi = v.hi in (omega (arith, ints), omega (arith, ints))
 
     past : length P.variables ≤ x → IsNumber (range_of n x).0 × IsNumber (range_of n x).1
-    past l = subst (λ r. IsNumber r.0 × IsNumber r.1) (sym (get_or_past n.ranges x (pos 0, pos 0) (omega (arith, fits.variables)))) (omega (arith, ints), omega (arith, ints))
+    past l = subst (λ r. IsNumber r.0 × IsNumber r.1) (sym (get_or_past n.ranges x (pos 0, pos 0) (omega (arith, fits.ranges.0)))) (omega (arith, ints), omega (arith, ints))
 
 pub product-constant : (x : VarId) (l r : Operand) (op : Operator) → op ≡ Times → OperandsFit (Set x l op r) → IsConstant l ⊎ IsConstant r
 product-constant x l r Times e h = h

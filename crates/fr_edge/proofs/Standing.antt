@@ -1,13 +1,13 @@
 -- States in which an actor stands before an instruction that is judged today, and one alternative holds of it: what
 -- every such state has, and states of one's own choice.
-use Rattle.std.proofs.Common.{◌≡◌, ◌≢◌, ℕ, zero, suc, ◌+◌, ◌<◌, ◌≤◌, List, [], ◌∷◌, length, get_or, Option, Some, None, Bool, true, false, refl, sym, ap, ◌∙◌, subst, arith, ⊎_elim, inl, inr}
-use Rattle.std.specs.Prelude.{ℤ, pos, ◌≤ℤ◌, ◌⊎◌, nat_eq, slice_get, if◌then◌else◌}
+use Rattle.std.proofs.Common.{◌≡◌, ◌≢◌, ℕ, ◌<◌, length, Some, refl, sym, ap, ◌∙◌, subst, arith, ⊎_elim}
+use Rattle.std.specs.Prelude.{ℤ, slice_get}
 use Rattle.std.proofs.lemmas.Int.{ints}
 use Rattle.std.proofs.lemmas.Option.{same_Some}
 use Rattle.std.proofs.lemmas.List.{get_or_past}
 use Rattle.std.proofs.lemmas.Bool.{cases_lt}
 use Rattle.fr_program.specs.declared.instr.Instr.{Instr}
-use Rattle.fr_program.specs.declared.instr.Instr.TheVariants.{Set, If, Goto, Pick, Call as Calls, Return}
+use Rattle.fr_program.specs.declared.instr.Instr.TheVariants.{Call as Calls}
 use Rattle.fr_program.specs.declared.instr.Call.TheVariants.{On}
 use Rattle.fr_program.specs.declared.instr.Operand.{Operand}
 use Rattle.fr_program.specs.declared.instr.Operand.TheVariants.{Number, Variable}
@@ -16,15 +16,15 @@ use Rattle.fr_program.specs.declared.ids.Point.{Point}
 use Rattle.fr_program.specs.declared.ids.Side.{Side}
 use Rattle.fr_program.specs.declared.ids.Side.TheVariants.{Before, Inside}
 use Rattle.fr_program.specs.Program.{Program}
-use Rattle.fr_program.specs.Lookup.{actor_at, instr_at, instr_of, no_actor, HasSide, IsPlace, IsPoint}
+use Rattle.fr_program.specs.Lookup.{instr_at, instr_of, no_actor, HasSide, IsPoint}
 use Rattle.fr_program.specs.Fault.{IsFaultless, IsJudgedYet, IsInstrJudgedYet, AreApart}
-use Rattle.fr_calls.specs.State.{State, Place, At, Done, Content, Dead, Exists, place_of, value_of, content_of}
+use Rattle.fr_calls.specs.State.{State, Place, At, Exists, value_of}
 use Rattle.fr_calls.specs.Rule.{Rule, Breach, Breaches, operand_of}
 use Rattle.fr_notes.specs.Note.{Alternative, Within, HoldsOne, range_of}
-use Rattle.fr_notes.specs.Noted.{IsAt, NotedBy}
+use Rattle.fr_notes.specs.Noted.{NotedBy}
 use Rattle.fr_notes.specs.Fits.{AlternativeFits}
 use Rattle.fr_notes.specs.Change.{CanBe, HasOperand}
-use Rattle.fr_notes.proofs.Shown.{shown, Shows, shown-place, shown-value, shown-formed, shown-holds, instead, instead-case, instead-same, instead-other, done, usual, usual-fits, usual-shows}
+use Rattle.fr_notes.proofs.Shown.{shown, Shows, shown-place, shown-value, shown-formed, shown-holds, instead, instead-case, instead-same, instead-other, done, usual, usual-shows}
 
 -- an actor that has an instruction is one of the application's
 pub actor-there : (P : Program) (a pc : ℕ) (i : Instr) → instr_at P a pc ≡ Some i → a < length P.actors
@@ -104,7 +104,7 @@ module _ (P : Program) (p : Point) (n : Alternative) (free : IsFaultless P) (poi
   value-here f x l = shown-value P n p.actor.0 place-here f (usual P n p.actor.0) x l
 
   there : (x : ℕ) → x < length n.ranges → x < length P.variables
-  there x l = omega (arith, fits.variables)
+  there x l = omega (arith, fits.ranges.0)
 
   -- the two operands have the numbers that were chosen for them
   pub left-here : (l r : Operand) (u v : ℤ) (f : ℕ → ℤ) → HasOperand n l → CanBe n l u → operand_of (state-of (choose l u (choose r v f))) l ≡ u

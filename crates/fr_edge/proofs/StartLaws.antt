@@ -1,6 +1,6 @@
 -- The start of an application without objects, and what an alternative says of it.
 use Rattle.std.proofs.Common.{◌≡◌, ℕ, zero, suc, ◌<◌, ◌≤◌, List, [], ◌∷◌, length, get_or, map, refl, sym, ap, ◌∙◌, subst, arith, ⊎_elim}
-use Rattle.std.specs.Prelude.{ℤ, pos, slice_index_or}
+use Rattle.std.specs.Prelude.{pos, slice_index_or}
 use Rattle.std.proofs.lemmas.Int.{ints}
 use Rattle.std.proofs.lemmas.List.{get_or-map, get_or_past, length-map}
 use Rattle.std.proofs.lemmas.Bool.{cases_lt}
@@ -9,7 +9,7 @@ use Rattle.fr_program.specs.declared.range.Range.{Range}
 use Rattle.fr_program.specs.Program.{Program, VariableOf}
 use Rattle.fr_program.specs.Lookup.{variable_at, no_variable}
 use Rattle.fr_program.specs.View.{variable_of}
-use Rattle.fr_calls.specs.State.{State, Content, Dead, start, first_content, content_of, value_of, suspension_of}
+use Rattle.fr_calls.specs.State.{Dead, start, first_content, content_of, value_of}
 use Rattle.fr_notes.specs.declared.claim.Claim.TheVariants.{NotHeld}
 use Rattle.fr_notes.specs.Note.{Alternative, Meets, Within, HoldsOne, claim_of, range_of}
 use Rattle.fr_notes.specs.View.{ends_of}
@@ -43,7 +43,7 @@ pub no-claim : (n : Alternative) (o : ℕ) → n.claims ≡ [] → claim_of n o 
 no-claim n o e = rw e
 
 pub nothing-claimed : (P : Program) (n : Alternative) → P.objects ≡ [] → AlternativeFits P n → n.claims ≡ []
-nothing-claimed P n none fits = empty n.claims (fits.objects ∙ ap length none)
+nothing-claimed P n none fits = empty n.claims (fits.claims.0 ∙ ap length none)
 
 start-content : (P : Program) (o : ℕ) → P.objects ≡ [] → content_of (start P) o ≡ Dead
 start-content P o none = subst (λ os. get_or (map first_content os) o Dead ≡ Dead) (sym none) refl
@@ -54,7 +54,7 @@ start-value P x l = get_or-map (λ v. v.init) P.variables x no_variable (pos 0) 
 module _ (P : Program) (n : Alternative) (none : P.objects ≡ []) (fits : AlternativeFits P n) where
   past : (x : ℕ) → length P.variables ≤ x → Within (range_of n x) (value_of (start P) x)
   past x l =
-      subst (λ r. Within r (value_of (start P) x)) (sym (get_or_past n.ranges x (pos 0, pos 0) (omega (arith, fits.variables)))) (subst (λ v. Within (pos 0, pos 0) v) (sym (value-past P.variables x l)) (omega (arith, ints), omega (arith, ints)))
+      subst (λ r. Within r (value_of (start P) x)) (sym (get_or_past n.ranges x (pos 0, pos 0) (omega (arith, fits.ranges.0)))) (subst (λ v. Within (pos 0, pos 0) v) (sym (value-past P.variables x l)) (omega (arith, ints), omega (arith, ints)))
     where
       value-past : (vs : List VariableOf) (x : ℕ) → length vs ≤ x → get_or (map (λ v. v.init) vs) x (pos 0) ≡ pos 0
       value-past [] x l = refl

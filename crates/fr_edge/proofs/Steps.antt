@@ -1,6 +1,6 @@
 -- What a row leaves of the states with an alternative: the change is exact.
-use Rattle.std.proofs.Common.{◌≡◌, ◌≢◌, ℕ, zero, suc, ◌+◌, ◌-◌, ◌<◌, ◌≤◌, List, [], length, get_or, set, Option, Some, None, Bool, true, false, refl, sym, ap, ◌∙◌, subst, arith, ⊎_elim, inl, inr, eq-eqb}
-use Rattle.std.specs.Prelude.{ℤ, pos, ◌≤ℤ◌, ◌⊎◌, nat_eq, IsTrue, IsFalse, IfSome, Contains, if◌then◌else◌}
+use Rattle.std.proofs.Common.{◌≡◌, ℕ, ◌+◌, ◌-◌, ◌<◌, ◌≤◌, [], length, get_or, set, Some, Bool, true, false, refl, sym, ap, ◌∙◌, subst, arith, ⊎_elim, eq-eqb}
+use Rattle.std.specs.Prelude.{ℤ, pos, nat_eq, if◌then◌else◌}
 use Rattle.std.proofs.lemmas.Int.{ints}
 use Rattle.std.proofs.lemmas.Option.{same_Some}
 use Rattle.std.proofs.lemmas.List.{get_or_past, get_or-set_same}
@@ -8,32 +8,31 @@ use Rattle.std.proofs.Common.{get_or-set_other}
 use Rattle.std.proofs.Math.ListN.{length-set}
 use Rattle.std.proofs.lemmas.Bool.{cases_lt, eqb-true}
 use Rattle.fr_program.specs.declared.instr.Instr.{Instr}
-use Rattle.fr_program.specs.declared.instr.Instr.TheVariants.{Set, If, Goto, Pick, Call as Calls, Return}
+use Rattle.fr_program.specs.declared.instr.Instr.TheVariants.{Set, If, Goto, Call as Calls, Return}
 use Rattle.fr_program.specs.declared.instr.Call.{Call}
-use Rattle.fr_program.specs.declared.instr.Call.TheVariants.{EnterCritical, ExitCritical, SuspendAll, ResumeAll, Yield, Delay, DeleteSelf, Create, Delete, On}
+use Rattle.fr_program.specs.declared.instr.Call.TheVariants.{EnterCritical, ExitCritical, Yield, Delay, DeleteSelf}
 use Rattle.fr_program.specs.declared.instr.Comparison.{Comparison}
 use Rattle.fr_program.specs.declared.instr.Operand.{Operand}
 use Rattle.fr_program.specs.declared.instr.Operand.TheVariants.{Number, Variable}
-use Rattle.fr_program.specs.declared.instr.Operator.{Operator}
 use Rattle.fr_program.specs.declared.range.Range.{Range}
 use Rattle.fr_program.specs.declared.ids.VarId.{VarId}
 use Rattle.fr_program.specs.declared.ids.Point.{Point}
 use Rattle.fr_program.specs.declared.ids.Side.TheVariants.{Before}
 use Rattle.fr_program.specs.Program.{Program}
 use Rattle.fr_program.specs.Lookup.{instr_at, instr_of, IsPoint}
-use Rattle.fr_program.specs.Fault.{IsFaultless, IsJudgedYet, IsInstrJudgedYet, OperandsFit, AreApart}
+use Rattle.fr_program.specs.Fault.{IsJudgedYet, IsInstrJudgedYet}
 use Rattle.fr_calls.specs.declared.way.Way.{Way}
 use Rattle.fr_calls.specs.declared.way.Way.TheVariants.{Works, Fails}
-use Rattle.fr_calls.specs.State.{State, Place, At, Dead, IsWellFormed, place_of, value_of, content_of, suspension_of, depth_of, write, goes_to, held_at, in_critical, critical_at}
-use Rattle.fr_calls.specs.Rule.{Rule, DepthAboveZero, operand_of, result_of}
+use Rattle.fr_calls.specs.State.{State, At, Dead, IsWellFormed, value_of, content_of, suspension_of, depth_of, write, goes_to, in_critical, critical_at}
+use Rattle.fr_calls.specs.Rule.{DepthAboveZero, operand_of}
 use Rattle.fr_calls.specs.Step.{Row, IsFree, StepBy, landing}
 use Rattle.fr_notes.specs.declared.change.Change.{Change}
 use Rattle.fr_notes.specs.declared.claim.Claim.TheVariants.{NotHeld}
 use Rattle.fr_notes.specs.Note.{Alternative, Within, Meets, HoldsOne, range_of}
-use Rattle.fr_notes.specs.Noted.{IsAt, NotedBy}
+use Rattle.fr_notes.specs.Noted.{NotedBy}
 use Rattle.fr_notes.specs.Fits.{AlternativeFits}
 use Rattle.fr_notes.specs.View.{ends_of}
-use Rattle.fr_notes.specs.Change.{CanBe, HasOperands, Turns, IsResult, IsBranch, same, branched, narrowed_to, range_after, new_range, IsCovered, HasChange, HasCallChange, HasNone, Keeps}
+use Rattle.fr_notes.specs.Change.{HasOperands, Turns, IsBranch, same, narrowed_to, range_after, new_range, HasChange, HasCallChange, HasNone, Keeps}
 use Rattle.fr_notes.proofs.Shown.{held_at-same, depth_for-same}
 use Rattle.fr_edge.proofs.Standing.{operand-can, side-before}
 use Rattle.fr_edge.proofs.Rules.{no-objects}
@@ -167,12 +166,12 @@ after-keeps P n m change a S T none fits other formed after keeps = record {
   where
     inside : (x : ℕ) → x < length P.variables → Within (range_of m x) (value_of T x)
     inside x l =
-        let covered = keeps.variables x (omega (arith, fits.variables)) in
+        let covered = keeps.variables x (omega (arith, fits.ranges.0)) in
         let within = after.variables x in (omega (arith, ints), omega (arith, ints))
 
     past : (x : ℕ) → length P.variables ≤ x → Within (range_of m x) (value_of T x)
     past x l =
-        subst (λ r. Within r (value_of T x)) (sym (get_or_past m.ranges x (pos 0, pos 0) (omega (arith, other.variables)))) (subst (λ v. Within (pos 0, pos 0) v) (sym (get_or_past T.values x (pos 0) (omega (arith, after.values, formed.variables)))) (omega (arith, ints), omega (arith, ints)))
+        subst (λ r. Within r (value_of T x)) (sym (get_or_past m.ranges x (pos 0, pos 0) (omega (arith, other.ranges.0)))) (subst (λ v. Within (pos 0, pos 0) v) (sym (get_or_past T.values x (pos 0) (omega (arith, after.values, formed.variables)))) (omega (arith, ints), omega (arith, ints)))
 
 -- a step from a state in which the point's actor stands there is by a row of the point's instruction
 pub record StepHere (P : Program) (p : Point) (i : Instr) (way : Way) (S : State) (c : ℤ) (T : State) : Type 0 where

@@ -1,34 +1,31 @@
 -- Where steps by a row go: to one point at the most, whose note holds after them exactly where each alternative goes
 -- well.
-use Rattle.std.proofs.Common.{◌≡◌, ℕ, ◌<◌, ◌≤◌, List, length, get_or, Some, None, Option, refl, sym, ap, ◌∙◌, subst, arith, ⊎_elim, inl, inr}
-use Rattle.std.specs.Prelude.{ℤ, All, Contains, IfSome, IfNone, slice_get}
-use Rattle.std.proofs.lemmas.Option.{same_Some}
+use Rattle.std.proofs.Common.{◌≡◌, ℕ, ◌<◌, List, length, Some, None, Option, sym, ap, ◌∙◌, subst, arith, ⊎_elim, inl, inr}
+use Rattle.std.specs.Prelude.{ℤ, All, Contains}
 use Rattle.std.proofs.Common.{min}
 use Rattle.std.proofs.lemmas.Bool.{cases_lt}
 use Rattle.fr_notes.specs.declared.change.Change.{Change}
 use Rattle.fr_notes.specs.Change.{HasChange, Keeps}
 use Rattle.std.proofs.lemmas.List.{get_or-set_same}
 use Rattle.fr_program.specs.declared.instr.Instr.{Instr}
-use Rattle.fr_program.specs.declared.ids.ActorId.{ActorId}
 use Rattle.fr_program.specs.declared.ids.Point.{Point}
 use Rattle.fr_program.specs.declared.ids.Side.TheVariants.{Before}
 use Rattle.fr_program.specs.Program.{Program}
 use Rattle.fr_program.specs.Lookup.{instr_of, IsPoint}
-use Rattle.fr_program.specs.Points.{point_number}
 use Rattle.fr_program.specs.Fault.{IsFaultless, IsJudgedYet}
 use Rattle.fr_calls.specs.declared.way.Way.{Way}
 use Rattle.fr_calls.specs.declared.way.Way.TheVariants.{Works, Fails}
-use Rattle.fr_calls.specs.State.{State, Place, At, Done, place_of, goes_to}
+use Rattle.fr_calls.specs.State.{State, At, Done, place_of, goes_to}
 use Rattle.fr_calls.specs.Step.{StepBy, landing}
 use Rattle.fr_notes.specs.Note.{Alternative, Note, HoldsOne}
 use Rattle.fr_notes.specs.Noted.{note_at, IsAt, NotedBy}
 use Rattle.fr_notes.specs.Fits.{AlternativeFits}
 use Rattle.fr_edge.specs.Own.{Goes}
-use Rattle.fr_edge.specs.Alternatives.{GoesBy, GoesWell, Misses, WayOutcome, GoesOutcome, lesser_of}
+use Rattle.fr_edge.specs.Alternatives.{GoesBy, GoesWell, WayOutcome, GoesOutcome, lesser_of}
 use Rattle.fr_edge.proofs.Standing.{actor-there}
 use Rattle.fr_edge.proofs.Rules.{has-operands}
 use Rattle.fr_edge.proofs.Lists.{contained}
-use Rattle.fr_edge.proofs.Steps.{StepHere, step-here, after-row, no-row, after-keeps, places-row}
+use Rattle.fr_edge.proofs.Steps.{step-here, after-row, no-row, after-keeps, places-row}
 
 module _ (P : Program) (notes : List Note) (p : Point) (i : Instr) (way : Way) (free : IsFaultless P) (judged : IsJudgedYet P) (point : IsPoint P p) (is : instr_of P p ≡ Some i) (fits : All (λ n. AlternativeFits P n) (note_at P notes p)) where
   -- the actor lands where the table says
@@ -70,7 +67,7 @@ module _ (P : Program) (notes : List Note) (p : Point) (i : Instr) (way : Way) (
           let h = step-here P p i n way S c T judged point is noted step in
           let j = judged.code p.actor.0 p.pc i is in
           let operands = has-operands P n fits_n i (free.names.things p.actor.0 p.pc i is) in
-          let after = after-row P n p.actor.0 S noted.holds (noted.formed.variables ∙ sym fits_n.variables) i way change c h.mid j operands has h.row in
+          let after = after-row P n p.actor.0 S noted.holds (noted.formed.variables ∙ sym fits_n.ranges.0) i way change c h.mid j operands has h.row in
           let k = after-keeps P n m change p.actor.0 S h.mid judged.objects fits_n fits_m noted.formed after keeps in
           let moved : HoldsOne m p.actor.0 (goes_to p.actor.0 (landing p.pc Before i way) h.mid) = record { critical = k.critical; suspended = k.suspended; objects = k.objects; variables = k.variables } in
           subst (λ U. HoldsOne m p.actor.0 U) (sym h.moved) moved
@@ -83,7 +80,7 @@ module _ (P : Program) (notes : List Note) (p : Point) (i : Instr) (way : Way) (
               let h = step-here P p i n way S c T judged point is noted step in
               let j = judged.code p.actor.0 p.pc i is in
               let fits_n = contained (note_at P notes p) n (λ q. AlternativeFits P q) k fits in
-              absurd (no-row P n p.actor.0 S noted.holds (noted.formed.variables ∙ sym fits_n.variables) i way c h.mid j none h.free h.row)
+              absurd (no-row P n p.actor.0 S noted.holds (noted.formed.variables ∙ sym fits_n.ranges.0) i way c h.mid j none h.free h.row)
           go n k S c T noted step (inr w) =
               let fits_n = contained (note_at P notes p) n (λ q. AlternativeFits P q) k fits in
               let fits_m = contained next w.2 (λ q. AlternativeFits P q) w.3 next_fits in (

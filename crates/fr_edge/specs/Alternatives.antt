@@ -13,7 +13,7 @@
 -- | GoesWell, Misses                 | an alternative of the next note says no more than what a row leaves; none   |
 -- | IsOutBy                          | a `set` gives some number out of its target's declared range                |
 -- | lesser_of                        | the lesser of two numbers, where there are any                              |
-use Rattle.std.specs.Prelude.{◌≡◌, ◌<◌, ◌≤ℤ◌, ◌⊎◌, ℕ, ℤ, List, Option, None, Some, length, slice_get, slice_index_or, IsTrue, Contains, min}
+use Rattle.std.specs.Prelude.{◌≡◌, ◌<◌, ◌≤ℤ◌, ◌⊎◌, ℕ, ℤ, List, Option, None, Some, slice_index_or, IsTrue, Contains, min}
 use Rattle.fr_program.specs.declared.instr.Instr.{Instr}
 use Rattle.fr_program.specs.declared.instr.Instr.TheVariants.{Set}
 use Rattle.fr_program.specs.declared.ids.Point.{Point}

@@ -1,5 +1,5 @@
 -- The bytes have one answer: they stand for one application and for one certificate, and these have one verdict.
-use Rattle.std.proofs.Common.{◌≡◌, ℕ, List, sym, ap, ◌∙◌, subst}
+use Rattle.std.proofs.Common.{◌≡◌, sym, ap, ◌∙◌, subst}
 use Rattle.fr_program.specs.Program.{Program}
 use Rattle.fr_reader.proofs.Laws.{one_meaning as one-application}
 use Rattle.fr_ends.specs.Certificate.{Certificate}

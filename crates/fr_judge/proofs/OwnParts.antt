@@ -1,12 +1,11 @@
 -- The first own obligation that fails is the first part that does: today no other part can fail.
-use Rattle.std.proofs.Common.{◌≡◌, ℕ, ◌<◌, List, Option, Some, None, refl, sym, ap, subst, ⊎_elim, arith}
+use Rattle.std.proofs.Common.{ℕ, Option, Some, None, refl, sym, ap, subst, ⊎_elim, arith}
 use Rattle.std.specs.Option.{option_map}
 use Rattle.fr_program.specs.declared.ids.Point.{Point}
 use Rattle.fr_program.specs.Program.{Program}
 use Rattle.fr_program.specs.Lookup.{IsPoint}
 use Rattle.fr_program.specs.Points.{point_number}
 use Rattle.fr_program.specs.Fault.{IsFaultless, IsJudgedYet}
-use Rattle.fr_calls.specs.Rule.{number_of}
 use Rattle.fr_edge.specs.declared.failing.Own.{Own}
 use Rattle.fr_edge.specs.declared.failing.Own.TheVariants.{Entry as OwnEntry, Rule as OwnRule, Goes as OwnGoes}
 use Rattle.fr_edge.specs.FirstOwn.{IsFirstOwn}
@@ -14,7 +13,7 @@ use Rattle.fr_ends.specs.Certificate.{Certificate}
 use Rattle.fr_judge.specs.declared.part.Part.{Part as Told}
 use Rattle.fr_judge.specs.declared.part.Part.TheVariants.{Rule}
 use Rattle.fr_judge.specs.Part.{Part, EntryPart, RulePart, GoesPart, GuardPart, NearPart, SpoiledPart, IsKept, place_in_order, ComesBefore}
-use Rattle.fr_judge.specs.Verdict.{KeepsAll, IsFirstPart}
+use Rattle.fr_judge.specs.Verdict.{KeepsAll}
 use Rattle.fr_judge.specs.Told.{part_of_own, TellsFirst, IsOf}
 use Rattle.fr_judge.proofs.Telling.{failing-is-of, keeps-guard, keeps-near, keeps-undisturbed}
 

@@ -1,22 +1,18 @@
 -- What is told of a point is of the application, and what an application of today's kind can't fail: it has one task and
 -- no object, so no point is inside an object call, and no other actor has a point.
-use Rattle.std.proofs.Common.{◌≡◌, ℕ, ◌<◌, ◌≤◌, List, [], ◌∷◌, length, Option, Some, None, refl, sym, ap, ◌∙◌, subst, arith}
-use Rattle.std.specs.Prelude.{IsTrue, IfSome, All}
-use Rattle.std.proofs.lemmas.Option.{same_Some}
-use Rattle.fr_program.specs.declared.instr.Instr.TheVariants.{Call as Calls}
-use Rattle.fr_program.specs.declared.instr.Call.TheVariants.{On}
-use Rattle.fr_program.specs.declared.instr.Action.{Action}
+use Rattle.std.proofs.Common.{◌≡◌, ℕ, ◌<◌, ◌≤◌, List, length, ap, subst, arith}
+use Rattle.std.specs.Prelude.{IsTrue, All}
 use Rattle.fr_program.specs.declared.ids.ActorId.{ActorId}
 use Rattle.fr_program.specs.declared.ids.Point.{Point}
 use Rattle.fr_program.specs.Program.{Program}
-use Rattle.fr_program.specs.Lookup.{IsPoint, instr_of}
+use Rattle.fr_program.specs.Lookup.{IsPoint}
 use Rattle.fr_program.specs.Fault.{IsFaultless, IsJudgedYet}
 use Rattle.fr_calls.specs.Rule.{Rule, OneWriter, OneReader, number_of, End}
 use Rattle.fr_edge.specs.Own.{is_own}
 use Rattle.fr_ends.specs.Guard.{EndGuard, Guard, Sole, ByMutex, InCritical, Turn}
 use Rattle.fr_ends.specs.Certificate.{Certificate, HasDistinctTurns, AllHaveDistinctTurns}
-use Rattle.fr_ends.specs.Fits.{GuardFits, EndFits, EndsFit}
-use Rattle.fr_ends.specs.Guarded.{IsInsideOn, Guarded, Near}
+use Rattle.fr_ends.specs.Fits.{GuardFits, EndFits}
+use Rattle.fr_ends.specs.Guarded.{Guarded, Near}
 use Rattle.fr_interfere.specs.Undisturbed.{Undisturbed}
 use Rattle.fr_judge.specs.Part.{Part, EntryPart, RulePart, GoesPart, GuardPart, NearPart, SpoiledPart, IsKept}
 use Rattle.fr_judge.specs.Told.{told_part, IsOf}

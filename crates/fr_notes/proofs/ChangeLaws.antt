@@ -1,6 +1,6 @@
 -- From ranges in code to what an alternative says: the spans of results, and the least ranges of an `if`'s operands.
-use Rattle.std.proofs.Common.{List, length, map, get_or, ◌<◌, ◌≡◌, ℕ, sym, ◌∙◌, ap, subst, refl, arith}
-use Rattle.std.specs.Prelude.{slice_index_or, pos, ℤ, ◌≤ℤ◌, ◌*ℤ◌}
+use Rattle.std.proofs.Common.{List, length, map, get_or, ◌<◌, ◌≡◌, ℕ, sym, ◌∙◌, ap, subst, arith}
+use Rattle.std.specs.Prelude.{slice_index_or, pos, ℤ, ◌*ℤ◌}
 use Rattle.std.proofs.lemmas.Int.{ints}
 use Rattle.std.proofs.Math.IntN.{*ℤ_comm}
 use Rattle.std.proofs.lemmas.List.{get_or-map}
@@ -15,8 +15,8 @@ use Rattle.fr_calls.specs.Rule.{result_of}
 use Rattle.fr_notes.specs.declared.change.Change.{Change}
 use Rattle.fr_notes.specs.Note.{Alternative, Within}
 use Rattle.fr_notes.specs.View.{ends_of}
-use Rattle.fr_notes.specs.Narrow.{AreLeast, NoPair, turned}
-use Rattle.fr_notes.specs.Change.{operand_range, CanBe, HasNumbers, IsResult, IsBranch, NoBranch, branched, IsCovered, new_range}
+use Rattle.fr_notes.specs.Narrow.{AreLeast, NoPair}
+use Rattle.fr_notes.specs.Change.{operand_range, CanBe, IsResult, IsBranch, NoBranch, branched, IsCovered, new_range}
 
 module _ (n : Alternative) (o : Operand) (a : Range) (is : ends_of a ≡ operand_range n o) where
   pub is-in : (v : ℤ) → CanBe n o v → IsIn a v

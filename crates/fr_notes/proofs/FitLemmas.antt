@@ -18,12 +18,10 @@ pub fits-from_parts : (P : Program) (n : Inside) → n.crit ≤ most_depth → n
 fits-from_parts P n critical suspended claims ranges = record {
   critical = critical;
   suspended = suspended;
-  objects = claims.0;
-  variables = ranges.0;
-  claims = claims.1;
+  claims = claims;
+  ranges = ranges;
   order = ends-ordered n.ranges.items;
-  inside = ranges.1;
 }
 
 pub ranges-from_fits : (P : Program) (n : Inside) → AlternativeFits P (alternative_of n) → RangesFit P (map ends_of n.ranges.items)
-ranges-from_fits P n f = (f.variables, f.inside)
+ranges-from_fits P n f = f.ranges

@@ -164,18 +164,18 @@ module _ (P : Program) (a : ℕ) (l : a < length P.actors) where
 
       claims-shown : (o : ℕ) → ClaimImplies (claim_of n o) (claim_of m o)
       claims-shown o = ⊎_elim
-          (λ below. claim-shown (kind_of P o) (claim_of n o) (claim_of m o) ((is-built P free).sizes o) (f.claims o) (content-brings o below))
+          (λ below. claim-shown (kind_of P o) (claim_of n o) (claim_of m o) ((is-built P free).sizes o) (f.claims.1 o) (content-brings o below))
           (λ past.
-          let left = get_or_past n.claims o NotHeld (omega (arith, f.objects)) in
-          let right = get_or_past m.claims o NotHeld (omega (arith, g.objects)) in
+          let left = get_or_past n.claims o NotHeld (omega (arith, f.claims.0)) in
+          let right = get_or_past m.claims o NotHeld (omega (arith, g.claims.0)) in
           subst (λ c. ClaimImplies c (claim_of m o)) (sym left) (subst (λ d. ClaimImplies NotHeld d) (sym right) tt)) (cases_lt o (length P.objects))
 
       ranges-shown : (x : ℕ) → IsPart (range_of n x) (range_of m x)
       ranges-shown x = ⊎_elim
           (λ below. ((value-brings x below (range_of n x).0 (least-within P n f x)).0, (value-brings x below (range_of n x).1 (f.order x, omega (arith, ints))).1))
           (λ past.
-          let left = get_or_past n.ranges x (pos 0, pos 0) (omega (arith, f.variables)) in
-          let right = get_or_past m.ranges x (pos 0, pos 0) (omega (arith, g.variables)) in
+          let left = get_or_past n.ranges x (pos 0, pos 0) (omega (arith, f.ranges.0)) in
+          let right = get_or_past m.ranges x (pos 0, pos 0) (omega (arith, g.ranges.0)) in
           subst (λ r. IsPart r (range_of m x)) (sym left) (subst (λ s. IsPart (pos 0, pos 0) s) (sym right) (omega (arith, ints), omega (arith, ints)))) (cases_lt x (length P.variables))
 
       -- an alternative that brings another in each state is stronger than it
@@ -187,8 +187,8 @@ module _ (P : Program) (a : ℕ) (l : a < length P.actors) where
           record {
             critical = sym first.critical ∙ second.critical;
             suspended = sym first.suspended ∙ second.suspended;
-            claims = (f.objects ∙ sym g.objects, claims-shown);
-            ranges = (f.variables ∙ sym g.variables, ranges-shown);
+            claims = (f.claims.0 ∙ sym g.claims.0, claims-shown);
+            ranges = (f.ranges.0 ∙ sym g.ranges.0, ranges-shown);
           }
 
 -- of a note with one alternative that alternative holds

@@ -1,14 +1,13 @@
 -- Least ranges of related pairs: from one relation to another that is true of the same pairs, and turned round.
-use Rattle.std.proofs.Common.{◌≡◌, ℕ, Bool, true, false, refl, sym, ◌∙◌, ap, arith, Option, Some, None, IfSome, IfNone, ⊎_elim, inl, inr}
+use Rattle.std.proofs.Common.{◌≡◌, Bool, true, false, refl, sym, ◌∙◌, arith, Option, Some, None, IfSome, IfNone, ⊎_elim, inl, inr}
 use Rattle.std.specs.Prelude.{◌≢◌, ◌<ℤ◌, ◌≤ℤ◌, ◌+ℤ◌, ℤ, pos, negsuc, IsTrue, ◌-ℤ◌, int_lt, int_le, not, ◌⊎◌}
 use Rattle.std.specs.Ordering.{int_eq}
 use Rattle.std.specs.Int.{int_min, int_max}
 use Rattle.std.proofs.lemmas.Int.{ints, clamps}
 use Rattle.std.proofs.lemmas.Bool.Decides.{Decides-int_eq}
-use Rattle.fr_program.specs.declared.instr.Comparison.{Comparison}
 use Rattle.fr_program.specs.declared.instr.Comparison.TheVariants.{Less, AtMost, Greater, AtLeast, Equal, NotEqual}
 use Rattle.fr_program.specs.declared.range.Range.{Range}
-use Rattle.fr_notes.specs.Narrow.{Compares, IsBelow, IsPair, IsLeast, turned, AreLeast, NoPair, IsWithout}
+use Rattle.fr_notes.specs.Narrow.{Compares, IsBelow, IsLeast, turned, AreLeast, NoPair, IsWithout}
 use Rattle.fr_program.specs.Spans.{IsIn}
 
 -- two relations are true of the same numbers

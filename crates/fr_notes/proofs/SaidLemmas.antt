@@ -95,9 +95,13 @@ module _ (P : Program) where
   said-fits parts free crit susp counts spans = record {
     critical = crit;
     suspended = susp;
-    objects = length-map-range_with_len (claim_said parts) 0 (length P.objects);
-    variables = length-map-range_with_len (range_said P parts.range.items) 0 (length P.variables);
-    claims = λ o. listed-case (length P.objects) (claim_said parts) o NotHeld (λ claim. CanClaim (kind_of P o) claim) (λ l. claim-fits parts o counts) (λ l. can-unheld (kind_of P o) false false);
+    claims = (
+      length-map-range_with_len (claim_said parts) 0 (length P.objects),
+      λ o. listed-case (length P.objects) (claim_said parts) o NotHeld (λ claim. CanClaim (kind_of P o) claim) (λ l. claim-fits parts o counts) (λ l. can-unheld (kind_of P o) false false),
+    );
+    ranges = (
+      length-map-range_with_len (range_said P parts.range.items) 0 (length P.variables),
+      λ x. let h = said-ranges parts x free spans in (h.1, h.2),
+    );
     order = λ x. (said-ranges parts x free spans).0;
-    inside = λ x. let h = said-ranges parts x free spans in (h.1, h.2);
   }

@@ -116,11 +116,11 @@ module _ (P : Program) (n : Alternative) (a : ℕ) (place : ℕ → Place) (valu
   }
 
   past-claim : AlternativeFits P n → (o : ℕ) → length P.objects ≤ o → Meets a (claim_of n o) Dead
-  past-claim f o l = subst (λ c. Meets a c Dead) (sym (get_or_past n.claims o NotHeld (omega (arith, f.objects)))) refl
+  past-claim f o l = subst (λ c. Meets a c Dead) (sym (get_or_past n.claims o NotHeld (omega (arith, f.claims.0)))) refl
 
   past-range : AlternativeFits P n → (x : ℕ) → length P.variables ≤ x → Within (range_of n x) (pos 0)
   past-range f x l =
-      subst (λ r. Within r (pos 0)) (sym (get_or_past n.ranges x (pos 0, pos 0) (omega (arith, f.variables)))) (omega (arith, ints), omega (arith, ints))
+      subst (λ r. Within r (pos 0)) (sym (get_or_past n.ranges x (pos 0, pos 0) (omega (arith, f.ranges.0)))) (omega (arith, ints), omega (arith, ints))
 
   pub shown-holds : Shows P n a place value content → HoldsOne n a (shown P n a place value content)
   shown-holds s = record {
@@ -212,7 +212,7 @@ content_for-fits P a (Stream size) (HeldTimes count) h l c = absurd c
 content_for-fits P a (Message size) (HeldTimes count) h l c = absurd c
 
 pub usual-fits : (P : Program) → IsFaultless P → (n : Alternative) → AlternativeFits P n → (a : ℕ) → a < length P.actors → (o : ℕ) → CanHave P (kind_of P o) (usual P n a o)
-usual-fits P free n f a l o = content_for-fits P a (kind_of P o) (claim_of n o) ((is-built P free).sizes o) l (f.claims o)
+usual-fits P free n f a l o = content_for-fits P a (kind_of P o) (claim_of n o) ((is-built P free).sizes o) l (f.claims.1 o)
 
 -- an alternative that fits holds of each actor in some state
 pub usual-shows : (P : Program) → IsFaultless P → (n : Alternative) → AlternativeFits P n → (a : ℕ) → a < length P.actors → Shows P n a done (least n) (usual P n a)

@@ -1,15 +1,12 @@
 -- The worked parts, row by row: the entry in which a fault stands or why there is none, and a state to show where one
 -- note doesn't imply another.
-use Rattle.std.proofs.Common.{◌≡◌, ◌||◌, ℕ, zero, suc, ◌<◌, ◌≤◌, ◌≤ℤ◌, ℤ, pos, negsuc, List, [], ◌∷◌, Bool, IsTrue, get_or, length, Any, None, Some, is_some, refl, sym, subst, arith}
+use Rattle.std.proofs.Common.{◌≡◌, ◌||◌, ℕ, zero, suc, ℤ, pos, negsuc, List, [], ◌∷◌, Bool, IsTrue, Any, None, Some, is_some, refl, sym, subst, arith}
 use Rattle.std.proofs.lemmas.Int.{ints}
 use Rattle.fr_program.specs.declared.ids.ObjId.{ObjId}
-use Rattle.fr_program.specs.declared.ids.VarId.{VarId}
 use Rattle.fr_program.specs.declared.range.Range.{Range}
 use Rattle.fr_calls.specs.State.{State, Free, Held, Dead, IsWellFormed, content_of, value_of}
-use Rattle.fr_notes.specs.declared.note.NoteParts.{NoteParts}
 use Rattle.fr_notes.specs.Note.{Alternative, NotHeld, Alive, Gone, HeldTimes, Meets, Within, HoldsOne, claim_of, range_of}
 use Rattle.fr_notes.specs.Parts.{names, count_in, count_said, is_live_said, IsCount, IsInside}
-use Rattle.fr_notes.specs.Compare.{Implies}
 use Rattle.fr_notes.specs.WorkedNotes.{two_tasks, says, any}
 use Rattle.fr_notes.specs.WorkedParts.{four_objects, object, held, IsRefusedCount, IsCountable, IsTorn, IsWhole, IsPast, IsKept, Implied, WorkedFaults, WorkedImplied}
 use Rattle.fr_notes.proofs.ImpliedLemmas.{only-one}

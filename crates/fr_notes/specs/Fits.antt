@@ -14,7 +14,7 @@ use Rattle.fr_program.specs.Program.{Program}
 use Rattle.fr_program.specs.Lookup.{variable_at}
 use Rattle.fr_program.specs.Points.{points_of}
 use Rattle.fr_calls.specs.State.{kind_of}
-use Rattle.fr_notes.specs.Note.{Alternative, Note, Claim, NotHeld, HeldTimes, claim_of, range_of}
+use Rattle.fr_notes.specs.Note.{Alternative, Note, Claim, NotHeld, HeldTimes, range_of}
 
 -- the most that a depth or a count in a note can be
 abbrev pub most_depth : ℕ
@@ -43,16 +43,14 @@ IsWithinDeclared P x range = ((variable_at P x).lo ≤ℤ range.0) × (range.1 �
 abbrev pub RangesFit : Program → List (ℤ × ℤ) → Type 0
 RangesFit P ranges = (length ranges ≡ length P.variables) × ((x : ℕ) → IsWithinDeclared P x (slice_index_or ranges x (pos 0, pos 0)))
 
--- an alternative that can be built for the application: it has a claim for each object and, for each variable, a range
--- inside the declared one
+-- an alternative that can be built for the application: its claims fit the objects, and its ranges, each with its ends
+-- in order, the variables
 pub record AlternativeFits (P : Program) (n : Alternative) : Type 0 where
   pub critical : n.critical ≤ most_depth
   pub suspended : n.suspended ≤ most_depth
-  pub objects : length n.claims ≡ length P.objects
-  pub variables : length n.ranges ≡ length P.variables
-  pub claims : (o : ℕ) → CanClaim (kind_of P o) (claim_of n o)
+  pub claims : ClaimsFit P n.claims
+  pub ranges : RangesFit P n.ranges
   pub order : (x : ℕ) → (range_of n x).0 ≤ℤ (range_of n x).1
-  pub inside : (x : ℕ) → ((variable_at P x).lo ≤ℤ (range_of n x).0) × ((range_of n x).1 ≤ℤ (variable_at P x).hi)
 
 -- at most four alternatives, each of which fits
 abbrev pub NoteFits : Program → Note → Type 0

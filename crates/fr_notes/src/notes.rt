@@ -57,6 +57,7 @@ impl Notes {
     {
         self.notes.get(number)
     }
+
     /// Whether there is one note for each point, each of which could have been built for the
     /// application. Takes no memory.
     pub fn fits(&self, app: &App) -> bool

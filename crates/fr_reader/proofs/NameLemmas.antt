@@ -1,5 +1,5 @@
 -- Names, one after another: each is apart from those before it, or stands a second time.
-use Rattle.std.proofs.Common.{◌≡◌, ◌≢◌, ◌==◌, ℕ, zero, suc, arith, ◌+◌, ◌<◌, ◌≤◌, All, slice_index, List, [], ◌∷◌, ◌++◌, Bool, true, false, Bor, ◌||◌, length, get_or, take, drop, map, Contains, refl, sym, ap, ◌∙◌, subst, true≢false, drop-cons, add-one, not, if◌then◌else◌}
+use Rattle.std.proofs.Common.{◌≡◌, ◌≢◌, ℕ, ◌+◌, ◌<◌, List, [], ◌∷◌, ◌++◌, Bool, true, false, Bor, ◌||◌, length, get_or, take, drop, map, Contains, refl, sym, ap, ◌∙◌, subst, true≢false, drop-cons, add-one, not, if◌then◌else◌}
 use Rattle.std.specs.List.{list_any}
 use Rattle.std.specs.Str.{bytes_eq}
 use Rattle.std.specs.Cmp.Lexicographic.{bytes_decides, nat_list_eq_equiv}
@@ -7,7 +7,7 @@ use Rattle.std.proofs.lemmas.Map.Views.{list_any-from_Contains, Contains-from_an
 use Rattle.std.proofs.lemmas.List.{take-append-drop, take_more, map-append}
 use Rattle.std.proofs.lemmas.List.Elements.{All-push, Contains-get_or}
 use Rattle.std.proofs.lemmas.List.Quantifiers.{all_pairs_push}
-use Rattle.fr_program.specs.Limits.{IsName, is_letter, is_digit, reserved}
+use Rattle.fr_program.specs.Limits.{IsName}
 use Rattle.fr_reader.specs.Views.{line_text}
 use Rattle.fr_reader.specs.Meaning.{AreNames}
 use Rattle.fr_reader.specs.Stands.{StandsTwice}

@@ -1,5 +1,4 @@
-use Rattle.std.proofs.Common.{sym, ap, ◌∙◌, Result, Err}
-use Rattle.fr_parallel.specs.declared.bytes.BytesFault.{BytesFault}
+use Rattle.std.proofs.Common.{sym, ap, ◌∙◌, Err}
 use Rattle.fr_check.proofs.Refusals.{refused-by, zero-yes}
 use Rattle.fr_check.proofs.checking.check_with.Goals as goal
 

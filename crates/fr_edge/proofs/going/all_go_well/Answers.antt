@@ -1,4 +1,4 @@
-use Rattle.std.proofs.Common.{◌≡◌, length, sym, ◌∙◌, ap, subst, arith, refl}
+use Rattle.std.proofs.Common.{sym, subst, arith}
 use Rattle.std.specs.Prelude.{Contains}
 use Rattle.fr_edge.specs.Alternatives.{GoesWell}
 use Rattle.fr_edge.proofs.Lists.{among-case, item-fits}

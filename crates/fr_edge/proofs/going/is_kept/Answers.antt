@@ -1,4 +1,4 @@
-use Rattle.std.proofs.Common.{◌≡◌, length, sym, ◌∙◌, ap, subst, arith, refl}
+use Rattle.std.proofs.Common.{sym, subst, arith}
 use Rattle.std.specs.Prelude.{Contains}
 use Rattle.fr_notes.specs.Change.{Keeps}
 use Rattle.fr_edge.proofs.Lists.{among-case, item-fits}
@@ -11,7 +11,7 @@ keeps-requires-clause-claims c = nothing-claimed c.args.app.now c.args.alternati
 pub keeps-requires-clause-ranges : goal.keeps-requires-clause-ranges
 keeps-requires-clause-ranges c =
     let f = item-fits c.args.app.now c.alternatives-other-items.result.now c.args.next.now c.loop-other.other-index c.other-item.result c.alternatives-other-items.ensures c.loop-other-test.true c.other-item.is c.requires.next in
-    omega (arith, f.variables, c.requires.fits.variables)
+    omega (arith, f.ranges.0, c.requires.fits.ranges.0)
 
 pub returns-then-keeps : goal.returns-then-keeps
 returns-then-keeps c =

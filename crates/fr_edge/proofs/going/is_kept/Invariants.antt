@@ -1,4 +1,3 @@
-use Rattle.std.proofs.Common.{◌<◌, ℕ}
 use Rattle.fr_notes.specs.Note.{Alternative}
 use Rattle.fr_notes.specs.Change.{Keeps}
 use Rattle.fr_edge.specs.Alternatives.{IsAmong}

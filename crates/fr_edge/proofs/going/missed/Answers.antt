@@ -1,4 +1,4 @@
-use Rattle.std.proofs.Common.{◌≡◌, Some, None, get_or, [], sym, ◌∙◌, ap, subst, arith}
+use Rattle.std.proofs.Common.{◌≡◌, get_or, [], sym, ◌∙◌, ap, subst, arith}
 use Rattle.std.specs.Prelude.{All, Contains}
 use Rattle.fr_program.specs.Points.{point_number}
 use Rattle.fr_program.specs.declared.ids.Side.TheVariants.{Before}
@@ -9,7 +9,7 @@ use Rattle.fr_notes.specs.Noted.{note_at}
 use Rattle.fr_edge.proofs.Standing.{side-before}
 use Rattle.fr_edge.proofs.Lists.{contained}
 use Rattle.fr_edge.proofs.Firsts.{pc-small, get-at, get-none, note-there, note-fits, landed}
-use Rattle.fr_edge.proofs.Targets.{no-landing, no-target, others, all-go}
+use Rattle.fr_edge.proofs.Targets.{no-target, others, all-go}
 use Rattle.fr_edge.proofs.Missing.{missing}
 use Rattle.fr_edge.proofs.going.missed.Goals as goal
 

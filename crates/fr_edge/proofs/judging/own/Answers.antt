@@ -1,10 +1,9 @@
-use Rattle.std.proofs.Common.{◌≡◌, Some, None, sym, ◌∙◌, ap, subst}
-use Rattle.std.specs.Prelude.{slice_get}
+use Rattle.std.proofs.Common.{Some, None, sym, ◌∙◌, subst}
 use Rattle.std.proofs.lemmas.Option.{same_Some}
 use Rattle.fr_edge.specs.declared.failing.Own.TheVariants.{Rule as FailsRule, Goes as FailsGoes}
 use Rattle.fr_edge.specs.Own.{Entry}
 use Rattle.fr_edge.specs.FirstOwn.{IsFirstOwn}
-use Rattle.fr_edge.proofs.Firsts.{HereFacts, here-facts, least-rule, all-rules, goes-first, missed-below}
+use Rattle.fr_edge.proofs.Firsts.{here-facts, least-rule, all-rules, goes-first, missed-below}
 use Rattle.fr_edge.proofs.judging.own.Goals as goal
 
 pub enters-requires-clause-fits : goal.enters-requires-clause-fits

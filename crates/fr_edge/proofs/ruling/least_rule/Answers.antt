@@ -1,4 +1,4 @@
-use Rattle.std.proofs.Common.{◌≡◌, ◌+◌, length, sym, ◌∙◌, ap, subst, arith}
+use Rattle.std.proofs.Common.{◌≡◌, ◌+◌, length, sym, subst, arith}
 use Rattle.fr_edge.specs.Alternatives.{NoteOutcome}
 use Rattle.fr_edge.proofs.Lists.{note-step}
 use Rattle.fr_edge.proofs.ruling.least_rule.Goals as goal

@@ -1,4 +1,4 @@
-use Rattle.fr_edge.proofs.Rules.{SetFacts, set-facts, stays-made, leaves-made, has-numbers}
+use Rattle.fr_edge.proofs.Rules.{set-facts, stays-made, leaves-made, has-numbers}
 use Rattle.fr_edge.proofs.ruling.stays_in_range.Goals as goal
 
 pub result-result-requires-clause-numbers : goal.result-result-requires-clause-numbers

@@ -1,6 +1,6 @@
-use Rattle.std.proofs.Common.{◌≡◌, sym, ◌∙◌, ap, arith, map}
+use Rattle.std.proofs.Common.{◌≡◌, sym, ◌∙◌, ap, map}
 use Rattle.fr_notes.specs.View.{ends_of}
-use Rattle.fr_edge.proofs.StartLaws.{start-holds, start-tells, begins-in, in-begins, nothing-claimed}
+use Rattle.fr_edge.proofs.StartLaws.{start-holds, start-tells, begins-in, in-begins}
 use Rattle.fr_edge.proofs.starting.holds_at_start.Goals as goal
 
 pub returns-then-alternative-ne0 : goal.returns-then-alternative-ne0

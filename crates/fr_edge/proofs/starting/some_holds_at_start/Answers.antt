@@ -1,4 +1,4 @@
-use Rattle.std.proofs.Common.{◌≡◌, length, sym, ◌∙◌, ap, subst, arith, refl}
+use Rattle.std.proofs.Common.{sym, subst, arith, refl}
 use Rattle.fr_calls.specs.State.{start}
 use Rattle.fr_notes.specs.Note.{Holds, HoldsOne}
 use Rattle.fr_edge.proofs.Lists.{among-case}

@@ -1,4 +1,4 @@
-use Rattle.std.proofs.Common.{◌<◌, ℕ}
+use Rattle.std.proofs.Common.{ℕ}
 use Rattle.fr_calls.specs.State.{start}
 use Rattle.fr_notes.specs.Note.{Alternative, HoldsOne}
 use Rattle.fr_edge.specs.Alternatives.{IsAmong}

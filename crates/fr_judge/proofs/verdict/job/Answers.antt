@@ -1,7 +1,5 @@
 -- The own obligation is the part: today nothing else can fail.
-use Rattle.std.proofs.Common.{◌≡◌, Some, None, subst, sym}
-use Rattle.fr_edge.specs.FirstOwn.{IsFirstOwn}
-use Rattle.fr_judge.specs.Told.{TellsFirst}
+use Rattle.std.proofs.Common.{Some, None}
 use Rattle.fr_judge.proofs.OwnParts.{tells-first, first-is-of}
 use Rattle.fr_judge.proofs.verdict.job.Goals as goal
 

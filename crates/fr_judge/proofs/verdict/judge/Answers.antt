@@ -1,10 +1,8 @@
 -- The points before the one that the loop is at keep every part; so the first that fails is the least one, and where the
 -- loop ends, all keep.
-use Rattle.std.proofs.Common.{◌≡◌, ℕ, ◌<◌, length, refl, arith}
-use Rattle.fr_program.specs.Points.{points_of}
-use Rattle.fr_judge.specs.Verdict.{Yes, IsCertified}
-use Rattle.fr_judge.specs.Told.{KeepsBelow}
-use Rattle.fr_judge.proofs.Judging.{one-more, all-keep, first-failure, yes-safe}
+use Rattle.std.proofs.Common.{refl, arith}
+use Rattle.fr_judge.specs.Verdict.{Yes}
+use Rattle.fr_judge.proofs.Judging.{all-keep, first-failure, yes-safe}
 use Rattle.fr_judge.proofs.verdict.judge.Goals as goal
 
 pub returns-in-Some-clause-verdict : goal.returns-in-Some-clause-verdict

@@ -1,4 +1,3 @@
-use Rattle.std.proofs.Common.{◌≡◌, refl}
 use Rattle.fr_notes.specs.Narrow.{Compares}
 use Rattle.fr_notes.specs.Change.{Turns}
 use Rattle.fr_notes.proofs.ChangeLaws.{branch-made}

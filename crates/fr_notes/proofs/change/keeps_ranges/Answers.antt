@@ -1,5 +1,4 @@
-use Rattle.std.proofs.Common.{below_more, sym, ◌∙◌, false}
-use Rattle.std.specs.Prelude.{IsTrue}
+use Rattle.std.proofs.Common.{below_more, sym, ◌∙◌}
 use Rattle.fr_notes.proofs.ChangeLaws.{covered-at, at-covered}
 use Rattle.fr_notes.proofs.change.keeps_ranges.Goals as goal
 

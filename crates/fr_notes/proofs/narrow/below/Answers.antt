@@ -1,13 +1,11 @@
-use Rattle.std.proofs.Common.{arith, ◌≡◌, sym, ap, ◌∙◌, inl, inr}
-use Rattle.std.specs.Prelude.{◌≢◌, ◌≤ℤ◌, ◌+ℤ◌, ◌-ℤ◌, ℤ, pos, negsuc, FitsSigned}
-use Rattle.std.proofs.lemmas.Int.{ints, clamps}
-use Rattle.std.proofs.lemmas.Option.{IfSome_then}
+use Rattle.std.proofs.Common.{arith, ◌≡◌, ap, ◌∙◌}
+use Rattle.std.specs.Prelude.{◌+ℤ◌, ◌-ℤ◌}
+use Rattle.std.proofs.lemmas.Int.{ints}
 use mir.Val.{to_z, of_z}
 use Rattle.std.specs.Int.{int_min, int_max}
-use mir.Syntax.{w64, w128}
-use Rattle.fr_program.specs.declared.instr.Comparison.TheVariants.{Less, AtMost, Greater, AtLeast, Equal, NotEqual}
-use Rattle.fr_notes.specs.Narrow.{Compares, IsBelow, IsLeast, AreLeast, NoPair, IsWithout, turned}
-use Rattle.fr_notes.proofs.NarrowLaws.{if_none, none_then, apart-turned, are-least-same, are-least-turned, no-pair-same, no-pair-turned, less, at-most, greater, at-least, equal, not-equal, without-made, without-none, least-apart, least-without, none-without, IsMoved, below-made, same-made, turned-least, exchanged-some, exchanged-none}
+use mir.Syntax.{w128}
+use Rattle.fr_notes.specs.Narrow.{IsBelow, NoPair}
+use Rattle.fr_notes.proofs.NarrowLaws.{if_none, below-made}
 use Rattle.fr_notes.proofs.narrow.below.Goals as goal
 
 pub returns-in_err-left-clause-none : goal.returns-in_err-left-clause-none

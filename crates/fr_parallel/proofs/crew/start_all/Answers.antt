@@ -1,4 +1,4 @@
-use Rattle.std.proofs.Common.{rules, arith, Some}
+use Rattle.std.proofs.Common.{rules, Some}
 use Rattle.std.proofs.lemmas.List.Elements.{All-pop, All-push}
 use Rattle.fr_board.specs.Values.{PassValue}
 use Rattle.fr_parallel.specs.Tasks.{IsNewOf}

@@ -1,10 +1,8 @@
 use Rattle.std.specs.Prelude.{FitsSigned}
 use Rattle.std.proofs.lemmas.Int.{to_z-of_z}
 use mir.Syntax.{w64}
-use Rattle.std.proofs.Common.{rules, ◌≡◌, sym, subst, ◌∙◌, ap}
-use Rattle.fr_program.specs.declared.instr.Operand.TheVariants.{Number}
-use Rattle.fr_program.specs.declared.instr.Operator.TheVariants.{Plus, Minus, Times}
-use Rattle.fr_notes.specs.Change.{IsResult}
+use Rattle.std.proofs.Common.{rules}
+use Rattle.fr_program.specs.declared.instr.Operator.TheVariants.{Plus, Minus}
 use Rattle.fr_notes.proofs.ChangeLaws.{result-made, left-scaled, right-scaled}
 use Rattle.fr_notes.proofs.note.Alternative.result.Goals as goal
 
