@@ -6,6 +6,7 @@
 -- | fault_status, line_of   | the exit status and the line of a fault                                       |
 -- | IsAnswer                | the status and what was written are those of the verdict on the bytes         |
 -- | IsSafeText              | the bytes stand for an application that is safe                               |
+-- | HasVerdict              | there is a verdict on the bytes                                               |
 -- | check_fault             | the fault of a check that refused bytes come to; inner ones of memory are one |
 -- | CanRefuse, IsRefused    | this fault can be the answer to the bytes and workers; one of status 2 can    |
 use Rattle.std.specs.Prelude.{◌≡◌, ◌++◌, ℕ, List, Option, false, codes, if◌then◌else◌}
@@ -66,6 +67,10 @@ IsAnswer app certificate status old new =
 abbrev pub IsSafeText : List ℕ → Type 0
 IsSafeText app = (P : Program) × Means app P × IsSafe P
 
+-- the bytes stand for an application and for a certificate, so that there is a verdict on them
+abbrev pub HasVerdict : List ℕ → List ℕ → Type 0
+HasVerdict app certificate = (P : Program) × (verdict : Verdict) × IsJudged app certificate P verdict
+
 -- the fault of a check, where the bytes were given no verdict by this one: each inner fault of memory is `Memory`
 abbrev pub check_fault : BytesFault → CheckFault
 check_fault (Par NoMemory) = Memory
@@ -74,14 +79,15 @@ check_fault (Par NoThreads) = Thread
 check_fault (AppRefused f) = if app_is_memory f then Memory else App f
 check_fault (CertRefused f) = if cert_is_memory f then Memory else Cert f
 
--- the fault stands in the bytes or in the number of workers; or the machine had no memory or no thread, or the writer failed
+-- the fault stands in the bytes or in the number of workers; or the machine had no memory or no thread; or the writer failed,
+-- which hides no refusal: there are workers, and a verdict
 abbrev pub CanRefuse : List ℕ → List ℕ → ℕ → CheckFault → Type 0
 CanRefuse app certificate workers (App f) = (app_is_memory f ≡ false) × FaultStands app certificate (AppRefused f)
 CanRefuse app certificate workers (Cert f) = (cert_is_memory f ≡ false) × FaultStands app certificate (CertRefused f)
 CanRefuse app certificate workers Workers = IsNoCrew workers
 CanRefuse app certificate workers Memory = Unit {0}
 CanRefuse app certificate workers Thread = Unit {0}
-CanRefuse app certificate workers Write = Unit {0}
+CanRefuse app certificate workers Write = HasVerdict app certificate × (IsNoCrew workers → ⊥)
 CanRefuse app certificate workers fault = ⊥
 
 -- the bytes or the number of workers are refused: a fault of status 2 stands in them

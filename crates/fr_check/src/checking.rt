@@ -28,7 +28,8 @@ fn status_of(verdict: &Verdict) -> u8
 ///
 /// `Workers` says that their number is not 1 to 64, `App` and `Cert` name a fault that stands in
 /// the bytes, `Memory` and `Thread` say that the machine refused an allocation or a thread; nothing
-/// is written then. After `Write`, what was written is open.
+/// is written then. `Write` says that the writer failed to take the report of a verdict; what was
+/// written then is open.
 pub fn check_with<R: Threads + Wait + Sync, G: Gate, W: Write>(
     rt: &R,
     alloc: Global,

@@ -9,3 +9,7 @@ returns-in-Err-clause-refused g c =
 pub returns-in-Ok-write_all-clause-safe : goal.returns-in-Ok-write_all-clause-safe
 returns-in-Ok-write_all-clause-safe g c e =
     (c.in-Ok.judged.app, c.in-Ok.ensures.judged.0, c.in-Ok.ensures.safe (zero-yes c.in-Ok.judged.verdict (sym c.status_of.ensures ∙ e)))
+
+pub returns-clause-refused : goal.returns-clause-refused
+returns-clause-refused g c =
+    ((c.in-Ok.judged.app, c.in-Ok.judged.verdict, c.in-Ok.ensures.judged), λ none. let e = c.in-Ok.ensures.workers.1 none in cc)
