@@ -20,6 +20,7 @@ use crate::parts::{Actor, Parts};
 use judged::is_judged_yet;
 use kinds::{suits_actor, suits_kind};
 use limits::{are_objects_in_limits, are_variables_in_limits, is_instr_in_limits, is_small};
+pub use limits::{MOST_SIZE, MOST_TICKS};
 pub use names::is_name;
 use names::{are_names, are_owners_there, names_of, stand_once};
 use results::{operands_fit, results_fit};
