@@ -1,10 +1,9 @@
 // The rules that an actor's kind, its depths and its mutexes decide.
 ghost use Rattle.std.specs.Prelude.{◌≡◌};
-ghost use Rattle.fr_program.specs.Uses.{is_timing_from_isr, is_from_isr};
 ghost use Rattle.fr_program.specs.Fault.{NamesThings};
 ghost use Rattle.fr_calls.specs.Rule.{is_at_once, allowed_in_critical, allowed_suspended, is_unsuited, first_forbidden};
 
-use fr_program::{Action, App, BlockTime, Call, Form, GiveForm, Instr, Kind, TakeForm, Timing};
+use fr_program::{Action, App, BlockTime, Call, GiveForm, Instr, Kind, TakeForm, Timing};
 
 /// A block time of 0, which the forms for interrupts have.
 fn is_at_once(timing: &Timing) -> bool
@@ -33,31 +32,6 @@ fn allowed_suspended(call: &Call) -> bool
         call,
         Call::EnterCritical(_) | Call::ExitCritical(_) | Call::SuspendAll | Call::ResumeAll
     )
-}
-
-fn is_timing_from_isr(timing: &Timing) -> bool
-    ensures { result ≡ is_timing_from_isr timing.now }
-{
-    matches!(timing, Timing::FromIsr)
-}
-
-/// Whether the call's name ends in FromISR or _FROM_ISR.
-fn is_from_isr(call: &Call) -> bool
-    ensures { result ≡ is_from_isr call.now }
-{
-    match call {
-        Call::EnterCritical(form) | Call::ExitCritical(form) => matches!(form, Form::FromIsr),
-        Call::On { action, .. } => match action {
-            Action::QueueSend { timing, .. }
-            | Action::QueueReceive { timing, .. }
-            | Action::Send { timing, .. }
-            | Action::Receive { timing, .. } => is_timing_from_isr(timing),
-            Action::Take { form, .. } => matches!(form, TakeForm::FromIsr),
-            Action::Give { form, .. } => matches!(form, GiveForm::FromIsr),
-            Action::Reset { .. } => false,
-        },
-        _ => false,
-    }
 }
 
 /// Whether a take or a give doesn't suit the kind of semaphore.
@@ -120,7 +94,7 @@ fn rule_of_call(
     if susp > 0 && !allowed_suspended(call) {
         return Some(5);
     }
-    if interrupt && !is_from_isr(call) {
+    if interrupt && !call.is_from_isr() {
         return Some(6);
     }
     match call {

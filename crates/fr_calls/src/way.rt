@@ -1,12 +1,11 @@
 // The rows of an instruction in the step table, and where they lead.
 ghost use Rattle.std.specs.Prelude.{◌≡◌, ◌+◌};
-ghost use Rattle.fr_program.specs.Uses.{else_of};
 ghost use Rattle.fr_calls.specs.Step.{landing};
 ghost use Rattle.fr_calls.specs.Landing.{landing_of};
 ghost use Rattle.fr_calls.specs.State.{At};
 ghost use Rattle.fr_program.specs.declared.ids.Side.TheVariants.{Before};
 
-use fr_program::{Action, ActorId, Call, Instr, Point, Side};
+use fr_program::{ActorId, Call, Instr, Point, Side};
 
 /// Which row of an instruction a step goes by. Each instruction has one row or two: an `if` whose
 /// comparison is true or false, a call that works or fails.
@@ -21,20 +20,6 @@ pub enum Way {
 pub enum Landing {
     At(Point),
     Done,
-}
-
-/// The `else` target of an object call, where its line names one.
-fn else_of(action: &Action) -> Option<usize>
-    ensures { result ≡ else_of action.now }
-{
-    match action {
-        Action::QueueSend { or_else, .. }
-        | Action::QueueReceive { or_else, .. }
-        | Action::Take { or_else, .. }
-        | Action::Give { or_else, .. }
-        | Action::Reset { or_else, .. } => *or_else,
-        Action::Send { .. } | Action::Receive { .. } => None,
-    }
 }
 
 fn before(actor: ActorId, pc: usize) -> Landing
@@ -68,7 +53,7 @@ pub fn lands_at(point: Point, next: usize, instr: &Instr, way: Way) -> Landing
             })
         }
         (Side::Inside, Instr::Call(Call::On { action, .. }), Way::Fails) => {
-            before(point.actor, else_of(action).unwrap_or(next))
+            before(point.actor, action.else_target().unwrap_or(next))
         }
         _ => before(point.actor, next),
     }

@@ -120,7 +120,7 @@ fn alternative_value(
     requires { AlternativeFits app.now alternative.now }
     ensures { IfOk result (λ v. view v ≡ alternative_tree app.now alternative.now) }
 {
-    app.is_faultless();
+    app.recall_faultless();
     let mut object = crit_value(alloc, alternative.crit)?;
     let ranges = ranges_value(alloc, app.variables(), &alternative.ranges)?;
     add_ranges(alloc, &mut object, ranges)?;
@@ -183,7 +183,7 @@ pub fn write_cert(alloc: Global, app: &App, certificate: &Certificate) -> Result
     ensures again { IfOk result (λ s. length (string_bytes s) ≤ most_bytes
         → Means app.now (string_bytes s) certificate.now) }
 {
-    app.is_faultless();
+    app.recall_faultless();
     certificate.ends.are_none();
     let value = cert_value(alloc, app, certificate)?;
     value.to_string(alloc)

@@ -22,7 +22,7 @@ fn is_kept(app: &App, alternative: &Alternative, change: &Change, next: &Note) -
     ensures missed { IsFalse result →
         ((m : AlternativeOf) → Contains next.now m → Keeps alternative.now change.now m → ⊥) }
 {
-    app.is_faultless();
+    app.recall_faultless();
     for other in next.alternatives() {
         if keeps(alternative, change, other) {
             return true;
@@ -45,7 +45,7 @@ fn goes_well(
     ensures well { IsTrue result → GoesWell alternative.now instr.now way next.now }
     ensures misses { IsFalse result → Misses alternative.now instr.now way next.now }
 {
-    app.is_faultless();
+    app.recall_faultless();
     match change_by(alternative, instr, way) {
         Some(change) => is_kept(app, alternative, &change, next),
         None => true,
@@ -86,8 +86,8 @@ fn missed(
     requires rules { KeepsRules app.now notes.now point }
     ensures { WayOutcome app.now notes.now point way result }
 {
-    app.is_faultless();
-    app.is_numbered();
+    app.recall_faultless();
+    app.recall_numbered();
     let Landing::At(target) = lands_at(point, point.pc + 1, instr, way) else {
         return None;
     };

@@ -22,8 +22,8 @@ pub fn own(app: &App, notes: &Notes, number: usize) -> Option<Own>
         IsFirstOwn app.now notes.now p result }
 {
     let point = app.point(number);
-    app.is_faultless();
-    app.is_numbered();
+    app.recall_faultless();
+    app.recall_numbered();
     let note = notes.get(number)?;
     let instr = app.instr(point)?;
     if !enters(app, notes, note, point) {

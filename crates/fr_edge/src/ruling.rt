@@ -27,7 +27,7 @@ fn decided_rule(app: &App, alternative: &Alternative, point: Point, instr: &Inst
     ensures { result ≡ first_forbidden app.now (is_interrupt (actor_at app.now point.actor.0).kind)
         alternative.now.critical alternative.now.suspended false instr.now }
 {
-    app.is_faultless();
+    app.recall_faultless();
     let (crit, susp) = (u32::from(alternative.crit), u32::from(alternative.susp));
     let holds = holds_some(alternative);
     rule_of(app, app.is_interrupt(point.actor), crit, susp, holds, instr)
@@ -48,7 +48,7 @@ fn stays_in_range(app: &App, alternative: &Alternative, point: Point, instr: &In
     ensures stays { IsTrue result → StaysIn app.now alternative.now instr.now }
     ensures leaves { IsFalse result → IsOutBy app.now alternative.now instr.now }
 {
-    app.is_faultless();
+    app.recall_faultless();
     match instr {
         Instr::Set {
             target,
@@ -70,7 +70,7 @@ fn rule_breached(app: &App, alternative: &Alternative, point: Point, instr: &Ins
     requires fits { AlternativeFits app.now alternative.now }
     ensures { RuleOutcome app.now point alternative.now result }
 {
-    app.is_faultless();
+    app.recall_faultless();
     let decided = decided_rule(app, alternative, point, instr);
     let stays = stays_in_range(app, alternative, point, instr);
     match decided {

@@ -54,7 +54,7 @@ fn holds_at_start(app: &App, alternative: &Alternative) -> bool
     requires { AlternativeFits app.now alternative.now }
     ensures { (a : ℕ) → (IsTrue result ↔ HoldsOne alternative.now a (start app.now)) }
 {
-    app.is_faultless();
+    app.recall_faultless();
     if alternative.crit != 0 {
         return false;
     }

@@ -34,8 +34,8 @@ pub fn job(app: &App, certificate: &Certificate, number: usize) -> Option<Part>
         TellsFirst app.now certificate.now p result }
     ensures speaks { IfSome result (λ part. IsOf app.now part) }
 {
-    app.is_faultless();
-    app.is_numbered();
+    app.recall_faultless();
+    app.recall_numbered();
     let _point = app.point(number);
     match own(app, &certificate.notes, number) {
         Some(failing) => Some(part_of_own(failing)),
@@ -52,8 +52,8 @@ pub fn judge(app: &App, certificate: &Certificate) -> Verdict
     ensures safe { result ≡ Verdict.Yes → IsSafe app.now }
     ensures speaks { Speaks app.now result }
 {
-    app.is_faultless();
-    app.is_numbered();
+    app.recall_faultless();
+    app.recall_numbered();
     for number in 0..app.points() {
         if let Some(part) = job(app, certificate, number) {
             return Verdict::No {

@@ -104,7 +104,7 @@ impl Note {
         ensures memory { IfErr result
             (λ f. f ≡ NoteFault.Memory → (fault : NoteFaultOf) → Stands app.now parts fault → ⊥) }
     {
-        app.is_faultless();
+        app.recall_faultless();
         check_note(app, &parts)?;
         let claims = claims_said(alloc, app, &parts)?;
         let ranges = ranges_said(alloc, app, &parts.range)?;

@@ -33,7 +33,7 @@ fn board_for(alloc: Global, app: &App, workers: usize) -> Result<(Board, Vec<Pas
     ensures count { OnOk result (IsSeatCount workers) }
     ensures fault { IfErr result (λ e. (e ≡ Workers) ↔ IsNoCrew workers) }
 {
-    app.is_faultless();
+    app.recall_faultless();
     match Board::new(alloc, app.points() as u64, workers) {
         Ok(made) => Ok(made),
         Err(BoardFault::Memory) => Err(ParFault::Memory),
@@ -96,7 +96,7 @@ pub fn judge_with<R: Threads + Wait + Sync, G: Gate>(
 {
     let (board, passes) = board_for(alloc, app, workers)?;
     let all = worked_by_all(rt, alloc, app, certificate, &board, passes, gate)?;
-    app.is_faultless();
+    app.recall_faultless();
     match board.finish(all) {
         Ok(tally) => Ok(verdict_at(app, certificate, tally.least)),
         Err(_) => unreachable!(),

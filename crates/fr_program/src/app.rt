@@ -85,16 +85,16 @@ impl App {
         self.points[k]
     }
 
-    /// No build fault stands in an application, and it has only what is judged today.
-    pub fn is_faultless(&self)
+    /// Recalls that an application has no build fault, and only what is judged today.
+    pub fn recall_faultless(&self)
         ensures faultless { IsFaultless self.now }
         ensures judged { IsJudgedYet self.now }
     {
         let _ = &self.parts;
     }
 
-    /// Points and their numbers are inverse to each other.
-    pub fn is_numbered(&self)
+    /// Recalls that points and their numbers are inverse to each other.
+    pub fn recall_numbered(&self)
         ensures { PointsAreNumbered self.now }
     {}
 

@@ -5,11 +5,11 @@ ghost use Rattle.fr_program.specs.ListFault.{AreListsFaultless, AreNamesFaultles
 ghost use Rattle.fr_program.specs.InstrFault.{IsInstrFreeOf, IsInstrFaultless, IsCodeFreeOf, IsCodeFaultless};
 ghost use Rattle.fr_program.specs.View.{actor_of, program_of};
 
-mod judged;
 mod kinds;
 mod limits;
 mod names;
 mod results;
+mod scope;
 mod targets;
 mod uses;
 
@@ -17,12 +17,13 @@ use crate::fault::BuildFault;
 use crate::ids::ActorId;
 use crate::instr::Instr;
 use crate::parts::{Actor, Parts};
-use judged::is_judged_yet;
 use kinds::{suits_actor, suits_kind};
 use limits::{are_objects_in_limits, are_variables_in_limits, is_instr_in_limits, is_small};
+pub use limits::{MOST_SIZE, MOST_TICKS};
 pub use names::is_name;
 use names::{are_names, are_owners_there, names_of, stand_once};
 use results::{operands_fit, results_fit};
+use scope::is_judged_yet;
 use std::alloc::Global;
 use targets::{are_targets_below, each_ends_well};
 use uses::{may_use_all, names_things, shares_at_most_one};

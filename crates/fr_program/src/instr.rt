@@ -1,4 +1,6 @@
 // Instructions: the lines of an actor's code.
+ghost use Rattle.std.specs.Prelude.{◌≡◌};
+
 use crate::ids::{ObjId, VarId};
 
 /// A number, or the value of a variable.
@@ -47,6 +49,17 @@ pub enum Form {
 pub enum Timing {
     Waits(BlockTime),
     FromIsr,
+}
+
+impl Timing {
+    ghost use Rattle.fr_program.specs.Uses.{is_timing_from_isr};
+
+    /// Whether this is the form for interrupts.
+    pub fn is_from_isr(self) -> bool
+        ensures { result ≡ is_timing_from_isr self }
+    {
+        matches!(self, Timing::FromIsr)
+    }
 }
 
 /// `xSemaphoreTake`, `xSemaphoreTakeRecursive` or `xSemaphoreTakeFromISR`.
@@ -135,6 +148,39 @@ pub enum Action {
     },
 }
 
+impl Action {
+    ghost use Rattle.fr_program.specs.Uses.{else_of, is_action_from_isr};
+
+    /// The instruction that follows a failure, where the line names one.
+    pub fn else_target(self) -> Option<usize>
+        ensures { result ≡ else_of self }
+    {
+        match self {
+            Action::QueueSend { or_else, .. }
+            | Action::QueueReceive { or_else, .. }
+            | Action::Take { or_else, .. }
+            | Action::Give { or_else, .. }
+            | Action::Reset { or_else, .. } => or_else,
+            Action::Send { .. } | Action::Receive { .. } => None,
+        }
+    }
+
+    /// Whether this is a form for interrupts.
+    pub fn is_from_isr(self) -> bool
+        ensures { result ≡ is_action_from_isr self }
+    {
+        match self {
+            Action::QueueSend { timing, .. }
+            | Action::QueueReceive { timing, .. }
+            | Action::Send { timing, .. }
+            | Action::Receive { timing, .. } => timing.is_from_isr(),
+            Action::Take { form, .. } => matches!(form, TakeForm::FromIsr),
+            Action::Give { form, .. } => matches!(form, GiveForm::FromIsr),
+            Action::Reset { .. } => false,
+        }
+    }
+}
+
 /// A kernel call.
 #[derive(Clone, Copy, Debug, PartialEq)]
 pub enum Call {
@@ -160,6 +206,21 @@ pub enum Call {
         object: ObjId,
         action: Action,
     },
+}
+
+impl Call {
+    ghost use Rattle.fr_program.specs.Uses.{is_from_isr};
+
+    /// Whether the call's name ends in FromISR or _FROM_ISR.
+    pub fn is_from_isr(self) -> bool
+        ensures { result ≡ is_from_isr self }
+    {
+        match self {
+            Call::EnterCritical(form) | Call::ExitCritical(form) => matches!(form, Form::FromIsr),
+            Call::On { action, .. } => action.is_from_isr(),
+            _ => false,
+        }
+    }
 }
 
 /// One line of an actor's code. A target is an instruction's place in that code, from 0.

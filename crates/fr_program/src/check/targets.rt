@@ -1,10 +1,10 @@
 // Targets, and the ends of codes.
 ghost use Rattle.std.specs.Prelude.{◌≡◌, ◌<◌, ◌↔◌, IsTrue, IfSome, All, true};
-ghost use Rattle.fr_program.specs.Uses.{TargetsBelow, else_of};
+ghost use Rattle.fr_program.specs.Uses.{TargetsBelow};
 ghost use Rattle.fr_program.specs.ListFault.{ends_well};
 ghost use Rattle.fr_program.specs.View.{actor_of};
 
-use crate::instr::{Action, Call, Instr};
+use crate::instr::{Call, Instr};
 use crate::parts::Actor;
 
 pub fn are_targets_below(length: usize, instr: Instr) -> bool
@@ -14,7 +14,7 @@ pub fn are_targets_below(length: usize, instr: Instr) -> bool
         Instr::If { target, .. } => target < length,
         Instr::Goto { target } => target < length,
         Instr::Call(Call::Create { or_else, .. }) => is_else_below(length, or_else),
-        Instr::Call(Call::On { object: _, action }) => is_else_below(length, else_of(action)),
+        Instr::Call(Call::On { object: _, action }) => is_else_below(length, action.else_target()),
         _ => true,
     }
 }
@@ -25,20 +25,6 @@ fn is_else_below(length: usize, or_else: Option<usize>) -> bool
     match or_else {
         Some(target) => target < length,
         None => true,
-    }
-}
-
-fn else_of(action: Action) -> Option<usize>
-    ensures { result ≡ else_of action }
-{
-    match action {
-        Action::QueueSend { or_else, .. } => or_else,
-        Action::QueueReceive { or_else, .. } => or_else,
-        Action::Take { or_else, .. } => or_else,
-        Action::Give { or_else, .. } => or_else,
-        Action::Reset { or_else, .. } => or_else,
-        Action::Send { .. } => None,
-        Action::Receive { .. } => None,
     }
 }
 

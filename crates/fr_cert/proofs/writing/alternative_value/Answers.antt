@@ -11,7 +11,7 @@ pub ranges_value-requires-clause-numbers : goal.ranges_value-requires-clause-num
 ranges_value-requires-clause-numbers c =
     let n = c.args.alternative.now in
     let same : map ends_of c.deref.result.now ≡ n.ranges = ap (map ends_of) c.deref.ensures.value ∙ ap (λ a. a.ranges) c.alternative.view_is in
-    all_numbers c.deref.result.now (subst (All AreNumbers) (sym same) (fit_numbers c.args.app.now n c.is_faultless.ensures.faultless.limits c.requires))
+    all_numbers c.deref.result.now (subst (All AreNumbers) (sym same) (fit_numbers c.args.app.now n c.recall_faultless.ensures.faultless.limits c.requires))
 
 pub returns : goal.returns
 unfolding alternative_tree

@@ -15,4 +15,4 @@ returns-clause-written c =
 
 pub returns-clause-again : goal.returns-clause-again
 returns-clause-again c =
-    IfOk-weaker c.to_string.result _ _ (λ s parsed size. written_again c.args.app.now c.args.certificate.now _ _ c.is_faultless.ensures.faultless c.requires.fits c.requires.said c.are_none.ensures c.in_ok-value.ensures (IsUtf8-string_bytes s) parsed size) c.to_string.ensures.reads_back
+    IfOk-weaker c.to_string.result _ _ (λ s parsed size. written_again c.args.app.now c.args.certificate.now _ _ c.recall_faultless.ensures.faultless c.requires.fits c.requires.said c.are_none.ensures c.in_ok-value.ensures (IsUtf8-string_bytes s) parsed size) c.to_string.ensures.reads_back

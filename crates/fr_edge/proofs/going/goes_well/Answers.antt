@@ -4,7 +4,7 @@ use Rattle.fr_edge.proofs.going.goes_well.Goals as goal
 
 pub change_by-requires : goal.change_by-requires
 change_by-requires c =
-    let f = c.is_faultless.ensures.faultless in
+    let f = c.recall_faultless.ensures.faultless in
     record {
       numbers = has-numbers c.args.app.now c.args.alternative.now f c.requires.fits;
       operands = has-operands c.args.app.now c.args.alternative.now c.requires.fits c.args.instr.now (f.names.things _ _ _ c.requires.instr);

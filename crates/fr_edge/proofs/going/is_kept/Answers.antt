@@ -6,7 +6,7 @@ use Rattle.fr_edge.proofs.StartLaws.{nothing-claimed}
 use Rattle.fr_edge.proofs.going.is_kept.Goals as goal
 
 pub keeps-requires-clause-claims : goal.keeps-requires-clause-claims
-keeps-requires-clause-claims c = nothing-claimed c.args.app.now c.args.alternative.now c.is_faultless.ensures.judged.objects c.requires.fits
+keeps-requires-clause-claims c = nothing-claimed c.args.app.now c.args.alternative.now c.recall_faultless.ensures.judged.objects c.requires.fits
 
 pub keeps-requires-clause-ranges : goal.keeps-requires-clause-ranges
 keeps-requires-clause-ranges c =

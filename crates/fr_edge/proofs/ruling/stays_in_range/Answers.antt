@@ -2,27 +2,27 @@ use Rattle.fr_edge.proofs.Rules.{set-facts, stays-made, leaves-made, has-numbers
 use Rattle.fr_edge.proofs.ruling.stays_in_range.Goals as goal
 
 pub result-result-requires-clause-numbers : goal.result-result-requires-clause-numbers
-result-result-requires-clause-numbers c = has-numbers c.args.app.now c.args.alternative.now c.is_faultless.ensures.faultless c.requires.fits
+result-result-requires-clause-numbers c = has-numbers c.args.app.now c.args.alternative.now c.recall_faultless.ensures.faultless c.requires.fits
 
 pub result-result-requires-clause-left : goal.result-result-requires-clause-left
 result-result-requires-clause-left c =
     let s = c.in-Set in
-    (set-facts c.args.app.now c.args.alternative.now c.args.point.actor.0 c.args.point.pc c.args.instr.now s.target s.left s.operator s.right c.is_faultless.ensures.faultless c.requires.fits c.requires.instr s.is).left
+    (set-facts c.args.app.now c.args.alternative.now c.args.point.actor.0 c.args.point.pc c.args.instr.now s.target s.left s.operator s.right c.recall_faultless.ensures.faultless c.requires.fits c.requires.instr s.is).left
 
 pub result-result-requires-clause-right : goal.result-result-requires-clause-right
 result-result-requires-clause-right c =
     let s = c.in-Set in
-    (set-facts c.args.app.now c.args.alternative.now c.args.point.actor.0 c.args.point.pc c.args.instr.now s.target s.left s.operator s.right c.is_faultless.ensures.faultless c.requires.fits c.requires.instr s.is).right
+    (set-facts c.args.app.now c.args.alternative.now c.args.point.actor.0 c.args.point.pc c.args.instr.now s.target s.left s.operator s.right c.recall_faultless.ensures.faultless c.requires.fits c.requires.instr s.is).right
 
 pub result-result-requires-clause-product : goal.result-result-requires-clause-product
 result-result-requires-clause-product c =
     let s = c.in-Set in
-    (set-facts c.args.app.now c.args.alternative.now c.args.point.actor.0 c.args.point.pc c.args.instr.now s.target s.left s.operator s.right c.is_faultless.ensures.faultless c.requires.fits c.requires.instr s.is).product
+    (set-facts c.args.app.now c.args.alternative.now c.args.point.actor.0 c.args.point.pc c.args.instr.now s.target s.left s.operator s.right c.recall_faultless.ensures.faultless c.requires.fits c.requires.instr s.is).product
 
 pub is_in_declared-requires : goal.is_in_declared-requires
 is_in_declared-requires c =
     let s = c.in-Set in
-    (set-facts c.args.app.now c.args.alternative.now c.args.point.actor.0 c.args.point.pc c.args.instr.now s.target s.left s.operator s.right c.is_faultless.ensures.faultless c.requires.fits c.requires.instr s.is).variable
+    (set-facts c.args.app.now c.args.alternative.now c.args.point.actor.0 c.args.point.pc c.args.instr.now s.target s.left s.operator s.right c.recall_faultless.ensures.faultless c.requires.fits c.requires.instr s.is).variable
 
 pub returns-in-Set-clause-stays : goal.returns-in-Set-clause-stays
 returns-in-Set-clause-stays c =

@@ -3,7 +3,7 @@ use Rattle.fr_program.specs.ListFault.{IsActorJudgedYet}
 use Rattle.fr_program.specs.View.{actor_of, program_of}
 use Rattle.fr_program.proofs.ListLemmas.{All-unmapped}
 use Rattle.fr_program.proofs.FaultLemmas.{judged-from_actors, actors-from_judged}
-use Rattle.fr_program.proofs.check.judged.is_judged_yet.Goals as goal
+use Rattle.fr_program.proofs.check.scope.is_judged_yet.Goals as goal
 
 pub returns-then-is_alone : goal.returns-then-is_alone
 returns-then-is_alone c =
