@@ -30,7 +30,7 @@ use Rattle.fr_notes.specs.Fits.{AlternativeFits}
 use Rattle.fr_notes.specs.View.{ends_of}
 use Rattle.fr_notes.specs.Change.{CanBe, HasOperand, HasOperands, Turns, IsResult, IsBranch, same, branched, narrowed_to, range_after, new_range, HasChange, HasCallChange}
 use Rattle.fr_edge.proofs.Standing.{choose, choose-within, AreWithin, state-of, noted-here, value-here, left-here, right-here}
-use Rattle.fr_edge.proofs.Rules.{set-apart}
+use Rattle.fr_edge.proofs.RuleLaws.{set-apart}
 
 -- one of the two ends of a range
 abbrev pub end_of : Bool → ℤ × ℤ → ℤ

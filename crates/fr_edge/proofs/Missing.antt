@@ -22,8 +22,8 @@ use Rattle.fr_edge.specs.Own.{is_own}
 use Rattle.fr_edge.specs.Alternatives.{GoesBy}
 use Rattle.fr_edge.specs.FirstOwn.{KeepsRules}
 use Rattle.fr_edge.proofs.Standing.{actor-there, side-before, noted-here}
-use Rattle.fr_edge.proofs.Rules.{has-operands}
-use Rattle.fr_edge.proofs.Steps.{After, after-row}
+use Rattle.fr_edge.proofs.RuleLaws.{has-operands}
+use Rattle.fr_edge.proofs.StepLaws.{After, after-row}
 use Rattle.fr_edge.proofs.Attained.{here, Moves, Ends, attained}
 
 stops-own : (i : Instr) (rule : Rule) → IsTrue (stops rule) → IsTrue (is_own i rule)

@@ -23,9 +23,9 @@ use Rattle.fr_notes.specs.Fits.{AlternativeFits}
 use Rattle.fr_edge.specs.Own.{Goes}
 use Rattle.fr_edge.specs.Alternatives.{GoesBy, GoesWell, WayOutcome, GoesOutcome, lesser_of}
 use Rattle.fr_edge.proofs.Standing.{actor-there}
-use Rattle.fr_edge.proofs.Rules.{has-operands}
+use Rattle.fr_edge.proofs.RuleLaws.{has-operands}
 use Rattle.fr_edge.proofs.Lists.{contained}
-use Rattle.fr_edge.proofs.Steps.{step-here, after-row, no-row, after-keeps, places-row}
+use Rattle.fr_edge.proofs.StepLaws.{step-here, after-row, no-row, after-keeps, places-row}
 
 module _ (P : Program) (notes : List Note) (p : Point) (i : Instr) (way : Way) (free : IsFaultless P) (judged : IsJudgedYet P) (point : IsPoint P p) (is : instr_of P p ≡ Some i) (fits : All (λ n. AlternativeFits P n) (note_at P notes p)) where
   -- the actor lands where the table says

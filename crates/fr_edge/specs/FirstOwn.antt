@@ -6,8 +6,8 @@ use Rattle.fr_program.specs.Lookup.{IsPoint}
 use Rattle.fr_program.specs.Points.{point_number}
 use Rattle.fr_calls.specs.Rule.{Rule, number_of}
 use Rattle.fr_notes.specs.Note.{Note}
-use Rattle.fr_edge.specs.declared.failing.Own.{Own}
-use Rattle.fr_edge.specs.declared.failing.Own.TheVariants.{Entry as FailsEntry, Rule as FailsRule, Goes as FailsGoes}
+use Rattle.fr_edge.specs.declared.failure.Own.{Own}
+use Rattle.fr_edge.specs.declared.failure.Own.TheVariants.{Entry as FailsEntry, Rule as FailsRule, Goes as FailsGoes}
 use Rattle.fr_edge.specs.Own.{Entry, KeepsRule, Goes}
 
 -- the entry, and each rule

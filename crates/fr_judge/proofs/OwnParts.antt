@@ -6,8 +6,8 @@ use Rattle.fr_program.specs.Program.{Program}
 use Rattle.fr_program.specs.Lookup.{IsPoint}
 use Rattle.fr_program.specs.Points.{point_number}
 use Rattle.fr_program.specs.Fault.{IsFaultless, IsJudgedYet}
-use Rattle.fr_edge.specs.declared.failing.Own.{Own}
-use Rattle.fr_edge.specs.declared.failing.Own.TheVariants.{Entry as OwnEntry, Rule as OwnRule, Goes as OwnGoes}
+use Rattle.fr_edge.specs.declared.failure.Own.{Own}
+use Rattle.fr_edge.specs.declared.failure.Own.TheVariants.{Entry as OwnEntry, Rule as OwnRule, Goes as OwnGoes}
 use Rattle.fr_edge.specs.FirstOwn.{IsFirstOwn}
 use Rattle.fr_ends.specs.Certificate.{Certificate}
 use Rattle.fr_judge.specs.declared.part.Part.{Part as Told}

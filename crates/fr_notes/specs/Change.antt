@@ -10,7 +10,7 @@
 -- | IsBranch, NoBranch       | the least ranges of an `if`'s operands on one of its ways; it never goes that way   |
 -- | same, branched           | the change that changes nothing; the one that narrows two operands                  |
 -- | HasChange, HasNone       | the row makes this change; no state with the alternative has the row                |
--- | new_range, IsCovered     | a variable's range after a change; a range lies in another                          |
+-- | new_range                | a variable's range after a change                                                   |
 -- | Keeps                    | another alternative says no more than what a change leaves                          |
 use Rattle.std.specs.Prelude.{◌≡◌, ◌≤◌, ◌<◌, ◌≤ℤ◌, ◌+◌, ◌-◌, ℕ, ℤ, Option, None, Some, length, nat_eq, if◌then◌else◌, IsTrue, IsFalse}
 use Rattle.fr_program.specs.declared.ids.VarId.{VarId}
@@ -31,6 +31,7 @@ use Rattle.fr_calls.specs.declared.way.Way.TheVariants.{Works, Fails}
 use Rattle.fr_calls.specs.Step.{compare}
 use Rattle.fr_notes.specs.declared.change.Change.{Change}
 use Rattle.fr_notes.specs.Note.{Alternative, Within, range_of}
+use Rattle.fr_notes.specs.Implication.{IsPart}
 use Rattle.fr_notes.specs.View.{ends_of}
 
 -- both ends of the numbers that an operand can be
@@ -136,12 +137,8 @@ range_after (Some new) x before = if nat_eq new.0.0 x then ends_of new.1 else be
 abbrev pub new_range : Change → ℕ → ℤ × ℤ → ℤ × ℤ
 new_range change x before = range_after change.first x (range_after change.second x before)
 
--- the first range lies in the second
-abbrev pub IsCovered : ℤ × ℤ → ℤ × ℤ → Type 0
-IsCovered range other = (other.0 ≤ℤ range.0) × (range.1 ≤ℤ other.1)
-
 -- the other alternative says no more of the depths and the variables than what the change leaves of the first one
 pub record Keeps (n : Alternative) (change : Change) (other : Alternative) : Type 0 where
   pub critical : change.crit ≡ other.critical
   pub suspended : change.susp ≡ other.suspended
-  pub variables : (x : ℕ) → x < length n.ranges → IsCovered (new_range change x (range_of n x)) (range_of other x)
+  pub variables : (x : ℕ) → x < length n.ranges → IsPart (new_range change x (range_of n x)) (range_of other x)

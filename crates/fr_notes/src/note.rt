@@ -1,10 +1,10 @@
 // Notes: what a certificate says of an actor at a point.
 ghost use Rattle.std.specs.Prelude.{◌≡◌, ◌≢◌, [], ◌∷◌, IfOk, IfErr, OnOk};
 
+use crate::checks::check_note;
 use crate::claim::Claim;
 use crate::fault::NoteFault;
-use crate::said::{claims_said, ranges_said};
-use crate::stands::check_note;
+use crate::parts::{claims_said, ranges_said};
 use fr_program::{App, ObjId, Range, VarId};
 use std::alloc::Global;
 use std::marker::Model;
@@ -80,7 +80,7 @@ impl NoteParts {
 impl Note {
     ghost use Rattle.fr_notes.specs.declared.fault.NoteFault.{NoteFault as NoteFaultOf};
     ghost use Rattle.fr_notes.specs.Fits.{NoteFits};
-    ghost use Rattle.fr_notes.specs.Parts.{said, Stands};
+    ghost use Rattle.fr_notes.specs.Parts.{said, HasFault};
 
     /// The note that holds of no actor in no state. Takes no memory.
     pub fn never(alloc: Global) -> Note
@@ -99,10 +99,10 @@ impl Note {
     pub fn build(alloc: Global, app: &App, parts: NoteParts) -> Result<Note, NoteFault>
         ensures says { IfOk result (λ note. note ≡ said app.now parts ∷ []) }
         ensures fits { IfOk result (λ note. NoteFits app.now note) }
-        ensures free { OnOk result ((fault : NoteFaultOf) → Stands app.now parts fault → ⊥) }
-        ensures stands { IfErr result (λ f. f ≢ NoteFault.Memory → Stands app.now parts f) }
+        ensures free { OnOk result ((fault : NoteFaultOf) → HasFault app.now parts fault → ⊥) }
+        ensures stands { IfErr result (λ f. f ≢ NoteFault.Memory → HasFault app.now parts f) }
         ensures memory { IfErr result
-            (λ f. f ≡ NoteFault.Memory → (fault : NoteFaultOf) → Stands app.now parts fault → ⊥) }
+            (λ f. f ≡ NoteFault.Memory → (fault : NoteFaultOf) → HasFault app.now parts fault → ⊥) }
     {
         app.recall_faultless();
         check_note(app, &parts)?;
