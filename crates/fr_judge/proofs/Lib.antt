@@ -10,3 +10,4 @@ pub mod Telling
 pub mod Judging
 pub mod OwnParts
 pub mod OneAnswer
+pub mod Theorem

@@ -6,3 +6,4 @@ pub mod WorkedVerdicts
 pub mod Told
 pub mod Texts
 pub mod Approved
+pub mod Theorem

@@ -14,7 +14,7 @@ mod worked;
 pub use approval::Passed;
 pub use laws::{
     a_step_keeps_notes, certified_is_safe, notes_exclude_breaches, only_owed_parts_fail,
-    the_answer_is_one, the_start_keeps_notes, the_verdict_is_one,
+    the_answer_is_one, the_start_keeps_notes, the_verdict_is_one, yes_is_safe,
 };
 pub use part::{Part, Verdict};
 pub use text::{Judged, TextFault, judge_text};
