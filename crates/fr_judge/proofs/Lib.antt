@@ -3,6 +3,7 @@ pub mod Induction
 pub mod Numbers
 pub mod Failing
 pub mod Unique
+pub mod Here
 pub mod Round
 pub mod WorkedVerdicts
 pub mod WorkedFaultless
