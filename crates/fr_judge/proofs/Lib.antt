@@ -3,6 +3,7 @@ pub mod Induction
 pub mod Numbers
 pub mod Failing
 pub mod Unique
+pub mod Here
 pub mod Round
 pub mod WorkedVerdicts
 pub mod WorkedFaultless
@@ -10,3 +11,4 @@ pub mod Telling
 pub mod Judging
 pub mod OwnParts
 pub mod OneAnswer
+pub mod Theorem

@@ -22,7 +22,8 @@ use Rattle.fr_interfere.specs.Undisturbed.{Undisturbed}
 use Rattle.fr_judge.specs.Part.{Part, EntryPart, RulePart, GoesPart, GuardPart, NearPart, SpoiledPart, IsKept, ComesBefore, place_in_order}
 use Rattle.fr_judge.specs.WorkedVerdicts.{first, plain, alone, one_note, set_2, spoiling, x_declared, three_notes, RoundIsYes, ReturnIsNo, SpoilingIsNo}
 use Rattle.fr_judge.proofs.Numbers.{same-point}
-use Rattle.fr_judge.proofs.Round.{only-one, rule-kept, rules-kept, goes-kept, guard-kept, near-kept}
+use Rattle.fr_judge.proofs.Here.{rule-kept}
+use Rattle.fr_judge.proofs.Round.{only-one, rules-kept, goes-kept, guard-kept, near-kept}
 
 none : ⊥ → ⊥
 none h = h
@@ -79,9 +80,8 @@ later-kind m k n l (inr h) = absurd (omega (arith, l, h.0))
 
 return-parts : (other : Part) → ComesBefore (place_in_order (alone Return) other) (1, 11) → IsKept (alone Return) one_note (first 0) other
 return-parts EntryPart h = λ pc side. (plain [], (0, omega arith, refl), nothing-holds Return)
-return-parts (RulePart rule) h = λ j at own.
-    let same = same_Some _ _ (sym at) in
-    rule-kept (alone Return) Return refl one_note.notes rule (return-free rule (⊎_elim (λ l. absurd (omega (arith, l))) (λ l. l.1) h) (subst (λ k. IsTrue (is_own k rule)) same own)) j at own
+return-parts (RulePart rule) h =
+    rule-kept (alone Return) (first 0) Return refl one_note.notes rule (λ S noted own. return-free rule (⊎_elim (λ l. absurd (omega (arith, l))) (λ l. l.1) h) own S)
 return-parts (GoesPart t) h = later-kind 2 _ 11 (omega arith) h
 return-parts (GuardPart buffer end) h = later-kind 3 _ 11 (omega arith) h
 return-parts (NearPart q) h = later-kind 4 _ 11 (omega arith) h

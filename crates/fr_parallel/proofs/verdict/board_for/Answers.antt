@@ -2,7 +2,7 @@ use Rattle.std.proofs.Common.{subst, arith}
 use Rattle.fr_board.specs.declared.board.BoardFault.TheVariants.{Jobs}
 use Rattle.fr_board.specs.Tally.{FaultStands}
 use Rattle.fr_parallel.proofs.Sizes.{points-few}
-use Rattle.fr_parallel.proofs.judging.board_for.Goals as goal
+use Rattle.fr_parallel.proofs.verdict.board_for.Goals as goal
 
 pub unreachable-requires : goal.unreachable-requires
 unreachable-requires c =

@@ -2,7 +2,7 @@ use Rattle.std.proofs.Common.{subst}
 use Rattle.std.specs.Prelude.{Option, ℕ}
 use Rattle.fr_parallel.specs.Kept.{IsLeastFailing}
 use Rattle.fr_parallel.proofs.Verdicts.{tells-yes}
-use Rattle.fr_parallel.proofs.judging.verdict_at.Goals as goal
+use Rattle.fr_parallel.proofs.verdict.verdict_at.Goals as goal
 
 pub returns-in-None-clause-verdict : goal.returns-in-None-clause-verdict
 returns-in-None-clause-verdict c =

@@ -1,5 +1,5 @@
 use Rattle.fr_parallel.proofs.Verdicts.{tells-no, listed-point}
-use Rattle.fr_parallel.proofs.judging.refused_at.Goals as goal
+use Rattle.fr_parallel.proofs.verdict.refused_at.Goals as goal
 
 pub returns-clause-verdict : goal.returns-clause-verdict
 returns-clause-verdict c =
