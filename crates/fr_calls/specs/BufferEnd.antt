@@ -1,7 +1,7 @@
 -- The two ends of a stream or message buffer.
 use Rattle.std.specs.Prelude.{ℕ, List, codes}
-pub use Rattle.fr_calls.specs.declared.buffer_end.End.{End}
-pub use Rattle.fr_calls.specs.declared.buffer_end.End.TheVariants.{Writer, Reader}
+use Rattle.fr_calls.specs.declared.buffer_end.End.{End}
+use Rattle.fr_calls.specs.declared.buffer_end.End.TheVariants.{Writer, Reader}
 
 -- the name of an end, as certificates and reports have it
 abbrev pub end_text : End → List ℕ
