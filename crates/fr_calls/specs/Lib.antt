@@ -1,4 +1,5 @@
 pub mod State
+pub mod BufferEnd
 pub mod Rule
 pub mod Step
 pub mod Landing

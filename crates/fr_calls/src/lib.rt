@@ -4,11 +4,13 @@
 // (`lands_at`). The laws are functions that do nothing: each is there for its contract.
 #![tactic(auto)]
 
+mod buffer_end;
 mod laws;
 mod rules;
 mod way;
 mod worked;
 
+pub use buffer_end::End;
 pub use laws::{steps_stay_well_formed, the_start_is_well_formed};
 pub use rules::rule_of;
 pub use way::{Landing, Way, lands_at};
