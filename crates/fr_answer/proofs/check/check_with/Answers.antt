@@ -1,6 +1,6 @@
 use Rattle.std.proofs.Common.{sym, ap, ◌∙◌, Err}
-use Rattle.fr_check.proofs.Refusals.{refused-by, zero-yes}
-use Rattle.fr_check.proofs.checking.check_with.Goals as goal
+use Rattle.fr_answer.proofs.Refusals.{refused-by, zero-yes}
+use Rattle.fr_answer.proofs.check.check_with.Goals as goal
 
 pub returns-in-Err-clause-refused : goal.returns-in-Err-clause-refused
 returns-in-Err-clause-refused g c =

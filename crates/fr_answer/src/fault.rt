@@ -1,7 +1,7 @@
 // Why a command has no answer, with its exit status and its line.
 ghost use Rattle.std.specs.Prelude.{◌≡◌, IfOk, string_bytes};
-ghost use Rattle.fr_check.specs.declared.fault.CheckFault.TheVariants.{Memory};
-ghost use Rattle.fr_check.specs.Checked.{fault_status, line_of};
+ghost use Rattle.fr_answer.specs.declared.fault.CheckFault.TheVariants.{Memory};
+ghost use Rattle.fr_answer.specs.Checked.{fault_status, line_of};
 
 use fr_cert::CertFault;
 use fr_parallel::{BytesFault, ParFault};
@@ -25,12 +25,14 @@ pub enum CheckFault {
     Memory,
     /// A thread couldn't be started.
     Thread,
+    /// A file couldn't be read.
+    Read,
     /// The writer failed.
     Write,
 }
 
 impl CheckFault {
-    ghost use Rattle.fr_check.specs.Checked.{check_fault};
+    ghost use Rattle.fr_answer.specs.Checked.{check_fault};
 
     /// The fault that bytes without a verdict come to, with each inner fault of memory as `Memory`.
     pub fn of_bytes(fault: BytesFault) -> CheckFault
@@ -76,7 +78,7 @@ pub fn status(fault: &CheckFault) -> u8
         | CheckFault::Workers
         | CheckFault::Rounds
         | CheckFault::Polls => 2,
-        CheckFault::Memory | CheckFault::Thread | CheckFault::Write => 3,
+        CheckFault::Memory | CheckFault::Thread | CheckFault::Read | CheckFault::Write => 3,
     }
 }
 
@@ -92,6 +94,6 @@ pub fn fault_line(alloc: Global, fault: &CheckFault) -> Result<String, AllocErro
         CheckFault::Polls => String::from_str(alloc, "refused: polls"),
         CheckFault::Memory => String::from_str(alloc, "machine: memory"),
         CheckFault::Thread => String::from_str(alloc, "machine: thread"),
-        CheckFault::Write => String::from_str(alloc, "machine: file"),
+        CheckFault::Read | CheckFault::Write => String::from_str(alloc, "machine: file"),
     }
 }

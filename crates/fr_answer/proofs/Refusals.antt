@@ -10,9 +10,9 @@ use Rattle.fr_parallel.specs.declared.bytes.BytesFault.TheVariants.{Par, App as 
 use Rattle.fr_parallel.specs.declared.fault.ParFault.TheVariants.{Memory as NoMemory, Workers as NoWorkers, Threads as NoThreads}
 use Rattle.fr_parallel.specs.Bytes.{FaultStands}
 use Rattle.fr_parallel.specs.Kept.{IsNoCrew}
-use Rattle.fr_check.specs.declared.fault.CheckFault.{CheckFault}
-use Rattle.fr_check.specs.declared.fault.CheckFault.TheVariants.{App, Cert, Workers, Rounds, Polls, Memory, Thread, Write}
-use Rattle.fr_check.specs.Checked.{status_of, fault_status, check_fault, CanRefuse}
+use Rattle.fr_answer.specs.declared.fault.CheckFault.{CheckFault}
+use Rattle.fr_answer.specs.declared.fault.CheckFault.TheVariants.{App, Cert, Workers, Rounds, Polls, Memory, Thread, Read, Write}
+use Rattle.fr_answer.specs.Checked.{status_of, fault_status, check_fault, CanRefuse}
 
 pub refused-by : (a c : List ℕ) (w : ℕ) (f : BytesFault) → FaultStands a c f → (f ≡ Par NoWorkers → IsNoCrew w) → CanRefuse a c w (check_fault f)
 refused-by a c w (Par NoMemory) s none = tt
@@ -47,6 +47,7 @@ fault-status Rounds = (omega arith, omega arith)
 fault-status Polls = (omega arith, omega arith)
 fault-status Memory = (omega arith, omega arith)
 fault-status Thread = (omega arith, omega arith)
+fault-status Read = (omega arith, omega arith)
 fault-status Write = (omega arith, omega arith)
 
 -- a fault of the writer has the status 3

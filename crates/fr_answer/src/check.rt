@@ -1,6 +1,6 @@
 // Checking the bytes of an application and of a certificate.
 ghost use Rattle.std.specs.Prelude.{◌≡◌, ◌≢◌, ◌≤◌, IfOk, IfErr};
-ghost use Rattle.fr_check.specs.Checked.{IsAnswer, IsSafeText, CanRefuse, IsRefused, status_of};
+ghost use Rattle.fr_answer.specs.Checked.{IsAnswer, IsSafeText, CanRefuse, IsRefused, status_of};
 
 use crate::fault::{CheckFault, status};
 use fr_judge::Verdict;
@@ -22,14 +22,14 @@ fn status_of(verdict: &Verdict) -> u8
 }
 
 /// Judges the certificate for the application by this many workers, writes the report and answers
-/// the exit status: 0 only where the verdict is `Yes`, so that no state of any run of the
-/// application breaches any of the twelve rules, and 1 only where it is `No`, each with the
-/// report's bytes written and nothing else.
+/// the exit status: 0 only where the verdict is `Yes`, so that the application breaks none of the
+/// twelve rules in any state of any run, and 1 only where it is `No`, each with the report's bytes
+/// written and nothing else.
 ///
-/// `Workers` says that their number is not 1 to 64, `App` and `Cert` name a fault that stands in
-/// the bytes, `Memory` and `Thread` say that the machine refused an allocation or a thread; nothing
-/// is written then. `Write` says that the writer failed to take the report of a verdict; what was
-/// written then is open.
+/// `Workers` says that their number is not 1 to 64, `App` and `Cert` name a fault that is present
+/// in the bytes, `Memory` and `Thread` say that the machine refused an allocation or a thread;
+/// nothing is written then. `Write` says that the writer failed to take the report of a verdict;
+/// what was written then is open.
 pub fn check_with<R: Threads + Wait + Sync, G: Gate, W: Write>(
     rt: &R,
     alloc: Global,

@@ -1,9 +1,17 @@
 // Reading a file's bytes.
-ghost use Rattle.std.specs.Prelude.{◌≤◌, ◌+◌, IfOk, vec_len};
+ghost use Rattle.std.specs.Prelude.{◌≡◌, ◌≤◌, ◌+◌, IfOk, vec_len};
 ghost use Rattle.std.specs.Io.KnownBytes.{Consumes, IsAtEnd};
+ghost use Rattle.fr_answer.specs.Checked.{load_fault};
 
+use crate::fault::CheckFault;
 use std::alloc::Global;
 use std::io::Read;
+
+/// The most bytes of an application.
+pub const MOST_APP_BYTES: usize = 1_048_576;
+
+/// The most bytes of a certificate.
+pub const MOST_CERTIFICATE_BYTES: usize = 16_777_216;
 
 /// Why a file's bytes couldn't be had.
 #[derive(Clone, Copy, Debug, PartialEq, Eq)]
@@ -12,6 +20,18 @@ pub enum LoadFault {
     Memory,
     /// A read failed.
     Device,
+}
+
+impl LoadFault {
+    /// The fault of a check whose file couldn't be read.
+    pub fn check_fault(self) -> CheckFault
+        ensures { result ≡ load_fault self }
+    {
+        match self {
+            LoadFault::Memory => CheckFault::Memory,
+            LoadFault::Device => CheckFault::Read,
+        }
+    }
 }
 
 /// Reads to the end, or to `limit` plus 1 bytes, so that a text that is too long shows as such. Ok
