@@ -15,7 +15,7 @@ mod worked;
 
 pub use app::App;
 pub use check::{MOST_SIZE, MOST_TICKS, is_name};
-pub use fault::BuildFault;
+pub use fault::{BuildFault, CodeLine};
 pub use ids::{ActorId, ObjId, Point, Side, VarId};
 pub use instr::{
     Action, BlockTime, BufferKind, Call, Comparison, CreatedKind, DeletedKind, Form, GiveForm,

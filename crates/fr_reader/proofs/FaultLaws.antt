@@ -14,9 +14,9 @@ use Rattle.fr_program.specs.declared.parts.Kind.{Kind}
 use Rattle.fr_program.specs.declared.parts.Kind.TheVariants as kind
 use Rattle.fr_program.specs.Program.{Program, VariableOf, ObjectOf, ActorOf}
 use Rattle.fr_program.specs.Limits.{IsName}
-use Rattle.fr_program.specs.declared.fault.BuildFault.{BuildFault}
-use Rattle.fr_program.specs.declared.fault.BuildFault.TheVariants as build
-use Rattle.fr_program.specs.Fault.{IsFreeOf, IsFaultless}
+use Rattle.fr_program.specs.declared.fault.BuildFault.TheVariants.{NotYet}
+use Rattle.fr_program.specs.Fault.{IsFreeOf}
+use Rattle.fr_program.proofs.FaultLemmas.{free_of}
 use Rattle.fr_instr.specs.Names.{NamesOf}
 use Rattle.fr_instr.specs.Lines.{IsLine}
 use Rattle.fr_instr.proofs.LineLaws.{no_line}
@@ -213,25 +213,10 @@ in_no_texts t P f names says free (inr (n, inl s)) = in_no_owners (actors_in t) 
 in_no_texts t P f names says free (inr (n, inr (inl s))) = in_no_code (lists_in t) t.actors P.actors f says.actors s.2
 in_no_texts t P f names says free (inr (n, inr (inr s))) = free s
 
--- an application has none of the faults but what isn't judged yet
-free_of : (P : Program) (b : BuildFault) → is_not_yet (fault.Build b) ≡ false → IsFaultless P → IsFreeOf P b
-free_of P build.Memory n h = tt
-free_of P build.TooMany n h = h.small
-free_of P build.BadRange n h = h.limits
-free_of P build.BadTarget n h = h.targets
-free_of P build.FallsOff n h = h.ends
-free_of P build.TwoShared n h = h.shared
-free_of P build.NotOwner n h = h.owners
-free_of P build.KindMismatch n h = h.kinds
-free_of P build.FromIsrInTask n h = h.forms
-free_of P build.ResultRange n h = h.results
-free_of P build.Operands n h = h.operands
-free_of P build.Names n h = h.names
-free_of P build.NotYet n h = absurd (cc)
-
 not_built : (bytes : List ℕ) (P : Program) (f : ReadFault) → is_not_yet f ≡ false → (m : Means bytes P) → InBuild m.texts f → ⊥
 not_built bytes P (fault.Build b) named m s =
-    s.2 (subst (λ Q. IsFreeOf Q b) (one_program m.texts P s.0 m.names m.says s.1) (free_of P b named m.faultless))
+    let yet : b ≢ NotYet = λ e. false≢true (sym named ∙ ap (λ x. is_not_yet (fault.Build x)) e) in
+    s.2 (subst (λ Q. IsFreeOf Q b) (one_program m.texts P s.0 m.names m.says s.1) (free_of P b yet m.faultless))
 not_built bytes P f named m s = absurd s
 
 in_no_bytes : (bytes : List ℕ) (P : Program) (f : ReadFault) → Means bytes P → InBytes bytes f → ⊥

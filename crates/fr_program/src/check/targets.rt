@@ -1,5 +1,5 @@
 // Targets, and the ends of codes.
-ghost use Rattle.std.specs.Prelude.{◌≡◌, ◌<◌, ◌↔◌, IsTrue, IfSome, All, true};
+ghost use Rattle.std.specs.Prelude.{◌≡◌, ◌<◌, ◌↔◌, IsTrue, IfSome, not, position};
 ghost use Rattle.fr_program.specs.Uses.{TargetsBelow};
 ghost use Rattle.fr_program.specs.ListFault.{ends_well};
 ghost use Rattle.fr_program.specs.View.{actor_of};
@@ -28,10 +28,11 @@ fn is_else_below(length: usize, or_else: Option<usize>) -> bool
     }
 }
 
-pub fn each_ends_well(actors: &[Actor]) -> bool
-    ensures { IsTrue result ↔ All (λ a. ends_well (actor_of a) ≡ true) actors.now }
+/// The number of the first actor whose code doesn't end well.
+pub fn first_falling_off(actors: &[Actor]) -> Option<usize>
+    ensures { result ≡ position (λ a. not (ends_well (actor_of a))) actors.now }
 {
-    actors.iter().all(|actor| ends_well(actor))
+    actors.iter().position(|actor| !ends_well(actor))
 }
 
 fn ends_well(actor: &Actor) -> bool
