@@ -6,6 +6,7 @@ pub mod Unique
 pub mod Here
 pub mod Round
 pub mod WorkedVerdicts
+pub mod WorkedWriters
 pub mod WorkedFaultless
 pub mod Telling
 pub mod Judging
