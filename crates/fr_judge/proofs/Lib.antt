@@ -8,6 +8,7 @@ pub mod Round
 pub mod WorkedVerdicts
 pub mod WorkedWriters
 pub mod WorkedFaultless
+pub mod WritersFaultless
 pub mod Telling
 pub mod Judging
 pub mod OwnParts

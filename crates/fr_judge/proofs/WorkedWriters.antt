@@ -1,10 +1,10 @@
 -- The two writers, spot by spot. All that the notes say but the depth in the critical section is kept by each step of
 -- either task. The depth changes by the task's own steps, and only one task at a time is in the critical section.
-use Rattle.std.proofs.Common.{◌≡◌, ◌≢◌, ℕ, zero, suc, ◌+◌, ◌-◌, ◌<◌, [], ◌∷◌, Option, Some, None, Bool, true, false, refl, sym, ap, ◌∙◌, subst, ⊎_elim, arith}
-use Rattle.std.specs.Prelude.{ℤ, pos, IsTrue, IfSome, Contains, nat_eq, int_le, slice_get, if◌then◌else◌}
+use Rattle.std.proofs.Common.{◌≡◌, ◌≢◌, ℕ, zero, suc, ◌+◌, ◌-◌, ◌<◌, [], ◌∷◌, Option, Some, None, Bool, false, refl, sym, ap, ◌∙◌, subst, arith}
+use Rattle.std.specs.Prelude.{ℤ, pos, IsTrue, IfSome, Contains, slice_get}
 use Rattle.std.proofs.lemmas.Int.{ints}
 use Rattle.std.proofs.lemmas.Option.{same_Some, cond_some}
-use Rattle.std.proofs.lemmas.Bool.{eqb-true, eq-eqb, ne_eqb}
+use Rattle.std.proofs.lemmas.Bool.{eq-eqb, ne_eqb}
 use Rattle.fr_program.specs.declared.instr.Instr.{Instr}
 use Rattle.fr_program.specs.declared.instr.Instr.TheVariants.{Goto, Call as Calls}
 use Rattle.fr_program.specs.declared.instr.Call.TheVariants.{Delete, On}
@@ -28,7 +28,7 @@ use Rattle.fr_calls.specs.Step.{StepBy, Row, landing, sent_bytes}
 use Rattle.fr_calls.proofs.Contents.{set_case}
 use Rattle.fr_calls.proofs.Free.{no-use, live-use}
 use Rattle.fr_notes.specs.Note.{Alternative, HoldsOne, Meets, Within, claim_of, range_of}
-use Rattle.fr_notes.specs.Noted.{note_at, IsAt, Noted, NotedBy}
+use Rattle.fr_notes.specs.Noted.{note_at, IsAt}
 use Rattle.fr_edge.specs.Own.{KeepsRule, Goes, is_own}
 use Rattle.fr_ends.specs.Guard.{Guard, InCritical}
 use Rattle.fr_ends.specs.Certificate.{guard_for}
@@ -41,7 +41,7 @@ use Rattle.fr_judge.proofs.Round.{only-one, not-inside}
 use Rattle.fr_judge.proofs.Turns.{depth-alone}
 
 -- the five places at which a task can be
-data Spot : Type 0 where
+pub data Spot : Type 0 where
   Entering : Spot
   Calling : Spot
   Sending : Spot
@@ -62,7 +62,7 @@ side_of Sending = Inside
 side_of Leaving = Before
 side_of Closing = Before
 
-abbrev instr : Spot → Instr
+abbrev pub instr : Spot → Instr
 instr Entering = enter
 instr Calling = send
 instr Sending = send
