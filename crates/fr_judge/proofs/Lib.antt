@@ -7,6 +7,7 @@ pub mod Here
 pub mod Round
 pub mod WorkedVerdicts
 pub mod WorkedWriters
+pub mod WorkedParts
 pub mod WorkedFaultless
 pub mod WritersFaultless
 pub mod Telling
