@@ -6,7 +6,10 @@ pub mod Unique
 pub mod Here
 pub mod Round
 pub mod WorkedVerdicts
+pub mod WorkedWriters
+pub mod WorkedParts
 pub mod WorkedFaultless
+pub mod WritersFaultless
 pub mod Telling
 pub mod Judging
 pub mod OwnParts

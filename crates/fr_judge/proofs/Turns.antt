@@ -18,7 +18,7 @@ held-alone (Held holder n) a b h k =
     sym (eqb-true holder a (positive_if (nat_eq holder a) n h)) ∙ eqb-true holder b (positive_if (nat_eq holder b) n k)
 held-alone c a b h k = absurd (omega arith)
 
-depth-alone : (c : Option (ℕ × ℕ)) (a b : ℕ) → 0 < depth_in c a → 0 < depth_in c b → a ≡ b
+pub depth-alone : (c : Option (ℕ × ℕ)) (a b : ℕ) → 0 < depth_in c a → 0 < depth_in c b → a ≡ b
 depth-alone None a b h k = absurd (omega arith)
 depth-alone (Some c) a b h k =
     sym (eqb-true c.0 a (positive_if (nat_eq c.0 a) c.1 h)) ∙ eqb-true c.0 b (positive_if (nat_eq c.0 b) c.1 k)

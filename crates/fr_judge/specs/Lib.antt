@@ -4,6 +4,7 @@ pub mod Owed
 pub mod Sound
 pub mod WorkedVerdicts
 pub mod WorkedWriters
+pub mod WorkedParts
 pub mod Told
 pub mod Texts
 pub mod Approved

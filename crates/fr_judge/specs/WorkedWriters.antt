@@ -22,7 +22,6 @@ use Rattle.fr_program.specs.declared.instr.Instr.{Instr}
 use Rattle.fr_program.specs.declared.instr.Instr.TheVariants.{Goto, Call as Calls}
 use Rattle.fr_program.specs.declared.instr.Call.TheVariants.{EnterCritical, ExitCritical, On}
 use Rattle.fr_program.specs.declared.instr.Form.TheVariants.{Task as InTask}
-use Rattle.fr_program.specs.declared.instr.Action.{Action}
 use Rattle.fr_program.specs.declared.instr.Action.TheVariants.{Send}
 use Rattle.fr_program.specs.declared.instr.BufferKind.TheVariants.{Stream as OfStream}
 use Rattle.fr_program.specs.declared.instr.Timing.TheVariants.{Waits}

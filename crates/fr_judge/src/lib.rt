@@ -19,4 +19,4 @@ pub use laws::{
 pub use part::{Part, Verdict};
 pub use text::{Judged, TextFault, judge_text};
 pub use verdict::{job, judge};
-pub use worked::verdicts_as_worked;
+pub use worked::{parts_as_worked, two_writers_are_certified, verdicts_as_worked};
