@@ -7,6 +7,7 @@
 -- | least              | the least of the rules 4, 5, 6, 9, 10, 11 before an instruction              |
 -- | WorkedLeast        | that rule, of instructions beside each other                                 |
 use Rattle.std.specs.Prelude.{◌≡◌, ℕ, pos, [], ◌∷◌, Option, None, Some, Bool, true, false}
+use Rattle.std.specs.Option.{option_map}
 use Rattle.fr_program.specs.declared.instr.Instr.{Instr}
 use Rattle.fr_program.specs.declared.instr.Instr.TheVariants.{Goto, Call as Calls, Return}
 use Rattle.fr_program.specs.declared.instr.Call.TheVariants.{EnterCritical, ResumeAll, Delay, DeleteSelf}
@@ -24,7 +25,7 @@ use Rattle.fr_program.specs.declared.parts.Kind.TheVariants.{Binary, Mutex, Recu
 use Rattle.fr_program.specs.declared.parts.ActorKind.TheVariants.{Task}
 use Rattle.fr_program.specs.Program.{Program}
 use Rattle.fr_calls.specs.State.{State, Place, At, Content, Dead, Values, Held, Bytes}
-use Rattle.fr_calls.specs.Rule.{OneWriter, OneReader, GivenByHolder, AllowedInCritical, IsLive, LifeInOrder, EndsInOrder, InRange, Breach, first_forbidden}
+use Rattle.fr_calls.specs.Rule.{OneWriter, OneReader, GivenByHolder, AllowedInCritical, IsLive, LifeInOrder, EndsInOrder, InRange, Breach, number_of, first_forbidden}
 use Rattle.fr_calls.specs.WorkedSteps.{x, call, beside, of_one, seen, before, inside, add_one, enter, exit, create, delete, take, take_recursive, give, queue_send, stream_send, stream_receive, reset, queue, stream}
 
 -- two tasks, each with one instruction, and an object of this kind
@@ -56,10 +57,11 @@ pub record WorkedBreaches : Type 0 where
   pub set_out_of_range : Breach (of_one stream add_one) (before (pos 9) Dead) InRange 0
   pub send_out_of_range : Breach (of_one queue queue_send) (inside (pos 10) (Values [])) InRange 0
 
--- the least rule that is breached, with an object of this kind: by an interrupt or a task, at these depths, and holding
--- a mutex or not
+-- the number of the least rule that is breached, with an object of this kind: by an interrupt or a task, at these
+-- depths, and holding a mutex or not
 abbrev pub least : Kind → Bool → ℕ → ℕ → Bool → Instr → Option ℕ
-least kind interrupt critical suspended holds i = first_forbidden (of_one kind i) interrupt critical suspended holds i
+least kind interrupt critical suspended holds i =
+    option_map number_of (first_forbidden (of_one kind i) (record { interrupt = interrupt; critical = critical; suspended = suspended; holds = holds }) i)
 
 -- a send of 8 bytes, by its block time
 abbrev pub send_within : Timing → Instr

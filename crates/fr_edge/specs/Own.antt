@@ -8,7 +8,9 @@ use Rattle.fr_program.specs.declared.ids.Side.TheVariants.{Before}
 use Rattle.fr_program.specs.Program.{Program}
 use Rattle.fr_program.specs.Lookup.{IsPoint, instr_of}
 use Rattle.fr_calls.specs.State.{State, start}
-use Rattle.fr_calls.specs.Rule.{Rule, OneWriter, OneReader, LifeInOrder, Breach}
+use Rattle.fr_calls.specs.declared.rules.Rule.{Rule}
+use Rattle.fr_calls.specs.declared.rules.Rule.TheVariants.{OneWriter, OneReader, LifeInOrder}
+use Rattle.fr_calls.specs.Rule.{Breach}
 use Rattle.fr_calls.specs.declared.way.Way.{Way}
 use Rattle.fr_calls.specs.Step.{StepBy}
 use Rattle.fr_notes.specs.Note.{Alternative, Note, HoldsOne, Holds}

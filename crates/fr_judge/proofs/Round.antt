@@ -11,9 +11,11 @@ use Rattle.fr_program.specs.declared.ids.Side.TheVariants.{Before, Inside}
 use Rattle.fr_program.specs.Program.{Program}
 use Rattle.fr_program.specs.Lookup.{instr_at}
 use Rattle.fr_calls.specs.State.{State, Place, At, Done, place_of, goes_to}
-use Rattle.fr_calls.specs.Rule.{Rule, OneWriter, OneReader, GivenByHolder, IsLive, LifeInOrder, InRange, End, Stands, Breaches}
+use Rattle.fr_calls.specs.declared.rules.Rule.{Rule}
+use Rattle.fr_calls.specs.declared.rules.Rule.TheVariants.{OneWriter, OneReader, GivenByHolder, IsLive, LifeInOrder, InRange}
+use Rattle.fr_calls.specs.Rule.{End, Stands, Breaches}
 use Rattle.fr_calls.specs.declared.way.Way.{Way}
-use Rattle.fr_calls.specs.declared.way.Way.TheVariants.{Works, Fails}
+use Rattle.fr_calls.specs.declared.way.Way.TheVariants.{Then, Else}
 use Rattle.fr_calls.specs.Step.{StepBy, Row, landing}
 use Rattle.fr_notes.specs.Note.{Alternative, Note, HoldsOne}
 use Rattle.fr_notes.specs.Noted.{note_at, IsAt}
@@ -73,8 +75,8 @@ module _ (P : Program) (C : Certificate) (n : Alternative) (is : instr_at P 0 0 
       by-way way t.mid t.pc row moved
     where
       by-way : (way : Way) (mid : State) (pc : ℕ) → Row P S 0 Before (Goto 0) way c mid → S' ≡ goes_to 0 (landing pc Before (Goto 0) way) mid → S' ≡ goes_to 0 (At 0 Before) S
-      by-way Works mid pc row moved = moved ∙ ap (λ T. goes_to 0 (At 0 Before) T) row.1
-      by-way Fails mid pc row moved = elim row [ ]
+      by-way Then mid pc row moved = moved ∙ ap (λ T. goes_to 0 (At 0 Before) T) row.1
+      by-way Else mid pc row moved = elim row [ ]
 
   pub goes-kept : (t : Point) → Goes P C.notes (first 0) t
   goes-kept t at same m inside way S c S' by step lands =
