@@ -128,7 +128,7 @@ spoiled = goes_to 1 (At 1 Before) (write 0 (pos 2) (start spoiling))
 
 spoiling-step : StepBy spoiling Then (start spoiling) 1 (pos 0) spoiled
 spoiling-step =
-    record { pc = 0; side = Before; instr = set_2; at = refl; is = refl; free = before-free spoiling (start spoiling) 1 set_2 refl none (no-use spoiling (start spoiling) 1 set_2 refl); mid = write 0 (pos 2) (start spoiling); row = (refl, refl); moved = refl }
+    record { pc = 0; side = Before; instr = set_2; at = refl; is = refl; free = before-free spoiling (start spoiling) 1 set_2 refl none (no-use spoiling (start spoiling) 1 set_2 Before refl); mid = write 0 (pos 2) (start spoiling); row = (refl, refl); moved = refl }
 
 spoiling-fails : Undisturbed spoiling three_notes.notes (first 0) (first 1) → ⊥
 spoiling-fails kept =
