@@ -97,6 +97,6 @@ module _ (P : Program) (notes : List Note) (p : Point) (i : Instr) (way : Way) (
 
     pub missing : (target : Point) (next : Note) → next ≡ note_at P notes target → target.actor ≡ p.actor → landing p.pc Before i way ≡ At target.pc target.side → ((m : Alternative) → Contains next m → Keeps n change m → ⊥) → GoesBy P notes p way target → ⊥
     missing target next is_next actor to none goes =
-        let g = goes actor n k (here P p n free point fits (moves false 0).values) (moves false 0).choice (after-state false 0) (noted-at false 0) (steps false 0) (arrives false 0 target actor to) in
+        let g = goes actor n k (here P p n free point fits (moves false 0).values, (moves false 0).choice, after-state false 0, noted-at false 0, steps false 0, arrives false 0 target actor to) in
         none g.0 (subst (λ note. Contains note g.0) (sym is_next) g.1) (keeps-what-holds g.0 (λ b x.
         g.2 (here P p n free point fits (moves b x).values) (moves b x).choice (after-state b x) (noted-at b x) (steps b x) (arrives b x target actor to)))

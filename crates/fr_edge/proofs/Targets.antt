@@ -16,7 +16,7 @@ use Rattle.fr_program.specs.Fault.{IsFaultless, IsJudgedYet}
 use Rattle.fr_calls.specs.declared.way.Way.{Way}
 use Rattle.fr_calls.specs.declared.way.Way.TheVariants.{Then, Else}
 use Rattle.fr_calls.specs.State.{State, At, Done, place_of, goes_to}
-use Rattle.fr_calls.specs.Step.{StepBy, landing}
+use Rattle.fr_calls.specs.Step.{StepBy, landing, CanStep, AlwaysLeaves}
 use Rattle.fr_notes.specs.Note.{Alternative, Note, HoldsOne}
 use Rattle.fr_notes.specs.Noted.{note_at, IsAt, NotedBy}
 use Rattle.fr_notes.specs.Fits.{AlternativeFits}
@@ -43,7 +43,7 @@ module _ (P : Program) (notes : List Note) (p : Point) (i : Instr) (way : Way) (
       sym (lands n S c T noted step) ∙ ap (λ a. place_of T a) (sym (ap (λ a. a.0) same)) ∙ at
 
   pub no-landing : landing p.pc Before i way ≡ Done → WayOutcome P notes p way None
-  no-landing e = λ t at_t same n k S c T noted step at. let f = sym e ∙ at-landing n S c T t noted step at same in cc
+  no-landing e = λ t at_t same n k h. let f = sym e ∙ at-landing n h.0 h.1 h.2 t h.3 h.4 h.5 same in cc
 
   module _ (target : Point) (actor : target.actor ≡ p.actor) (to : landing p.pc Before i way ≡ At target.pc target.side) where
     is-target : (n : Alternative) (S : State) (c : ℤ) (T : State) (t : Point) → NotedBy P p n S → StepBy P way S p.actor.0 c T → IsAt T t → t.actor ≡ p.actor → t ≡ target
@@ -55,11 +55,11 @@ module _ (P : Program) (notes : List Note) (p : Point) (i : Instr) (way : Way) (
         ap (λ a. record { actor = a; pc = t.pc; side = t.side }) one ∙ ap (λ k. record { actor = target.actor; pc = k; side = t.side }) pc ∙ ap (λ s. record { actor = target.actor; pc = target.pc; side = s }) side
 
     pub no-target : (IsPoint P target → ⊥) → WayOutcome P notes p way None
-    no-target none = λ t at_t same n k S c T noted step at.
-        absurd (none (subst (λ q. IsPoint P q) (is-target n S c T t noted step at same) at_t))
+    no-target none = λ t at_t same n k h.
+        absurd (none (subst (λ q. IsPoint P q) (is-target n h.0 h.1 h.2 t h.3 h.4 h.5 same) at_t))
 
     pub others : (t : Point) → (t ≡ target → ⊥) → GoesBy P notes p way t
-    others t ne = λ same n k S c T noted step at. absurd (ne (is-target n S c T t noted step at same))
+    others t ne = λ same n k h. absurd (ne (is-target n h.0 h.1 h.2 t h.3 h.4 h.5 same))
 
     module _ (next : Note) (is_next : next ≡ note_at P notes target) (next_fits : All (λ m. AlternativeFits P m) next) where
       holds-after : (n m : Alternative) (change : Change) (S : State) (c : ℤ) (T : State) → AlternativeFits P n → AlternativeFits P m → HasChange n i way change → Keeps n change m → NotedBy P p n S → StepBy P way S p.actor.0 c T → HoldsOne m p.actor.0 T
@@ -73,7 +73,7 @@ module _ (P : Program) (notes : List Note) (p : Point) (i : Instr) (way : Way) (
           subst (λ U. HoldsOne m p.actor.0 U) (sym h.moved) moved
 
       goes-to-target : ((n : Alternative) → Contains (note_at P notes p) n → GoesWell n i way next) → GoesBy P notes p way target
-      goes-to-target well = λ same n k S c T noted step at. go n k S c T noted step (well n k)
+      goes-to-target well = λ same n k h. go n k h.0 h.1 h.2 h.3 h.4 (well n k)
         where
           go : (n : Alternative) → Contains (note_at P notes p) n → (S : State) (c : ℤ) (T : State) → NotedBy P p n S → StepBy P way S p.actor.0 c T → GoesWell n i way next → (m : Alternative) × Contains (note_at P notes target) m × ((U : State) (d : ℤ) (V : State) → NotedBy P p n U → StepBy P way U p.actor.0 d V → IsAt V target → HoldsOne m p.actor.0 V)
           go n k S c T noted step (inl none) =
@@ -91,15 +91,15 @@ module _ (P : Program) (notes : List Note) (p : Point) (i : Instr) (way : Way) (
               )
 
       pub all-go : ((n : Alternative) → Contains (note_at P notes p) n → GoesWell n i way next) → WayOutcome P notes p way None
-      all-go well = λ t at_t same n k S c T noted step at.
-          let e = is-target n S c T t noted step at same in
-          subst (λ q. GoesBy P notes p way q) (sym e) (goes-to-target well) same n k S c T noted step at
+      all-go well = λ t at_t same n k h.
+          let e = is-target n h.0 h.1 h.2 t h.3 h.4 h.5 same in
+          subst (λ q. GoesBy P notes p way q) (sym e) (goes-to-target well) same n k h
 
 -- both rows together
 pub goes-by-ways : (P : Program) (notes : List Note) (p t : Point) → GoesBy P notes p Then t → GoesBy P notes p Else t → Goes P notes p t
 goes-by-ways P notes p t works fails = λ at same n k way. go n k way same
   where
-    go : (n : Alternative) → Contains (note_at P notes p) n → (way : Way) → t.actor ≡ p.actor → (S : State) (c : ℤ) (T : State) → NotedBy P p n S → StepBy P way S p.actor.0 c T → IsAt T t → (m : Alternative) × Contains (note_at P notes t) m × ((U : State) (d : ℤ) (V : State) → NotedBy P p n U → StepBy P way U p.actor.0 d V → IsAt V t → HoldsOne m p.actor.0 V)
+    go : (n : Alternative) → Contains (note_at P notes p) n → (way : Way) → t.actor ≡ p.actor → CanStep P (NotedBy P p n) p.actor.0 way (λ T. IsAt T t) → (m : Alternative) × Contains (note_at P notes t) m × AlwaysLeaves P (NotedBy P p n) p.actor.0 way (λ T. IsAt T t → HoldsOne m p.actor.0 T)
     go n k Then same = works same n k
     go n k Else same = fails same n k
 

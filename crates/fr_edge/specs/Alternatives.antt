@@ -26,7 +26,7 @@ use Rattle.fr_calls.specs.State.{State}
 use Rattle.fr_calls.specs.declared.rules.Rule.{Rule}
 use Rattle.fr_calls.specs.declared.rules.Condition.{Condition}
 use Rattle.fr_calls.specs.Rule.{number_of, Breach, result_of, IsOutside}
-use Rattle.fr_calls.specs.Step.{StepBy}
+use Rattle.fr_calls.specs.Step.{CanStep, AlwaysLeaves}
 use Rattle.fr_notes.specs.Note.{Alternative, Note, HoldsOne}
 use Rattle.fr_notes.specs.Noted.{note_at, IsAt, NotedBy}
 use Rattle.fr_notes.specs.declared.change.Change.{Change}
@@ -81,14 +81,13 @@ StaysIn P n (Set x l op r) =
     (u v : ℤ) → CanBe n l u → CanBe n r v → ((variable_at P x.0).lo ≤ℤ result_of op u v) × (result_of op u v ≤ℤ (variable_at P x.0).hi)
 StaysIn P n i = Unit {0}
 
--- for each alternative of the point's note by which some state steps to t by this row, one alternative of t's note holds
--- after every such step
+-- for each alternative of the point's note with which some state steps to t by this row, one alternative of t's note is
+-- left by every such step
 abbrev pub GoesBy : Program → List Note → Point → Way → Point → Type 0
 GoesBy P notes p way t =
     t.actor ≡ p.actor → (n : Alternative) → Contains (note_at P notes p) n →
-    (S : State) (c : ℤ) (S' : State) → NotedBy P p n S → StepBy P way S p.actor.0 c S' → IsAt S' t →
-    (m : Alternative) × Contains (note_at P notes t) m
-    × ((T : State) (d : ℤ) (T' : State) → NotedBy P p n T → StepBy P way T p.actor.0 d T' → IsAt T' t → HoldsOne m p.actor.0 T')
+    CanStep P (NotedBy P p n) p.actor.0 way (λ S'. IsAt S' t) →
+    (m : Alternative) × Contains (note_at P notes t) m × AlwaysLeaves P (NotedBy P p n) p.actor.0 way (λ S'. IsAt S' t → HoldsOne m p.actor.0 S')
 
 -- steps by this row keep the note of each point of the actor, or miss that of the point with this number alone
 abbrev pub WayOutcome : Program → List Note → Point → Way → Option ℕ → Type 0
