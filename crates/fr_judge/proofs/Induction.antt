@@ -70,10 +70,10 @@ module _ (P : Program) (C : Certificate) (certified : Certified P C) where
       let was : IsAt S p = sym (moved.others p.actor.0 ne) ∙ e in
       let n = keeps.notes p was in
       let by : NotedBy P p n.0 S = record { formed = keeps.formed; at = was; holds = n.2 } in
-      let k = certified.kept p (is_point S p keeps was) (SpoiledPart p0) (is_point S p0 keeps t.at) (λ q. ne (sym (ap (λ i. i.0) q))) n.0 n0.0 n.1 n0.1 way S c S' by by0 t in
-      (k.0, k.1, k.2 S c S' by by0 t) in
+      let k = certified.kept p (is_point S p keeps was) (SpoiledPart p0) (is_point S p0 keeps t.at) (λ q. ne (sym (ap (λ i. i.0) q))) n.0 n0.0 n.1 n0.1 way (S, c, S', (by, by0), t, tt) in
+      (k.0, k.1, k.2 S c S' (by, by0) t) in
       let mover : (p : Point) → IsAt S' p → p.actor.0 ≡ a → Holds (note_at P C.notes p) p.actor.0 S' = λ p e q.
-      let m = certified.kept p0 (is_point S p0 keeps t.at) (GoesPart p) (subst (λ s. Exists P p.actor.0 s) e (moved.formed.places p.actor.0)) (same_actor p a q) n0.0 n0.1 way S c S' by0 t e in
+      let m = certified.kept p0 (is_point S p0 keeps t.at) (GoesPart p) (subst (λ s. Exists P p.actor.0 s) e (moved.formed.places p.actor.0)) (same_actor p a q) n0.0 n0.1 way (S, c, S', by0, t, e) in
       (m.0, m.1, subst (λ b. HoldsOne m.0 b S') (sym q) (m.2 S c S' by0 t e)) in
       record {
         formed = moved.formed;

@@ -79,7 +79,7 @@ module _ (P : Program) (C : Certificate) (n : Alternative) (is : instr_at P 0 0 
       by-way Else mid pc row moved = elim row [ ]
 
   pub goes-kept : (t : Point) → Goes P C.notes (first 0) t
-  goes-kept t at same m inside way S c S' by step lands =
+  goes-kept t at same m inside way (S, c, S', by, step, lands) =
       let back = subst (λ T. IsAt T t) (steps-back way S c S' by.at step) lands in
       let place = landed S.places (At 0 Before) t.pc t.side (subst (λ a. place_of (goes_to 0 (At 0 Before) S) a ≡ At t.pc t.side) (ap (λ a. a.0) same) back) in
       let point : t ≡ first 0 = ap (λ a. record { actor = a; pc = t.pc; side = t.side }) same ∙ here t.pc t.side place in (

@@ -135,9 +135,9 @@ spoiling-fails kept =
     let by0 : NotedBy spoiling (first 0) x_declared (start spoiling) = record { formed = spoiling-formed; at = refl; holds = x-holds 0 (omega arith) } in
     let by1 : NotedBy spoiling (first 1) x_declared (start spoiling) = record { formed = spoiling-formed; at = refl; holds = x-holds 1 (omega arith) } in
     let apart : (first 1).actor ≢ (first 0).actor = λ e. let z : ◌≡◌ {A = ℕ} 1 0 = ap (λ i. i.0) e in absurd (omega arith) in
-    let k = kept (set_2, refl, tt) apart x_declared x_declared (0, omega arith, refl) (0, omega arith, refl) Then (start spoiling) (pos 0) spoiled by0 by1 spoiling-step in
+    let k = kept (set_2, refl, tt) apart x_declared x_declared (0, omega arith, refl) (0, omega arith, refl) Then (start spoiling, pos 0, spoiled, (by0, by1), spoiling-step, tt) in
     let same = only-one x_declared k.0 k.1 in
-    let after = subst (λ n. HoldsOne n 0 spoiled) same (k.2 (start spoiling) (pos 0) spoiled by0 by1 spoiling-step) in
+    let after = subst (λ n. HoldsOne n 0 spoiled) same (k.2 (start spoiling) (pos 0) spoiled (by0, by1) spoiling-step) in
     absurd (omega (arith, ints, (after.variables 0).1))
 
 -- a point with a number below 1 is the first one
