@@ -11,12 +11,13 @@ use Rattle.fr_program.specs.declared.ids.Side.{Side}
 use Rattle.fr_program.specs.declared.ids.Side.TheVariants.{Before, Inside}
 use Rattle.fr_program.specs.declared.parts.Kind.{Kind}
 use Rattle.fr_program.specs.declared.parts.Kind.TheVariants.{Binary, Counting, Mutex, Recursive}
+use Rattle.fr_program.specs.declared.parts.ActorKind.TheVariants.{Interrupt}
 use Rattle.fr_program.specs.Program.{Program}
 use Rattle.fr_program.specs.Lookup.{instr_at}
 use Rattle.fr_calls.specs.State.{State, At, Dead, Values, Count, Free, Held, Bytes, Lengths, place_of, content_of, goes_to}
-use Rattle.fr_calls.specs.Rule.{Rule, GivenByHolder, DepthAboveZero, EndsInOrder, GivesUnheld, UsesDead, Breaches, used_object}
+use Rattle.fr_calls.specs.Rule.{Rule, GivenByHolder, AllowedInCritical, AllowedSuspended, AllowedInInterrupt, IsLive, SuitsSemaphore, DepthAboveZero, EndsInOrder, GivesUnheld, UsesDead, Breaches, used_object}
 use Rattle.fr_calls.specs.Step.{Way, Then, Else, Row, SuitsInside, Step, StepBy, landing, stops, sent_bytes, received_bytes}
-use Rattle.fr_calls.specs.WorkedSteps.{x, of_one, seen, before, inside, next, other, Steps, ten, add_one, if_below, enter, exit, create, delete, take, take_at_once, take_recursive, give, give_recursive, queue_send, queue_receive, stream_send, stream_receive, message_send, message_receive, reset, queue, stream, message, counts_once, WorkedInstrs, WorkedEnds, HasNoStep, WorkedStops, HasNoChoice, WorkedBounds, WorkedComparisons, WorkedRun}
+use Rattle.fr_calls.specs.WorkedSteps.{x, beside, of_one, seen, before, inside, next, other, Steps, ten, add_one, if_below, enter, exit, create, create_counting, delete, take, take_at_once, take_recursive, give, give_recursive, queue_send, queue_receive, queue_receive_at_once, stream_send, stream_receive, message_send, message_receive, reset, queue, stream, message, counts_once, WorkedInstrs, WorkedEnds, HasNoStep, WorkedStops, HasNoChoice, WorkedBounds, WorkedComparisons, WorkedRun}
 use Rattle.fr_calls.proofs.Free.{before-free, inside-free, no-use, live-use, least_here}
 
 -- a step before the instruction, by its row
@@ -54,6 +55,7 @@ worked-instrs = record {
   delay_goes_on = plain-steps stream (Calls (Delay 1)) Then (before (pos 0) Dead) (pos 0) (before (pos 0) Dead) (next (pos 0) Dead) refl refl none refl (refl, refl) refl;
   delete_self_ends = plain-steps stream (Calls DeleteSelf) Then (before (pos 0) Dead) (pos 0) (before (pos 0) Dead) _ refl refl none refl (refl, refl) refl;
   create_works = plain-steps stream create Then (before (pos 0) Dead) (pos 1) (before (pos 0) (Bytes 0)) (next (pos 0) (Bytes 0)) refl refl none refl (refl, refl, refl) refl;
+  create_counting_begins_at_its_first_count = plain-steps (Counting (pos 3) (pos 2)) create_counting Then (before (pos 0) Dead) (pos 1) (before (pos 0) (Count 2)) (next (pos 0) (Count 2)) refl refl none refl (refl, refl, refl) refl;
   create_fails = plain-steps stream create Else (before (pos 0) Dead) (pos 0) (before (pos 0) Dead) (other (pos 0) Dead) refl refl none refl (refl, refl, refl) refl;
   delete_works = before-steps stream delete Then (before (pos 0) (Bytes 3)) (pos 0) (before (pos 0) Dead) (next (pos 0) Dead) refl refl none (live-use (of_one stream delete) (before (pos 0) (Bytes 3)) 0 delete Before 0 refl (λ e. cc)) (refl, refl) refl;
   call_begins = before-steps Mutex (take ten) Then (before (pos 0) (Held 1 1)) (pos 0) (before (pos 0) (Held 1 1)) (inside (pos 0) (Held 1 1)) refl refl none (live-use (of_one Mutex (take ten)) (before (pos 0) (Held 1 1)) 0 (take ten) Before 0 refl (λ e. cc)) (refl, refl) refl;
@@ -65,6 +67,7 @@ worked-ends = record {
   take_from_interrupt_fails = inside-steps Binary take_at_once Else (inside (pos 0) (Count 0)) (pos 0) (inside (pos 0) (Count 0)) (other (pos 0) (Count 0)) refl refl none refl (λ e. cc) (refl, refl, refl) refl;
   give_of_binary = inside-steps Binary give Then (inside (pos 0) (Count 0)) (pos 1) (inside (pos 0) (Count 1)) (next (pos 0) (Count 1)) refl refl (λ h. let e = h.0 in cc) refl (λ e. cc) (refl, (_, refl, refl)) refl;
   give_of_full_binary = inside-steps Binary give Else (inside (pos 0) (Count 1)) (pos 0) (inside (pos 0) (Count 1)) (other (pos 0) (Count 1)) refl refl (λ h. let e = h.0 in cc) refl (λ e. cc) (refl, refl, refl) refl;
+  queue_receive_from_interrupt_fails = inside-steps queue queue_receive_at_once Else (inside (pos 0) (Values [])) (pos 0) (inside (pos 0) (Values [])) (other (pos 0) (Values [])) refl refl none refl (λ e. cc) (refl, refl, refl) refl;
   queue_receive_times_out = inside-steps queue queue_receive Else (inside (pos 4) (Values [])) (pos 0) (inside (pos 4) (Values [])) (other (pos 4) (Values [])) refl refl none refl (λ e. cc) (refl, refl, refl) refl;
   take_of_mutex = inside-steps Mutex (take MaxDelay) Then (inside (pos 0) Free) (pos 1) (inside (pos 0) (Held 0 1)) (next (pos 0) (Held 0 1)) refl refl none refl (λ e. cc) (refl, (_, refl, refl)) refl;
   take_again = inside-steps Recursive take_recursive Then (inside (pos 0) (Held 0 1)) (pos 1) (inside (pos 0) (Held 0 2)) (next (pos 0) (Held 0 2)) refl refl none refl (λ e. cc) (refl, (_, refl, refl)) refl;
@@ -112,6 +115,12 @@ module _ (P : Program) (S : State) (side : Side) (i : Instr) (at : place_of S 0 
       let e = where-it-is way c S' t in
       t.free.0 rule s (subst (λ z. Breaches P S 0 z t.instr rule) (sym e.0) (subst (λ j. Breaches P S 0 side j rule) (sym e.1) b))
 
+  -- the actor is inside a take or give that doesn't suit the kind of semaphore
+  unsuited : (SuitsInside P side i → ⊥) → HasNoStep P S
+  unsuited not c S' (way, t) =
+      let e = where-it-is way c S' t in
+      not (subst (λ s. SuitsInside P s i) e.0 (subst (λ j. SuitsInside P t.side j) e.1 t.free.1))
+
 enter-rowless : (way : Way) (c : ℤ) (mid : State) → Row (of_one stream enter) (seen (At 0 Before) (pos 0) Dead (Some (1, 1)) 0) 0 Before enter way c mid → ⊥
 enter-rowless Then c mid h = absurd (omega (arith, h.1))
 enter-rowless Else c mid h = h
@@ -128,6 +137,15 @@ pub worked-stops : WorkedStops
 worked-stops = record {
   enter_waits = rowless (of_one stream enter) (seen (At 0 Before) (pos 0) Dead (Some (1, 1)) 0) Before enter refl refl enter-rowless;
   take_waits = rowless (of_one Mutex (take MaxDelay)) (inside (pos 0) (Held 1 1)) Inside (take MaxDelay) refl refl take-rowless;
+  delay_needs_no_critical_section = stopped (of_one stream (Calls (Delay 1))) (seen (At 0 Before) (pos 0) Dead (Some (0, 1)) 0) Before (Calls (Delay 1)) refl refl AllowedInCritical refl refl;
+  delay_needs_no_suspension = stopped (of_one stream (Calls (Delay 1))) (seen (At 0 Before) (pos 0) Dead None 1) Before (Calls (Delay 1)) refl refl AllowedSuspended refl refl;
+  delay_needs_a_task = stopped (beside Interrupt stream (Calls (Delay 1) ∷ Goto 0 ∷ []) (Goto 0)) (before (pos 0) Dead) Before (Calls (Delay 1)) refl refl AllowedInInterrupt refl refl;
+  send_needs_a_live_buffer = stopped (of_one stream stream_send) (before (pos 0) Dead) Before stream_send refl refl IsLive refl (0, refl, refl);
+  send_needs_it_to_the_end = stopped (of_one stream stream_send) (inside (pos 0) Dead) Inside stream_send refl refl IsLive refl (0, refl, refl);
+  delete_needs_a_live_object = stopped (of_one stream delete) (before (pos 0) Dead) Before delete refl refl IsLive refl (0, refl, refl);
+  take_needs_its_kind = stopped (of_one Recursive (take ten)) (before (pos 0) Free) Before (take ten) refl refl SuitsSemaphore refl refl;
+  recursive_give_needs_a_holder = stopped (of_one Recursive give_recursive) (inside (pos 0) (Held 1 1)) Inside give_recursive refl refl GivenByHolder refl (refl, refl);
+  take_inside_needs_its_kind = unsuited (of_one Recursive (take ten)) (inside (pos 0) Free) Inside (take ten) refl refl (λ h. cc);
   give_needs_a_holder = stopped (of_one Mutex give) (inside (pos 0) (Held 1 1)) Inside give refl refl GivenByHolder refl (refl, refl);
   exit_needs_a_depth = stopped (of_one stream exit) (before (pos 0) Dead) Before exit refl refl DepthAboveZero refl refl;
   a_task_never_returns = stopped (of_one stream Return) (before (pos 0) Dead) Before Return refl refl EndsInOrder refl refl;
