@@ -50,7 +50,7 @@ fn before(actor: ActorId, pc: usize) -> Landing
 }
 
 /// Where an actor's step from a side of an instruction leads by this row. The next instruction
-/// stands at `next`.
+/// is at `next`.
 pub fn lands_at(point: Point, next: usize, instr: &Instr, way: Way) -> Landing
     requires { next ≡ point.pc + 1 }
     ensures { result ≡ landing_of point.actor (landing point.pc point.side instr.now way) }

@@ -1,4 +1,4 @@
--- What a row of the step table makes of an alternative.
+-- For private clauses: what a row of the step table makes of an alternative.
 --
 -- | word                     | meaning                                                                             |
 -- |--------------------------|-------------------------------------------------------------------------------------|
