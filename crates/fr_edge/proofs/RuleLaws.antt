@@ -3,7 +3,6 @@ use Rattle.std.proofs.Common.{◌≡◌, ℕ, ◌<◌, ◌≤◌, List, [], ◌�
 use Rattle.std.proofs.lemmas.List.{get_or_past}
 use Rattle.std.proofs.lemmas.Bool.{cases_lt}
 use Rattle.std.specs.Prelude.{ℤ, pos, ◌≤ℤ◌, ◌⊎◌, IsTrue, find, if◌then◌else◌}
-use Rattle.std.specs.Option.{option_map}
 use Rattle.std.proofs.lemmas.Int.{ints, by_lt_z}
 use Rattle.std.proofs.lemmas.Option.{same_Some}
 use Rattle.fr_program.specs.declared.instr.Instr.{Instr}
@@ -21,7 +20,9 @@ use Rattle.fr_program.specs.Program.{Program}
 use Rattle.fr_program.specs.Lookup.{actor_at, instr_at, instr_of, is_interrupt, variable_at, no_variable, IsPoint}
 use Rattle.fr_program.specs.Fault.{IsFaultless, IsJudgedYet, IsInstrJudgedYet, NamesThings, OperandsFit, AreApart, IsConstant}
 use Rattle.fr_calls.specs.State.{State, IsWellFormed, suspension_of}
-use Rattle.fr_calls.specs.Rule.{Rule, OneWriter, OneReader, GivenByHolder, AllowedInCritical, AllowedSuspended, AllowedInInterrupt, IsLive, LifeInOrder, SuitsSemaphore, DepthAboveZero, EndsInOrder, InRange, number_of, decided_rules, first_forbidden, forbids, holds_some, GivesUnheld, UsesDead, LifeOutOfOrder, PutsOut, IsForbidden, Breaches, IsOutside, result_of, operand_of}
+use Rattle.fr_calls.specs.declared.rules.Rule.{Rule}
+use Rattle.fr_calls.specs.declared.rules.Rule.TheVariants.{OneWriter, OneReader, GivenByHolder, AllowedInCritical, AllowedSuspended, AllowedInInterrupt, IsLive, LifeInOrder, SuitsSemaphore, DepthAboveZero, EndsInOrder, InRange}
+use Rattle.fr_calls.specs.Rule.{number_of, decided_rules, condition_of, first_forbidden, forbids, holds_some, GivesUnheld, UsesDead, LifeOutOfOrder, PutsOut, IsForbidden, Breaches, IsOutside, result_of, operand_of}
 use Rattle.fr_notes.specs.Note.{Alternative, HoldsOne, range_of}
 use Rattle.fr_notes.specs.Noted.{NotedBy}
 use Rattle.fr_notes.specs.Fits.{AlternativeFits}
@@ -30,7 +31,7 @@ use Rattle.fr_program.specs.declared.range.Range.{Range}
 use Rattle.fr_program.specs.Limits.{IsNumber}
 use Rattle.fr_notes.proofs.Shown.{least, least-within}
 use Rattle.fr_edge.specs.Own.{is_own}
-use Rattle.fr_edge.specs.Alternatives.{KeepsRuleBy, BreaksRuleBy, RuleOutcome, StaysIn, IsOutBy}
+use Rattle.fr_edge.specs.Alternatives.{KeepsRuleBy, BreaksRuleBy, RuleOutcome, StaysIn, IsOutBy, condition_by}
 use Rattle.fr_edge.proofs.Standing.{breach-here, operand-can, choose, choose-within, side-before, state-of, noted-here, left-here, right-here}
 
 -- a rule of a list, and a fact about each
@@ -109,12 +110,12 @@ no-give : (P : Program) (S : State) (a : ℕ) (i : Instr) → IsInstrJudgedYet i
 no-give P S a (Calls (On o action)) j h = absurd j
 no-give P S a i j h = absurd h
 
-no-use : (S : State) (i : Instr) → IsInstrJudgedYet i → UsesDead S i → ⊥
+no-use : (S : State) (i : Instr) → IsInstrJudgedYet i → UsesDead S i Before → ⊥
 no-use S (Calls (On o action)) j h = absurd j
 no-use S (Calls (Delete kind o)) j h = absurd j
 no-use S i j h = let e = h.1 in cc
 
-no-life : (P : Program) (S : State) (a : ℕ) (i : Instr) → IsInstrJudgedYet i → LifeOutOfOrder P S a i → ⊥
+no-life : (P : Program) (S : State) (a : ℕ) (i : Instr) → IsInstrJudgedYet i → LifeOutOfOrder P S a i Before → ⊥
 no-life P S a (Calls (Delete kind o)) j h = absurd j
 no-life P S a (Calls (Create kind o e)) j h = absurd j
 no-life P S a i j h = absurd h
@@ -164,37 +165,24 @@ module _ (P : Program) (p : Point) (i : Instr) (n : Alternative) (free : IsFault
   judged-here = judged.code p.actor.0 p.pc i is
 
   abbrev forbidden : Rule → Bool
-  forbidden = forbids P (is_interrupt (actor_at P p.actor.0).kind) n.critical n.suspended false i
+  forbidden = forbids P (condition_by P p n) i
 
-  abbrev pub first-here : Option ℕ
-  first-here = first_forbidden P (is_interrupt (actor_at P p.actor.0).kind) n.critical n.suspended false i
+  abbrev pub first-here : Option Rule
+  first-here = first_forbidden P (condition_by P p n) i
+
+  -- the condition of the actor in a state with the alternative
+  as-condition : (S : State) → NotedBy P p n S → condition_of P S p.actor.0 ≡ condition_by P p n
+  as-condition S noted =
+      let g = holds-none S p.actor.0 (no-objects P S judged.objects noted.formed) in
+      let t = is_interrupt (actor_at P p.actor.0).kind in
+      ap (λ d. record { interrupt = t; critical = d; suspended = suspension_of S p.actor.0; holds = holds_some S p.actor.0 }) noted.holds.critical ∙ ap (λ d. record { interrupt = t; critical = n.critical; suspended = d; holds = holds_some S p.actor.0 }) noted.holds.suspended ∙ ap (λ d. record { interrupt = t; critical = n.critical; suspended = n.suspended; holds = d }) g
 
   -- what is forbidden in a state is what the alternative's depths forbid
   as-forbidden : (S : State) (rule : Rule) → NotedBy P p n S → IsForbidden P S p.actor.0 Before i rule → IsTrue (forbidden rule)
-  as-forbidden S rule noted h =
-      let g = holds-none S p.actor.0 (no-objects P S judged.objects noted.formed) in
-      let t = is_interrupt (actor_at P p.actor.0).kind in
-      subst (λ d. IsTrue (forbids P t n.critical n.suspended d i rule)) g (subst (λ d. IsTrue (forbids P t n.critical d (holds_some S p.actor.0) i rule)) noted.holds.suspended (subst (λ d. IsTrue (forbids P t d (suspension_of S p.actor.0) (holds_some S p.actor.0) i rule)) noted.holds.critical h))
+  as-forbidden S rule noted h = subst (λ k. IsTrue (forbids P k i rule)) (as-condition S noted) h
 
   from-forbidden : (S : State) (rule : Rule) → NotedBy P p n S → IsTrue (forbidden rule) → IsForbidden P S p.actor.0 Before i rule
-  from-forbidden S rule noted h =
-      let g = holds-none S p.actor.0 (no-objects P S judged.objects noted.formed) in
-      let t = is_interrupt (actor_at P p.actor.0).kind in
-      subst (λ d. IsTrue (forbids P t d (suspension_of S p.actor.0) (holds_some S p.actor.0) i rule)) (sym noted.holds.critical) (subst (λ d. IsTrue (forbids P t n.critical d (holds_some S p.actor.0) i rule)) (sym noted.holds.suspended) (subst (λ d. IsTrue (forbids P t n.critical n.suspended d i rule)) (sym g) h))
-
-  none-found : first-here ≡ None → find forbidden decided_rules ≡ None
-  none-found e = go (find forbidden decided_rules) refl
-    where
-      go : (o : Option Rule) → find forbidden decided_rules ≡ o → find forbidden decided_rules ≡ None
-      go None h = h
-      go (Some r) h = let f : option_map number_of (Some r) ≡ None = rw h at e in cc
-
-  some-found : (k : ℕ) → first-here ≡ Some k → (r : Rule) × (find forbidden decided_rules ≡ Some r) × (number_of r ≡ k)
-  some-found k e = go (find forbidden decided_rules) refl
-    where
-      go : (o : Option Rule) → find forbidden decided_rules ≡ o → (r : Rule) × (find forbidden decided_rules ≡ Some r) × (number_of r ≡ k)
-      go None h = let none : Option Rule = None in let f : option_map number_of none ≡ Some k = rw h at e in cc
-      go (Some r) h = let f : option_map number_of (Some r) ≡ Some k = rw h at e in (r, h, same_Some _ _ f)
+  from-forbidden S rule noted h = subst (λ k. IsTrue (forbids P k i rule)) (sym (as-condition S noted)) h
 
   kept-at : (rule : Rule) → IsTrue (is_own i rule) → (Among decided_rules rule → IsTrue (forbidden rule) → ⊥) → (rule ≡ InRange → StaysIn P n i) → (S : State) → NotedBy P p n S → Breaches P S p.actor.0 Before i rule → ⊥
   kept-at OneWriter own none stays S noted b = cc
@@ -261,27 +249,22 @@ module _ (P : Program) (p : Point) (i : Instr) (n : Alternative) (free : IsFault
       go j e h = absurd h
 
   pub outcome-none : first-here ≡ None → StaysIn P n i → RuleOutcome P p n None
-  outcome-none e stays = λ rule. kept-rule rule (λ m t. find-none forbidden decided_rules rule (none-found e) m t) (λ q. stays)
+  outcome-none e stays = λ rule. kept-rule rule (λ m t. find-none forbidden decided_rules rule e m t) (λ q. stays)
 
-  pub outcome-decided : (k : ℕ) → first-here ≡ Some k → RuleOutcome P p n (Some k)
-  outcome-decided k e =
-      let r = some-found k e in
-      let f = find-some forbidden decided_rules r.0 r.1 in
-      let small = decided-small r.0 f.0 in (
-        r.0,
-        r.2,
-        breaks-decided r.0 f.0 f.1,
+  pub outcome-decided : (rule : Rule) → first-here ≡ Some rule → RuleOutcome P p n (Some rule)
+  outcome-decided rule e =
+      let f = find-some forbidden decided_rules rule e in
+      let small = decided-small rule f.0 in (
+        breaks-decided rule f.0 f.1,
         λ other lt.
-            kept-rule other (λ m t. find-earlier forbidden decided_rules r.0 other decided-sorted r.1 m (omega (arith, lt, r.2)) t) (λ q. let s = ap number_of q in absurd (omega (arith, lt, r.2, small))),
+            kept-rule other (λ m t. find-earlier forbidden decided_rules rule other decided-sorted e m lt t) (λ q. let s = ap number_of q in absurd (omega (arith, lt, small))),
       )
 
-  pub outcome-out : first-here ≡ None → IsOutBy P n i → RuleOutcome P p n (Some 12)
+  pub outcome-out : first-here ≡ None → IsOutBy P n i → RuleOutcome P p n (Some InRange)
   outcome-out e out = (
-    InRange,
-    refl,
     breaks-range out,
     λ other lt.
-        kept-rule other (λ m t. find-none forbidden decided_rules other (none-found e) m t) (λ q. let s = ap number_of q in absurd (omega (arith, lt))),
+        kept-rule other (λ m t. find-none forbidden decided_rules other e m t) (λ q. let s = ap number_of q in absurd (omega (arith, lt))),
   )
 
 -- every range lies in a declared one, whose ends have 64 bits

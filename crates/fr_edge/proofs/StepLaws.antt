@@ -22,9 +22,10 @@ use Rattle.fr_program.specs.Program.{Program}
 use Rattle.fr_program.specs.Lookup.{instr_at, instr_of, IsPoint}
 use Rattle.fr_program.specs.Fault.{IsJudgedYet, IsInstrJudgedYet}
 use Rattle.fr_calls.specs.declared.way.Way.{Way}
-use Rattle.fr_calls.specs.declared.way.Way.TheVariants.{Works, Fails}
+use Rattle.fr_calls.specs.declared.way.Way.TheVariants.{Then, Else}
 use Rattle.fr_calls.specs.State.{State, At, Dead, IsWellFormed, value_of, content_of, suspension_of, depth_of, write, goes_to, in_critical, critical_at}
-use Rattle.fr_calls.specs.Rule.{DepthAboveZero, operand_of}
+use Rattle.fr_calls.specs.declared.rules.Rule.TheVariants.{DepthAboveZero}
+use Rattle.fr_calls.specs.Rule.{operand_of}
 use Rattle.fr_calls.specs.Step.{Row, IsFree, StepBy, landing}
 use Rattle.fr_notes.specs.declared.change.Change.{Change}
 use Rattle.fr_notes.specs.declared.claim.Claim.TheVariants.{NotHeld}
@@ -110,7 +111,7 @@ module _ (P : Program) (n : Alternative) (a : ℕ) (S : State) (h : HoldsOne n a
   into : (change made : Change) (T made_state : State) → change ≡ made → T ≡ made_state → After n made a S made_state → After n change a S T
   into change made T made_state e f k = subst (λ ch. After n ch a S T) (sym e) (subst (λ U. After n made a S U) (sym f) k)
 
-  after-call : (call : Call) (change : Change) (c : ℤ) (T : State) → IsInstrJudgedYet (Calls call) → HasCallChange n call change → Row P S a Before (Calls call) Works c T → After n change a S T
+  after-call : (call : Call) (change : Change) (c : ℤ) (T : State) → IsInstrJudgedYet (Calls call) → HasCallChange n call change → Row P S a Before (Calls call) Then c T → After n change a S T
   after-call (EnterCritical form) change c T j k row = into change _ T _ k row.2 after-enter
   after-call (ExitCritical form) change c T j k row = into change _ T _ k.1 row.1 after-exit
   after-call Yield change c T j k row = absurd j
@@ -120,38 +121,38 @@ module _ (P : Program) (n : Alternative) (a : ℕ) (S : State) (h : HoldsOne n a
 
   -- after the row, what the change says
   pub after-row : (i : Instr) (way : Way) (change : Change) (c : ℤ) (T : State) → IsInstrJudgedYet i → HasOperands n i → HasChange n i way change → Row P S a Before i way c T → After n change a S T
-  after-row (Set x l op r) Works change c T j has k row =
+  after-row (Set x l op r) Then change c T j has k row =
       into change _ T _ k.2 row.1 (after-set x _ k.0 has.0 (k.1.inside (operand_of S l) (operand_of S r) (operand-can n a S l h) (operand-can n a S r h)))
-  after-row (If l comparison r target) Works change c T j has k row =
-      subst (λ U. After n change a S U) (sym row.2) (after-branch Works comparison l r change k row.1)
-  after-row (If l comparison r target) Fails change c T j has k row =
-      subst (λ U. After n change a S U) (sym row.2) (after-branch Fails comparison l r change k row.1)
-  after-row (Goto target) Works change c T j has k row = into change _ T _ k row.1 stays-same
-  after-row Return Works change c T j has k row = into change _ T _ k row.1 stays-same
-  after-row (Calls call) Works change c T j has k row = after-call call change c T j k row
+  after-row (If l comparison r target) Then change c T j has k row =
+      subst (λ U. After n change a S U) (sym row.2) (after-branch Then comparison l r change k row.1)
+  after-row (If l comparison r target) Else change c T j has k row =
+      subst (λ U. After n change a S U) (sym row.2) (after-branch Else comparison l r change k row.1)
+  after-row (Goto target) Then change c T j has k row = into change _ T _ k row.1 stays-same
+  after-row Return Then change c T j has k row = into change _ T _ k row.1 stays-same
+  after-row (Calls call) Then change c T j has k row = after-call call change c T j k row
   after-row i way change c T j has k row = absurd k
 
   -- a row that no state with the alternative has
   pub no-row : (i : Instr) (way : Way) (c : ℤ) (T : State) → IsInstrJudgedYet i → HasNone n i way → IsFree P S a Before i → Row P S a Before i way c T → ⊥
-  no-row (If l comparison r target) Works c T j none free row =
+  no-row (If l comparison r target) Then c T j none free row =
       none (operand_of S l) (operand_of S r) (operand-can n a S l h) (operand-can n a S r h) row.1
-  no-row (If l comparison r target) Fails c T j none free row =
+  no-row (If l comparison r target) Else c T j none free row =
       none (operand_of S l) (operand_of S r) (operand-can n a S l h) (operand-can n a S r h) row.1
-  no-row (Calls (ExitCritical form)) Works c T j none free row =
+  no-row (Calls (ExitCritical form)) Then c T j none free row =
       free.0 DepthAboveZero refl (eq-eqb (depth_of S a) 0 (h.critical ∙ none))
-  no-row (Calls (ExitCritical form)) Fails c T j none free row = absurd row
-  no-row (Set x l op r) Works c T j none free row = absurd none
-  no-row (Set x l op r) Fails c T j none free row = absurd row
-  no-row (Goto target) Works c T j none free row = absurd none
-  no-row (Goto target) Fails c T j none free row = absurd row
-  no-row Return Works c T j none free row = absurd none
-  no-row Return Fails c T j none free row = absurd row
-  no-row (Calls (EnterCritical form)) Works c T j none free row = absurd none
-  no-row (Calls (EnterCritical form)) Fails c T j none free row = absurd row
-  no-row (Calls (Delay ticks)) Works c T j none free row = absurd none
-  no-row (Calls (Delay ticks)) Fails c T j none free row = absurd row
-  no-row (Calls DeleteSelf) Works c T j none free row = absurd none
-  no-row (Calls DeleteSelf) Fails c T j none free row = absurd row
+  no-row (Calls (ExitCritical form)) Else c T j none free row = absurd row
+  no-row (Set x l op r) Then c T j none free row = absurd none
+  no-row (Set x l op r) Else c T j none free row = absurd row
+  no-row (Goto target) Then c T j none free row = absurd none
+  no-row (Goto target) Else c T j none free row = absurd row
+  no-row Return Then c T j none free row = absurd none
+  no-row Return Else c T j none free row = absurd row
+  no-row (Calls (EnterCritical form)) Then c T j none free row = absurd none
+  no-row (Calls (EnterCritical form)) Else c T j none free row = absurd row
+  no-row (Calls (Delay ticks)) Then c T j none free row = absurd none
+  no-row (Calls (Delay ticks)) Else c T j none free row = absurd row
+  no-row (Calls DeleteSelf) Then c T j none free row = absurd none
+  no-row (Calls DeleteSelf) Else c T j none free row = absurd row
   no-row i way c T j none free row = absurd j
 
 -- what a change leaves has each alternative that says no more than it
@@ -196,20 +197,20 @@ step-here P p i n way S c T judged point is noted t =
 
 -- a row leaves every actor where it was
 pub places-row : (P : Program) (S : State) (a : ℕ) (i : Instr) (way : Way) (c : ℤ) (T : State) → IsInstrJudgedYet i → Row P S a Before i way c T → T.places ≡ S.places
-places-row P S a (Set x l op r) Works c T j row = ap (λ U. U.places) row.1
-places-row P S a (If l comparison r target) Works c T j row = ap (λ U. U.places) row.2
-places-row P S a (If l comparison r target) Fails c T j row = ap (λ U. U.places) row.2
-places-row P S a (Goto target) Works c T j row = ap (λ U. U.places) row.1
-places-row P S a Return Works c T j row = ap (λ U. U.places) row.1
-places-row P S a (Calls (EnterCritical form)) Works c T j row = ap (λ U. U.places) row.2
-places-row P S a (Calls (ExitCritical form)) Works c T j row = ap (λ U. U.places) row.1
-places-row P S a (Calls (Delay ticks)) Works c T j row = ap (λ U. U.places) row.1
-places-row P S a (Calls DeleteSelf) Works c T j row = ap (λ U. U.places) row.1
-places-row P S a (Calls (EnterCritical form)) Fails c T j row = absurd row
-places-row P S a (Calls (ExitCritical form)) Fails c T j row = absurd row
-places-row P S a (Calls (Delay ticks)) Fails c T j row = absurd row
-places-row P S a (Calls DeleteSelf) Fails c T j row = absurd row
-places-row P S a (Set x l op r) Fails c T j row = absurd row
-places-row P S a (Goto target) Fails c T j row = absurd row
-places-row P S a Return Fails c T j row = absurd row
+places-row P S a (Set x l op r) Then c T j row = ap (λ U. U.places) row.1
+places-row P S a (If l comparison r target) Then c T j row = ap (λ U. U.places) row.2
+places-row P S a (If l comparison r target) Else c T j row = ap (λ U. U.places) row.2
+places-row P S a (Goto target) Then c T j row = ap (λ U. U.places) row.1
+places-row P S a Return Then c T j row = ap (λ U. U.places) row.1
+places-row P S a (Calls (EnterCritical form)) Then c T j row = ap (λ U. U.places) row.2
+places-row P S a (Calls (ExitCritical form)) Then c T j row = ap (λ U. U.places) row.1
+places-row P S a (Calls (Delay ticks)) Then c T j row = ap (λ U. U.places) row.1
+places-row P S a (Calls DeleteSelf) Then c T j row = ap (λ U. U.places) row.1
+places-row P S a (Calls (EnterCritical form)) Else c T j row = absurd row
+places-row P S a (Calls (ExitCritical form)) Else c T j row = absurd row
+places-row P S a (Calls (Delay ticks)) Else c T j row = absurd row
+places-row P S a (Calls DeleteSelf) Else c T j row = absurd row
+places-row P S a (Set x l op r) Else c T j row = absurd row
+places-row P S a (Goto target) Else c T j row = absurd row
+places-row P S a Return Else c T j row = absurd row
 places-row P S a i way c T j row = absurd j

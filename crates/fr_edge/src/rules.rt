@@ -4,9 +4,9 @@ ghost use Rattle.fr_program.specs.Lookup.{instr_of, IsPoint, actor_at, variable_
 ghost use Rattle.fr_calls.specs.Rule.{first_forbidden};
 ghost use Rattle.fr_notes.specs.Change.{IsResult};
 ghost use Rattle.fr_notes.specs.Fits.{AlternativeFits};
-ghost use Rattle.fr_edge.specs.Alternatives.{RuleOutcome, NoteOutcome, StaysIn, IsOutBy, lesser_of};
+ghost use Rattle.fr_edge.specs.Alternatives.{RuleOutcome, NoteOutcome, StaysIn, IsOutBy, condition_by, lesser_of};
 
-use fr_calls::rule_of;
+use fr_calls::{Condition, Rule, first_forbidden};
 use fr_notes::{Alternative, Claim, Note};
 use fr_program::{App, Instr, Point, Range, VarId};
 
@@ -19,18 +19,29 @@ fn holds_some(alternative: &Alternative) -> bool
         .any(|claim| matches!(claim, Claim::HeldTimes(_)))
 }
 
-/// The least of the rules that the actor's kind, depths and mutexes decide, before an instruction.
-fn decided_rule(app: &App, alternative: &Alternative, point: Point, instr: &Instr) -> Option<u8>
+/// The condition of the point's actor, where the alternative holds of it.
+fn condition_at(app: &App, alternative: &Alternative, point: Point) -> Condition
+    requires point { point.actor.0 < length app.now.actors }
+    requires claims { alternative.now.claims ≡ [] }
+    ensures { result ≡ condition_by app.now point alternative.now }
+{
+    Condition {
+        interrupt: app.is_interrupt(point.actor),
+        critical: u32::from(alternative.crit),
+        suspended: u32::from(alternative.susp),
+        holds: holds_some(alternative),
+    }
+}
+
+/// The least of the rules that the actor's condition decides, before an instruction.
+fn decided_rule(app: &App, alternative: &Alternative, point: Point, instr: &Instr) -> Option<Rule>
     requires point { IsPoint app.now point }
     requires instr { instr_of app.now point ≡ Some instr.now }
     requires claims { alternative.now.claims ≡ [] }
-    ensures { result ≡ first_forbidden app.now (is_interrupt (actor_at app.now point.actor.0).kind)
-        alternative.now.critical alternative.now.suspended false instr.now }
+    ensures { result ≡ first_forbidden app.now (condition_by app.now point alternative.now) instr.now }
 {
     app.recall_faultless();
-    let (crit, susp) = (u32::from(alternative.crit), u32::from(alternative.susp));
-    let holds = holds_some(alternative);
-    rule_of(app, app.is_interrupt(point.actor), crit, susp, holds, instr)
+    first_forbidden(app, condition_at(app, alternative, point), instr)
 }
 
 fn is_in_declared(app: &App, variable: VarId, range: Range) -> bool
@@ -63,7 +74,7 @@ fn stays_in_range(app: &App, alternative: &Alternative, point: Point, instr: &In
 }
 
 /// The least rule that is breached in some state in which the alternative holds.
-fn rule_breached(app: &App, alternative: &Alternative, point: Point, instr: &Instr) -> Option<u8>
+fn rule_breached(app: &App, alternative: &Alternative, point: Point, instr: &Instr) -> Option<Rule>
     requires point { IsPoint app.now point }
     requires instr { instr_of app.now point ≡ Some instr.now }
     requires fits { AlternativeFits app.now alternative.now }
@@ -74,22 +85,29 @@ fn rule_breached(app: &App, alternative: &Alternative, point: Point, instr: &Ins
     let stays = stays_in_range(app, alternative, point, instr);
     match decided {
         Some(rule) => Some(rule),
-        None => if stays { None } else { Some(12) },
+        None => if stays { None } else { Some(Rule::InRange) },
     }
 }
 
-fn lesser(one: Option<u8>, other: Option<u8>) -> Option<u8>
+/// The rule with the lesser number, where there are two.
+fn lesser(one: Option<Rule>, other: Option<Rule>) -> Option<Rule>
     ensures { result ≡ lesser_of one other }
 {
     match (one, other) {
-        (Some(one), Some(other)) => Some(one.min(other)),
+        (Some(one), Some(other)) => {
+            if one.number() <= other.number() {
+                Some(one)
+            } else {
+                Some(other)
+            }
+        }
         (None, other) => other,
         (one, None) => one,
     }
 }
 
 /// The least rule that is breached in some state in which the note holds.
-pub fn least_rule(app: &App, note: &Note, point: Point, instr: &Instr) -> Option<u8>
+pub fn least_rule(app: &App, note: &Note, point: Point, instr: &Instr) -> Option<Rule>
     requires point { IsPoint app.now point }
     requires instr { instr_of app.now point ≡ Some instr.now }
     requires fits { All (λ n. AlternativeFits app.now n) note.now }

@@ -5,7 +5,7 @@ ghost use Rattle.fr_program.specs.Points.{points_of, point_number};
 ghost use Rattle.fr_notes.specs.Change.{HasChange, HasNone, Keeps};
 ghost use Rattle.fr_notes.specs.Fits.{AlternativeFits, NotesFit};
 ghost use Rattle.fr_notes.specs.Noted.{note_at};
-ghost use Rattle.fr_edge.specs.Alternatives.{IsAmong, KeepsRuleBy, GoesWell, Misses, WayOutcome, GoesOutcome, lesser_of};
+ghost use Rattle.fr_edge.specs.Alternatives.{IsAmong, KeepsRuleBy, GoesWell, Misses, WayOutcome, GoesOutcome};
 ghost use Rattle.fr_edge.specs.FirstOwn.{KeepsRules};
 ghost use Rattle.fr_notes.specs.Note.{Alternative as AlternativeOf};
 
@@ -104,16 +104,6 @@ fn missed(
     }
 }
 
-fn lesser(one: Option<usize>, other: Option<usize>) -> Option<usize>
-    ensures { result ≡ lesser_of one other }
-{
-    match (one, other) {
-        (Some(one), Some(other)) => Some(one.min(other)),
-        (None, other) => other,
-        (one, None) => one,
-    }
-}
-
 /// The least number of a point to which a step goes without keeping its note.
 pub fn least_missed(
     app: &App,
@@ -129,7 +119,11 @@ pub fn least_missed(
     requires rules { KeepsRules app.now notes.now point }
     ensures { GoesOutcome app.now notes.now point result }
 {
-    let works = missed(app, notes, note, point, instr, Way::Works);
-    let fails = missed(app, notes, note, point, instr, Way::Fails);
-    lesser(works, fails)
+    let one = missed(app, notes, note, point, instr, Way::Then);
+    let other = missed(app, notes, note, point, instr, Way::Else);
+    match (one, other) {
+        (Some(one), Some(other)) => Some(one.min(other)),
+        (Some(one), None) => Some(one),
+        (None, other) => other,
+    }
 }

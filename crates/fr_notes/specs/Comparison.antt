@@ -1,4 +1,4 @@
--- What a comparison that is true leaves of the ranges of its two sides.
+-- For private clauses: what a comparison that is true leaves of the ranges of its two sides.
 use Rattle.std.specs.Prelude.{◌≢◌, ◌≤ℤ◌, ◌+ℤ◌, ℤ, IsTrue}
 use Rattle.fr_program.specs.declared.instr.Comparison.{Comparison}
 use Rattle.fr_program.specs.declared.range.Range.{Range}

@@ -1,4 +1,4 @@
--- When one alternative says at least as much as another, part by part.
+-- For private clauses: when one alternative says at least as much as another, part by part.
 use Rattle.std.specs.Prelude.{◌≡◌, ◌≤ℤ◌, ℕ, ℤ, pos, List, length, slice_index_or, Any}
 use Rattle.fr_notes.specs.Note.{Alternative, Note, Claim, NotHeld, Alive, Gone, HeldTimes}
 

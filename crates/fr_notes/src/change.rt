@@ -97,8 +97,8 @@ fn comparison_for(comparison: Comparison, way: Way) -> Comparison
     ensures { (u v : ℤ) → (IsTrue (compare result u v) ↔ Turns way comparison u v) }
 {
     match way {
-        Way::Works => comparison,
-        Way::Fails => negated(comparison),
+        Way::Then => comparison,
+        Way::Else => negated(comparison),
     }
 }
 
@@ -153,7 +153,7 @@ pub fn change_by(alternative: &Alternative, instr: &Instr, way: Way) -> Option<C
                 operator,
                 right,
             },
-            Way::Works,
+            Way::Then,
         ) => {
             let result = alternative.result(*operator, *left, *right);
             Some(Change {
@@ -161,15 +161,15 @@ pub fn change_by(alternative: &Alternative, instr: &Instr, way: Way) -> Option<C
                 ..alternative.unchanged()
             })
         }
-        (Instr::Goto { .. } | Instr::Return, Way::Works) => Some(alternative.unchanged()),
-        (Instr::Call(call), Way::Works) => change_of_call(alternative, call),
+        (Instr::Goto { .. } | Instr::Return, Way::Then) => Some(alternative.unchanged()),
+        (Instr::Call(call), Way::Then) => change_of_call(alternative, call),
         _ => None,
     }
 }
 
 fn change_of_call(alternative: &Alternative, call: &Call) -> Option<Change>
     ensures some { IfSome result (λ change. HasCallChange alternative.now call.now change) }
-    ensures none { IfNone result (HasNone alternative.now (Instr.Call call.now) Way.Works) }
+    ensures none { IfNone result (HasNone alternative.now (Instr.Call call.now) Way.Then) }
 {
     let same = alternative.unchanged();
     match call {

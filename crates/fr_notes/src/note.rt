@@ -45,8 +45,8 @@ impl Model for Note {
 }
 
 /// What a plain note says, where it says more than the default: no mutex held, depth 0, objects
-/// live or dead, and variables anywhere in their declared ranges. A number stands once in a list;
-/// where one stands twice, its first entry counts.
+/// live or dead, and variables anywhere in their declared ranges. A number is in a list at most
+/// once; where it is there twice, its first entry counts.
 #[derive(Debug, Drop)]
 pub struct NoteParts {
     pub held: Vec<(ObjId, u32)>,
@@ -91,11 +91,11 @@ impl Note {
         }
     }
 
-    /// The plain note that the parts say: Ok exactly where none of the three faults stands and no
+    /// The plain note that the parts say: Ok exactly where none of the three faults is present and no
     /// allocation was refused. `Count`: a count is not 1 to 255, is not 1 on a plain mutex, or is of
     /// no mutex. `Lives`: an object is both live and dead, or held and dead. `Span`: a range isn't
     /// inside the variable's declared one. Of several faults, which one is named is open; `Memory`
-    /// is named only where none of the three stands.
+    /// is named only where none of the three is present.
     pub fn build(alloc: Global, app: &App, parts: NoteParts) -> Result<Note, NoteFault>
         ensures says { IfOk result (λ note. note ≡ said app.now parts ∷ []) }
         ensures fits { IfOk result (λ note. NoteFits app.now note) }
