@@ -157,10 +157,14 @@ fn add_cuts(line: &str, cuts: &mut Vec<Cut>) -> io::Result<()> {
 
 fn cuts_in(alloc: Global, lines: Option<&str>) -> io::Result<Vec<Cut>> {
     let mut cuts = Vec::new(alloc);
-    if let Some(lines) = lines {
-        for line in lines.lines() {
-            add_cuts(line, &mut cuts)?;
-        }
+    let Some(lines) = lines else {
+        return Ok(cuts);
+    };
+    for line in lines.lines() {
+        add_cuts(line, &mut cuts)?;
+    }
+    if cuts.is_empty() {
+        return Err(wrong("sweep has no cut"));
     }
     Ok(cuts)
 }
