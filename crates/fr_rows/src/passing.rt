@@ -31,17 +31,13 @@ fn has_one_task(app: &App) -> bool {
 }
 
 #[test]
-fn passes_where_the_verdict_is_yes(rt: HostRuntime) {
+fn passes_only_where_the_verdict_is_yes(rt: HostRuntime) {
     assert!(rt; passes(rt.alloc(), ROUND) == Some(Ok(true)));
-}
-
-#[test]
-fn comes_back_where_the_verdict_is_no(rt: HostRuntime) {
-    let returned = match passes(rt.alloc(), RETURNING) {
+    let comes_back = match passes(rt.alloc(), RETURNING) {
         Some(Err((same, Verdict::No { point, part }))) => {
             same && point.pc == 0 && part == Part::Rule(Rule::EndsInOrder)
         }
         _ => false,
     };
-    assert!(rt; returned);
+    assert!(rt; comes_back);
 }
