@@ -4,5 +4,6 @@ pub mod Step
 pub mod Landing
 pub mod Run
 pub mod Laws
+pub mod WorkedStates
 pub mod WorkedSteps
 pub mod WorkedRules

@@ -8,12 +8,14 @@ ghost use Rattle.fr_program.specs.declared.ids.Side.TheVariants.{Before};
 
 use fr_program::{Action, ActorId, Call, Instr, Point, Side};
 
-/// Which row of an instruction a step goes by. Each instruction has one row or two: an `if` whose
-/// comparison is true or false, a call that works or fails.
+/// Which row of the step table a step goes by. Each place has one row or two.
 #[derive(Clone, Copy, Debug, PartialEq, Eq)]
 pub enum Way {
-    Works,
-    Fails,
+    /// An `if` whose comparison is true, a call that works, and the one row of any other
+    /// instruction.
+    Then,
+    /// An `if` whose comparison is false, a call that fails.
+    Else,
 }
 
 /// Where an actor stands after a step: at a point, or nowhere, since it has ended.
@@ -48,17 +50,17 @@ fn before(actor: ActorId, pc: usize) -> Landing
 }
 
 /// Where an actor's step from a side of an instruction leads by this row. The next instruction
-/// stands at `next`.
+/// is at `next`.
 pub fn lands_at(point: Point, next: usize, instr: &Instr, way: Way) -> Landing
     requires { next ≡ point.pc + 1 }
     ensures { result ≡ landing_of point.actor (landing point.pc point.side instr.now way) }
 {
     match (point.side, instr, way) {
-        (Side::Before, Instr::If { target, .. }, Way::Works) => before(point.actor, *target),
+        (Side::Before, Instr::If { target, .. }, Way::Then) => before(point.actor, *target),
         (Side::Before, Instr::Goto { target }, _) => before(point.actor, *target),
         (Side::Before, Instr::Return, _) => before(point.actor, 0),
         (Side::Before, Instr::Call(Call::DeleteSelf), _) => Landing::Done,
-        (Side::Before, Instr::Call(Call::Create { or_else, .. }), Way::Fails) => {
+        (Side::Before, Instr::Call(Call::Create { or_else, .. }), Way::Else) => {
             before(point.actor, or_else.unwrap_or(next))
         }
         (Side::Before, Instr::Call(Call::On { .. }), _) => {
@@ -67,7 +69,7 @@ pub fn lands_at(point: Point, next: usize, instr: &Instr, way: Way) -> Landing
                 ..point
             })
         }
-        (Side::Inside, Instr::Call(Call::On { action, .. }), Way::Fails) => {
+        (Side::Inside, Instr::Call(Call::On { action, .. }), Way::Else) => {
             before(point.actor, else_of(action).unwrap_or(next))
         }
         _ => before(point.actor, next),

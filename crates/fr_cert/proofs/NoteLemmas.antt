@@ -16,7 +16,7 @@ use Rattle.fr_notes.specs.declared.note.NoteParts.{NoteParts}
 use Rattle.fr_notes.specs.declared.fault.NoteFault.{NoteFault}
 use Rattle.fr_notes.specs.declared.fault.NoteFault.TheVariants.{Memory, Count, Lives, Span}
 use Rattle.fr_notes.specs.Note.{Alternative}
-use Rattle.fr_notes.specs.Parts.{said, claim_said, range_in, range_by, range_said, Stands}
+use Rattle.fr_notes.specs.Parts.{said, claim_said, range_in, range_by, range_said, HasFault}
 use Rattle.fr_cert.specs.Meaning.{IsNoteText, IsInside, range_at, note_said}
 use Rattle.fr_cert.specs.Faults.{Standing}
 use Rattle.fr_cert.specs.Stands.{InPlain}
@@ -93,7 +93,7 @@ all_or_any Q decide xs none k d within =
       | inr not ↦ absurd (none (k, get_or xs k d, within, get_or_default xs k (get_or xs k d) d within, not))
     ]
 
-pub all_inside : (P : Program) (parts : NoteParts) → ((f : NoteFault) → Stands P parts f → ⊥) → All (IsInside P) (text_of parts).ranges
+pub all_inside : (P : Program) (parts : NoteParts) → ((f : NoteFault) → HasFault P parts f → ⊥) → All (IsInside P) (text_of parts).ranges
 all_inside P parts free =
     All-map (IsInside P) named_of parts.range.items (all_or_any (λ r. IsInside P (named_of r)) (λ r. inside_or P (named_of r)) parts.range.items (free Span))
 
@@ -101,14 +101,14 @@ any_map : {A B : Type 0} (f : B → A) (Q : A → Type 0) (xs : List B) → Any 
 any_map f Q xs h = (h.0, f h.1, rw (length-map xs f) h.2, get_or-map f xs h.0 h.1 (f h.1) h.2 ∙ ap f h.3, h.4)
 
 -- a fault of plain parts is a range outside the declared one
-pub plain_stands : (P : Program) (parts : NoteParts) (f : NoteFault) → IsPlainParts parts → Stands P parts f → Any (λ x. IsInside P x → ⊥) (text_of parts).ranges
+pub plain_stands : (P : Program) (parts : NoteParts) (f : NoteFault) → IsPlainParts parts → HasFault P parts f → Any (λ x. IsInside P x → ⊥) (text_of parts).ranges
 plain_stands P parts Memory h s = absurd s
 plain_stands P parts Count h s = absurd (omega (arith, ap length h.held, s.2))
 plain_stands P parts Lives h s = absurd (omega (arith, ap length h.dead, s.2))
 plain_stands P parts Span h s = any_map named_of (λ x. IsInside P x → ⊥) parts.range.items s
 
 -- so it stands where the parts were read from
-pub plain_fault : (P : Program) (ms : Members) (parts : NoteParts) (f : NoteFault) → IsNoteText P ms (text_of parts) → IsPlainParts parts → (f ≢ Memory → Stands P parts f)
+pub plain_fault : (P : Program) (ms : Members) (parts : NoteParts) (f : NoteFault) → IsNoteText P ms (text_of parts) → IsPlainParts parts → (f ≢ Memory → HasFault P parts f)
     → Standing (InPlain P ms) (refused_as f)
 plain_fault P ms parts Memory text plain h named = absurd (true≢false named)
 plain_fault P ms parts Count text plain h named = inr (text_of parts, text, plain_stands P parts Count plain (h (λ e. cc)), refl)

@@ -9,9 +9,11 @@ use Rattle.fr_program.specs.declared.ids.Side.TheVariants.{Before, Inside}
 use Rattle.fr_program.specs.Program.{Program}
 use Rattle.fr_program.specs.Lookup.{instr_at}
 use Rattle.fr_calls.specs.State.{State, At, place_of, goes_to}
-use Rattle.fr_calls.specs.Rule.{Rule, OneWriter, OneReader, GivenByHolder, IsLive, LifeInOrder, InRange, End, Breaches}
+use Rattle.fr_calls.specs.declared.rules.Rule.{Rule}
+use Rattle.fr_calls.specs.declared.rules.Rule.TheVariants.{OneWriter, OneReader, GivenByHolder, IsLive, LifeInOrder, InRange}
+use Rattle.fr_calls.specs.Rule.{End, Breaches}
 use Rattle.fr_calls.specs.declared.way.Way.{Way}
-use Rattle.fr_calls.specs.declared.way.Way.TheVariants.{Works, Fails}
+use Rattle.fr_calls.specs.declared.way.Way.TheVariants.{Then, Else}
 use Rattle.fr_calls.specs.Step.{StepBy, Row, landing}
 use Rattle.fr_notes.specs.Note.{Alternative, HoldsOne}
 use Rattle.fr_notes.specs.Noted.{note_at, IsAt}
@@ -48,11 +50,11 @@ module _ (P : Program) (C : Certificate) (n : Alternative) (is : instr_at P 0 0 
       let by = steps-by P (first 0) (Goto 0) is way S c S' at t in by-way way by.0 by.1 by.2
     where
       by-way : (way : Way) (mid : State) → Row P S 0 Before (Goto 0) way c mid → S' ≡ goes_to 0 (landing 0 Before (Goto 0) way) mid → S' ≡ goes_to 0 (At 0 Before) S
-      by-way Works mid row moved = moved ∙ ap (λ T. goes_to 0 (At 0 Before) T) row.1
-      by-way Fails mid row moved = elim row [ ]
+      by-way Then mid row moved = moved ∙ ap (λ T. goes_to 0 (At 0 Before) T) row.1
+      by-way Else mid row moved = elim row [ ]
 
   pub goes-kept : (t : Point) → Goes P C.notes (first 0) t
-  goes-kept t at same m inside way S c S' by step lands =
+  goes-kept t at same m inside way (S, c, S', by, step, lands) =
       let back = subst (λ T. IsAt T t) (steps-back way S c S' by.at step) lands in
       let place = landed S.places 0 (At 0 Before) t.pc t.side (subst (λ a. place_of (goes_to 0 (At 0 Before) S) a ≡ At t.pc t.side) (ap (λ a. a.0) same) back) in
       let point : t ≡ first 0 = ap (λ a. record { actor = a; pc = t.pc; side = t.side }) same ∙ here t.pc t.side place in (

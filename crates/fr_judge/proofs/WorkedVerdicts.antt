@@ -11,8 +11,10 @@ use Rattle.fr_program.specs.declared.ids.Side.TheVariants.{Before, Inside}
 use Rattle.fr_program.specs.Lookup.{HasSide, IsPlace, IsPoint}
 use Rattle.fr_program.specs.Points.{point_number}
 use Rattle.fr_calls.specs.State.{State, At, Exists, IsWellFormed, place_of, value_of, suspension_of, start, write, goes_to}
-use Rattle.fr_calls.specs.Rule.{Rule, OneWriter, OneReader, GivenByHolder, IsLive, LifeInOrder, EndsInOrder, InRange, Breaches, number_of}
-use Rattle.fr_calls.specs.declared.way.Way.TheVariants.{Works}
+use Rattle.fr_calls.specs.declared.rules.Rule.{Rule}
+use Rattle.fr_calls.specs.declared.rules.Rule.TheVariants.{OneWriter, OneReader, GivenByHolder, IsLive, LifeInOrder, EndsInOrder, InRange}
+use Rattle.fr_calls.specs.Rule.{Breaches, number_of}
+use Rattle.fr_calls.specs.declared.way.Way.TheVariants.{Then}
 use Rattle.fr_calls.specs.Step.{StepBy}
 use Rattle.fr_calls.proofs.Free.{before-free, no-use}
 use Rattle.fr_notes.specs.Note.{HoldsOne, Within, range_of}
@@ -124,18 +126,18 @@ spoiling-formed = record { actors = refl; suspensions = refl; variables = refl; 
 abbrev spoiled : State
 spoiled = goes_to 1 (At 1 Before) (write 0 (pos 2) (start spoiling))
 
-spoiling-step : StepBy spoiling Works (start spoiling) 1 (pos 0) spoiled
+spoiling-step : StepBy spoiling Then (start spoiling) 1 (pos 0) spoiled
 spoiling-step =
-    record { pc = 0; side = Before; instr = set_2; at = refl; is = refl; free = before-free spoiling (start spoiling) 1 set_2 refl none (no-use spoiling (start spoiling) 1 set_2 refl); mid = write 0 (pos 2) (start spoiling); row = (refl, refl); moved = refl }
+    record { pc = 0; side = Before; instr = set_2; at = refl; is = refl; free = before-free spoiling (start spoiling) 1 set_2 refl none (no-use spoiling (start spoiling) 1 set_2 Before refl); mid = write 0 (pos 2) (start spoiling); row = (refl, refl); moved = refl }
 
 spoiling-fails : Undisturbed spoiling three_notes.notes (first 0) (first 1) → ⊥
 spoiling-fails kept =
     let by0 : NotedBy spoiling (first 0) x_declared (start spoiling) = record { formed = spoiling-formed; at = refl; holds = x-holds 0 (omega arith) } in
     let by1 : NotedBy spoiling (first 1) x_declared (start spoiling) = record { formed = spoiling-formed; at = refl; holds = x-holds 1 (omega arith) } in
     let apart : (first 1).actor ≢ (first 0).actor = λ e. let z : ◌≡◌ {A = ℕ} 1 0 = ap (λ i. i.0) e in absurd (omega arith) in
-    let k = kept (set_2, refl, tt) apart x_declared x_declared (0, omega arith, refl) (0, omega arith, refl) Works (start spoiling) (pos 0) spoiled by0 by1 spoiling-step in
+    let k = kept (set_2, refl, tt) apart x_declared x_declared (0, omega arith, refl) (0, omega arith, refl) Then (start spoiling, pos 0, spoiled, (by0, by1), spoiling-step, tt) in
     let same = only-one x_declared k.0 k.1 in
-    let after = subst (λ n. HoldsOne n 0 spoiled) same (k.2 (start spoiling) (pos 0) spoiled by0 by1 spoiling-step) in
+    let after = subst (λ n. HoldsOne n 0 spoiled) same (k.2 (start spoiling) (pos 0) spoiled (by0, by1) spoiling-step) in
     absurd (omega (arith, ints, (after.variables 0).1))
 
 -- a point with a number below 1 is the first one

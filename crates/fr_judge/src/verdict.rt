@@ -3,7 +3,7 @@ ghost use Rattle.std.specs.Prelude.{◌≡◌, ◌<◌, Some, length, slice_get,
 ghost use Rattle.fr_program.specs.declared.ids.Point.{Point as PointOf};
 ghost use Rattle.fr_program.specs.Points.{points_of};
 ghost use Rattle.fr_calls.specs.Run.{IsSafe};
-ghost use Rattle.fr_edge.specs.declared.failing.Own.{Own as OwnPart};
+ghost use Rattle.fr_edge.specs.declared.failure.Own.{Own as OwnPart};
 ghost use Rattle.fr_ends.specs.Fits.{CertificateFits};
 ghost use Rattle.fr_judge.specs.Told.{TellsFirst, TellsVerdict, IsOf, Speaks, part_of_own};
 

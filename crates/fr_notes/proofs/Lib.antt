@@ -1,8 +1,8 @@
-pub mod NarrowLaws
+pub mod ComparisonLaws
 pub mod WorkedNotes
 pub mod WorkedParts
 pub mod Shown
-pub mod SaidLemmas
+pub mod PartsLemmas
 pub mod FitLemmas
-pub mod ImpliedLemmas
+pub mod ImplicationLemmas
 pub mod ChangeLaws

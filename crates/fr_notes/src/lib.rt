@@ -4,22 +4,22 @@
 #![tactic(auto)]
 
 mod change;
+mod checks;
 mod claim;
+mod comparison;
 mod fault;
 mod fits;
-mod implying;
+mod implication;
 mod laws;
-mod narrow;
 mod note;
 mod notes;
-mod said;
-mod stands;
+mod parts;
 mod worked;
 
 pub use change::{Change, change_by, keeps};
 pub use claim::Claim;
 pub use fault::{NoteFault, NotesFault};
-pub use implying::implies;
+pub use implication::implies;
 pub use laws::fitting_can_hold;
 pub use note::{Alternative, Note, NoteParts};
 pub use notes::Notes;

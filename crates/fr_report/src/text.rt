@@ -40,8 +40,8 @@ fn part_text(alloc: Global, app: &App, part: Part) -> Result<String, AllocError>
     match part {
         Part::Entry => String::from_str(alloc, "entry"),
         Part::Rule(rule) => {
-            let text = rule_text(rule);
-            format!(in alloc; "rule {rule}: {text}")
+            let (number, text) = (rule.number(), rule_text(rule));
+            format!(in alloc; "rule {number}: {text}")
         }
         Part::Goes(point) => {
             let to = ShownPoint::of(app, point);

@@ -1,4 +1,5 @@
 // What a point owes by itself: the first own obligation that fails, at each point of small applications of one task.
+use fr_calls::Rule;
 use fr_cert::read_cert;
 use fr_edge::{Own, own};
 use fr_program::{ActorId, Point, Side};
@@ -53,7 +54,10 @@ fn delay_in_a_critical_section(rt: HostRuntime) {
         br#"{"version":1,"ends":[],"notes":[{},{"crit":1},{"crit":1},{"crit":1},{}]}"#;
     assert!(rt; own_at(rt.alloc(), DELAYED_INSIDE, certificate, 0) == Some(None));
     assert!(rt; own_at(rt.alloc(), DELAYED_INSIDE, certificate, 1) == Some(None));
-    assert!(rt; own_at(rt.alloc(), DELAYED_INSIDE, certificate, 2) == Some(Some(Own::Rule(4))));
+    assert!(rt;
+        own_at(rt.alloc(), DELAYED_INSIDE, certificate, 2)
+            == Some(Some(Own::Rule(Rule::AllowedInCritical)))
+    );
     assert!(rt; own_at(rt.alloc(), DELAYED_INSIDE, certificate, 3) == Some(None));
     assert!(rt; own_at(rt.alloc(), DELAYED_INSIDE, certificate, 4) == Some(None));
 }
@@ -88,7 +92,7 @@ fn comparison_that_keeps_a_sum_in_range(rt: HostRuntime) {
         assert!(rt; own_at(rt.alloc(), COUNTING, narrow, number) == Some(None));
     }
     let wide = br#"{"version":1,"ends":[],"notes":[{},{},{},{}]}"#;
-    assert!(rt; own_at(rt.alloc(), COUNTING, wide, 2) == Some(Some(Own::Rule(12))));
+    assert!(rt; own_at(rt.alloc(), COUNTING, wide, 2) == Some(Some(Own::Rule(Rule::InRange))));
     let too_narrow =
         br#"{"version":1,"ends":[],"notes":[{},{},{"range":{"x":[-2147483648,2147483645]}},{}]}"#;
     let to_sum = Some(Some(Own::Goes(before(2))));
@@ -99,7 +103,9 @@ fn comparison_that_keeps_a_sum_in_range(rt: HostRuntime) {
 fn task_that_returns(rt: HostRuntime) {
     let app = br#"actor = [{name="t", kind="task", code=["return"]}]"#;
     let certificate = br#"{"version":1,"ends":[],"notes":[{}]}"#;
-    assert!(rt; own_at(rt.alloc(), app, certificate, 0) == Some(Some(Own::Rule(11))));
+    assert!(rt;
+        own_at(rt.alloc(), app, certificate, 0) == Some(Some(Own::Rule(Rule::EndsInOrder)))
+    );
 }
 
 #[test]

@@ -1,4 +1,5 @@
 // Applications that pass with their certificate, and those that come back.
+use fr_calls::Rule;
 use fr_cert::read_cert;
 use fr_judge::{Part, Passed, Verdict};
 use fr_program::App;
@@ -38,7 +39,7 @@ fn passes_where_the_verdict_is_yes(rt: HostRuntime) {
 fn comes_back_where_the_verdict_is_no(rt: HostRuntime) {
     let returned = match passes(rt.alloc(), RETURNING) {
         Some(Err((same, Verdict::No { point, part }))) => {
-            same && point.pc == 0 && part == Part::Rule(11)
+            same && point.pc == 0 && part == Part::Rule(Rule::EndsInOrder)
         }
         _ => false,
     };

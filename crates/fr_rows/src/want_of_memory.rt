@@ -1,6 +1,7 @@
 // The true answer, or that there was no memory: so each of these tests passes whichever allocation is refused
 // (`rt try --test --fail-alloc N`).
 use crate::answer::is_memory;
+use fr_calls::Rule;
 use fr_cert::{CertFault, read_cert, write_cert};
 use fr_judge::{Part, TextFault, Verdict, judge_text};
 use fr_reader::{ReadFault, read_app};
@@ -34,7 +35,8 @@ fn verdict_yes(rt: HostRuntime) {
 fn verdict_no(rt: HostRuntime) {
     let kept = match &judge_text(rt.alloc(), DELAYED_INSIDE, DELAYED_NOTES) {
         Ok(judged) => match judged.verdict {
-            Verdict::No { point, part } => point.pc == 2 && part == Part::Rule(4),
+            Verdict::No { point, part } => point.pc == 2
+                && part == Part::Rule(Rule::AllowedInCritical),
             Verdict::Yes => false,
         },
         Err(fault) => is_memory(fault),

@@ -1,4 +1,5 @@
 // Whole judgements by workers in threads. A gate that waits gives up after a while, and notes it.
+use fr_calls::Rule;
 use fr_cert::read_cert;
 use fr_judge::{Judged, Part, Verdict};
 use fr_parallel::{BytesFault, Gate, Open, ParFault, judge_bytes, judge_with};
@@ -123,7 +124,7 @@ fn is_no_at_3(answer: &Result<Judged, BytesFault>) -> bool {
                 verdict: Verdict::No { point, part },
                 ..
             },
-        ) => point.pc == 3 && *part == Part::Rule(10),
+        ) => point.pc == 3 && *part == Part::Rule(Rule::DepthAboveZero),
         _ => false,
     }
 }
@@ -234,7 +235,8 @@ fn verdict_on<R: Threads + Wait + Sync>(
 fn a_task_that_was_read_already(rt: HostRuntime) {
     assert!(rt; verdict_on(&rt, rt.alloc(), 7, &[]) == Some(Verdict::Yes));
     let failing = match verdict_on(&rt, rt.alloc(), 7, &[2, 5]) {
-        Some(Verdict::No { point, part }) => point.pc == 2 && part == Part::Rule(10),
+        Some(Verdict::No { point, part }) => point.pc == 2
+            && part == Part::Rule(Rule::DepthAboveZero),
         _ => false,
     };
     assert!(rt; failing);

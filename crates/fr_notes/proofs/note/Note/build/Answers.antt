@@ -5,7 +5,7 @@ use Rattle.std.proofs.lemmas.Grind.{common_steps}
 use Rattle.fr_notes.specs.Note.{Alternative}
 use Rattle.fr_notes.specs.Fits.{AlternativeFits, NoteFits}
 use Rattle.fr_notes.specs.Parts.{said}
-use Rattle.fr_notes.proofs.SaidLemmas.{said-fits}
+use Rattle.fr_notes.proofs.PartsLemmas.{said-fits}
 use Rattle.fr_notes.proofs.note.Note.build.Goals as goal
 
 pub returns-clause-fits : goal.returns-clause-fits
