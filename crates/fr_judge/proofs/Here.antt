@@ -8,7 +8,8 @@ use Rattle.fr_program.specs.declared.ids.Side.{Side}
 use Rattle.fr_program.specs.Program.{Program}
 use Rattle.fr_program.specs.Lookup.{instr_at, instr_of}
 use Rattle.fr_calls.specs.State.{State, Place, At, Done, goes_to}
-use Rattle.fr_calls.specs.Rule.{Rule, Stands, Breaches}
+use Rattle.fr_calls.specs.declared.rules.Rule.{Rule}
+use Rattle.fr_calls.specs.Rule.{Stands, Breaches}
 use Rattle.fr_calls.specs.declared.way.Way.{Way}
 use Rattle.fr_calls.specs.Step.{StepBy, Row, landing}
 use Rattle.fr_notes.specs.Note.{Note}

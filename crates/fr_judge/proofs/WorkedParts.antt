@@ -17,7 +17,7 @@ use Rattle.fr_program.specs.Lookup.{instr_of}
 use Rattle.fr_calls.specs.State.{State, Place, At, Bytes, CanHave, Exists, IsWellFormed, kind_of, place_of, value_of, content_of, suspension_of, write, goes_to}
 use Rattle.fr_calls.specs.Rule.{End, Writer, Reader, is_at_end, used_object, GivesUnheld}
 use Rattle.fr_calls.specs.declared.way.Way.{Way}
-use Rattle.fr_calls.specs.declared.way.Way.TheVariants.{Works, Fails}
+use Rattle.fr_calls.specs.declared.way.Way.TheVariants.{Then, Else}
 use Rattle.fr_calls.specs.Step.{StepBy, Row, landing}
 use Rattle.fr_calls.specs.WorkedSteps.{beside, seen, stream, add_one, reset, delete, stream_send}
 use Rattle.fr_calls.proofs.Free.{before-free, no-use, least_here}
@@ -223,32 +223,32 @@ adds P p way S c S' is before at t =
     by-way way by.0 (subst (λ s. Row P S p.actor.0 s add_one way c by.0) before by.1) (subst (λ s. S' ≡ goes_to p.actor.0 (landing p.pc s add_one way) by.0) before by.2)
   where
     by-way : (way : Way) (mid : State) → Row P S p.actor.0 Before add_one way c mid → S' ≡ goes_to p.actor.0 (landing p.pc Before add_one way) mid → S' ≡ goes_to p.actor.0 (At (p.pc + 1) Before) (write 0 (added S) S)
-    by-way Works mid row moved = moved ∙ ap (λ T. goes_to p.actor.0 (At (p.pc + 1) Before) T) row.1
-    by-way Fails mid row moved = elim row [ ]
+    by-way Then mid row moved = moved ∙ ap (λ T. goes_to p.actor.0 (At (p.pc + 1) Before) T) row.1
+    by-way Else mid row moved = elim row [ ]
 
 -- the steps to show
 
 none : ⊥ → ⊥
 none h = h
 
-module _ (i : Instr) (used : used_object i ≡ None) where
+module _ (i : Instr) (used : used_object i Before ≡ None) where
   abbrev at-x : ℕ → State
   at-x v = seen (At 0 Before) (pos v) (Bytes 0) None 0
 
   abbrev went : ℕ → State
   went v = seen (At 1 Before) (pos v) (Bytes 0) None 0
 
-  first-step : (v w c : ℕ) → least_here (stepping i) (at-x v) 0 i ≡ None → (GivesUnheld (stepping i) (at-x v) 0 i → ⊥) → Row (stepping i) (at-x v) 0 Before i Works (pos c) (at-x w) → landing 0 Before i Works ≡ At 1 Before → StepBy (stepping i) Works (at-x v) 0 (pos c) (went w)
+  first-step : (v w c : ℕ) → least_here (stepping i) (at-x v) 0 i ≡ None → (GivesUnheld (stepping i) (at-x v) 0 i → ⊥) → Row (stepping i) (at-x v) 0 Before i Then (pos c) (at-x w) → landing 0 Before i Then ≡ At 1 Before → StepBy (stepping i) Then (at-x v) 0 (pos c) (went w)
   first-step v w c least gives row lands =
-      record { pc = 0; side = Before; instr = i; at = refl; is = refl; free = before-free (stepping i) (at-x v) 0 i least gives (no-use (stepping i) (at-x v) 0 i used); mid = at-x w; row = row; moved = ap (λ q. goes_to 0 q (at-x w)) (sym lands) }
+      record { pc = 0; side = Before; instr = i; at = refl; is = refl; free = before-free (stepping i) (at-x v) 0 i least gives (no-use (stepping i) (at-x v) 0 i Before used); mid = at-x w; row = row; moved = ap (λ q. goes_to 0 q (at-x w)) (sym lands) }
 
   -- the other task's step, after which actor 0 is where it was
   abbrev other-went : ℕ → State
   other-went v = goes_to 1 (At 1 Before) (at-x v)
 
-  other-step : (v w c : ℕ) → least_here (resting i) (at-x v) 1 i ≡ None → (GivesUnheld (resting i) (at-x v) 1 i → ⊥) → Row (resting i) (at-x v) 1 Before i Works (pos c) (at-x w) → landing 0 Before i Works ≡ At 1 Before → StepBy (resting i) Works (at-x v) 1 (pos c) (other-went w)
+  other-step : (v w c : ℕ) → least_here (resting i) (at-x v) 1 i ≡ None → (GivesUnheld (resting i) (at-x v) 1 i → ⊥) → Row (resting i) (at-x v) 1 Before i Then (pos c) (at-x w) → landing 0 Before i Then ≡ At 1 Before → StepBy (resting i) Then (at-x v) 1 (pos c) (other-went w)
   other-step v w c least gives row lands =
-      record { pc = 0; side = Before; instr = i; at = refl; is = refl; free = before-free (resting i) (at-x v) 1 i least gives (no-use (resting i) (at-x v) 1 i used); mid = at-x w; row = row; moved = ap (λ q. goes_to 1 q (at-x w)) (sym lands) }
+      record { pc = 0; side = Before; instr = i; at = refl; is = refl; free = before-free (resting i) (at-x v) 1 i least gives (no-use (resting i) (at-x v) 1 i Before used); mid = at-x w; row = row; moved = ap (λ q. goes_to 1 q (at-x w)) (sym lands) }
 
   first-noted : (lo hi v : ℕ) → Within (pos lo, pos hi) (pos v) → NotedBy (stepping i) (task_point 0 0 Before) (x_in lo hi) (at-x v)
   first-noted lo hi v h = record { formed = here-formed (i ∷ Goto 0 ∷ []) (Goto 0) (At 0 Before) (pos v) (i, refl, tt); at = refl; holds = says-x (i ∷ Goto 0 ∷ []) (Goto 0) (At 0 Before) (pos v) lo hi 0 h }
@@ -262,17 +262,17 @@ module _ (i : Instr) (used : used_object i ≡ None) where
       there (suc (suc a)) l = absurd (omega (arith, l))
 
 -- `set x = x + 1` from v, in either task
-add-first : (v : ℕ) → StepBy (stepping add_one) Works (at-x add_one refl v) 0 (pos 0) (went add_one refl (v + 1))
+add-first : (v : ℕ) → StepBy (stepping add_one) Then (at-x add_one refl v) 0 (pos 0) (went add_one refl (v + 1))
 add-first v = first-step add_one refl v (v + 1) 0 refl none (refl, refl) refl
 
-add-other : (v : ℕ) → StepBy (resting add_one) Works (at-x add_one refl v) 1 (pos 0) (other-went add_one refl (v + 1))
+add-other : (v : ℕ) → StepBy (resting add_one) Then (at-x add_one refl v) 1 (pos 0) (other-went add_one refl (v + 1))
 add-other v = other-step add_one refl v (v + 1) 0 refl none (refl, refl) refl
 
 -- `pick x in 0..1` of c, in either task
-pick-first : (v c : ℕ) → c < 2 → StepBy (stepping pick_0_or_1) Works (at-x pick_0_or_1 refl v) 0 (pos c) (went pick_0_or_1 refl c)
+pick-first : (v c : ℕ) → c < 2 → StepBy (stepping pick_0_or_1) Then (at-x pick_0_or_1 refl v) 0 (pos c) (went pick_0_or_1 refl c)
 pick-first v c l = first-step pick_0_or_1 refl v c c refl none (omega (arith, ints), omega (arith, ints), refl) refl
 
-pick-other : (v c : ℕ) → c < 2 → StepBy (resting pick_0_or_1) Works (at-x pick_0_or_1 refl v) 1 (pos c) (other-went pick_0_or_1 refl c)
+pick-other : (v c : ℕ) → c < 2 → StepBy (resting pick_0_or_1) Then (at-x pick_0_or_1 refl v) 1 (pos c) (other-went pick_0_or_1 refl c)
 pick-other v c l = other-step pick_0_or_1 refl v c c refl none (omega (arith, ints), omega (arith, ints), refl) refl
 
 -- where steps go
@@ -284,7 +284,7 @@ abbrev to : Point
 to = task_point 0 1 Before
 
 goes-each : Goes (stepping add_one) (step_notes (x_in 0 0 ∷ x_in 1 1 ∷ []) (x_in 1 1 ∷ x_in 2 2 ∷ [])) from to
-goes-each is same n inside way S c S' by step lands =
+goes-each is same n inside way can =
     ⊎_elim
     (λ e. (
       x_in 1 1,
@@ -307,7 +307,7 @@ goes-second goes =
     let S = at-x add_one refl 1 in
     let S' = went add_one refl 2 in
     let by = first-noted add_one refl 1 1 1 (omega (arith, ints), omega (arith, ints)) in
-    let k = goes (Goto 0, refl, tt) refl (x_in 1 1) (1, omega arith, refl) Works S (pos 0) S' by (add-first 1) refl in
+    let k = goes (Goto 0, refl, tt) refl (x_in 1 1) (1, omega arith, refl) Then (S, pos 0, S', by, add-first 1, refl) in
     let after = subst (λ m. HoldsOne m 0 S') (only-one (x_in 1 1) k.0 k.1) (k.2 S (pos 0) S' by (add-first 1) refl) in
     absurd (omega (arith, ints, after.variables 0))
 
@@ -315,7 +315,7 @@ goes-both : Goes (stepping pick_0_or_1) (step_notes (x_in 0 9 ∷ []) (x_in 0 0 
 goes-both goes =
     let S = at-x pick_0_or_1 refl 0 in
     let by = first-noted pick_0_or_1 refl 0 9 0 (omega (arith, ints), omega (arith, ints)) in
-    let k = goes (Goto 0, refl, tt) refl (x_in 0 9) (0, omega arith, refl) Works S (pos 0) (went pick_0_or_1 refl 0) by (pick-first 0 0 (omega arith)) refl in
+    let k = goes (Goto 0, refl, tt) refl (x_in 0 9) (0, omega arith, refl) Then (S, pos 0, went pick_0_or_1 refl 0, by, pick-first 0 0 (omega arith), refl) in
     let zero-left = k.2 S (pos 0) (went pick_0_or_1 refl 0) by (pick-first 0 0 (omega arith)) refl in
     let one-left = k.2 S (pos 1) (went pick_0_or_1 refl 1) by (pick-first 0 1 (omega arith)) refl in
     ⊎_elim
@@ -332,29 +332,29 @@ abbrev others : Point
 others = task_point 1 0 Before
 
 rest-each : Undisturbed (resting add_one) (rest_notes (x_in 0 1 ∷ x_in 2 2 ∷ []) (x_in 0 0 ∷ x_in 1 1 ∷ [])) from others
-rest-each is apart n m inside among way S c S' by other step =
+rest-each is apart n m inside among way (S, c, S', both, step, any) =
     ⊎_elim
     (λ e. ⊎_elim (λ f. (
       x_in 0 1,
       (0, omega arith, refl),
-      λ T d T' by other step.
-          let k = subst (λ a. HoldsOne a 1 T) f other.holds in
-          written 0 1 0 1 0 1 (At 1 Before) T T' (added T) by.formed.variables (adds (resting add_one) others way T d T' refl refl other.at step) (subst (λ a. HoldsOne a 0 T) e by.holds) (omega (arith, ints, k.variables 0), omega (arith, ints, k.variables 0)),
+      λ T d T' both step.
+          let k = subst (λ a. HoldsOne a 1 T) f both.1.holds in
+          written 0 1 0 1 0 1 (At 1 Before) T T' (added T) both.0.formed.variables (adds (resting add_one) others way T d T' refl refl both.1.at step) (subst (λ a. HoldsOne a 0 T) e both.0.holds) (omega (arith, ints, k.variables 0), omega (arith, ints, k.variables 0)),
     ))
     (λ f. (
       x_in 2 2,
       (1, omega arith, refl),
-      λ T d T' by other step.
-          let k = subst (λ a. HoldsOne a 1 T) f other.holds in
-          written 0 1 2 2 0 1 (At 1 Before) T T' (added T) by.formed.variables (adds (resting add_one) others way T d T' refl refl other.at step) (subst (λ a. HoldsOne a 0 T) e by.holds) (omega (arith, ints, k.variables 0), omega (arith, ints, k.variables 0)),
+      λ T d T' both step.
+          let k = subst (λ a. HoldsOne a 1 T) f both.1.holds in
+          written 0 1 2 2 0 1 (At 1 Before) T T' (added T) both.0.formed.variables (adds (resting add_one) others way T d T' refl refl both.1.at step) (subst (λ a. HoldsOne a 0 T) e both.0.holds) (omega (arith, ints, k.variables 0), omega (arith, ints, k.variables 0)),
     ))
     (one-of-two (x_in 0 0) (x_in 1 1) m among))
-    (λ e. absurd (never (subst (λ a. HoldsOne a 0 S) e by.holds) (one-of-two (x_in 0 0) (x_in 1 1) m among)))
+    (λ e. absurd (never (subst (λ a. HoldsOne a 0 S) e both.0.holds) (one-of-two (x_in 0 0) (x_in 1 1) m among)))
     (one-of-two (x_in 0 1) (x_in 2 2) n inside)
   where
     never : HoldsOne (x_in 2 2) 0 S → (m ≡ x_in 0 0) ⊎ (m ≡ x_in 1 1) → ⊥
-    never h (inl f) = let k = subst (λ a. HoldsOne a 1 S) f other.holds in omega (arith, ints, h.variables 0, k.variables 0)
-    never h (inr f) = let k = subst (λ a. HoldsOne a 1 S) f other.holds in omega (arith, ints, h.variables 0, k.variables 0)
+    never h (inl f) = let k = subst (λ a. HoldsOne a 1 S) f both.1.holds in omega (arith, ints, h.variables 0, k.variables 0)
+    never h (inr f) = let k = subst (λ a. HoldsOne a 1 S) f both.1.holds in omega (arith, ints, h.variables 0, k.variables 0)
 
 rest-second : Undisturbed (resting add_one) (rest_notes (x_in 0 1 ∷ []) (x_in 0 0 ∷ x_in 1 1 ∷ [])) from others → ⊥
 rest-second kept =
@@ -362,8 +362,8 @@ rest-second kept =
     let S' = other-went add_one refl 2 in
     let by = rest-noted add_one refl 0 0 1 1 (omega arith) (omega (arith, ints), omega (arith, ints)) in
     let other = rest-noted add_one refl 1 1 1 1 (omega arith) (omega (arith, ints), omega (arith, ints)) in
-    let k = kept (add_one, refl, tt) apart-actors (x_in 0 1) (x_in 1 1) (0, omega arith, refl) (1, omega arith, refl) Works S (pos 0) S' by other (add-other 1) in
-    let after = subst (λ a. HoldsOne a 0 S') (only-one (x_in 0 1) k.0 k.1) (k.2 S (pos 0) S' by other (add-other 1)) in
+    let k = kept (add_one, refl, tt) apart-actors (x_in 0 1) (x_in 1 1) (0, omega arith, refl) (1, omega arith, refl) Then (S, pos 0, S', (by, other), add-other 1, tt) in
+    let after = subst (λ a. HoldsOne a 0 S') (only-one (x_in 0 1) k.0 k.1) (k.2 S (pos 0) S' (by, other) (add-other 1)) in
     absurd (omega (arith, ints, after.variables 0))
 
 rest-both : Undisturbed (resting pick_0_or_1) (rest_notes (x_in 0 0 ∷ x_in 1 1 ∷ []) (x_in 0 9 ∷ [])) from others → ⊥
@@ -371,9 +371,9 @@ rest-both kept =
     let S = at-x pick_0_or_1 refl 0 in
     let by = rest-noted pick_0_or_1 refl 0 0 0 0 (omega arith) (omega (arith, ints), omega (arith, ints)) in
     let other = rest-noted pick_0_or_1 refl 1 0 9 0 (omega arith) (omega (arith, ints), omega (arith, ints)) in
-    let k = kept (pick_0_or_1, refl, tt) apart-actors (x_in 0 0) (x_in 0 9) (0, omega arith, refl) (0, omega arith, refl) Works S (pos 0) (other-went pick_0_or_1 refl 0) by other (pick-other 0 0 (omega arith)) in
-    let zero-left = k.2 S (pos 0) (other-went pick_0_or_1 refl 0) by other (pick-other 0 0 (omega arith)) in
-    let one-left = k.2 S (pos 1) (other-went pick_0_or_1 refl 1) by other (pick-other 0 1 (omega arith)) in
+    let k = kept (pick_0_or_1, refl, tt) apart-actors (x_in 0 0) (x_in 0 9) (0, omega arith, refl) (0, omega arith, refl) Then (S, pos 0, other-went pick_0_or_1 refl 0, (by, other), pick-other 0 0 (omega arith), tt) in
+    let zero-left = k.2 S (pos 0) (other-went pick_0_or_1 refl 0) (by, other) (pick-other 0 0 (omega arith)) in
+    let one-left = k.2 S (pos 1) (other-went pick_0_or_1 refl 1) (by, other) (pick-other 0 1 (omega arith)) in
     ⊎_elim
     (λ e. let h = subst (λ a. HoldsOne a 0 (other-went pick_0_or_1 refl 1)) e one-left in absurd (omega (arith, ints, h.variables 0)))
     (λ e. let h = subst (λ a. HoldsOne a 0 (other-went pick_0_or_1 refl 0)) e zero-left in absurd (omega (arith, ints, h.variables 0)))

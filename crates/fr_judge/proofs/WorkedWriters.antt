@@ -21,9 +21,12 @@ use Rattle.fr_program.specs.declared.ids.Side.TheVariants.{Before, Inside}
 use Rattle.fr_program.specs.declared.parts.Kind.TheVariants.{Stream}
 use Rattle.fr_program.specs.Lookup.{actor_at, is_interrupt, instr_of, HasSide, IsPlace, IsPoint}
 use Rattle.fr_calls.specs.State.{State, Place, At, Content, Dead, Bytes, start, place_of, value_of, content_of, suspension_of, depth_in, depth_of, count_held, held_at, becomes, goes_to}
-use Rattle.fr_calls.specs.Rule.{Rule, OneWriter, OneReader, GivenByHolder, IsLive, LifeInOrder, InRange, End, Writer, Reader, Breaches, GivesUnheld, UsesDead, LifeOutOfOrder, PutsOut, IsForbidden, forbids, holds_some, is_at_end}
+use Rattle.fr_calls.specs.declared.rules.Rule.{Rule}
+use Rattle.fr_calls.specs.declared.rules.Rule.TheVariants.{OneWriter, OneReader, GivenByHolder, IsLive, LifeInOrder, InRange}
+use Rattle.fr_calls.specs.declared.rules.Condition.{Condition}
+use Rattle.fr_calls.specs.Rule.{End, Writer, Reader, Breaches, GivesUnheld, UsesDead, LifeOutOfOrder, PutsOut, IsForbidden, forbids, condition_of, holds_some, is_at_end}
 use Rattle.fr_calls.specs.declared.way.Way.{Way}
-use Rattle.fr_calls.specs.declared.way.Way.TheVariants.{Works, Fails}
+use Rattle.fr_calls.specs.declared.way.Way.TheVariants.{Then, Else}
 use Rattle.fr_calls.specs.Step.{StepBy, Row, landing, sent_bytes}
 use Rattle.fr_calls.proofs.Contents.{set_case}
 use Rattle.fr_calls.proofs.Free.{no-use, live-use}
@@ -163,7 +166,7 @@ put-rest a content S live r =
     }
 
 -- each spot has the one row that works
-no-failure : (s : Spot) (b : ℕ) (c : ℤ) (S mid : State) → Row two_writers S b (side_of s) (instr s) Fails c mid → ⊥
+no-failure : (s : Spot) (b : ℕ) (c : ℤ) (S mid : State) → Row two_writers S b (side_of s) (instr s) Else c mid → ⊥
 no-failure Entering b c S mid row = row
 no-failure Calling b c S mid row = row
 no-failure Sending b c S mid row = row
@@ -172,15 +175,15 @@ no-failure Closing b c S mid row = row
 
 -- a step of either task keeps the rest
 rest-kept : (s : Spot) (a b : ℕ) (way : Way) (c : ℤ) (S mid : State) → Row two_writers S b (side_of s) (instr s) way c mid → Rest a S → Rest a mid
-rest-kept Entering a b Works c S mid row r =
+rest-kept Entering a b Then c S mid row r =
     subst (λ T. Rest a T) (sym row.2) (record { suspended = r.suspended; objects = r.objects; variables = r.variables })
-rest-kept Calling a b Works c S mid row r = subst (λ T. Rest a T) (sym row.1) r
-rest-kept Sending a b Works c S mid (k, e, within, (put, puts, same)) r =
+rest-kept Calling a b Then c S mid row r = subst (λ T. Rest a T) (sym row.1) r
+rest-kept Sending a b Then c S mid (k, e, within, (put, puts, same)) r =
     subst (λ T. Rest a T) (sym (same ∙ puts.2)) (put-rest a puts.0 S (sent-live k a (content_of S 0) puts.0 puts.1) r)
-rest-kept Leaving a b Works c S mid row r =
+rest-kept Leaving a b Then c S mid row r =
     subst (λ T. Rest a T) (sym row.1) (record { suspended = r.suspended; objects = r.objects; variables = r.variables })
-rest-kept Closing a b Works c S mid row r = subst (λ T. Rest a T) (sym row.1) r
-rest-kept s a b Fails c S mid row r = absurd (no-failure s b c S mid row)
+rest-kept Closing a b Then c S mid row r = subst (λ T. Rest a T) (sym row.1) r
+rest-kept s a b Else c S mid row r = absurd (no-failure s b c S mid row)
 
 -- the depths
 
@@ -208,34 +211,34 @@ alone critical a b apart h = none (depth_in critical a) refl
 
 -- the task's own step leads from the depth of its spot to that of the next one
 own-step : (s : Spot) (b : ℕ) (way : Way) (c : ℤ) (S mid : State) → Row two_writers S b (side_of s) (instr s) way c mid → depth_of S b ≡ depth s → depth_of mid b ≡ depth (next s)
-own-step Entering b Works c S mid row d =
+own-step Entering b Then c S mid row d =
     ap (λ T. depth_of T b) row.2 ∙ (own-depth b _ ∙ ap (λ n. n + 1) d)
-own-step Calling b Works c S mid row d = ap (λ T. depth_of T b) row.1 ∙ d
-own-step Sending b Works c S mid (k, e, within, (put, puts, same)) d = ap (λ T. depth_of T b) (same ∙ puts.2) ∙ d
-own-step Leaving b Works c S mid row d =
+own-step Calling b Then c S mid row d = ap (λ T. depth_of T b) row.1 ∙ d
+own-step Sending b Then c S mid (k, e, within, (put, puts, same)) d = ap (λ T. depth_of T b) (same ∙ puts.2) ∙ d
+own-step Leaving b Then c S mid row d =
     ap (λ T. depth_of T b) row.1 ∙ ap (λ n. depth_in (held_at b (n - 1)) b) d
-own-step Closing b Works c S mid row d = ap (λ T. depth_of T b) row.1 ∙ d
-own-step s b Fails c S mid row d = absurd (no-failure s b c S mid row)
+own-step Closing b Then c S mid row d = ap (λ T. depth_of T b) row.1 ∙ d
+own-step s b Else c S mid row d = absurd (no-failure s b c S mid row)
 
 -- it leaves the depth of the other task as it was
 others-step : (s : Spot) (a b : ℕ) (way : Way) (c : ℤ) (S mid : State) → b ≢ a → Row two_writers S b (side_of s) (instr s) way c mid → depth_of S b ≡ depth s → depth_of mid a ≡ depth_of S a
-others-step Entering a b Works c S mid apart row d =
+others-step Entering a b Then c S mid apart row d =
     ap (λ T. depth_of T a) row.2 ∙ (others-depth a b _ apart ∙ sym (outside S.critical a b apart row.1))
-others-step Calling a b Works c S mid apart row d = ap (λ T. depth_of T a) row.1
-others-step Sending a b Works c S mid apart (k, e, within, (put, puts, same)) d = ap (λ T. depth_of T a) (same ∙ puts.2)
-others-step Leaving a b Works c S mid apart row d =
+others-step Calling a b Then c S mid apart row d = ap (λ T. depth_of T a) row.1
+others-step Sending a b Then c S mid apart (k, e, within, (put, puts, same)) d = ap (λ T. depth_of T a) (same ∙ puts.2)
+others-step Leaving a b Then c S mid apart row d =
     ap (λ T. depth_of T a) row.1 ∙ (left-depth a b _ apart ∙ sym (alone S.critical a b apart (omega (arith, d))))
-others-step Closing a b Works c S mid apart row d = ap (λ T. depth_of T a) row.1
-others-step s a b Fails c S mid apart row d = absurd (no-failure s b c S mid row)
+others-step Closing a b Then c S mid apart row d = ap (λ T. depth_of T a) row.1
+others-step s a b Else c S mid apart row d = absurd (no-failure s b c S mid row)
 
 -- where a step from a spot leads
 leads-on : (s : Spot) (b : ℕ) (way : Way) (c : ℤ) (S mid : State) → Row two_writers S b (side_of s) (instr s) way c mid → landing (pc_of s) (side_of s) (instr s) way ≡ At (pc_of (next s)) (side_of (next s))
-leads-on Entering b Works c S mid row = refl
-leads-on Calling b Works c S mid row = refl
-leads-on Sending b Works c S mid row = refl
-leads-on Leaving b Works c S mid row = refl
-leads-on Closing b Works c S mid row = refl
-leads-on s b Fails c S mid row = absurd (no-failure s b c S mid row)
+leads-on Entering b Then c S mid row = refl
+leads-on Calling b Then c S mid row = refl
+leads-on Sending b Then c S mid row = refl
+leads-on Leaving b Then c S mid row = refl
+leads-on Closing b Then c S mid row = refl
+leads-on s b Else c S mid row = absurd (no-failure s b c S mid row)
 
 module _ (a : ℕ) (task : a < 2) (s : Spot) where
   -- the note of the spot holds
@@ -284,7 +287,11 @@ entry-kept a l Sending pc side = absurd (omega (arith, pc))
 entry-kept a l Leaving pc side = absurd (omega (arith, pc))
 entry-kept a l Closing pc side = absurd (omega (arith, pc))
 
-allowed : (s : Spot) (holds : Bool) (rule : Rule) → IsTrue (forbids two_writers false (depth s) 0 holds (instr s) rule) → ⊥
+-- a task at this depth, which doesn't suspend
+abbrev at-depth : ℕ → Bool → Condition
+at-depth n holds = record { interrupt = false; critical = n; suspended = 0; holds = holds }
+
+allowed : (s : Spot) (holds : Bool) (rule : Rule) → IsTrue (forbids two_writers (at-depth (depth s) holds) (instr s) rule) → ⊥
 allowed Entering holds OneWriter t = cc
 allowed Entering holds rule t = cc
 allowed Calling holds OneWriter t = cc
@@ -305,7 +312,8 @@ module _ (a : ℕ) (task : a < 2) (S : State) where
   here-allowed : (s : Spot) → HoldsOne (live_at (depth s)) a S → (rule : Rule) → IsForbidden two_writers S a Before (instr s) rule → ⊥
   here-allowed s h rule b =
       let i = instr s in
-      allowed s (holds_some S a) rule (subst (λ n. IsTrue (forbids two_writers false (depth s) n (holds_some S a) i rule)) h.suspended (subst (λ n. IsTrue (forbids two_writers false n (suspension_of S a) (holds_some S a) i rule)) h.critical (subst (λ k. IsTrue (forbids two_writers k (depth_of S a) (suspension_of S a) (holds_some S a) i rule)) (no-interrupt a task) b)))
+      let holds = holds_some S a in
+      allowed s holds rule (subst (λ n. IsTrue (forbids two_writers (record { interrupt = false; critical = depth s; suspended = n; holds = holds }) i rule)) h.suspended (subst (λ n. IsTrue (forbids two_writers (record { interrupt = false; critical = n; suspended = suspension_of S a; holds = holds }) i rule)) h.critical (subst (λ k. IsTrue (forbids two_writers (record { interrupt = k; critical = depth_of S a; suspended = suspension_of S a; holds = holds }) i rule)) (no-interrupt a task) b)))
 
   not-forbidden : (s : Spot) → HoldsOne (live_at (depth s)) a S → (rule : Rule) → IsForbidden two_writers S a (side_of s) (instr s) rule → ⊥
   not-forbidden Entering h rule b = here-allowed Entering h rule b
@@ -318,14 +326,14 @@ module _ (a : ℕ) (task : a < 2) (S : State) where
   gives-none Entering b = b
   gives-none s b = b
 
-  uses-live : (s : Spot) → HoldsOne (live_at (depth s)) a S → UsesDead S (instr s) → ⊥
-  uses-live Calling h b = live-use two_writers S a send 0 refl (h.objects 0).0 b
-  uses-live Sending h b = live-use two_writers S a send 0 refl (h.objects 0).0 b
-  uses-live Entering h b = no-use two_writers S a enter refl b
-  uses-live Leaving h b = no-use two_writers S a exit refl b
-  uses-live Closing h b = no-use two_writers S a (Goto 0) refl b
+  uses-live : (s : Spot) → HoldsOne (live_at (depth s)) a S → UsesDead S (instr s) (side_of s) → ⊥
+  uses-live Calling h b = live-use two_writers S a send Before 0 refl (h.objects 0).0 b
+  uses-live Sending h b = live-use two_writers S a send Inside 0 refl (h.objects 0).0 b
+  uses-live Entering h b = no-use two_writers S a enter Before refl b
+  uses-live Leaving h b = no-use two_writers S a exit Before refl b
+  uses-live Closing h b = no-use two_writers S a (Goto 0) Before refl b
 
-  life-in-order : (s : Spot) → LifeOutOfOrder two_writers S a (instr s) → ⊥
+  life-in-order : (s : Spot) → LifeOutOfOrder two_writers S a (instr s) (side_of s) → ⊥
   life-in-order Entering b = b
   life-in-order s b = b
 
@@ -347,7 +355,7 @@ rules-kept a l s rule =
     rule-kept two_writers (at a s) (instr s) (instr-here a l s) writers_notes.notes rule (λ S noted own b. no-breach a l S s (by-note a l s noted.holds.0 S noted.holds.1 noted.holds.2) rule own b)
 
 goes-kept : (a : ℕ) → a < 2 → (s : Spot) (t : Point) → Goes two_writers writers_notes.notes (at a s) t
-goes-kept a l s t is same n inside way S c S' by step lands =
+goes-kept a l s t is same n inside way (S, c, S', by, step, lands) =
     let place = lands-on a l s way S c S' t.pc t.side by.at step (subst (λ k. place_of S' k ≡ At t.pc t.side) (ap (λ i. i.0) same) lands) in
     let point : t ≡ at a (next s) =
     ap (λ i. record { actor = i; pc = t.pc; side = t.side }) same ∙ sym (same-point a _ _ _ _ (pc-same place) (side-same place)) in (
@@ -398,11 +406,11 @@ near-kept a b l r s is apart o action inside deletes =
     absurd (no-delete s deletes.0 deletes.1 (same_Some _ _ (sym (instr-here b l s) ∙ deletes.4)))
 
 spoiled-kept : (a b : ℕ) → a < 2 → b < 2 → (r s : Spot) → Undisturbed two_writers writers_notes.notes (at a r) (at b s)
-spoiled-kept a b la lb r s is apart n m has-n has-m way S c S' by other step = (
+spoiled-kept a b la lb r s is apart n m has-n has-m way can = (
   n,
   has-n,
-  λ T d T' by other step.
-      let kept = leaves a b (depth r) (λ e. apart (ap (λ k. record { 0 = k }) e)) lb s way T d T' other.at (by-note a la r n T has-n by.holds) (by-note b lb s m T has-m other.holds) step in
+  λ T d T' both step.
+      let kept = leaves a b (depth r) (λ e. apart (ap (λ k. record { 0 = k }) e)) lb s way T d T' both.1.at (by-note a la r n T has-n both.0.holds) (by-note b lb s m T has-m both.1.holds) step in
       subst (λ k. HoldsOne k a T') (sym (only-one (live_at (depth r)) n (subst (λ k. Contains k n) (note-here a la r) has-n))) kept,
 )
 
