@@ -16,7 +16,7 @@ use Rattle.fr_calls.specs.declared.rules.Rule.TheVariants.{OneWriter, OneReader,
 use Rattle.fr_calls.specs.Rule.{End, Stands, Breaches}
 use Rattle.fr_calls.specs.declared.way.Way.{Way}
 use Rattle.fr_calls.specs.declared.way.Way.TheVariants.{Then, Else}
-use Rattle.fr_calls.specs.Step.{StepBy, Row, landing}
+use Rattle.fr_calls.specs.Step.{StepBy, Row, landing, transition}
 use Rattle.fr_notes.specs.Note.{Alternative, Note, HoldsOne}
 use Rattle.fr_notes.specs.Noted.{note_at, IsAt}
 use Rattle.fr_edge.specs.Own.{KeepsRule, Goes, is_own}
@@ -70,11 +70,11 @@ module _ (P : Program) (C : Certificate) (n : Alternative) (is : instr_at P 0 0 
   steps-back : (way : Way) (S : State) (c : ℤ) (S' : State) → IsAt S (first 0) → StepBy P way S 0 c S' → S' ≡ goes_to 0 (At 0 Before) S
   steps-back way S c S' at t =
       let e = stands-there P (Goto 0) is S t.side t.instr at (record { pc = t.pc; at = t.at; is = t.is }) in
-      let row : Row P S 0 Before (Goto 0) way c t.mid = subst (λ k. Row P S 0 Before k way c t.mid) e.1 (subst (λ s. Row P S 0 s t.instr way c t.mid) e.0 t.row) in
+      let row : Row P (transition S 0 c t.mid) Before (Goto 0) way = subst (λ k. Row P (transition S 0 c t.mid) Before k way) e.1 (subst (λ s. Row P (transition S 0 c t.mid) s t.instr way) e.0 t.row) in
       let moved : S' ≡ goes_to 0 (landing t.pc Before (Goto 0) way) t.mid = subst (λ k. S' ≡ goes_to 0 (landing t.pc Before k way) t.mid) e.1 (subst (λ s. S' ≡ goes_to 0 (landing t.pc s t.instr way) t.mid) e.0 t.moved) in
       by-way way t.mid t.pc row moved
     where
-      by-way : (way : Way) (mid : State) (pc : ℕ) → Row P S 0 Before (Goto 0) way c mid → S' ≡ goes_to 0 (landing pc Before (Goto 0) way) mid → S' ≡ goes_to 0 (At 0 Before) S
+      by-way : (way : Way) (mid : State) (pc : ℕ) → Row P (transition S 0 c mid) Before (Goto 0) way → S' ≡ goes_to 0 (landing pc Before (Goto 0) way) mid → S' ≡ goes_to 0 (At 0 Before) S
       by-way Then mid pc row moved = moved ∙ ap (λ T. goes_to 0 (At 0 Before) T) row.1
       by-way Else mid pc row moved = elim row [ ]
 
