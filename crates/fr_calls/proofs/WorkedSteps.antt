@@ -16,22 +16,22 @@ use Rattle.fr_program.specs.Program.{Program}
 use Rattle.fr_program.specs.Lookup.{instr_at}
 use Rattle.fr_calls.specs.State.{State, At, Dead, Values, Count, Free, Held, Bytes, Lengths, place_of, content_of, goes_to}
 use Rattle.fr_calls.specs.Rule.{Rule, GivenByHolder, AllowedInCritical, AllowedSuspended, AllowedInInterrupt, IsLive, SuitsSemaphore, DepthAboveZero, EndsInOrder, GivesUnheld, UsesDead, Breaches, used_object}
-use Rattle.fr_calls.specs.Step.{Way, Then, Else, Row, SuitsInside, Step, StepBy, landing, stops, sent_bytes, received_bytes}
+use Rattle.fr_calls.specs.Step.{Way, Then, Else, Row, SuitsInside, Step, StepBy, landing, stops, sent_bytes, received_bytes, transition}
 use Rattle.fr_calls.specs.WorkedSteps.{x, beside, of_one, seen, before, inside, next, other, Steps, ten, add_one, if_below, enter, exit, create, create_counting, delete, take, take_at_once, take_recursive, give, give_recursive, queue_send, queue_receive, queue_receive_at_once, stream_send, stream_receive, message_send, message_receive, reset, queue, stream, message, counts_once, WorkedInstrs, WorkedEnds, HasNoStep, WorkedStops, HasNoChoice, WorkedBounds, WorkedComparisons, WorkedRun}
 use Rattle.fr_calls.proofs.Free.{before-free, inside-free, no-use, live-use, least_here}
 
 -- a step before the instruction, by its row
-before-steps : (kind : Kind) (i : Instr) (way : Way) (S : State) (c : ℤ) (mid S' : State) → place_of S 0 ≡ At 0 Before → least_here (of_one kind i) S 0 i ≡ None → (GivesUnheld (of_one kind i) S 0 i → ⊥) → (UsesDead S i Before → ⊥) → Row (of_one kind i) S 0 Before i way c mid → S' ≡ goes_to 0 (landing 0 Before i way) mid → Steps kind i S c S'
+before-steps : (kind : Kind) (i : Instr) (way : Way) (S : State) (c : ℤ) (mid S' : State) → place_of S 0 ≡ At 0 Before → least_here (of_one kind i) S 0 i ≡ None → (GivesUnheld (of_one kind i) S 0 i → ⊥) → (UsesDead S i Before → ⊥) → Row (of_one kind i) (transition S 0 c mid) Before i way → S' ≡ goes_to 0 (landing 0 Before i way) mid → Steps kind i S c S'
 before-steps kind i way S c mid S' at least gives uses row moved =
     (way, record { pc = 0; side = Before; instr = i; at = at; is = refl; free = before-free (of_one kind i) S 0 i least gives uses; mid = mid; row = row; moved = moved })
 
 -- the same of an instruction that uses no object
-plain-steps : (kind : Kind) (i : Instr) (way : Way) (S : State) (c : ℤ) (mid S' : State) → place_of S 0 ≡ At 0 Before → least_here (of_one kind i) S 0 i ≡ None → (GivesUnheld (of_one kind i) S 0 i → ⊥) → used_object i Before ≡ None → Row (of_one kind i) S 0 Before i way c mid → S' ≡ goes_to 0 (landing 0 Before i way) mid → Steps kind i S c S'
+plain-steps : (kind : Kind) (i : Instr) (way : Way) (S : State) (c : ℤ) (mid S' : State) → place_of S 0 ≡ At 0 Before → least_here (of_one kind i) S 0 i ≡ None → (GivesUnheld (of_one kind i) S 0 i → ⊥) → used_object i Before ≡ None → Row (of_one kind i) (transition S 0 c mid) Before i way → S' ≡ goes_to 0 (landing 0 Before i way) mid → Steps kind i S c S'
 plain-steps kind i way S c mid S' at least gives none row moved =
     before-steps kind i way S c mid S' at least gives (no-use (of_one kind i) S 0 i Before none) row moved
 
 -- a step inside an object call, by its row
-inside-steps : (kind : Kind) (i : Instr) (way : Way) (S : State) (c : ℤ) (mid S' : State) → place_of S 0 ≡ At 0 Inside → SuitsInside (of_one kind i) Inside i → (GivesUnheld (of_one kind i) S 0 i → ⊥) → used_object i Inside ≡ Some 0 → (content_of S 0 ≡ Dead → ⊥) → Row (of_one kind i) S 0 Inside i way c mid → S' ≡ goes_to 0 (landing 0 Inside i way) mid → Steps kind i S c S'
+inside-steps : (kind : Kind) (i : Instr) (way : Way) (S : State) (c : ℤ) (mid S' : State) → place_of S 0 ≡ At 0 Inside → SuitsInside (of_one kind i) Inside i → (GivesUnheld (of_one kind i) S 0 i → ⊥) → used_object i Inside ≡ Some 0 → (content_of S 0 ≡ Dead → ⊥) → Row (of_one kind i) (transition S 0 c mid) Inside i way → S' ≡ goes_to 0 (landing 0 Inside i way) mid → Steps kind i S c S'
 inside-steps kind i way S c mid S' at suits gives used live row moved =
     (way, record { pc = 0; side = Inside; instr = i; at = at; is = refl; free = inside-free (of_one kind i) S 0 i suits gives (live-use (of_one kind i) S 0 i Inside 0 used live); mid = mid; row = row; moved = moved })
 
@@ -100,13 +100,13 @@ module _ (P : Program) (S : State) (side : Side) (i : Instr) (at : place_of S 0 
       let pc : 0 ≡ t.pc = cc in
       (cc, same_Some _ _ (sym (subst (λ n. instr_at P 0 n ≡ Some t.instr) (sym pc) t.is) ∙ is))
 
-  row-of : (way : Way) (c : ℤ) (S' : State) → (t : StepBy P way S 0 c S') → Row P S 0 side i way c t.mid
+  row-of : (way : Way) (c : ℤ) (S' : State) → (t : StepBy P way S 0 c S') → Row P (transition S 0 c t.mid) side i way
   row-of way c S' t =
       let e = where-it-is way c S' t in
-      subst (λ s. Row P S 0 s i way c t.mid) e.0 (subst (λ j. Row P S 0 t.side j way c t.mid) e.1 t.row)
+      subst (λ s. Row P (transition S 0 c t.mid) s i way) e.0 (subst (λ j. Row P (transition S 0 c t.mid) t.side j way) e.1 t.row)
 
   -- no row fits the state
-  rowless : ((way : Way) (c : ℤ) (mid : State) → Row P S 0 side i way c mid → ⊥) → HasNoStep P S
+  rowless : ((way : Way) (c : ℤ) (mid : State) → Row P (transition S 0 c mid) side i way → ⊥) → HasNoStep P S
   rowless none c S' (way, t) = none way c t.mid (row-of way c S' t)
 
   -- the actor breaches a rule at whose breach there is no step
@@ -121,15 +121,15 @@ module _ (P : Program) (S : State) (side : Side) (i : Instr) (at : place_of S 0 
       let e = where-it-is way c S' t in
       not (subst (λ s. SuitsInside P s i) e.0 (subst (λ j. SuitsInside P t.side j) e.1 t.free.1))
 
-enter-rowless : (way : Way) (c : ℤ) (mid : State) → Row (of_one stream enter) (seen (At 0 Before) (pos 0) Dead (Some (1, 1)) 0) 0 Before enter way c mid → ⊥
+enter-rowless : (way : Way) (c : ℤ) (mid : State) → Row (of_one stream enter) (transition (seen (At 0 Before) (pos 0) Dead (Some (1, 1)) 0) 0 c mid) Before enter way → ⊥
 enter-rowless Then c mid h = absurd (omega (arith, h.1))
 enter-rowless Else c mid h = h
 
-take-rowless : (way : Way) (c : ℤ) (mid : State) → Row (of_one Mutex (take MaxDelay)) (inside (pos 0) (Held 1 1)) 0 Inside (take MaxDelay) way c mid → ⊥
+take-rowless : (way : Way) (c : ℤ) (mid : State) → Row (of_one Mutex (take MaxDelay)) (transition (inside (pos 0) (Held 1 1)) 0 c mid) Inside (take MaxDelay) way → ⊥
 take-rowless Then c mid h = let e = h.1.1 in cc
 take-rowless Else c mid h = let e = h.1 in cc
 
-create-rowless : (way : Way) (c : ℤ) (mid : State) → Row (of_one stream create) (before (pos 0) (Bytes 0)) 0 Before create way c mid → ⊥
+create-rowless : (way : Way) (c : ℤ) (mid : State) → Row (of_one stream create) (transition (before (pos 0) (Bytes 0)) 0 c mid) Before create way → ⊥
 create-rowless Then c mid h = let e = h.1 in cc
 create-rowless Else c mid h = let e = h.1 in cc
 
@@ -154,36 +154,36 @@ worked-stops = record {
 }
 
 -- A step of actor 0 with a choice is by a row with that choice, so there is none where no row has it.
-choiceless : (kind : Kind) (S : State) (side : Side) (i : Instr) (c : ℤ) → place_of S 0 ≡ At 0 side → ((way : Way) (mid : State) → Row (of_one kind i) S 0 side i way c mid → ⊥) → HasNoChoice kind i S c
+choiceless : (kind : Kind) (S : State) (side : Side) (i : Instr) (c : ℤ) → place_of S 0 ≡ At 0 side → ((way : Way) (mid : State) → Row (of_one kind i) (transition S 0 c mid) side i way → ⊥) → HasNoChoice kind i S c
 choiceless kind S side i c at none S' (way, t) = none way t.mid (row-of (of_one kind i) S side i at refl way c S' t)
 
-pick-bound : (way : Way) (mid : State) → Row (of_one stream (Pick x (pos 3) (pos 7))) (before (pos 0) Dead) 0 Before (Pick x (pos 3) (pos 7)) way (pos 8) mid → ⊥
+pick-bound : (way : Way) (mid : State) → Row (of_one stream (Pick x (pos 3) (pos 7))) (transition (before (pos 0) Dead) 0 (pos 8) mid) Before (Pick x (pos 3) (pos 7)) way → ⊥
 pick-bound Then mid h = absurd (omega (arith, ints, h.1))
 pick-bound Else mid h = h
 
-send-bound : (way : Way) (mid : State) → Row (of_one stream stream_send) (inside (pos 0) (Bytes 6)) 0 Inside stream_send way (pos 3) mid → ⊥
+send-bound : (way : Way) (mid : State) → Row (of_one stream stream_send) (transition (inside (pos 0) (Bytes 6)) 0 (pos 3) mid) Inside stream_send way → ⊥
 send-bound Then mid h =
     let k : h.0 ≡ 3 = omega (arith, ints, h.1) in
     let e = subst (λ n. sent_bytes n stream (Bytes 6) ≡ Some h.3.1.0) k h.3.1.1 in
     cc
 send-bound Else mid h = h
 
-receive-bound : (way : Way) (mid : State) → Row (of_one stream stream_receive) (inside (pos 0) (Bytes 2)) 0 Inside stream_receive way (pos 3) mid → ⊥
+receive-bound : (way : Way) (mid : State) → Row (of_one stream stream_receive) (transition (inside (pos 0) (Bytes 2)) 0 (pos 3) mid) Inside stream_receive way → ⊥
 receive-bound Then mid h =
     let k : h.0 ≡ 3 = omega (arith, ints, h.1) in
     let e = subst (λ n. received_bytes n (Bytes 2) ≡ Some h.3.1.0) k h.3.1.1 in
     cc
 receive-bound Else mid h = h
 
-whole-message : (way : Way) (mid : State) → Row (of_one message message_send) (inside (pos 0) (Lengths [])) 0 Inside message_send way (pos 3) mid → ⊥
+whole-message : (way : Way) (mid : State) → Row (of_one message message_send) (transition (inside (pos 0) (Lengths [])) 0 (pos 3) mid) Inside message_send way → ⊥
 whole-message Then mid h = absurd (omega (arith, ints, h.0))
 whole-message Else mid h = absurd (omega (arith, ints, h.0))
 
-long-message : (way : Way) (mid : State) → Row (of_one message message_receive) (inside (pos 0) (Lengths (9 ∷ []))) 0 Inside message_receive way (pos 9) mid → ⊥
+long-message : (way : Way) (mid : State) → Row (of_one message message_receive) (transition (inside (pos 0) (Lengths (9 ∷ []))) 0 (pos 9) mid) Inside message_receive way → ⊥
 long-message Then mid h = absurd (omega (arith, ints, h.1, h.2))
 long-message Else mid h = absurd (omega (arith, ints, h.0))
 
-full-queue : (way : Way) (mid : State) → Row (of_one queue queue_send) (inside (pos 4) (Values (pos 3 ∷ pos 3 ∷ []))) 0 Inside queue_send way (pos 1) mid → ⊥
+full-queue : (way : Way) (mid : State) → Row (of_one queue queue_send) (transition (inside (pos 4) (Values (pos 3 ∷ pos 3 ∷ []))) 0 (pos 1) mid) Inside queue_send way → ⊥
 full-queue Then mid h = let e = h.1.1 in cc
 full-queue Else mid h = absurd (omega (arith, ints, h.0))
 

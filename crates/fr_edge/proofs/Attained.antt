@@ -23,7 +23,7 @@ use Rattle.fr_calls.specs.declared.way.Way.{Way}
 use Rattle.fr_calls.specs.declared.way.Way.TheVariants.{Then, Else}
 use Rattle.fr_calls.specs.State.{State, value_of, depth_of, write, in_critical, critical_at, held_at}
 use Rattle.fr_calls.specs.Rule.{operand_of, result_of}
-use Rattle.fr_calls.specs.Step.{Row}
+use Rattle.fr_calls.specs.Step.{Row, transition}
 use Rattle.fr_notes.specs.declared.change.Change.{Change}
 use Rattle.fr_notes.specs.Note.{Alternative, Within, range_of}
 use Rattle.fr_notes.specs.Fits.{AlternativeFits}
@@ -85,7 +85,7 @@ module _ (P : Program) (p : Point) (n : Alternative) (free : IsFaultless P) (poi
     pub within : AreWithin n values
     pub choice : ℤ
     pub mid : State
-    pub row : Row P (here values) p.actor.0 Before i way choice mid
+    pub row : Row P (transition (here values) p.actor.0 choice mid) Before i way
     pub fact : Q mid
 
   abbrev base : Bool → ℕ → ℤ
@@ -98,7 +98,7 @@ module _ (P : Program) (p : Point) (n : Alternative) (free : IsFaultless P) (poi
   abbrev pub Ends : Bool → ℕ → Change → State → Type 0
   Ends b x change mid = x < length P.variables → value_of mid x ≡ end_of b (new_range change x (range_of n x))
 
-  same-attained : (b : Bool) (x : ℕ) (i : Instr) (way : Way) → Row P (here (base b)) p.actor.0 Before i way (pos 0) (here (base b)) → Moves i way (Ends b x (same n))
+  same-attained : (b : Bool) (x : ℕ) (i : Instr) (way : Way) → Row P (transition (here (base b)) p.actor.0 (pos 0) (here (base b))) Before i way → Moves i way (Ends b x (same n))
   same-attained b x i way row = record {
     values = base b;
     within = base-within b;
@@ -144,7 +144,7 @@ module _ (P : Program) (p : Point) (n : Alternative) (free : IsFaultless P) (poi
                 rw e (get_or-set_other S.values y.0 x w (pos 0) (λ q. let t = eq-eqb y.0 x (sym q) in cc) ∙ value-here P p n free point fits (base b) x lt);
           }
 
-  row-if : (S : State) (way : Way) (l : Operand) (comparison : Comparison) (r : Operand) (target : ℕ) → Turns way comparison (operand_of S l) (operand_of S r) → Row P S p.actor.0 Before (If l comparison r target) way (pos 0) S
+  row-if : (S : State) (way : Way) (l : Operand) (comparison : Comparison) (r : Operand) (target : ℕ) → Turns way comparison (operand_of S l) (operand_of S r) → Row P (transition S p.actor.0 (pos 0) S) Before (If l comparison r target) way
   row-if S Then l comparison r target t = (refl, t, refl)
   row-if S Else l comparison r target t = (refl, t, refl)
 

@@ -13,7 +13,7 @@ use Rattle.fr_calls.specs.declared.way.Way.{Way}
 use Rattle.fr_calls.specs.State.{State, At, Done, place_of, goes_to}
 use Rattle.fr_calls.specs.declared.rules.Rule.{Rule}
 use Rattle.fr_calls.specs.declared.rules.Rule.TheVariants.{OneWriter, OneReader, GivenByHolder, AllowedInCritical, AllowedSuspended, AllowedInInterrupt, IsLive, LifeInOrder, SuitsSemaphore, DepthAboveZero, EndsInOrder, InRange}
-use Rattle.fr_calls.specs.Step.{StepBy, IsFree, SuitsInside, Row, landing, stops}
+use Rattle.fr_calls.specs.Step.{StepBy, IsFree, SuitsInside, Row, landing, stops, transition}
 use Rattle.fr_notes.specs.declared.change.Change.{Change}
 use Rattle.fr_notes.specs.Note.{Alternative, Note, HoldsOne, range_of}
 use Rattle.fr_notes.specs.Noted.{note_at, IsAt, NotedBy}
@@ -68,7 +68,7 @@ module _ (P : Program) (notes : List Note) (p : Point) (i : Instr) (way : Way) (
       is = is;
       free = is-free (here P p n free point fits (moves b x).values) (noted-at b x);
       mid = (moves b x).mid;
-      row = subst (λ s. Row P (here P p n free point fits (moves b x).values) p.actor.0 s i way (moves b x).choice (moves b x).mid) (sym (side-before P p judged point)) (moves b x).row;
+      row = subst (λ s. Row P (transition (here P p n free point fits (moves b x).values) p.actor.0 (moves b x).choice (moves b x).mid) s i way) (sym (side-before P p judged point)) (moves b x).row;
       moved = refl;
     }
 

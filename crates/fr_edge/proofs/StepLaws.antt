@@ -26,7 +26,7 @@ use Rattle.fr_calls.specs.declared.way.Way.TheVariants.{Then, Else}
 use Rattle.fr_calls.specs.State.{State, At, Dead, IsWellFormed, value_of, content_of, suspension_of, depth_of, write, goes_to, in_critical, critical_at}
 use Rattle.fr_calls.specs.declared.rules.Rule.TheVariants.{DepthAboveZero}
 use Rattle.fr_calls.specs.Rule.{operand_of}
-use Rattle.fr_calls.specs.Step.{Row, IsFree, StepBy, landing}
+use Rattle.fr_calls.specs.Step.{Row, IsFree, StepBy, landing, transition}
 use Rattle.fr_notes.specs.declared.change.Change.{Change}
 use Rattle.fr_notes.specs.declared.claim.Claim.TheVariants.{NotHeld}
 use Rattle.fr_notes.specs.Note.{Alternative, Within, Meets, HoldsOne, range_of}
@@ -111,7 +111,7 @@ module _ (P : Program) (n : Alternative) (a : ℕ) (S : State) (h : HoldsOne n a
   into : (change made : Change) (T made_state : State) → change ≡ made → T ≡ made_state → After n made a S made_state → After n change a S T
   into change made T made_state e f k = subst (λ ch. After n ch a S T) (sym e) (subst (λ U. After n made a S U) (sym f) k)
 
-  after-call : (call : Call) (change : Change) (c : ℤ) (T : State) → IsInstrJudgedYet (Calls call) → HasCallChange n call change → Row P S a Before (Calls call) Then c T → After n change a S T
+  after-call : (call : Call) (change : Change) (c : ℤ) (T : State) → IsInstrJudgedYet (Calls call) → HasCallChange n call change → Row P (transition S a c T) Before (Calls call) Then → After n change a S T
   after-call (EnterCritical form) change c T j k row = into change _ T _ k row.2 after-enter
   after-call (ExitCritical form) change c T j k row = into change _ T _ k.1 row.1 after-exit
   after-call Yield change c T j k row = absurd j
@@ -120,7 +120,7 @@ module _ (P : Program) (n : Alternative) (a : ℕ) (S : State) (h : HoldsOne n a
   after-call call change c T j k row = absurd k
 
   -- after the row, what the change says
-  pub after-row : (i : Instr) (way : Way) (change : Change) (c : ℤ) (T : State) → IsInstrJudgedYet i → HasOperands n i → HasChange n i way change → Row P S a Before i way c T → After n change a S T
+  pub after-row : (i : Instr) (way : Way) (change : Change) (c : ℤ) (T : State) → IsInstrJudgedYet i → HasOperands n i → HasChange n i way change → Row P (transition S a c T) Before i way → After n change a S T
   after-row (Set x l op r) Then change c T j has k row =
       into change _ T _ k.2 row.1 (after-set x _ k.0 has.0 (k.1.inside (operand_of S l) (operand_of S r) (operand-can n a S l h) (operand-can n a S r h)))
   after-row (If l comparison r target) Then change c T j has k row =
@@ -133,7 +133,7 @@ module _ (P : Program) (n : Alternative) (a : ℕ) (S : State) (h : HoldsOne n a
   after-row i way change c T j has k row = absurd k
 
   -- a row that no state with the alternative has
-  pub no-row : (i : Instr) (way : Way) (c : ℤ) (T : State) → IsInstrJudgedYet i → HasNone n i way → IsFree P S a Before i → Row P S a Before i way c T → ⊥
+  pub no-row : (i : Instr) (way : Way) (c : ℤ) (T : State) → IsInstrJudgedYet i → HasNone n i way → IsFree P S a Before i → Row P (transition S a c T) Before i way → ⊥
   no-row (If l comparison r target) Then c T j none free row =
       none (operand_of S l) (operand_of S r) (operand-can n a S l h) (operand-can n a S r h) row.1
   no-row (If l comparison r target) Else c T j none free row =
@@ -177,7 +177,7 @@ after-keeps P n m change a S T none fits other formed after keeps = record {
 -- a step from a state in which the point's actor stands there is by a row of the point's instruction
 pub record StepHere (P : Program) (p : Point) (i : Instr) (way : Way) (S : State) (c : ℤ) (T : State) : Type 0 where
   pub mid : State
-  pub row : Row P S p.actor.0 Before i way c mid
+  pub row : Row P (transition S p.actor.0 c mid) Before i way
   pub free : IsFree P S p.actor.0 Before i
   pub moved : T ≡ goes_to p.actor.0 (landing p.pc Before i way) mid
 
@@ -190,13 +190,13 @@ step-here P p i n way S c T judged point is noted t =
     let one : t.instr ≡ i = same_Some _ _ (sym t.is ∙ ap (λ k. instr_at P p.actor.0 k) pc ∙ is) in
     record {
       mid = t.mid;
-      row = subst (λ s. Row P S p.actor.0 s i way c t.mid) before (subst (λ j. Row P S p.actor.0 t.side j way c t.mid) one t.row);
+      row = subst (λ s. Row P (transition S p.actor.0 c t.mid) s i way) before (subst (λ j. Row P (transition S p.actor.0 c t.mid) t.side j way) one t.row);
       free = subst (λ s. IsFree P S p.actor.0 s i) before (subst (λ j. IsFree P S p.actor.0 t.side j) one t.free);
       moved = t.moved ∙ ap (λ k. goes_to p.actor.0 (landing k t.side t.instr way) t.mid) pc ∙ ap (λ s. goes_to p.actor.0 (landing p.pc s t.instr way) t.mid) before ∙ ap (λ j. goes_to p.actor.0 (landing p.pc Before j way) t.mid) one;
     }
 
 -- a row leaves every actor where it was
-pub places-row : (P : Program) (S : State) (a : ℕ) (i : Instr) (way : Way) (c : ℤ) (T : State) → IsInstrJudgedYet i → Row P S a Before i way c T → T.places ≡ S.places
+pub places-row : (P : Program) (S : State) (a : ℕ) (i : Instr) (way : Way) (c : ℤ) (T : State) → IsInstrJudgedYet i → Row P (transition S a c T) Before i way → T.places ≡ S.places
 places-row P S a (Set x l op r) Then c T j row = ap (λ U. U.places) row.1
 places-row P S a (If l comparison r target) Then c T j row = ap (λ U. U.places) row.2
 places-row P S a (If l comparison r target) Else c T j row = ap (λ U. U.places) row.2

@@ -11,7 +11,7 @@ use Rattle.fr_calls.specs.State.{State, Place, At, Done, goes_to}
 use Rattle.fr_calls.specs.declared.rules.Rule.{Rule}
 use Rattle.fr_calls.specs.Rule.{Stands, Breaches}
 use Rattle.fr_calls.specs.declared.way.Way.{Way}
-use Rattle.fr_calls.specs.Step.{StepBy, Row, landing}
+use Rattle.fr_calls.specs.Step.{StepBy, Row, landing, transition}
 use Rattle.fr_notes.specs.Note.{Note}
 use Rattle.fr_notes.specs.Noted.{IsAt, Noted}
 use Rattle.fr_edge.specs.Own.{KeepsRule, is_own}
@@ -38,12 +38,12 @@ module _ (P : Program) (p : Point) (i : Instr) (is : instr_of P p ≡ Some i) wh
       free S noted (subst (λ k. IsTrue (is_own k rule)) same own) (subst (λ k. Breaches P S p.actor.0 p.side k rule) e.1 (subst (λ s. Breaches P S p.actor.0 s breach.instr rule) e.0 breach.breaches))
 
   -- its step is by a row of the instruction, and leads where that row does
-  pub steps-by : (way : Way) (S : State) (c : ℤ) (S' : State) → IsAt S p → StepBy P way S p.actor.0 c S' → (mid : State) × Row P S p.actor.0 p.side i way c mid × (S' ≡ goes_to p.actor.0 (landing p.pc p.side i way) mid)
+  pub steps-by : (way : Way) (S : State) (c : ℤ) (S' : State) → IsAt S p → StepBy P way S p.actor.0 c S' → (mid : State) × Row P (transition S p.actor.0 c mid) p.side i way × (S' ≡ goes_to p.actor.0 (landing p.pc p.side i way) mid)
   steps-by way S c S' at t =
       let e = is-here S t.side t.instr at (record { pc = t.pc; at = t.at; is = t.is }) in
       let places : At t.pc t.side ≡ At p.pc p.side = sym t.at ∙ at in
       let pc : t.pc ≡ p.pc = cc in (
         t.mid,
-        subst (λ k. Row P S p.actor.0 p.side k way c t.mid) e.1 (subst (λ s. Row P S p.actor.0 s t.instr way c t.mid) e.0 t.row),
+        subst (λ k. Row P (transition S p.actor.0 c t.mid) p.side k way) e.1 (subst (λ s. Row P (transition S p.actor.0 c t.mid) s t.instr way) e.0 t.row),
         t.moved ∙ ap (λ k. goes_to p.actor.0 (landing k t.side t.instr way) t.mid) pc ∙ ap (λ s. goes_to p.actor.0 (landing p.pc s t.instr way) t.mid) e.0 ∙ ap (λ j. goes_to p.actor.0 (landing p.pc p.side j way) t.mid) e.1,
       )

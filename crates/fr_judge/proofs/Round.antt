@@ -14,7 +14,7 @@ use Rattle.fr_calls.specs.declared.rules.Rule.TheVariants.{OneWriter, OneReader,
 use Rattle.fr_calls.specs.Rule.{End, Breaches}
 use Rattle.fr_calls.specs.declared.way.Way.{Way}
 use Rattle.fr_calls.specs.declared.way.Way.TheVariants.{Then, Else}
-use Rattle.fr_calls.specs.Step.{StepBy, Row, landing}
+use Rattle.fr_calls.specs.Step.{StepBy, Row, landing, transition}
 use Rattle.fr_notes.specs.Note.{Alternative, HoldsOne}
 use Rattle.fr_notes.specs.Noted.{note_at, IsAt}
 use Rattle.fr_edge.specs.Own.{KeepsRule, Goes, is_own}
@@ -49,7 +49,7 @@ module _ (P : Program) (C : Certificate) (n : Alternative) (is : instr_at P 0 0 
   steps-back way S c S' at t =
       let by = steps-by P (first 0) (Goto 0) is way S c S' at t in by-way way by.0 by.1 by.2
     where
-      by-way : (way : Way) (mid : State) → Row P S 0 Before (Goto 0) way c mid → S' ≡ goes_to 0 (landing 0 Before (Goto 0) way) mid → S' ≡ goes_to 0 (At 0 Before) S
+      by-way : (way : Way) (mid : State) → Row P (transition S 0 c mid) Before (Goto 0) way → S' ≡ goes_to 0 (landing 0 Before (Goto 0) way) mid → S' ≡ goes_to 0 (At 0 Before) S
       by-way Then mid row moved = moved ∙ ap (λ T. goes_to 0 (At 0 Before) T) row.1
       by-way Else mid row moved = elim row [ ]
 

@@ -18,7 +18,7 @@ use Rattle.fr_calls.specs.State.{State, Place, At, Bytes, CanHave, Exists, IsWel
 use Rattle.fr_calls.specs.Rule.{End, Writer, Reader, is_at_end, used_object, GivesUnheld}
 use Rattle.fr_calls.specs.declared.way.Way.{Way}
 use Rattle.fr_calls.specs.declared.way.Way.TheVariants.{Then, Else}
-use Rattle.fr_calls.specs.Step.{StepBy, Row, landing}
+use Rattle.fr_calls.specs.Step.{StepBy, Row, landing, transition}
 use Rattle.fr_calls.specs.WorkedSteps.{beside, seen, stream, add_one, reset, delete, stream_send}
 use Rattle.fr_calls.proofs.Free.{before-free, no-use, least_here}
 use Rattle.fr_notes.specs.Note.{Alternative, HoldsOne, Meets, Within, claim_of, range_of}
@@ -220,9 +220,9 @@ added S = value_of S 0 +ℤ pos 1
 adds : (P : Program) (p : Point) (way : Way) (S : State) (c : ℤ) (S' : State) → instr_of P p ≡ Some add_one → p.side ≡ Before → IsAt S p → StepBy P way S p.actor.0 c S' → S' ≡ goes_to p.actor.0 (At (p.pc + 1) Before) (write 0 (added S) S)
 adds P p way S c S' is before at t =
     let by = steps-by P p add_one is way S c S' at t in
-    by-way way by.0 (subst (λ s. Row P S p.actor.0 s add_one way c by.0) before by.1) (subst (λ s. S' ≡ goes_to p.actor.0 (landing p.pc s add_one way) by.0) before by.2)
+    by-way way by.0 (subst (λ s. Row P (transition S p.actor.0 c by.0) s add_one way) before by.1) (subst (λ s. S' ≡ goes_to p.actor.0 (landing p.pc s add_one way) by.0) before by.2)
   where
-    by-way : (way : Way) (mid : State) → Row P S p.actor.0 Before add_one way c mid → S' ≡ goes_to p.actor.0 (landing p.pc Before add_one way) mid → S' ≡ goes_to p.actor.0 (At (p.pc + 1) Before) (write 0 (added S) S)
+    by-way : (way : Way) (mid : State) → Row P (transition S p.actor.0 c mid) Before add_one way → S' ≡ goes_to p.actor.0 (landing p.pc Before add_one way) mid → S' ≡ goes_to p.actor.0 (At (p.pc + 1) Before) (write 0 (added S) S)
     by-way Then mid row moved = moved ∙ ap (λ T. goes_to p.actor.0 (At (p.pc + 1) Before) T) row.1
     by-way Else mid row moved = elim row [ ]
 
@@ -238,7 +238,7 @@ module _ (i : Instr) (used : used_object i Before ≡ None) where
   abbrev went : ℕ → State
   went v = seen (At 1 Before) (pos v) (Bytes 0) None 0
 
-  first-step : (v w c : ℕ) → least_here (stepping i) (at-x v) 0 i ≡ None → (GivesUnheld (stepping i) (at-x v) 0 i → ⊥) → Row (stepping i) (at-x v) 0 Before i Then (pos c) (at-x w) → landing 0 Before i Then ≡ At 1 Before → StepBy (stepping i) Then (at-x v) 0 (pos c) (went w)
+  first-step : (v w c : ℕ) → least_here (stepping i) (at-x v) 0 i ≡ None → (GivesUnheld (stepping i) (at-x v) 0 i → ⊥) → Row (stepping i) (transition (at-x v) 0 (pos c) (at-x w)) Before i Then → landing 0 Before i Then ≡ At 1 Before → StepBy (stepping i) Then (at-x v) 0 (pos c) (went w)
   first-step v w c least gives row lands =
       record { pc = 0; side = Before; instr = i; at = refl; is = refl; free = before-free (stepping i) (at-x v) 0 i least gives (no-use (stepping i) (at-x v) 0 i Before used); mid = at-x w; row = row; moved = ap (λ q. goes_to 0 q (at-x w)) (sym lands) }
 
@@ -246,7 +246,7 @@ module _ (i : Instr) (used : used_object i Before ≡ None) where
   abbrev other-went : ℕ → State
   other-went v = goes_to 1 (At 1 Before) (at-x v)
 
-  other-step : (v w c : ℕ) → least_here (resting i) (at-x v) 1 i ≡ None → (GivesUnheld (resting i) (at-x v) 1 i → ⊥) → Row (resting i) (at-x v) 1 Before i Then (pos c) (at-x w) → landing 0 Before i Then ≡ At 1 Before → StepBy (resting i) Then (at-x v) 1 (pos c) (other-went w)
+  other-step : (v w c : ℕ) → least_here (resting i) (at-x v) 1 i ≡ None → (GivesUnheld (resting i) (at-x v) 1 i → ⊥) → Row (resting i) (transition (at-x v) 1 (pos c) (at-x w)) Before i Then → landing 0 Before i Then ≡ At 1 Before → StepBy (resting i) Then (at-x v) 1 (pos c) (other-went w)
   other-step v w c least gives row lands =
       record { pc = 0; side = Before; instr = i; at = refl; is = refl; free = before-free (resting i) (at-x v) 1 i least gives (no-use (resting i) (at-x v) 1 i Before used); mid = at-x w; row = row; moved = ap (λ q. goes_to 1 q (at-x w)) (sym lands) }
 

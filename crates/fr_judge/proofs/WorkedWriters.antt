@@ -27,7 +27,7 @@ use Rattle.fr_calls.specs.declared.rules.Condition.{Condition}
 use Rattle.fr_calls.specs.Rule.{End, Writer, Reader, Breaches, GivesUnheld, UsesDead, LifeOutOfOrder, PutsOut, IsForbidden, forbids, condition_of, holds_some, is_at_end}
 use Rattle.fr_calls.specs.declared.way.Way.{Way}
 use Rattle.fr_calls.specs.declared.way.Way.TheVariants.{Then, Else}
-use Rattle.fr_calls.specs.Step.{StepBy, Row, landing, sent_bytes}
+use Rattle.fr_calls.specs.Step.{StepBy, Row, landing, sent_bytes, transition}
 use Rattle.fr_calls.proofs.Contents.{set_case}
 use Rattle.fr_calls.proofs.Free.{no-use, live-use}
 use Rattle.fr_notes.specs.Note.{Alternative, HoldsOne, Meets, Within, claim_of, range_of}
@@ -166,7 +166,7 @@ put-rest a content S live r =
     }
 
 -- each spot has the one row that works
-no-failure : (s : Spot) (b : ℕ) (c : ℤ) (S mid : State) → Row two_writers S b (side_of s) (instr s) Else c mid → ⊥
+no-failure : (s : Spot) (b : ℕ) (c : ℤ) (S mid : State) → Row two_writers (transition S b c mid) (side_of s) (instr s) Else → ⊥
 no-failure Entering b c S mid row = row
 no-failure Calling b c S mid row = row
 no-failure Sending b c S mid row = row
@@ -174,7 +174,7 @@ no-failure Leaving b c S mid row = row
 no-failure Closing b c S mid row = row
 
 -- a step of either task keeps the rest
-rest-kept : (s : Spot) (a b : ℕ) (way : Way) (c : ℤ) (S mid : State) → Row two_writers S b (side_of s) (instr s) way c mid → Rest a S → Rest a mid
+rest-kept : (s : Spot) (a b : ℕ) (way : Way) (c : ℤ) (S mid : State) → Row two_writers (transition S b c mid) (side_of s) (instr s) way → Rest a S → Rest a mid
 rest-kept Entering a b Then c S mid row r =
     subst (λ T. Rest a T) (sym row.2) (record { suspended = r.suspended; objects = r.objects; variables = r.variables })
 rest-kept Calling a b Then c S mid row r = subst (λ T. Rest a T) (sym row.1) r
@@ -210,7 +210,7 @@ alone critical a b apart h = none (depth_in critical a) refl
     none (suc n) e = absurd (apart (depth-alone critical b a h (omega (arith, e))))
 
 -- the task's own step leads from the depth of its spot to that of the next one
-own-step : (s : Spot) (b : ℕ) (way : Way) (c : ℤ) (S mid : State) → Row two_writers S b (side_of s) (instr s) way c mid → depth_of S b ≡ depth s → depth_of mid b ≡ depth (next s)
+own-step : (s : Spot) (b : ℕ) (way : Way) (c : ℤ) (S mid : State) → Row two_writers (transition S b c mid) (side_of s) (instr s) way → depth_of S b ≡ depth s → depth_of mid b ≡ depth (next s)
 own-step Entering b Then c S mid row d =
     ap (λ T. depth_of T b) row.2 ∙ (own-depth b _ ∙ ap (λ n. n + 1) d)
 own-step Calling b Then c S mid row d = ap (λ T. depth_of T b) row.1 ∙ d
@@ -221,7 +221,7 @@ own-step Closing b Then c S mid row d = ap (λ T. depth_of T b) row.1 ∙ d
 own-step s b Else c S mid row d = absurd (no-failure s b c S mid row)
 
 -- it leaves the depth of the other task as it was
-others-step : (s : Spot) (a b : ℕ) (way : Way) (c : ℤ) (S mid : State) → b ≢ a → Row two_writers S b (side_of s) (instr s) way c mid → depth_of S b ≡ depth s → depth_of mid a ≡ depth_of S a
+others-step : (s : Spot) (a b : ℕ) (way : Way) (c : ℤ) (S mid : State) → b ≢ a → Row two_writers (transition S b c mid) (side_of s) (instr s) way → depth_of S b ≡ depth s → depth_of mid a ≡ depth_of S a
 others-step Entering a b Then c S mid apart row d =
     ap (λ T. depth_of T a) row.2 ∙ (others-depth a b _ apart ∙ sym (outside S.critical a b apart row.1))
 others-step Calling a b Then c S mid apart row d = ap (λ T. depth_of T a) row.1
@@ -232,7 +232,7 @@ others-step Closing a b Then c S mid apart row d = ap (λ T. depth_of T a) row.1
 others-step s a b Else c S mid apart row d = absurd (no-failure s b c S mid row)
 
 -- where a step from a spot leads
-leads-on : (s : Spot) (b : ℕ) (way : Way) (c : ℤ) (S mid : State) → Row two_writers S b (side_of s) (instr s) way c mid → landing (pc_of s) (side_of s) (instr s) way ≡ At (pc_of (next s)) (side_of (next s))
+leads-on : (s : Spot) (b : ℕ) (way : Way) (c : ℤ) (S mid : State) → Row two_writers (transition S b c mid) (side_of s) (instr s) way → landing (pc_of s) (side_of s) (instr s) way ≡ At (pc_of (next s)) (side_of (next s))
 leads-on Entering b Then c S mid row = refl
 leads-on Calling b Then c S mid row = refl
 leads-on Sending b Then c S mid row = refl
