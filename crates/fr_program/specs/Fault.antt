@@ -134,7 +134,7 @@ OperandsFit i = Unit {0}
 abbrev pub NamesThings : Program → Instr → Type 0
 NamesThings P i = All (λ x. x.0 < length P.variables) (variables_of i) × IfSome (object_named i) (λ o. o < length P.objects)
 
--- names are names, each stands once, and each number names something
+-- names are names, each is given once, and each number names something
 pub record HasNames (P : Program) : Type 0 where
   pub names : All IsName (names_of P)
   pub once : AllPairs (λ x y. x ≢ y) (names_of P)

@@ -2,7 +2,7 @@
 --
 -- | word                             | meaning                                                             |
 -- |----------------------------------|---------------------------------------------------------------------|
--- | variables_of                     | the variables of an instruction, each as often as it stands there   |
+-- | variables_of                     | the variables of an instruction, each as often as it is named there |
 -- | object_named                     | the object that an instruction names, if it names one               |
 -- | else_of                          | the `else` target of an object call                                 |
 -- | TargetsBelow                     | each target is below this number                                    |
@@ -52,7 +52,7 @@ action_variables (Send kind n timing result) = option_list result
 action_variables (Receive kind n timing result) = option_list result
 action_variables action = []
 
--- the variables of an instruction, each as often as it stands there
+-- the variables of an instruction, each as often as it is named there
 abbrev pub variables_of : Instr → List VarId
 variables_of (Set x l op r) = x ∷ (operand_variables l ++ operand_variables r)
 variables_of (If l comparison r target) = operand_variables l ++ operand_variables r

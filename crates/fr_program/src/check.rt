@@ -21,7 +21,7 @@ use kinds::{suits_actor, suits_kind};
 use limits::{are_objects_in_limits, are_variables_in_limits, is_instr_in_limits, is_small};
 pub use limits::{MOST_SIZE, MOST_TICKS};
 pub use names::is_name;
-use names::{are_names, are_owners_there, names_of, stand_once};
+use names::{are_distinct, are_names, are_owners_there, names_of};
 use results::{operands_fit, results_fit};
 use scope::is_judged_yet;
 use std::alloc::Global;
@@ -71,7 +71,7 @@ fn check_names(alloc: Global, parts: &Parts) -> Result<(), BuildFault>
     let names = names_of(alloc, parts)?;
     if !are_names(&names) {
         Err(BuildFault::Names(None))
-    } else if !stand_once(&names) {
+    } else if !are_distinct(&names) {
         Err(BuildFault::Names(None))
     } else {
         Ok(())

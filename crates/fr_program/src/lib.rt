@@ -1,6 +1,6 @@
 // Applications: variables, kernel objects, tasks and interrupts with their code, and the points at which an actor
 // can stand. An `App` has no build fault, and its points and their numbers are inverse to each other; all other
-// crates stand on this one.
+// crates rest on this one.
 #![tactic(auto)]
 
 mod app;

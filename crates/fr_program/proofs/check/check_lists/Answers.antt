@@ -1,4 +1,4 @@
--- Each list is checked as it is held; what holds there holds of the list that it stands for.
+-- Each list is checked as it is held; what holds there holds of the list that it means.
 use Rattle.std.proofs.Common.{subst, sym, ◌∙◌, All}
 use Rattle.std.proofs.lemmas.List.{length-map}
 use Rattle.std.proofs.lemmas.List.Elements.{All-map}

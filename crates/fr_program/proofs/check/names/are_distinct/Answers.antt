@@ -2,7 +2,7 @@
 use Rattle.std.proofs.Common.{◌≢◌, List, ℕ, Bor}
 use Rattle.std.proofs.lemmas.Bool.{false≢true}
 use Rattle.fr_program.proofs.PairLemmas.{pairs_more, pairs_later}
-use Rattle.fr_program.proofs.check.names.stand_once.Goals as goal
+use Rattle.fr_program.proofs.check.names.are_distinct.Goals as goal
 
 abbrev Differs : Bor (List ℕ) → Bor (List ℕ) → Type 0
 Differs x y = x.now ≢ y.now

@@ -1,5 +1,5 @@
 use Rattle.std.proofs.Common.{◌≢◌, ℕ, ◌<◌, length, get_or, Bor, List}
-use Rattle.fr_program.proofs.check.names.stand_once.Given as goal
+use Rattle.fr_program.proofs.check.names.are_distinct.Given as goal
 
 -- the names so far differ from each later one
 abbrev pub invariant-loop-k : goal.invariant-loop-k
