@@ -11,7 +11,8 @@ use Rattle.fr_program.specs.declared.ids.Side.TheVariants.{Before, Inside}
 use Rattle.fr_program.specs.Program.{Program}
 use Rattle.fr_program.specs.Lookup.{instr_at}
 use Rattle.fr_calls.specs.State.{State, Place, At, Done, place_of, goes_to}
-use Rattle.fr_calls.specs.Rule.{Rule, OneWriter, OneReader, GivenByHolder, IsLive, LifeInOrder, InRange, End, Stands, Breaches}
+use Rattle.fr_calls.specs.declared.buffer_end.End.{End}
+use Rattle.fr_calls.specs.Rule.{Rule, OneWriter, OneReader, GivenByHolder, IsLive, LifeInOrder, InRange, Stands, Breaches}
 use Rattle.fr_calls.specs.declared.way.Way.{Way}
 use Rattle.fr_calls.specs.declared.way.Way.TheVariants.{Works, Fails}
 use Rattle.fr_calls.specs.Step.{StepBy, Row, landing}
