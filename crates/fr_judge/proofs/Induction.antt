@@ -18,9 +18,11 @@ use Rattle.fr_program.specs.declared.ids.Side.TheVariants.{Before, Inside}
 use Rattle.fr_program.specs.Program.{Program}
 use Rattle.fr_program.specs.Lookup.{instr_at, no_actor, IsPlace, IsPoint, HasSide}
 use Rattle.fr_calls.specs.State.{State, At, Done, Exists, start}
+use Rattle.fr_calls.specs.declared.buffer_end.End.{End}
+use Rattle.fr_calls.specs.declared.buffer_end.End.TheVariants.{Writer, Reader}
 use Rattle.fr_calls.specs.declared.rules.Rule.{Rule}
 use Rattle.fr_calls.specs.declared.rules.Rule.TheVariants.{OneWriter, OneReader, LifeInOrder, InRange}
-use Rattle.fr_calls.specs.Rule.{End, Writer, Reader, Breach, SharesEnd, LifeOutOfOrder, Stands, is_at_end, IsInside}
+use Rattle.fr_calls.specs.Rule.{Breach, SharesEnd, LifeOutOfOrder, Stands, is_at_end, IsInside}
 use Rattle.fr_calls.specs.Step.{Step}
 use Rattle.fr_calls.specs.Run.{Follows, IsRun}
 use Rattle.fr_calls.proofs.Built.{is-built}

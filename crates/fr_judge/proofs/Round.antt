@@ -8,10 +8,11 @@ use Rattle.fr_program.specs.declared.ids.Side.{Side}
 use Rattle.fr_program.specs.declared.ids.Side.TheVariants.{Before, Inside}
 use Rattle.fr_program.specs.Program.{Program}
 use Rattle.fr_program.specs.Lookup.{instr_at}
+use Rattle.fr_calls.specs.declared.buffer_end.End.{End}
 use Rattle.fr_calls.specs.State.{State, At, place_of, goes_to}
 use Rattle.fr_calls.specs.declared.rules.Rule.{Rule}
 use Rattle.fr_calls.specs.declared.rules.Rule.TheVariants.{OneWriter, OneReader, GivenByHolder, IsLive, LifeInOrder, InRange}
-use Rattle.fr_calls.specs.Rule.{End, Breaches}
+use Rattle.fr_calls.specs.Rule.{Breaches}
 use Rattle.fr_calls.specs.declared.way.Way.{Way}
 use Rattle.fr_calls.specs.declared.way.Way.TheVariants.{Then, Else}
 use Rattle.fr_calls.specs.Step.{StepBy, Row, landing, transition}

@@ -7,9 +7,10 @@ use Rattle.fr_program.specs.declared.ids.Point.{Point}
 use Rattle.fr_program.specs.Program.{Program}
 use Rattle.fr_program.specs.Lookup.{IsPoint}
 use Rattle.fr_program.specs.Fault.{IsFaultless, IsJudgedYet}
+use Rattle.fr_calls.specs.declared.buffer_end.End.{End}
 use Rattle.fr_calls.specs.declared.rules.Rule.{Rule}
 use Rattle.fr_calls.specs.declared.rules.Rule.TheVariants.{OneWriter, OneReader}
-use Rattle.fr_calls.specs.Rule.{number_of, End}
+use Rattle.fr_calls.specs.Rule.{number_of}
 use Rattle.fr_edge.specs.Own.{is_own}
 use Rattle.fr_ends.specs.Guard.{EndGuard, Guard, Sole, ByMutex, InCritical, Turn}
 use Rattle.fr_ends.specs.Certificate.{Certificate, HasDistinctTurns, AllHaveDistinctTurns}

@@ -8,12 +8,11 @@
 -- | KeepsBelow              | every part is kept at the points with lesser numbers                          |
 -- | TellsVerdict            | what is told is the verdict                                                   |
 -- | IsOf, Speaks            | a part names only what the application has, and so does a verdict             |
-use Rattle.std.specs.Prelude.{◌≡◌, ◌≤◌, ◌<◌, ℕ, Option, None, Some, Bool, true, false, length}
+use Rattle.std.specs.Prelude.{◌≡◌, ◌≤◌, ◌<◌, ℕ, Option, None, Some, length}
 use Rattle.fr_program.specs.declared.ids.Point.{Point}
 use Rattle.fr_program.specs.Program.{Program}
 use Rattle.fr_program.specs.Lookup.{IsPoint}
 use Rattle.fr_program.specs.Points.{point_number}
-use Rattle.fr_calls.specs.Rule.{number_of, End, Writer, Reader}
 use Rattle.fr_edge.specs.declared.failure.Own.{Own}
 use Rattle.fr_edge.specs.declared.failure.Own.TheVariants.{Entry as OwnEntry, Rule as OwnRule, Goes as OwnGoes}
 use Rattle.fr_ends.specs.Certificate.{Certificate}
@@ -24,17 +23,12 @@ use Rattle.fr_judge.specs.declared.part.Verdict.TheVariants.{Yes as TellsYes, No
 use Rattle.fr_judge.specs.Part.{Part, EntryPart, RulePart, GoesPart, GuardPart, NearPart, SpoiledPart}
 use Rattle.fr_judge.specs.Verdict.{Verdict, Yes, No, KeepsAll, IsFirstPart, IsVerdict}
 
--- whether this is the writing end
-abbrev pub is_writer : End → Bool
-is_writer Writer = true
-is_writer Reader = false
-
 -- the part as the code has it: an end by its buffer and its side
 abbrev pub told_part : Part → Told
 told_part EntryPart = Entry
 told_part (RulePart rule) = Rule rule
 told_part (GoesPart t) = Goes t
-told_part (GuardPart buffer end) = Guard (record { buffer = record { 0 = buffer }; writer = is_writer end })
+told_part (GuardPart buffer end) = Guard (record { buffer = record { 0 = buffer }; end = end })
 told_part (NearPart q) = Near q
 told_part (SpoiledPart q) = Spoiled q
 

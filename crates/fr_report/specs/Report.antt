@@ -7,7 +7,7 @@
 -- | guard_text     | an end of a buffer, by the buffer's name                                       |
 -- | part_text      | what fails at a point                                                          |
 -- | report_text    | the whole line, with its newline                                               |
-use Rattle.std.specs.Prelude.{ℕ, List, ◌++◌, Bool, true, false, codes, decimal}
+use Rattle.std.specs.Prelude.{ℕ, List, ◌++◌, codes, decimal}
 use Rattle.fr_program.specs.declared.ids.Point.{Point}
 use Rattle.fr_program.specs.declared.ids.Side.{Side}
 use Rattle.fr_program.specs.declared.ids.Side.TheVariants.{Before, Inside}
@@ -17,6 +17,7 @@ use Rattle.fr_program.specs.Points.{point_number}
 use Rattle.fr_calls.specs.declared.rules.Rule.{Rule as RuleOf}
 use Rattle.fr_calls.specs.declared.rules.Rule.TheVariants.{OneWriter, OneReader, GivenByHolder, AllowedInCritical, AllowedSuspended, AllowedInInterrupt, IsLive, LifeInOrder, SuitsSemaphore, DepthAboveZero, EndsInOrder, InRange}
 use Rattle.fr_calls.specs.Rule.{number_of}
+use Rattle.fr_calls.specs.BufferEnd.{end_text}
 use Rattle.fr_judge.specs.declared.part.Part.{Part}
 use Rattle.fr_judge.specs.declared.part.Part.TheVariants.{Entry, Rule, Goes, Guard, Near, Spoiled}
 use Rattle.fr_judge.specs.declared.part.Verdict.{Verdict}
@@ -48,17 +49,12 @@ rule_text DepthAboveZero = codes "depth is already zero"
 rule_text EndsInOrder = codes "actor ends in the wrong way"
 rule_text InRange = codes "value out of its declared range"
 
--- which end of a buffer
-abbrev pub end_text : Bool → List ℕ
-end_text true = codes "writer"
-end_text false = codes "reader"
-
 -- what fails at a point
 abbrev pub part_text : Program → Part → List ℕ
 part_text P Entry = codes "entry"
 part_text P (Rule rule) = codes "rule " ++ (decimal (number_of rule) ++ (codes ": " ++ rule_text rule))
 part_text P (Goes t) = codes "goes to " ++ point_text P t
-part_text P (Guard e) = codes "guard " ++ ((object_at P e.buffer.0).name ++ (codes " " ++ end_text e.writer))
+part_text P (Guard e) = codes "guard " ++ ((object_at P e.buffer.0).name ++ (codes " " ++ end_text e.end))
 part_text P (Near q) = codes "near " ++ point_text P q
 part_text P (Spoiled q) = codes "spoiled by " ++ point_text P q
 

@@ -2,7 +2,7 @@
 ghost use Rattle.std.specs.Prelude.{◌≡◌, ◌≤◌, Some};
 ghost use Rattle.fr_program.specs.Lookup.{IsPoint, actor_at, object_at};
 ghost use Rattle.fr_program.specs.Points.{point_number};
-ghost use Rattle.fr_report.specs.Report.{point_text, rule_text, side_text, end_text};
+ghost use Rattle.fr_report.specs.Report.{point_text, rule_text, side_text};
 ghost use Rattle.fr_report.specs.Shown.{shown_text};
 
 use fr_calls::Rule;
@@ -68,13 +68,6 @@ fn side_name(side: Side) -> &'static str
         Side::Before => "before",
         Side::Inside => "inside",
     }
-}
-
-/// Which end of a buffer it is.
-pub fn end_name(writer: bool) -> &'static str
-    ensures { result.now ≡ end_text writer }
-{
-    if writer { "writer" } else { "reader" }
 }
 
 impl fmt::Display for ShownPoint<'_> {

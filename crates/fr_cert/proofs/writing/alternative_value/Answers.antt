@@ -3,7 +3,8 @@ use Rattle.serde_json.specs.Data.{object, no_members}
 use Rattle.serde_json.specs.View.{members_view}
 use Rattle.serde_json.proofs.Views.{view-Object}
 use Rattle.fr_notes.specs.View.{ends_of}
-use Rattle.fr_cert.specs.Written.{with_ranges, with_crit, with_range, alternative_tree}
+use Rattle.fr_cert.specs.Written.{with_ranges}
+use Rattle.fr_cert.specs.PlainWritten.{with_crit, with_range, alternative_tree}
 use Rattle.fr_cert.proofs.FitLemmas.{AreNumbers, fit_numbers, all_numbers}
 use Rattle.fr_cert.proofs.writing.alternative_value.Goals as goal
 
