@@ -170,7 +170,7 @@ not_twice names name once (before, after, is, there) =
     pairs there.0 (length before) name there.1 inside (get_or_append_left before (name ∷ after) name there.0 there.1 ∙ there.2 ∙ sym (get_or-append_seam before name after name))
 
 in_no_names : (names : List (List ℕ)) (f : ReadFault) → AreNames names → InNames names f → ⊥
-in_no_names names fault.BadName h s = s.2 (All-contains IsName names s.0 h.each s.1)
+in_no_names names (fault.BadName t) h s = s.1 (All-contains IsName names (string_bytes t) h.each s.0)
 in_no_names names (fault.Twice t) h s = not_twice names (string_bytes t) h.once s
 in_no_names names f h s = absurd s
 

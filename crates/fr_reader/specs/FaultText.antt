@@ -15,6 +15,6 @@ fault_text (Missing key) = codes "3 Missing"
 fault_text (WrongType key) = codes "4 WrongType"
 fault_text (UnknownKey key) = codes "5 UnknownKey"
 fault_text (Twice name) = codes "6 Twice"
-fault_text BadName = codes "7 BadName"
+fault_text (BadName name) = codes "7 BadName"
 fault_text (Line actor index fault) = codes "8 Line: " ++ (string_bytes actor ++ (codes " " ++ (decimal index ++ (codes ": " ++ line.text_of fault))))
 fault_text (Build fault) = codes "9 Build: " ++ build.text_of fault

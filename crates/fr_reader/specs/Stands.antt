@@ -33,7 +33,7 @@ StandsTwice names name = (before : List (List ℕ)) × (after : List (List ℕ))
 
 -- a text in a name's place is none, or a name stands twice
 abbrev pub InNames : List (List ℕ) → ReadFault → Type 0
-InNames names fault.BadName = (name : List ℕ) × Contains names name × (IsName name → ⊥)
+InNames names (fault.BadName name) = Contains names (string_bytes name) × (IsName (string_bytes name) → ⊥)
 InNames names (fault.Twice name) = StandsTwice names (string_bytes name)
 InNames names f = ⊥
 

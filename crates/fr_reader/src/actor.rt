@@ -16,7 +16,7 @@ use toml::value::Array;
 use toml::{Table, Value};
 
 /// An actor as its table has it: its code is texts still.
-#[derive(Debug, Drop)]
+#[derive(Drop)]
 pub(crate) struct ActorText<'a> {
     pub name: &'a str,
     pub kind: ActorKind,

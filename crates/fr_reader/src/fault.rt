@@ -30,7 +30,7 @@ pub enum ReadFault {
     Twice(String),
     /// A name is none: it has 1 to 32 ASCII letters, digits and underscores, with no digit first,
     /// and is not `set`, `if`, `goto`, `pick`, `return`, `else`, `NULL` or `portMAX_DELAY`.
-    BadName,
+    BadName(String),
     /// A line of an actor's code has a fault: the actor's name, the line's place from 0, and the
     /// fault. Lines are read where none of the faults above stands.
     Line {
@@ -72,7 +72,7 @@ impl fmt::Display for ReadFault {
             ReadFault::WrongType(_) => f.write_str("4 WrongType"),
             ReadFault::UnknownKey(_) => f.write_str("5 UnknownKey"),
             ReadFault::Twice(_) => f.write_str("6 Twice"),
-            ReadFault::BadName => f.write_str("7 BadName"),
+            ReadFault::BadName(_) => f.write_str("7 BadName"),
             ReadFault::Line {
                 actor,
                 index,

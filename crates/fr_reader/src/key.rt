@@ -3,7 +3,7 @@ ghost use Rattle.std.specs.Prelude.{◌≡◌};
 ghost use Rattle.fr_reader.specs.Keys.{key_text, is_key_of, is_own_key};
 
 /// A key that a table of an application may have.
-#[derive(Clone, Copy, Debug, PartialEq, Eq)]
+#[derive(Clone, Copy, Debug)]
 pub enum Key {
     Variable,
     Object,
@@ -44,7 +44,7 @@ impl Key {
 }
 
 /// What the key `kind` of an object says.
-#[derive(Clone, Copy, Debug)]
+#[derive(Clone, Copy)]
 pub(crate) enum ObjectKind {
     Queue,
     Binary,
@@ -56,7 +56,7 @@ pub(crate) enum ObjectKind {
 }
 
 /// A kind of table.
-#[derive(Clone, Copy, Debug)]
+#[derive(Clone, Copy)]
 pub(crate) enum TableKind {
     Application,
     Variable,

@@ -15,7 +15,7 @@ use indexmap::IndexSet;
 use std::alloc::{AllocError, Global};
 
 /// The names of an application's three lists.
-#[derive(Debug, Drop)]
+#[derive(Drop)]
 pub(crate) struct NameLists<'a> {
     pub variables: Vec<&'a str>,
     pub objects: Vec<&'a str>,
@@ -72,7 +72,7 @@ fn check_each(alloc: Global, names: &[&str]) -> Result<(), ReadFault>
     let mut seen = IndexSet::new(alloc);
     for name in names {
         if !is_name(name) {
-            return Err(ReadFault::BadName);
+            return Err(ReadFault::BadName(String::from_str(alloc, name)?));
         }
         let (_, is_new) = seen.insert_full(*name)?;
         if !is_new {

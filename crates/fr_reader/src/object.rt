@@ -16,7 +16,7 @@ use toml::value::Array;
 use toml::{Table, Value};
 
 /// An object as its table has it.
-#[derive(Debug, Drop)]
+#[derive(Drop)]
 pub(crate) struct ObjectText<'a> {
     pub name: &'a str,
     pub kind: Kind,

@@ -18,7 +18,7 @@ use toml::Table;
 use toml::value::Array;
 
 /// What the tables of an application say, before names are asked for and lines are read.
-#[derive(Debug, Drop)]
+#[derive(Drop)]
 pub(crate) struct Texts<'a> {
     pub variables: Vec<VariableText<'a>>,
     pub objects: Vec<ObjectText<'a>>,

@@ -15,7 +15,7 @@ use toml::value::Array;
 use toml::{Table, Value};
 
 /// A variable as its table has it: its owner is a text still.
-#[derive(Debug, Drop)]
+#[derive(Drop)]
 pub(crate) struct VariableText<'a> {
     pub name: &'a str,
     pub lo: i64,
