@@ -45,7 +45,7 @@ fn verdict_no(rt: HostRuntime) {
 #[test]
 fn refused_application(rt: HostRuntime) {
     let kept = match &judge_text(rt.alloc(), b"alarm = 1", FIRST_NOTES) {
-        Err(TextFault::App(ReadFault::UnknownKey(_))) => true,
+        Err(TextFault::App(ReadFault::UnknownKey(..))) => true,
         Err(fault) => is_memory(fault),
         Ok(_) => false,
     };
