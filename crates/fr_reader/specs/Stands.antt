@@ -24,6 +24,8 @@ use Rattle.fr_reader.specs.Texts.{Texts, VariableText, ActorText, AreTexts}
 use Rattle.fr_reader.specs.Faults.{InApplication}
 use Rattle.fr_reader.specs.Meaning.{names_in, actors_in, lists_in, AreNames, IsOwned, Says, IsTableText, most_bytes}
 use Rattle.fr_reader.specs.declared.key.Key.TheVariants as key
+use Rattle.fr_reader.specs.declared.key.TableName.{TableName}
+use Rattle.fr_reader.specs.declared.key.TableName.TheVariants as table
 use Rattle.fr_reader.specs.declared.fault.ReadFault.{ReadFault}
 use Rattle.fr_reader.specs.declared.fault.ReadFault.TheVariants as fault
 
@@ -38,17 +40,17 @@ InNames names (fault.Twice name) = StandsTwice names (string_bytes name)
 InNames names f = ⊥
 
 -- an owner is there, and is no actor's name
-abbrev pub IsNoOwner : List (List ℕ) → Option (List ℕ) → ReadFault → Type 0
-IsNoOwner actors None f = ⊥
-IsNoOwner actors (Some name) f = (f ≡ fault.WrongType key.Owner) × (Contains actors name → ⊥)
+abbrev pub IsNoOwner : List (List ℕ) → TableName → Option (List ℕ) → ReadFault → Type 0
+IsNoOwner actors t None f = ⊥
+IsNoOwner actors t (Some name) f = (f ≡ fault.WrongType t key.Owner) × (Contains actors name → ⊥)
 
 -- the owner of this variable is no actor's name
-abbrev pub InOwner : List (List ℕ) → VariableText → ReadFault → Type 0
-InOwner actors v f = IsNoOwner actors v.owner f
+abbrev pub InOwner : List (List ℕ) → TableName → VariableText → ReadFault → Type 0
+InOwner actors t v f = IsNoOwner actors t v.owner f
 
 -- so is the owner of some variable
 abbrev pub InOwners : List (List ℕ) → List VariableText → ReadFault → Type 0
-InOwners actors variables f = (i : ℕ) × (v : VariableText) × (slice_get variables i ≡ Some v) × InOwner actors v f
+InOwners actors variables f = (i : ℕ) × (v : VariableText) × (slice_get variables i ≡ Some v) × InOwner actors (table.Variable i) v f
 
 -- this line, with its number in the code of this actor, has the fault
 abbrev pub InLine : NamesOf → List ℕ → ℕ → List ℕ → ReadFault → Type 0

@@ -43,6 +43,16 @@ impl Key {
     }
 }
 
+/// Which table of an application's text: the whole text, or an entry of one of its three lists, by
+/// its place from 0.
+#[derive(Clone, Copy, Debug)]
+pub enum TableName {
+    Whole,
+    Variable(usize),
+    Object(usize),
+    Actor(usize),
+}
+
 /// What the key `kind` of an object says.
 #[derive(Clone, Copy)]
 pub(crate) enum ObjectKind {

@@ -17,4 +17,4 @@ mod variable;
 
 pub use app::{MOST_BYTES, no_meaning, one_meaning, read_app};
 pub use fault::ReadFault;
-pub use key::Key;
+pub use key::{Key, TableName};

@@ -10,7 +10,7 @@ ghost use Rattle.fr_reader.specs.Views.{variable_text, object_text, actor_text, 
 
 use crate::actor::ActorText;
 use crate::fault::ReadFault;
-use crate::key::Key;
+use crate::key::{Key, TableName};
 use crate::names;
 use crate::object::ObjectText;
 use crate::texts::Texts;
@@ -19,29 +19,38 @@ use fr_instr::Names;
 use fr_program::{Actor, ActorId, Instr, Object, Parts, Variable};
 use std::alloc::Global;
 
-fn owner_of(names: &Names, owner: Option<&str>) -> Result<Option<ActorId>, ReadFault>
+fn owner_of(
+    names: &Names,
+    table: TableName,
+    owner: Option<&str>,
+) -> Result<Option<ActorId>, ReadFault>
     ensures ok { IfOk result (IsOwner names.now.actors (option_copied owner.entry)) }
-    ensures err { IfErr result (Standing (IsNoOwner names.now.actors (option_copied owner.entry))) }
+    ensures err { IfErr result (Standing (IsNoOwner names.now.actors table (option_copied owner.entry))) }
 {
     let Some(name) = owner else {
         return Ok(None);
     };
     match names.actor(name) {
         Some(actor) => Ok(Some(actor)),
-        None => Err(ReadFault::WrongType(Key::Owner)),
+        None => Err(ReadFault::WrongType(table, Key::Owner)),
     }
 }
 
-fn variable_of(alloc: Global, names: &Names, text: &VariableText) -> Result<Variable, ReadFault>
+fn variable_of(
+    alloc: Global,
+    names: &Names,
+    table: TableName,
+    text: &VariableText,
+) -> Result<Variable, ReadFault>
     ensures ok { IfOk result (λ v. IsOwned names.now.actors (variable_text text.now) (program.variable_of v)) }
-    ensures err { IfErr result (Standing (InOwner names.now.actors (variable_text text.now))) }
+    ensures err { IfErr result (Standing (InOwner names.now.actors table (variable_text text.now))) }
 {
     Ok(Variable {
         name: String::from_str(alloc, text.name)?,
         lo: text.lo,
         hi: text.hi,
         init: text.init,
-        owner: owner_of(names, text.owner)?,
+        owner: owner_of(names, table, text.owner)?,
     })
 }
 
@@ -54,8 +63,8 @@ fn variables_of(
     ensures err { IfErr result (Standing (InOwners names.now.actors (map variable_text texts.now))) }
 {
     let mut variables = Vec::new(alloc);
-    for text in texts {
-        variables.push(variable_of(alloc, names, text)?)?;
+    for (index, text) in texts.iter().enumerate() {
+        variables.push(variable_of(alloc, names, TableName::Variable(index), text)?)?;
     }
     Ok(variables)
 }
