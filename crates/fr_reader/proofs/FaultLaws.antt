@@ -1,6 +1,6 @@
--- Bytes in which a fault stands stand for no application.
--- A table that stands for something has a value that suits at each of its keys, so no fault of keys stands in it; and
--- what the texts say has each name, owner and line, so no fault of those stands either.
+-- Bytes in which a fault is present mean no application.
+-- A table that means something has a value that suits at each of its keys, so no fault of keys is present in it; and
+-- what the texts say has each name, owner and line, so no fault of those is present either.
 use Rattle.std.proofs.Common.{◌≡◌, ◌≢◌, ℕ, zero, suc, ◌<◌, List, [], ◌∷◌, ◌++◌, true, false, Option, Some, None, option_map, length, slice_get, AllPairs, Contains, refl, sym, ap, ◌∙◌, subst, arith, inl, inr, string_bytes, IsTrue, length-append}
 use Rattle.std.specs.List.{AllZip}
 use Rattle.std.proofs.lemmas.Option.{same_Some}
@@ -35,7 +35,7 @@ use Rattle.fr_reader.specs.declared.fault.ReadFault.{ReadFault}
 use Rattle.fr_reader.specs.declared.fault.ReadFault.TheVariants as fault
 use Rattle.fr_reader.proofs.Laws.{both, never, same_array, same_table, same_kind, text_at, at_get, one_texts, one_program}
 
--- what stands at a key suits it, and only a key that is not required may be missing
+-- what is at a key suits it, and only a key that is not required may be missing
 abbrev Fits : Key → Option Data → Type 0
 Fits k None = IsRequired k → ⊥
 Fits k (Some d) = suits k d ≡ true
@@ -99,7 +99,7 @@ in_no_object n ms o f h (inr s) =
     let same = same_kind s.0 (kind_named o.kind) (text_at (field key.Kind ms) (kind_word s.0) (kind_word (kind_named o.kind)) s.1 h.kind) in
     in_no_table (table_kind.Object (kind_named o.kind)) n ms f (record { fits = object_fits ms o h; only = h.only }) (subst (λ k. InTable (table_kind.Object k) n ms f) same s.2)
 
--- an entry that has a fault stands for nothing, so neither does its list
+-- an entry that has a fault means nothing, so neither does its list
 thing_at : {A : Type 0} (R : Data → A → Type 0) (ds : Items) (xs : List A) (i : ℕ) (d : Data) → Each R ds xs → get_item i ds ≡ Some d → (x : A) × R d x
 thing_at R no_items xs i d h e = absurd (never None d refl e)
 thing_at R (item y ds) [] i d h e = absurd h

@@ -1,4 +1,4 @@
--- Names, one after another: each is apart from those before it, or stands a second time.
+-- Names, one after another: each is apart from those before it, or is given a second time.
 use Rattle.std.proofs.Common.{◌≡◌, ◌≢◌, ℕ, ◌+◌, ◌<◌, List, [], ◌∷◌, ◌++◌, Bool, true, false, Bor, ◌||◌, length, get_or, take, drop, map, Contains, refl, sym, ap, ◌∙◌, subst, true≢false, drop-cons, add-one, not, if◌then◌else◌}
 use Rattle.std.specs.List.{list_any}
 use Rattle.std.specs.Str.{bytes_eq}

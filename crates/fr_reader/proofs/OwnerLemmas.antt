@@ -1,4 +1,4 @@
--- The number at which an actor's name stands.
+-- The number at which an actor's name is.
 use Rattle.std.proofs.Common.{◌≡◌, ◌≤◌, arith, ℕ, List, [], Bool, Option, Some, None, Bor, length, get_or, slice_get, option_copied, Contains, refl, sym, ap, ◌∙◌, subst}
 use Rattle.std.specs.Str.{bytes_eq}
 use Rattle.std.specs.Cmp.Lexicographic.{bytes_decides}

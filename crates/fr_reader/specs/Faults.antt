@@ -1,9 +1,9 @@
--- Which faults are present in the tables of an application's text: those of keys, of what stands at them, and of entries.
+-- Which faults are present in the tables of an application's text: those of keys, of what is at them, and of entries.
 --
 -- | word                       | meaning                                                                        |
 -- |----------------------------|--------------------------------------------------------------------------------|
 -- | is_memory, Standing        | an allocation was refused; a fact about every other fault                      |
--- | is_not_yet                 | the text may stand for an application, but for one that isn't judged yet        |
+-- | is_not_yet                 | the text may mean an application, but for one that isn't judged yet             |
 -- | InTable, InVariable        | a key of a table is missing, of a wrong type or unknown                        |
 -- | InKind                     | the key `kind` is missing, or says no kind                                     |
 -- | InObject, InLine, InActor  | the same of an object's table, of an entry of the code, of an actor's table    |
@@ -31,7 +31,7 @@ is_memory (fault.Line actor i line.Memory) = true
 is_memory (fault.Build build.Memory) = true
 is_memory f = false
 
--- what the text says isn't judged yet: the one refusal of texts that may well stand for an application
+-- what the text says isn't judged yet: the one refusal of texts that may well mean an application
 abbrev pub is_not_yet : ReadFault → Bool
 is_not_yet (fault.Build build.NotYet) = true
 is_not_yet f = false

@@ -1,16 +1,16 @@
--- Which fault stands in the bytes of an application's text.
+-- Which fault is present in the bytes of an application's text.
 --
 -- | word                  | meaning                                                                              |
 -- |-----------------------|--------------------------------------------------------------------------------------|
--- | StandsTwice           | a name stands a second time                                                          |
--- | InNames               | a text in a name's place is none, or a name stands twice                             |
+-- | StandsTwice           | a name is given a second time                                                        |
+-- | InNames               | a text in a name's place is none, or a name is given twice                           |
 -- | IsNoOwner, InOwner(s) | an owner is no actor's name, in a variable, in some variable                         |
 -- | InLine, InLines       | a line of an actor's code has a fault, and some line of it                           |
 -- | InCode                | some line of some actor's code has a fault                                           |
 -- | InBuild               | what the texts say has a build fault                                                 |
--- | InSaid, InTexts       | the fault stands in what the texts say, or in the texts                              |
--- | InText, InBytes       | the fault stands in the table of the bytes, or in the bytes themselves               |
--- | Stands                | the fault stands in the bytes                                                        |
+-- | InSaid, InTexts       | the fault is present in what the texts say, or in the texts                          |
+-- | InText, InBytes       | the fault is present in the table of the bytes, or in the bytes themselves           |
+-- | Stands                | the fault is present in the bytes                                                    |
 use Rattle.std.specs.Prelude.{◌≡◌, ◌⊎◌, ◌<◌, ◌++◌, ℕ, List, ◌∷◌, Option, Some, None, Contains, IsUtf8, length, slice_get, string_bytes}
 use Rattle.std.specs.List.{AllZip}
 use Rattle.toml.specs.Data.{Members}
@@ -29,11 +29,11 @@ use Rattle.fr_reader.specs.declared.key.TableName.TheVariants as table
 use Rattle.fr_reader.specs.declared.fault.ReadFault.{ReadFault}
 use Rattle.fr_reader.specs.declared.fault.ReadFault.TheVariants as fault
 
--- the name stands a second time
+-- the name is given a second time
 abbrev pub StandsTwice : List (List ℕ) → List ℕ → Type 0
 StandsTwice names name = (before : List (List ℕ)) × (after : List (List ℕ)) × (names ≡ before ++ name ∷ after) × Contains before name
 
--- a text in a name's place is none, or a name stands twice
+-- a text in a name's place is none, or a name is given twice
 abbrev pub InNames : List (List ℕ) → ReadFault → Type 0
 InNames names (fault.BadName name) = Contains names (string_bytes name) × (IsName (string_bytes name) → ⊥)
 InNames names (fault.Twice name) = StandsTwice names (string_bytes name)
@@ -70,25 +70,25 @@ abbrev pub InBuild : Texts → ReadFault → Type 0
 InBuild texts (fault.Build f) = (P : Program) × Says texts P × (IsFreeOf P f → ⊥)
 InBuild texts f = ⊥
 
--- the fault stands in texts with names, an owner first: lines are asked for where all owners are actors
+-- the fault is present in texts with names, an owner first: lines are asked for where all owners are actors
 abbrev pub InSaid : Texts → ReadFault → Type 0
 InSaid texts f = InOwners (actors_in texts) texts.variables f
     ⊎ (((vs : List VariableOf) × AllZip (IsOwned (actors_in texts)) texts.variables vs × InCode (lists_in texts) texts.actors f) ⊎ InBuild texts f)
 
--- the fault stands in the texts: in their names, or where these are good in what the texts say
+-- the fault is present in the texts: in their names, or where these are good in what the texts say
 abbrev pub InTexts : Texts → ReadFault → Type 0
 InTexts texts f = InNames (names_in texts) f ⊎ (AreNames (names_in texts) × InSaid texts f)
 
--- the fault stands in the table of a text
+-- the fault is present in the table of a text
 abbrev pub InText : Members → ReadFault → Type 0
 InText root f = InApplication root f ⊎ ((texts : Texts) × AreTexts root texts × InTexts texts f)
 
--- the fault stands in the bytes themselves: they are too many, or no TOML text
+-- the fault is present in the bytes themselves: they are too many, or no TOML text
 abbrev pub InBytes : List ℕ → ReadFault → Type 0
 InBytes bytes fault.TooLong = most_bytes < length bytes
 InBytes bytes fault.Toml = IsUtf8 bytes → parse_document bytes ≡ None
 InBytes bytes f = ⊥
 
--- the fault stands in the bytes, or in the table that they are the text of
+-- the fault is present in the bytes, or in the table that they are the text of
 abbrev pub Stands : List ℕ → ReadFault → Type 0
 Stands bytes f = InBytes bytes f ⊎ ((root : Members) × IsTableText bytes root × InText root f)

@@ -21,7 +21,7 @@ pub enum Key {
 }
 
 impl Key {
-    /// The key as it stands in the text.
+    /// The key as the text writes it.
     pub fn text(self) -> &'static str
         ensures { result.now ≡ key_text self }
     {

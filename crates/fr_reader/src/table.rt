@@ -1,4 +1,4 @@
-// What stands at a key of a table.
+// What is at a key of a table.
 ghost use Rattle.std.specs.Prelude.{◌≡◌, Some, OnOk, option_map, IfOk, IfErr};
 ghost use Rattle.toml.specs.Data.{string, integer, boolean};
 ghost use Rattle.toml.specs.View.{view, table_view};

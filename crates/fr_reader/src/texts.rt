@@ -71,7 +71,7 @@ fn actors_at(alloc: Global, table: &Table) -> Result<Vec<ActorText<'_>>, ReadFau
     }
 }
 
-// The texts that the table of the whole text stands for.
+// The texts that the table of the whole text means.
 pub(crate) fn texts_of(alloc: Global, table: &Table) -> Result<Texts<'_>, ReadFault>
     ensures ok { IfOk result (λ texts. AreTexts (table_view table.now) (texts_view texts)) }
     ensures err { IfErr result (Standing (InApplication (table_view table.now))) }
