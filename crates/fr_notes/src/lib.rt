@@ -8,6 +8,8 @@ mod claim;
 mod fault;
 mod fits;
 mod implying;
+mod kept;
+mod known;
 mod laws;
 mod narrow;
 mod note;
