@@ -7,6 +7,7 @@ mod change;
 mod claim;
 mod fault;
 mod fits;
+mod holding;
 mod implying;
 mod kept;
 mod known;
