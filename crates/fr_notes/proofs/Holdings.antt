@@ -91,7 +91,7 @@ module _ (P : Program) (kind : Kind) (a b : ℕ) (content : Content) (can : CanH
   in-from NotHeld NotHeld fits_c fits_d h k = (free a h, free b k)
 
 module _ (a b : ℕ) (ne : b ≢ a) (content : Content) where
-  others-free : (count : ℕ) → content ≡ Held b count → IsUnheldBy a content
+  pub others-free : (count : ℕ) → content ≡ Held b count → IsUnheldBy a content
   others-free count e k f = let g = sym e ∙ f in ne cc
 
   own-free : (count : ℕ) → content ≡ Held a count → IsUnheldBy b content

@@ -12,3 +12,5 @@ pub mod Seen
 pub mod Left
 pub mod Rows
 pub mod PlainRows
+pub mod ObjectRows
+pub mod EndRows

@@ -307,6 +307,9 @@ module _ (s : Site) where
     pub drawn-content : (o : ℕ) → o < length P.objects → content_of (drawn s f) o ≡ f.content o
     drawn-content o l = get_or-map-range_with_len f.content 0 (length P.objects) o o Dead l (omega arith)
 
+    pub drawn-values : length (drawn s f).values ≡ length P.variables
+    drawn-values = length-map-range_with_len f.value 0 (length P.variables)
+
     places-exist : (o : Option Alternative) → IsOther P (record { mover = n; other = o }) s.p s.q → (b : ℕ) → Exists P b (instead (mover s) (At s.p.pc s.p.side) (others_place o s.q) b)
     places-exist None there b = instead-case (mover s) (At s.p.pc s.p.side) (λ c. Done) b (λ k t. Exists P k t) s.point tt
     places-exist (Some m) there b = instead-case (mover s) (At s.p.pc s.p.side) (instead s.q.actor.0 (At s.q.pc s.q.side) (λ c. Done)) b (λ k t. Exists P k t) s.point (instead-case s.q.actor.0 (At s.q.pc s.q.side) (λ c. Done) b (λ k t. Exists P k t) there.0 tt)
