@@ -1,5 +1,5 @@
 -- The worked breaches, row by row.
-use Rattle.std.proofs.Common.{◌≡◌, ℕ, zero, suc, [], Some, refl, sym, ap, ◌∙◌, subst, inr, arith}
+use Rattle.std.proofs.Common.{◌≡◌, ℕ, zero, suc, [], Some, None, refl, sym, ap, ◌∙◌, subst, inr, arith}
 use Rattle.std.specs.Prelude.{pos, IsTrue}
 use Rattle.std.proofs.lemmas.Int.{ints}
 use Rattle.std.proofs.lemmas.Option.{same_Some}
@@ -12,12 +12,12 @@ use Rattle.fr_program.specs.declared.instr.BufferKind.TheVariants.{Stream as OfS
 use Rattle.fr_program.specs.declared.instr.Timing.TheVariants.{Waits}
 use Rattle.fr_program.specs.declared.ids.Side.{Side}
 use Rattle.fr_program.specs.declared.ids.Side.TheVariants.{Before, Inside}
-use Rattle.fr_program.specs.declared.parts.Kind.TheVariants.{Mutex}
+use Rattle.fr_program.specs.declared.parts.Kind.TheVariants.{Mutex, Recursive}
 use Rattle.fr_program.specs.Program.{Program}
 use Rattle.fr_program.specs.Lookup.{instr_at}
 use Rattle.fr_calls.specs.State.{State, At, Dead, Values, Held, Bytes, place_of}
 use Rattle.fr_calls.specs.Rule.{Rule, OneWriter, OneReader, GivenByHolder, AllowedInCritical, IsLive, LifeInOrder, EndsInOrder, InRange, End, Writer, Reader, is_at_end, Stands, IsInside, SharesEnd, Breach, Breaches}
-use Rattle.fr_calls.specs.WorkedSteps.{x, thing, call, of_one, seen, before, inside, add_one, create, delete, give, queue_send, stream_send, stream_receive, reset, ten, queue, stream}
+use Rattle.fr_calls.specs.WorkedSteps.{x, thing, call, of_one, seen, before, inside, add_one, create, delete, give, give_recursive, queue_send, stream_send, stream_receive, reset, ten, queue, stream}
 use Rattle.fr_calls.specs.WorkedRules.{two, both, both_inside, WorkedBreaches, WorkedLeast}
 
 -- actor 0 stands at this side of its instruction 0 and breaches the rule
@@ -77,6 +77,12 @@ no-giving breach =
     let b = subst (λ i. Breaches (of_one Mutex give) (before (pos 0) (Held 0 1)) 0 breach.side i GivenByHolder) e breach.breaches in
     absurd (omega (arith, b.1))
 
+no-recursive-giving : Breach (of_one Recursive give_recursive) (before (pos 0) (Held 0 2)) GivenByHolder 0 → ⊥
+no-recursive-giving breach =
+    let e = one-instr (of_one Recursive give_recursive) (before (pos 0) (Held 0 2)) 0 Before breach.side give_recursive breach.instr refl refl breach.stands in
+    let b = subst (λ i. Breaches (of_one Recursive give_recursive) (before (pos 0) (Held 0 2)) 0 breach.side i GivenByHolder) e breach.breaches in
+    absurd (omega (arith, b.1))
+
 pub worked-breaches : WorkedBreaches
 worked-breaches = record {
   two_senders = breach-at (two stream stream_send stream_send) both_inside Inside stream_send OneWriter refl refl (shared Writer sends sends refl refl);
@@ -85,11 +91,16 @@ worked-breaches = record {
   sender_and_receiver = no-sharing;
   give_of_anothers = breach-at (of_one Mutex give) (before (pos 0) (Held 1 1)) Before give GivenByHolder refl refl (refl, refl);
   give_of_own = no-giving;
+  recursive_give_of_anothers = breach-at (of_one Recursive give_recursive) (before (pos 0) (Held 1 1)) Before give_recursive GivenByHolder refl refl (refl, refl);
+  recursive_give_of_own = no-recursive-giving;
   delay_in_critical = breach-at (of_one stream (Calls (Delay 1))) (seen (At 0 Before) (pos 0) Dead (Some (0, 1)) 0) Before (Calls (Delay 1)) AllowedInCritical refl refl refl;
   use_of_a_dead_buffer = breach-at (of_one stream stream_send) (inside (pos 0) Dead) Inside stream_send IsLive refl refl (0, refl, refl);
+  delete_of_a_dead_buffer = breach-at (of_one stream delete) (before (pos 0) Dead) Before delete IsLive refl refl (0, refl, refl);
   delete_in_use = breach-at (two stream delete stream_receive) (both (At 0 Before) (At 0 Inside) (Bytes 0)) Before delete LifeInOrder refl refl (1, (λ e. absurd (omega (arith, e))), receives, (thing, refl, record { pc = 0; at = refl; is = refl }));
   create_of_a_live_one = breach-at (of_one stream create) (before (pos 0) (Bytes 0)) Before create LifeInOrder refl refl (λ e. cc);
   end_with_a_mutex = breach-at (of_one Mutex (Calls DeleteSelf)) (before (pos 0) (Held 0 1)) Before (Calls DeleteSelf) EndsInOrder refl refl refl;
+  end_in_a_critical_section = breach-at (of_one stream (Calls DeleteSelf)) (seen (At 0 Before) (pos 0) Dead (Some (0, 1)) 0) Before (Calls DeleteSelf) EndsInOrder refl refl refl;
+  end_while_suspended = breach-at (of_one stream (Calls DeleteSelf)) (seen (At 0 Before) (pos 0) Dead None 1) Before (Calls DeleteSelf) EndsInOrder refl refl refl;
   set_out_of_range = breach-at (of_one stream add_one) (before (pos 9) Dead) Before add_one InRange refl refl (inr (omega (arith, ints)));
   send_out_of_range = breach-at (of_one queue queue_send) (inside (pos 10) (Values [])) Inside queue_send InRange refl refl (inr (omega (arith, ints)));
 }
@@ -99,6 +110,7 @@ worked-least = record {
   send_in_critical = refl;
   send_forever_in_critical = refl;
   send_at_once_in_critical = refl;
+  send_from_isr_in_critical = refl;
   queue_send_in_critical = refl;
   take_in_critical = refl;
   delay_suspended = refl;
@@ -115,5 +127,8 @@ worked-least = record {
   return_of_a_task = refl;
   return_in_critical = refl;
   return_of_an_interrupt = refl;
+  end_at_zero = refl;
+  end_in_critical = refl;
+  end_suspended = refl;
   end_holding = refl;
 }

@@ -1,4 +1,4 @@
--- Where a step leaves its actor, as the code says it.
+-- For private clauses: where a step leaves its actor, as the code says it.
 use Rattle.fr_program.specs.declared.ids.ActorId.{ActorId}
 use Rattle.fr_calls.specs.declared.way.Landing.{Landing}
 use Rattle.fr_calls.specs.declared.way.Landing.TheVariants.{At as LandsAt, Done as LandsNowhere}

@@ -1,8 +1,10 @@
 pub mod State
+pub mod BufferEnd
 pub mod Rule
 pub mod Step
 pub mod Landing
 pub mod Run
 pub mod Laws
+pub mod WorkedStates
 pub mod WorkedSteps
 pub mod WorkedRules

@@ -22,9 +22,9 @@ use Rattle.fr_program.specs.declared.instr.Form.TheVariants.{Task as InTask}
 use Rattle.fr_program.specs.declared.instr.Action.{Action}
 use Rattle.fr_program.specs.declared.instr.Action.TheVariants.{QueueSend, QueueReceive, Take, Give, Send, Receive, Reset}
 use Rattle.fr_program.specs.declared.instr.BufferKind.TheVariants.{Stream as OfStream, Message as OfMessage}
-use Rattle.fr_program.specs.declared.instr.CreatedKind.TheVariants.{Stream as MakesStream}
+use Rattle.fr_program.specs.declared.instr.CreatedKind.TheVariants.{Stream as MakesStream, Counting as MakesCounting}
 use Rattle.fr_program.specs.declared.instr.DeletedKind.TheVariants.{Stream as DropsStream}
-use Rattle.fr_program.specs.declared.instr.Timing.TheVariants.{Waits}
+use Rattle.fr_program.specs.declared.instr.Timing.TheVariants.{Waits, FromIsr}
 use Rattle.fr_program.specs.declared.instr.BlockTime.{BlockTime}
 use Rattle.fr_program.specs.declared.instr.BlockTime.TheVariants.{Ticks, MaxDelay}
 use Rattle.fr_program.specs.declared.instr.TakeForm.TheVariants.{Plain as PlainTake, Recursive as RecursiveTake, FromIsr as TakeFromIsr}
@@ -124,6 +124,10 @@ exit = Calls (ExitCritical InTask)
 abbrev pub create : Instr
 create = Calls (Create MakesStream thing (Some 2))
 
+-- `xSemaphoreCreateCounting(thing) else 2`
+abbrev pub create_counting : Instr
+create_counting = Calls (Create MakesCounting thing (Some 2))
+
 -- `vStreamBufferDelete(thing)`
 abbrev pub delete : Instr
 delete = Calls (Delete DropsStream thing)
@@ -172,6 +176,10 @@ message_send = call (Send OfMessage 8 (Waits ten) None)
 abbrev pub message_receive : Instr
 message_receive = call (Receive OfMessage 8 (Waits ten) (Some x))
 
+-- `xQueueReceiveFromISR(thing, x) else 2`
+abbrev pub queue_receive_at_once : Instr
+queue_receive_at_once = call (QueueReceive x FromIsr (Some 2))
+
 -- `xStreamBufferReset(thing) else 2`
 abbrev pub reset : Instr
 reset = call (Reset OfStream (Some 2))
@@ -205,6 +213,7 @@ pub record WorkedInstrs : Type 0 where
   pub delay_goes_on : Steps stream (Calls (Delay 1)) (before (pos 0) Dead) (pos 0) (next (pos 0) Dead)
   pub delete_self_ends : Steps stream (Calls DeleteSelf) (before (pos 0) Dead) (pos 0) (seen Done (pos 0) Dead None 0)
   pub create_works : Steps stream create (before (pos 0) Dead) (pos 1) (next (pos 0) (Bytes 0))
+  pub create_counting_begins_at_its_first_count : Steps (Counting (pos 3) (pos 2)) create_counting (before (pos 0) Dead) (pos 1) (next (pos 0) (Count 2))
   pub create_fails : Steps stream create (before (pos 0) Dead) (pos 0) (other (pos 0) Dead)
   pub delete_works : Steps stream delete (before (pos 0) (Bytes 3)) (pos 0) (next (pos 0) Dead)
   pub call_begins : Steps Mutex (take ten) (before (pos 0) (Held 1 1)) (pos 0) (inside (pos 0) (Held 1 1))
@@ -228,6 +237,7 @@ pub record WorkedEnds : Type 0 where
   pub queue_send_puts_last : Steps queue queue_send (inside (pos 4) (Values (pos 3 ∷ []))) (pos 1) (next (pos 4) (Values (pos 3 ∷ pos 4 ∷ [])))
   pub queue_send_times_out : Steps queue queue_send (inside (pos 4) (Values (pos 3 ∷ []))) (pos 0) (other (pos 4) (Values (pos 3 ∷ [])))
   pub queue_receive_times_out : Steps queue queue_receive (inside (pos 4) (Values [])) (pos 0) (other (pos 4) (Values []))
+  pub queue_receive_from_interrupt_fails : Steps queue queue_receive_at_once (inside (pos 0) (Values [])) (pos 0) (other (pos 0) (Values []))
   pub queue_receive_takes_first : Steps queue queue_receive (inside (pos 0) (Values (pos 3 ∷ pos 4 ∷ []))) (pos 1) (next (pos 3) (Values (pos 4 ∷ [])))
   pub stream_send_moves_some : Steps stream stream_send (inside (pos 0) (Bytes 2)) (pos 3) (next (pos 3) (Bytes 5))
   pub stream_receive_moves_some : Steps stream stream_receive (inside (pos 0) (Bytes 5)) (pos 2) (next (pos 2) (Bytes 3))
@@ -248,10 +258,21 @@ pub record WorkedStops : Type 0 where
   pub enter_waits : HasNoStep (of_one stream enter) (seen (At 0 Before) (pos 0) Dead (Some (1, 1)) 0)
   -- another actor holds the mutex, and the wait is without limit
   pub take_waits : HasNoStep (of_one Mutex (take MaxDelay)) (inside (pos 0) (Held 1 1))
-  -- the rules 3, 10 and 11, and a create of a live object
+  -- each of the rules 3 to 7 and 9 to 11
+  pub delay_needs_no_critical_section : HasNoStep (of_one stream (Calls (Delay 1))) (seen (At 0 Before) (pos 0) Dead (Some (0, 1)) 0)
+  pub delay_needs_no_suspension : HasNoStep (of_one stream (Calls (Delay 1))) (seen (At 0 Before) (pos 0) Dead None 1)
+  pub delay_needs_a_task : HasNoStep (beside Interrupt stream (Calls (Delay 1) ∷ Goto 0 ∷ []) (Goto 0)) (before (pos 0) Dead)
+  pub send_needs_a_live_buffer : HasNoStep (of_one stream stream_send) (before (pos 0) Dead)
+  pub send_needs_it_to_the_end : HasNoStep (of_one stream stream_send) (inside (pos 0) Dead)
+  pub delete_needs_a_live_object : HasNoStep (of_one stream delete) (before (pos 0) Dead)
+  pub take_needs_its_kind : HasNoStep (of_one Recursive (take ten)) (before (pos 0) Free)
+  pub recursive_give_needs_a_holder : HasNoStep (of_one Recursive give_recursive) (inside (pos 0) (Held 1 1))
   pub give_needs_a_holder : HasNoStep (of_one Mutex give) (inside (pos 0) (Held 1 1))
   pub exit_needs_a_depth : HasNoStep (of_one stream exit) (before (pos 0) Dead)
   pub a_task_never_returns : HasNoStep (of_one stream Return) (before (pos 0) Dead)
+  -- inside a take that rule 9 names
+  pub take_inside_needs_its_kind : HasNoStep (of_one Recursive (take ten)) (inside (pos 0) Free)
+  -- a create of a live object
   pub create_needs_a_dead_object : HasNoStep (of_one stream create) (before (pos 0) (Bytes 0))
   -- a task that has ended
   pub done_is_done : HasNoStep (of_one stream add_one) (seen Done (pos 0) Dead None 0)

@@ -4,12 +4,14 @@
 // (`lands_at`). The laws are functions that do nothing: each is there for its contract.
 #![tactic(auto)]
 
+mod buffer_end;
 mod laws;
 mod rules;
 mod way;
 mod worked;
 
+pub use buffer_end::End;
 pub use laws::{steps_stay_well_formed, the_start_is_well_formed};
-pub use rules::{is_unsuited, rule_of};
+pub use rules::{Condition, Rule, first_forbidden, is_unsuited, rule_of};
 pub use way::{Landing, Way, lands_at};
-pub use worked::{breaches_as_worked, steps_as_worked};
+pub use worked::{breaches_as_worked, states_as_worked, steps_as_worked};

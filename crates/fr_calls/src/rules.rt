@@ -1,10 +1,75 @@
-// The rules that an actor's kind, its depths and its mutexes decide.
+// The twelve rules of use, and those of them that an actor's kind, its depths and its mutexes decide.
 ghost use Rattle.std.specs.Prelude.{◌≡◌};
-ghost use Rattle.fr_program.specs.Uses.{is_timing_from_isr, is_from_isr};
+ghost use Rattle.std.specs.Option.{option_map};
 ghost use Rattle.fr_program.specs.Fault.{NamesThings};
-ghost use Rattle.fr_calls.specs.Rule.{is_at_once, allowed_in_critical, allowed_suspended, is_unsuited, first_forbidden};
+ghost use Rattle.fr_calls.specs.Rule.{number_of, is_at_once, allowed_in_critical, allowed_suspended, is_unsuited, first_forbidden};
 
-use fr_program::{Action, App, BlockTime, Call, Form, GiveForm, Instr, Kind, TakeForm, Timing};
+use fr_program::{Action, App, BlockTime, Call, GiveForm, Instr, Kind, TakeForm, Timing};
+
+/// The twelve rules of use, in the order of their numbers.
+#[derive(Clone, Copy, Debug, PartialEq, Eq)]
+pub enum Rule {
+    /// 1: one actor at most is inside a send or a reset of a buffer.
+    OneWriter,
+    /// 2: one actor at most is inside a receive or a reset of a buffer.
+    OneReader,
+    /// 3: a mutex is given by the actor that holds it.
+    GivenByHolder,
+    /// 4: a call in a critical section is one that is allowed there.
+    AllowedInCritical,
+    /// 5: a call while the scheduler is suspended is one that is allowed then.
+    AllowedSuspended,
+    /// 6: an interrupt calls only what is made for interrupts.
+    AllowedInInterrupt,
+    /// 7: an object that is used is live.
+    IsLive,
+    /// 8: an object is deleted while nobody is inside a call on it, and created while it isn't live.
+    LifeInOrder,
+    /// 9: a take or a give suits the kind of semaphore.
+    SuitsSemaphore,
+    /// 10: a critical section is left, and the scheduler resumed, only from a depth above 0.
+    DepthAboveZero,
+    /// 11: an actor ends in order: an interrupt by a return, a task by a delete of itself, and
+    /// with nothing held.
+    EndsInOrder,
+    /// 12: a number that is written is in the declared range.
+    InRange,
+}
+
+impl Rule {
+    /// The rule's number, 1 to 12.
+    pub fn number(self) -> u8
+        ensures { result ≡ number_of self }
+    {
+        match self {
+            Rule::OneWriter => 1,
+            Rule::OneReader => 2,
+            Rule::GivenByHolder => 3,
+            Rule::AllowedInCritical => 4,
+            Rule::AllowedSuspended => 5,
+            Rule::AllowedInInterrupt => 6,
+            Rule::IsLive => 7,
+            Rule::LifeInOrder => 8,
+            Rule::SuitsSemaphore => 9,
+            Rule::DepthAboveZero => 10,
+            Rule::EndsInOrder => 11,
+            Rule::InRange => 12,
+        }
+    }
+}
+
+/// What some rules ask of the actor that is about to act.
+#[derive(Clone, Copy, Debug)]
+pub struct Condition {
+    /// It is an interrupt, and no task.
+    pub interrupt: bool,
+    /// Its depth in the critical section, 0 where it isn't in it.
+    pub critical: u32,
+    /// How often it has suspended the scheduler.
+    pub suspended: u32,
+    /// It holds some mutex.
+    pub holds: bool,
+}
 
 /// A block time of 0, which the forms for interrupts have.
 fn is_at_once(timing: &Timing) -> bool
@@ -35,31 +100,6 @@ fn allowed_suspended(call: &Call) -> bool
     )
 }
 
-fn is_timing_from_isr(timing: &Timing) -> bool
-    ensures { result ≡ is_timing_from_isr timing.now }
-{
-    matches!(timing, Timing::FromIsr)
-}
-
-/// Whether the call's name ends in FromISR or _FROM_ISR.
-fn is_from_isr(call: &Call) -> bool
-    ensures { result ≡ is_from_isr call.now }
-{
-    match call {
-        Call::EnterCritical(form) | Call::ExitCritical(form) => matches!(form, Form::FromIsr),
-        Call::On { action, .. } => match action {
-            Action::QueueSend { timing, .. }
-            | Action::QueueReceive { timing, .. }
-            | Action::Send { timing, .. }
-            | Action::Receive { timing, .. } => is_timing_from_isr(timing),
-            Action::Take { form, .. } => matches!(form, TakeForm::FromIsr),
-            Action::Give { form, .. } => matches!(form, GiveForm::FromIsr),
-            Action::Reset { .. } => false,
-        },
-        _ => false,
-    }
-}
-
 /// Whether a take or a give doesn't suit the kind of semaphore.
 pub fn is_unsuited(kind: Kind, action: &Action) -> bool
     ensures { result ≡ is_unsuited kind action.now }
@@ -75,12 +115,72 @@ pub fn is_unsuited(kind: Kind, action: &Action) -> bool
     }
 }
 
-/// The least of the rules 4, 5, 6, 9, 10 and 11 that is breached before the instruction, by an
-/// actor that is an interrupt or not, is in the critical section at depth `crit` (0: it isn't in
-/// it), has suspended the scheduler `susp` times, and holds some mutex or none; None where none of
-/// them is. The instruction's numbers name things of the application. The rules are those of the
-/// FreeRTOS Reference Manual on critical sections, suspension, interrupts, kinds of semaphores and
-/// the end of a task, as this project's profile joins them.
+/// The least of the rules 4, 5, 6, 9, 10 and 11 that an actor in this condition breaches before the
+/// instruction, or None where it breaches none of them. The instruction's numbers name things of
+/// the application. The rules are those of the FreeRTOS Reference Manual on critical sections,
+/// suspension, interrupts, kinds of semaphores and the end of a task, as this project's profile
+/// joins them.
+pub fn first_forbidden(app: &App, condition: Condition, instr: &Instr) -> Option<Rule>
+    requires { NamesThings app.now instr.now }
+    ensures { result ≡ first_forbidden app.now condition instr.now }
+{
+    match instr {
+        Instr::Return => if !condition.interrupt || condition.critical > 0 {
+            Some(Rule::EndsInOrder)
+        } else {
+            None
+        },
+        Instr::Call(call) => first_forbidden_call(app, condition, call),
+        _ => None,
+    }
+}
+
+fn first_forbidden_call(app: &App, condition: Condition, call: &Call) -> Option<Rule>
+    requires { NamesThings app.now (Instr.Call call.now) }
+    ensures { result ≡ first_forbidden app.now condition (Instr.Call call.now) }
+{
+    if condition.critical > 0 && !allowed_in_critical(call) {
+        return Some(Rule::AllowedInCritical);
+    }
+    if condition.suspended > 0 && !allowed_suspended(call) {
+        return Some(Rule::AllowedSuspended);
+    }
+    if condition.interrupt && !call.is_from_isr() {
+        return Some(Rule::AllowedInInterrupt);
+    }
+    match call {
+        Call::On { object, action } => {
+            if is_unsuited(app.kind(*object), action) {
+                Some(Rule::SuitsSemaphore)
+            } else {
+                None
+            }
+        }
+        Call::ExitCritical(_) => if condition.critical == 0 {
+            Some(Rule::DepthAboveZero)
+        } else {
+            None
+        },
+        Call::ResumeAll => if condition.suspended == 0 {
+            Some(Rule::DepthAboveZero)
+        } else {
+            None
+        },
+        Call::DeleteSelf => {
+            if condition.holds || condition.critical > 0 || condition.suspended > 0 {
+                Some(Rule::EndsInOrder)
+            } else {
+                None
+            }
+        }
+        _ => None,
+    }
+}
+
+/// The number of the least of the rules 4, 5, 6, 9, 10 and 11 that is breached before the
+/// instruction, by an actor that is an interrupt or not, is in the critical section at depth `crit`
+/// (0: it isn't in it), has suspended the scheduler `susp` times, and holds some mutex or none; None
+/// where none of them is. The instruction's numbers name things of the application.
 pub fn rule_of(
     app: &App,
     interrupt: bool,
@@ -90,56 +190,13 @@ pub fn rule_of(
     instr: &Instr,
 ) -> Option<u8>
     requires { NamesThings app.now instr.now }
-    ensures { result ≡ first_forbidden app.now interrupt crit susp holds instr.now }
+    ensures { result ≡ option_map number_of (first_forbidden app.now (record { interrupt = interrupt; critical = crit; suspended = susp; holds = holds }) instr.now) }
 {
-    match instr {
-        Instr::Return => if !interrupt || crit > 0 {
-            Some(11)
-        } else {
-            None
-        },
-        Instr::Call(call) => rule_of_call(app, interrupt, crit, susp, holds, call),
-        _ => None,
-    }
-}
-
-fn rule_of_call(
-    app: &App,
-    interrupt: bool,
-    crit: u32,
-    susp: u32,
-    holds: bool,
-    call: &Call,
-) -> Option<u8>
-    requires { NamesThings app.now (Instr.Call call.now) }
-    ensures { result ≡ first_forbidden app.now interrupt crit susp holds (Instr.Call call.now) }
-{
-    if crit > 0 && !allowed_in_critical(call) {
-        return Some(4);
-    }
-    if susp > 0 && !allowed_suspended(call) {
-        return Some(5);
-    }
-    if interrupt && !is_from_isr(call) {
-        return Some(6);
-    }
-    match call {
-        Call::On { object, action } => {
-            if is_unsuited(app.kind(*object), action) {
-                Some(9)
-            } else {
-                None
-            }
-        }
-        Call::ExitCritical(_) => if crit == 0 { Some(10) } else { None },
-        Call::ResumeAll => if susp == 0 { Some(10) } else { None },
-        Call::DeleteSelf => {
-            if holds || crit > 0 || susp > 0 {
-                Some(11)
-            } else {
-                None
-            }
-        }
-        _ => None,
-    }
+    let condition = Condition {
+        interrupt,
+        critical: crit,
+        suspended: susp,
+        holds,
+    };
+    first_forbidden(app, condition, instr).map(|rule| rule.number())
 }

@@ -1,19 +1,20 @@
 // The rows of an instruction in the step table, and where they lead.
 ghost use Rattle.std.specs.Prelude.{◌≡◌, ◌+◌};
-ghost use Rattle.fr_program.specs.Uses.{else_of};
 ghost use Rattle.fr_calls.specs.Step.{landing};
 ghost use Rattle.fr_calls.specs.Landing.{landing_of};
 ghost use Rattle.fr_calls.specs.State.{At};
 ghost use Rattle.fr_program.specs.declared.ids.Side.TheVariants.{Before};
 
-use fr_program::{Action, ActorId, Call, Instr, Point, Side};
+use fr_program::{ActorId, Call, Instr, Point, Side};
 
-/// Which row of an instruction a step goes by. Each instruction has one row or two: an `if` whose
-/// comparison is true or false, a call that works or fails.
+/// Which row of the step table a step goes by. Each place has one row or two.
 #[derive(Clone, Copy, Debug, PartialEq, Eq)]
 pub enum Way {
-    Works,
-    Fails,
+    /// An `if` whose comparison is true, a call that works, and the one row of any other
+    /// instruction.
+    Then,
+    /// An `if` whose comparison is false, a call that fails.
+    Else,
 }
 
 /// Where an actor stands after a step: at a point, or nowhere, since it has ended.
@@ -21,20 +22,6 @@ pub enum Way {
 pub enum Landing {
     At(Point),
     Done,
-}
-
-/// The `else` target of an object call, where its line names one.
-fn else_of(action: &Action) -> Option<usize>
-    ensures { result ≡ else_of action.now }
-{
-    match action {
-        Action::QueueSend { or_else, .. }
-        | Action::QueueReceive { or_else, .. }
-        | Action::Take { or_else, .. }
-        | Action::Give { or_else, .. }
-        | Action::Reset { or_else, .. } => *or_else,
-        Action::Send { .. } | Action::Receive { .. } => None,
-    }
 }
 
 fn before(actor: ActorId, pc: usize) -> Landing
@@ -48,17 +35,17 @@ fn before(actor: ActorId, pc: usize) -> Landing
 }
 
 /// Where an actor's step from a side of an instruction leads by this row. The next instruction
-/// stands at `next`.
+/// is at `next`.
 pub fn lands_at(point: Point, next: usize, instr: &Instr, way: Way) -> Landing
     requires { next ≡ point.pc + 1 }
     ensures { result ≡ landing_of point.actor (landing point.pc point.side instr.now way) }
 {
     match (point.side, instr, way) {
-        (Side::Before, Instr::If { target, .. }, Way::Works) => before(point.actor, *target),
+        (Side::Before, Instr::If { target, .. }, Way::Then) => before(point.actor, *target),
         (Side::Before, Instr::Goto { target }, _) => before(point.actor, *target),
         (Side::Before, Instr::Return, _) => before(point.actor, 0),
         (Side::Before, Instr::Call(Call::DeleteSelf), _) => Landing::Done,
-        (Side::Before, Instr::Call(Call::Create { or_else, .. }), Way::Fails) => {
+        (Side::Before, Instr::Call(Call::Create { or_else, .. }), Way::Else) => {
             before(point.actor, or_else.unwrap_or(next))
         }
         (Side::Before, Instr::Call(Call::On { .. }), _) => {
@@ -67,8 +54,8 @@ pub fn lands_at(point: Point, next: usize, instr: &Instr, way: Way) -> Landing
                 ..point
             })
         }
-        (Side::Inside, Instr::Call(Call::On { action, .. }), Way::Fails) => {
-            before(point.actor, else_of(action).unwrap_or(next))
+        (Side::Inside, Instr::Call(Call::On { action, .. }), Way::Else) => {
+            before(point.actor, action.else_target().unwrap_or(next))
         }
         _ => before(point.actor, next),
     }

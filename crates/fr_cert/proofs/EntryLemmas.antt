@@ -9,7 +9,7 @@ use Rattle.serde_json.specs.View.{items_view, view}
 use Rattle.serde_json.specs.declared.value.Value.{Value}
 use Rattle.fr_program.specs.Program.{Program}
 use Rattle.fr_notes.specs.Note.{Note}
-use Rattle.fr_cert.specs.Meaning.{IsNote, EachNote}
+use Rattle.fr_cert.specs.PlainMeaning.{IsNote, EachNote}
 
 pub each_push : (P : Program) (xs : List Value) (x : Value) (notes : List Note) (note : Note) → EachNote P (items_view xs) notes → IsNote P (view x) note
     → EachNote P (items_view (xs ++ x ∷ [])) (notes ++ note ∷ [])

@@ -1,141 +1,266 @@
--- Bytes in which a fault stands stand for no certificate: at each level, a value that stands for something has no
--- fault of that level.
-use Rattle.std.proofs.Common.{◌≡◌, ◌<ℤ◌, ◌≤ℤ◌, ℕ, ℤ, pos, List, [], ◌∷◌, Option, Some, None, option_and_then, codes, All, Any, refl, sym, ap, ◌∙◌, subst, arith, inl, inr, zero, suc}
+-- Bytes in which a fault is present mean no certificate: at each level, a value that means something has no fault of
+-- that level.
+use Rattle.std.proofs.Common.{◌≡◌, ◌<◌, ◌≤◌, ◌<ℤ◌, ◌≤ℤ◌, ℕ, ℤ, zero, suc, pos, List, [], ◌∷◌, Option, Some, None, All, AllPairs, codes, length, refl, sym, ap, ◌∙◌, subst, arith, inl, inr}
 use Rattle.std.proofs.lemmas.Bool.{false≢true}
 use Rattle.std.proofs.lemmas.Int.{ints}
+use Rattle.std.proofs.lemmas.List.Elements.{All-head, All-tail}
 use Rattle.serde_json.specs.Data.{Data, Items, no_items, item, Members, no_members, member}
-use Rattle.serde_json.specs.Find.{get_item, as_array, as_object}
+use Rattle.serde_json.specs.Events.{items_len}
+use Rattle.serde_json.specs.Find.{get_item, as_array, as_object, as_str}
 use Rattle.serde_json.specs.Read.{read}
 use Rattle.fr_program.specs.Program.{Program}
-use Rattle.fr_notes.specs.Note.{Note}
+use Rattle.fr_program.specs.Points.{points_of}
+use Rattle.fr_notes.specs.Note.{Alternative, Note}
 use Rattle.fr_ends.specs.Certificate.{Certificate}
-use Rattle.fr_cert.specs.Keys.{AreKnown, field, integer_of, end_at, variable_named}
-use Rattle.fr_cert.specs.Meaning.{IsDepthAt, IsSpan, IsSpanOf, IsNamed, Named, RangesAt, IsInside, IsPlain, IsNote, EachNote, NotesAt, IsCertificate, IsTree, Means}
-use Rattle.fr_cert.specs.Faults.{InKeys, InField, InNeeded, InDepth, InEnds, InSpan, InNamed, InMembers, InRanges}
-use Rattle.fr_cert.specs.Stands.{InPlain, InNote, InVersion, InGuards, InNotes, InCertificate, InTree, InBytes, Stands}
-use Rattle.fr_cert.specs.declared.key.Key.TheVariants.{Version, Ends, Notes, Crit, Range}
+use Rattle.fr_ends.specs.Guard.{Guard, Sole, ByMutex, InCritical, Turn, EndGuard}
+use Rattle.fr_ends.specs.Fits.{EndFits, EndsFit, AreOfOneEnd}
+use Rattle.fr_cert.specs.Keys.{AreKnown, key_text, field, integer_of, end_at, variable_named, object_named, actor_named}
+use Rattle.fr_cert.specs.Shapes.{At, OrDefault, IsObject, IsList, EachEntry, EachMember, Names, IsDepth, AreEnds, IsSpan}
+use Rattle.fr_cert.specs.Meaning.{NoteText, NoteTextFits, IsHeldCount, IsRange, IsTurnValue, AreTurnValues, IsAlternative, IsPlainNote, IsNote, IsGuardObject, IsGuard, IsEndName, IsEnd, IsVersion, IsCertificate, IsTree, Means}
+use Rattle.fr_cert.specs.Faults.{InKeys, InField, InNeeded, InObject, InList, InEntries, InMembers, InNamed, InInteger, InDepth, InName, InEnds, InSpan}
+use Rattle.fr_cert.specs.Present.{InKeysOfNote, InAlternative, InAlternatives, InNote, InNotes, Has, InTurn, InGuardObject, InGuard, InEndName, InEnd, InAllEnds, InVersion, InCertificate, InTree, InBytes, IsPresent}
+use Rattle.fr_cert.specs.declared.key.Key.{Key}
+use Rattle.fr_cert.specs.declared.key.Key.TheVariants as key
 use Rattle.fr_cert.specs.declared.key.Place.{Place}
 use Rattle.fr_cert.specs.declared.key.Place.TheVariants as place
 use Rattle.fr_cert.specs.declared.fault.CertFault.{CertFault}
 use Rattle.fr_cert.specs.declared.fault.CertFault.TheVariants as fault
-use Rattle.fr_cert.proofs.Laws.{both, never, one_text, apart}
-use Rattle.fr_cert.proofs.EntryLemmas.{each_length}
+use Rattle.fr_cert.proofs.Laws.{both, never, one_at, one_text, one_version, one_end, one_ends_list, unknown, apart, list_apart, object_apart}
 
-in_no_keys : (p : Place) (ms : Members) (f : CertFault) → AreKnown p ms → InKeys p ms f → ⊥
-in_no_keys p ms f h s = false≢true (sym s.3 ∙ h s.0 s.1 s.2)
+-- ---- values by their shape
 
-in_no_depth : (d : Data) (n : ℕ) (f : CertFault) → IsDepthAt (Some d) n → InDepth d f → ⊥
-in_no_depth d n f h (inl s) = never (integer_of d) (pos n) s.0 h.0
-in_no_depth d n f h (inr s) = s.2 n h.1 (both (integer_of d) s.0 (pos n) s.1 h.0)
+-- what means something has no such fault
+abbrev Free : {A : Type 0} → (Data → A → Type 0) → (Data → CertFault → Type 0) → Type 0
+Free {A} M F = (d : Data) (x : A) (f : CertFault) → M d x → F d f → ⊥
 
-in_no_crit : (ms : Members) (n : ℕ) (f : CertFault) → IsDepthAt (field Crit ms) n → InField Crit InDepth ms f → ⊥
-in_no_crit ms n f h s = in_no_depth s.0 n s.2.0 (subst (λ o. IsDepthAt o n) s.1 h) s.2.1
+-- so it is with the members of an object
+abbrev FreeIn : {A : Type 0} → (Members → A → Type 0) → (Members → CertFault → Type 0) → Type 0
+FreeIn {A} M F = (ms : Members) (x : A) (f : CertFault) → M ms x → F ms f → ⊥
 
-in_no_order : (lo hi : ℤ) (r : ℤ × ℤ) → lo ≡ r.0 → hi ≡ r.1 → hi <ℤ lo → r.0 ≤ℤ r.1 → ⊥
-in_no_order lo hi r p q less most = absurd (omega (arith, ints, p, q, less, most))
+-- and with the entries of a list
+abbrev FreeOf : {A : Type 0} → (Items → A → Type 0) → (Items → CertFault → Type 0) → Type 0
+FreeOf {A} M F = (ds : Items) (x : A) (f : CertFault) → M ds x → F ds f → ⊥
 
-in_no_ends : (ds : Items) (r : ℤ × ℤ) (f : CertFault) → IsSpan ds r → InEnds ds f → ⊥
-in_no_ends ds r f h (inl s) = never (end_at 0 ds) r.0 s.0 h.lo
-in_no_ends ds r f h (inr (inl s)) = never (end_at 1 ds) r.1 s.0 h.hi
-in_no_ends ds r f h (inr (inr (inl s))) = never (get_item 2 ds) s.0 h.only s.1
-in_no_ends ds r f h (inr (inr (inr s))) = in_no_order s.0 s.1 r (both (end_at 0 ds) s.0 r.0 s.2 h.lo) (both (end_at 1 ds) s.1 r.1 s.3 h.hi) s.4 h.order
+free_keys : (p : Place) (ms : Members) (f : CertFault) → AreKnown p ms → InKeys p ms f → ⊥
+free_keys p ms f h s = false≢true (sym s.3 ∙ h s.0 s.1 s.2)
 
-in_no_span : (d : Data) (r : ℤ × ℤ) (f : CertFault) → IsSpanOf d r → InSpan d f → ⊥
-in_no_span d r f h (inl s) = never (as_array d) h.0 s.0 h.1
-in_no_span d r f h (inr s) = in_no_ends s.0 r f (subst (λ ds. IsSpan ds r) (both (as_array d) h.0 s.0 h.1 s.1) h.2) s.2
+free_field : {A : Type 0} (k : Key) (M : Data → A → Type 0) (F : Data → CertFault → Type 0) → Free M F → FreeIn (At k M) (InField k F)
+free_field k M F free ms x f h s = free h.0 x s.2.0 h.2 (subst (λ d. F d s.2.0) (both (field k ms) s.0 h.0 s.1 h.1) s.2.1)
 
-in_no_named : (P : Program) (name : List ℕ) (d : Data) (x : ℕ × (ℤ × ℤ)) (f : CertFault) → IsNamed P name d x → InNamed P name d f → ⊥
-in_no_named P name d x f h (inl s) = never (variable_named P name) x.0 s.0 h.0
-in_no_named P name d x f h (inr s) = in_no_span d x.1 s.0 h.1 s.1
+free_needed : {A : Type 0} (k : Key) (M : Data → A → Type 0) (F : Data → CertFault → Type 0) → Free M F → FreeIn (At k M) (InNeeded k F)
+free_needed k M F free ms x f h (inl s) = never (field k ms) h.0 s.0 h.1
+free_needed k M F free ms x f h (inr s) = free_field k M F free ms x f h s
 
-in_no_members : (P : Program) (ms : Members) (xs : List (ℕ × (ℤ × ℤ))) (f : CertFault) → Named P ms xs → InMembers P ms f → ⊥
-in_no_members P no_members xs f h s = s
-in_no_members P (member name d ms) [] f h s = absurd h
-in_no_members P (member name d ms) (x ∷ xs) f h (inl s) = in_no_named P name d x f h.0 s
-in_no_members P (member name d ms) (x ∷ xs) f h (inr s) = in_no_members P ms xs f h.1 s
+free_default : {A : Type 0} (k : Key) (default : A) (M : Data → A → Type 0) (F : Data → CertFault → Type 0) → Free M F
+    → (ms : Members) (x : A) (f : CertFault) → OrDefault default M (field k ms) x → InField k F ms f → ⊥
+free_default k default M F free ms x f h s = free s.0 x s.2.0 (subst (λ o. OrDefault default M o x) s.1 h) s.2.1
 
-in_no_ranges : (P : Program) (d : Data) (xs : List (ℕ × (ℤ × ℤ))) (f : CertFault) → RangesAt P (Some d) xs → InRanges P d f → ⊥
-in_no_ranges P d xs f h (inl s) = never (as_object d) h.0 s.0 h.1
-in_no_ranges P d xs f h (inr s) = in_no_members P s.0 xs f (subst (λ ms. Named P ms xs) (both (as_object d) h.0 s.0 h.1 s.1) h.2) s.2
+free_object : {A : Type 0} (M : Members → A → Type 0) (F : Members → CertFault → Type 0) → FreeIn M F → Free (IsObject M) (InObject F)
+free_object M F free d x f h (inl s) = never (as_object d) h.0 s.0 h.1
+free_object M F free d x f h (inr s) = free h.0 x f h.2 (subst (λ ms. F ms f) (both (as_object d) s.0 h.0 s.1 h.1) s.2)
 
-in_no_range : (P : Program) (ms : Members) (xs : List (ℕ × (ℤ × ℤ))) (f : CertFault) → RangesAt P (field Range ms) xs → InField Range (InRanges P) ms f → ⊥
-in_no_range P ms xs f h s = in_no_ranges P s.0 xs s.2.0 (subst (λ o. RangesAt P o xs) s.1 h) s.2.1
+free_list : {A : Type 0} (M : Items → A → Type 0) (F : Items → CertFault → Type 0) → FreeOf M F → Free (IsList M) (InList F)
+free_list M F free d x f h (inl s) = never (as_array d) h.0 s.0 h.1
+free_list M F free d x f h (inr s) = free h.0 x f h.2 (subst (λ ds. F ds f) (both (as_array d) s.0 h.0 s.1 h.1) s.2)
 
--- what holds of each fails of none
-all_not_any : {A : Type 0} (Q : A → Type 0) (xs : List A) → All Q xs → Any (λ x. Q x → ⊥) xs → ⊥
-all_not_any Q xs all s = s.4 (subst Q s.3 (all s.0 s.1 s.2))
+entry_there : {A : Type 0} (M : Data → A → Type 0) (ds : Items) (xs : List A) (i : ℕ) (d : Data) → EachEntry M ds xs → get_item i ds ≡ Some d → (x : A) × M d x
+entry_there M no_items xs i d h e = absurd (never None d refl e)
+entry_there M (item y ds) [] i d h e = absurd h
+entry_there M (item y ds) (x ∷ xs) zero d h e = (x, subst (λ z. M z x) (both (Some y) y d refl e) h.0)
+entry_there M (item y ds) (x ∷ xs) (suc i) d h e = entry_there M ds xs i d h.1 e
 
-in_no_plain : (P : Program) (ms : Members) (note : Note) (f : CertFault) → IsPlain P ms note → InPlain P ms f → ⊥
-in_no_plain P ms note f h (inl (inl s)) = in_no_keys place.Note ms f h.1.only s
-in_no_plain P ms note f h (inl (inr (inl s))) = in_no_crit ms h.0.crit f h.1.crit s
-in_no_plain P ms note f h (inl (inr (inr s))) = in_no_range P ms h.0.ranges f h.1.ranges s
-in_no_plain P ms note f h (inr s) = all_not_any (IsInside P) s.0.ranges (subst (λ t. All (IsInside P) t.ranges) (one_text P ms h.0 s.0 h.1 s.1) h.2) s.2
+free_entries : {A : Type 0} (M : Data → A → Type 0) (F : Data → CertFault → Type 0) → Free M F → FreeOf (EachEntry M) (InEntries F)
+free_entries M F free ds xs f h s =
+    let there = entry_there M ds xs s.0 s.1 h s.2 in
+    free s.1 there.0 s.3.0 there.1 s.3.1
 
-in_no_note : (P : Program) (d : Data) (note : Note) (f : CertFault) → IsNote P d note → InNote P d f → ⊥
-in_no_note P d note f (inl h) (inl s) = never (as_object d) h.0 s.0 h.1
-in_no_note P d note f (inl h) (inr s) = in_no_plain P s.0 note f (subst (λ ms. IsPlain P ms note) (both (as_object d) h.0 s.0 h.1 s.1) h.2) s.2
-in_no_note P d note f (inr h) (inl s) = s.1 h.0
-in_no_note P d note f (inr h) (inr s) = apart d s.0 (codes "never") s.1 h.0
+free_members : {A : Type 0} (M : List ℕ → Data → A → Type 0) (F : List ℕ → Data → CertFault → Type 0) → ((name : List ℕ) → Free (M name) (F name)) → FreeIn (EachMember M) (InMembers F)
+free_members M F free no_members xs f h s = s
+free_members M F free (member name d ms) [] f h s = absurd h
+free_members M F free (member name d ms) (x ∷ xs) f h (inl s) = free name d x f h.0 s
+free_members M F free (member name d ms) (x ∷ xs) f h (inr s) = free_members M F free ms xs f h.1 s
 
-note_there : (P : Program) (ds : Items) (notes : List Note) (i : ℕ) (d : Data) → EachNote P ds notes → get_item i ds ≡ Some d → (n : Note) × IsNote P d n
-note_there P no_items notes i d h e = absurd (never None d refl e)
-note_there P (item y ds) [] i d h e = absurd h
-note_there P (item y ds) (n ∷ notes) zero d h e = (n, subst (λ z. IsNote P z n) (both (Some y) y d refl e) h.0)
-note_there P (item y ds) (n ∷ notes) (suc i) d h e = note_there P ds notes i d h.1 e
+free_named : {A : Type 0} (named : List ℕ → Option ℕ) (M : Data → A → Type 0) (F : Data → CertFault → Type 0) → Free M F
+    → (name : List ℕ) (d : Data) (n : ℕ) (x : A) (f : CertFault) → named name ≡ Some n → M d x → InNamed named F name d f → ⊥
+free_named named M F free name d n x f is h (inl s) = never (named name) n s.0 is
+free_named named M F free name d n x f is h (inr s) = free d x s.0 h s.1
 
-in_no_notes : (P : Program) (d : Data) (notes : List Note) (f : CertFault) → NotesAt P (Some d) notes → InNotes P d f → ⊥
-in_no_notes P d notes f h (inl s) = never (as_array d) h.0 s.0 h.1
-in_no_notes P d notes f h (inr (ds, is, inl s)) =
-    let same : h.0 ≡ ds = both (as_array d) h.0 ds h.1 is in
-    s.0 (sym (each_length P ds notes (subst (λ l. EachNote P l notes) same h.2)) ∙ h.3)
-in_no_notes P d notes f h (inr (ds, is, inr s)) =
-    let same : h.0 ≡ ds = both (as_array d) h.0 ds h.1 is in
-    let there = note_there P ds notes s.0 s.1 (subst (λ l. EachNote P l notes) same h.2) s.2 in
-    in_no_note P s.1 there.0 s.3.0 there.1 s.3.1
+free_name : (named : List ℕ → Option ℕ) → Free (Names named) (InName named)
+free_name named d n f h (inl s) = never (as_str d) h.0 s.0 h.1
+free_name named d n f h (inr s) = never (named h.0) n (subst (λ t. named t ≡ None) (both (as_str d) s.0 h.0 s.1 h.1) s.2) h.2
 
-in_no_list : (P : Program) (ms : Members) (notes : List Note) (f : CertFault) → NotesAt P (field Notes ms) notes → InNeeded Notes (InNotes P) ms f → ⊥
-in_no_list P ms notes f h (inl s) = subst (λ o. NotesAt P o notes) s.0 h
-in_no_list P ms notes f h (inr s) = in_no_notes P s.0 notes s.2.0 (subst (λ o. NotesAt P o notes) s.1 h) s.2.1
+free_depth : Free IsDepth InDepth
+free_depth d n f h (inl s) = never (integer_of d) (pos n) s.0 h.0
+free_depth d n f h (inr s) = s.2 n h.1 (both (integer_of d) s.0 (pos n) s.1 h.0)
 
--- what is read at a key is nothing where there is no such key
-nothing_at : {A : Type 0} (R : Data → Option A) (o : Option Data) (x : A) → option_and_then R o ≡ Some x → o ≡ None → ⊥
-nothing_at R o x h none = never (option_and_then R o) x (ap (option_and_then R) none) h
+no_order : (lo hi : ℤ) (r : ℤ × ℤ) → lo ≡ r.0 → hi ≡ r.1 → hi <ℤ lo → r.0 ≤ℤ r.1 → ⊥
+no_order lo hi r p q less most = absurd (omega (arith, ints, p, q, less, most))
 
-there_at : {A : Type 0} (R : Data → Option A) (o : Option Data) (d : Data) (x : A) → option_and_then R o ≡ Some x → o ≡ Some d → R d ≡ Some x
-there_at R o d x h some = sym (ap (option_and_then R) some) ∙ h
+free_ends : FreeOf AreEnds InEnds
+free_ends ds r f h (inl s) = never (end_at 0 ds) r.0 s.0 h.lo
+free_ends ds r f h (inr (inl s)) = never (end_at 1 ds) r.1 s.0 h.hi
+free_ends ds r f h (inr (inr (inl s))) = never (get_item 2 ds) s.0 h.only s.1
+free_ends ds r f h (inr (inr (inr s))) = no_order s.0 s.1 r (both (end_at 0 ds) s.0 r.0 s.2 h.lo) (both (end_at 1 ds) s.1 r.1 s.3 h.hi) s.4 h.order
 
-in_no_one : (d : Data) (f : CertFault) → integer_of d ≡ Some (pos 1) → InVersion d f → ⊥
-in_no_one d f h (inl s) = never (integer_of d) (pos 1) s.0 h
-in_no_one d f h (inr s) = s.2 (both (integer_of d) s.0 (pos 1) s.1 h)
+free_span : Free IsSpan InSpan
+free_span = free_list AreEnds InEnds free_ends
 
-in_no_version : (ms : Members) (f : CertFault) → option_and_then integer_of (field Version ms) ≡ Some (pos 1) → InNeeded Version InVersion ms f → ⊥
-in_no_version ms f h (inl s) = nothing_at integer_of (field Version ms) (pos 1) h s.0
-in_no_version ms f h (inr s) = in_no_one s.0 s.2.0 (there_at integer_of (field Version ms) s.0 (pos 1) h s.1) s.2.1
+-- ---- notes
 
-in_no_empty : (d : Data) (f : CertFault) → as_array d ≡ Some no_items → InGuards d f → ⊥
-in_no_empty d f h (inl s) = never (as_array d) no_items s.0 h
-in_no_empty d f h (inr s) = never (get_item 0 s.0) s.1 (ap (get_item 0) (both (as_array d) s.0 no_items s.2 h)) s.3
+free_count : (P : Program) (name : List ℕ) → Free (IsHeldCount P name) (InNamed (object_named P) InDepth name)
+free_count P name d x f h s = free_named (object_named P) IsDepth InDepth free_depth name d x.0 x.1 f h.0 h.1 s
 
-in_no_guards : (ms : Members) (f : CertFault) → option_and_then as_array (field Ends ms) ≡ Some no_items → InNeeded Ends InGuards ms f → ⊥
-in_no_guards ms f h (inl s) = nothing_at as_array (field Ends ms) no_items h s.0
-in_no_guards ms f h (inr s) = in_no_empty s.0 s.2.0 (there_at as_array (field Ends ms) s.0 no_items h s.1) s.2.1
+free_range : (P : Program) (name : List ℕ) → Free (IsRange P name) (InNamed (variable_named P) InSpan name)
+free_range P name d x f h s = free_named (variable_named P) IsSpan InSpan free_span name d x.0 x.1 f h.0 h.1 s
 
-in_no_certificate : (P : Program) (ms : Members) (C : Certificate) (f : CertFault) → IsCertificate P ms C → InCertificate P ms f → ⊥
-in_no_certificate P ms C f h (inl s) = in_no_keys place.Certificate ms f h.only s
-in_no_certificate P ms C f h (inr (inl s)) = in_no_version ms f h.version s
-in_no_certificate P ms C f h (inr (inr (inl s))) = in_no_guards ms f h.ends s
-in_no_certificate P ms C f h (inr (inr (inr s))) = in_no_list P ms C.notes f h.notes s
+free_names : (P : Program) → Free (IsList (EachEntry (Names (object_named P)))) (InList (InEntries (InName (object_named P))))
+free_names P = free_list (EachEntry (Names (object_named P))) (InEntries (InName (object_named P))) (free_entries (Names (object_named P)) (InName (object_named P)) (free_name (object_named P)))
 
-in_no_tree : (P : Program) (d : Data) (C : Certificate) (f : CertFault) → IsTree P d C → InTree P d f → ⊥
-in_no_tree P d C f h (inl s) = never (as_object d) h.0 s.0 h.1
-in_no_tree P d C f h (inr s) = in_no_certificate P s.0 C f (subst (λ ms. IsCertificate P ms C) (both (as_object d) h.0 s.0 h.1 s.1) h.2) s.2
+free_counts : (P : Program) → Free (IsObject (EachMember (IsHeldCount P))) (InObject (InMembers (InNamed (object_named P) InDepth)))
+free_counts P = free_object (EachMember (IsHeldCount P)) (InMembers (InNamed (object_named P) InDepth)) (free_members (IsHeldCount P) (InNamed (object_named P) InDepth) (free_count P))
 
-in_no_bytes : (P : Program) (bytes : List ℕ) (C : Certificate) (f : CertFault) → Means P bytes C → InBytes bytes f → ⊥
-in_no_bytes P bytes C fault.TooLong h s = absurd (omega (arith, h.text.size, s))
-in_no_bytes P bytes C fault.Json h s = never (read bytes) h.tree (s h.text.utf8) h.text.parsed
-in_no_bytes P bytes C f h s = absurd s
+free_ranges : (P : Program) → Free (IsObject (EachMember (IsRange P))) (InObject (InMembers (InNamed (variable_named P) InSpan)))
+free_ranges P = free_object (EachMember (IsRange P)) (InMembers (InNamed (variable_named P) InSpan)) (free_members (IsRange P) (InNamed (variable_named P) InSpan) (free_range P))
 
-pub no_meaning : (P : Program) (bytes : List ℕ) (f : CertFault) (C : Certificate) → Stands P bytes f → Means P bytes C → ⊥
-no_meaning P bytes f C (inl s) h = in_no_bytes P bytes C f h s
+free_alternative : (P : Program) → FreeIn (IsAlternative P) (InAlternative P)
+free_alternative P ms n f h (inl (inl s)) = free_keys place.Note ms f h.1.only s
+free_alternative P ms n f h (inl (inr (inl s))) = free_default key.Held [] (IsObject (EachMember (IsHeldCount P))) (InObject (InMembers (InNamed (object_named P) InDepth))) (free_counts P) ms h.0.held f h.1.held s
+free_alternative P ms n f h (inl (inr (inr (inl s)))) = free_default key.Crit 0 IsDepth InDepth free_depth ms h.0.crit f h.1.crit s
+free_alternative P ms n f h (inl (inr (inr (inr (inl s))))) = free_default key.Susp 0 IsDepth InDepth free_depth ms h.0.susp f h.1.susp s
+free_alternative P ms n f h (inl (inr (inr (inr (inr (inl s)))))) = free_default key.Live [] (IsList (EachEntry (Names (object_named P)))) (InList (InEntries (InName (object_named P)))) (free_names P) ms h.0.live f h.1.live s
+free_alternative P ms n f h (inl (inr (inr (inr (inr (inr (inl s))))))) = free_default key.Dead [] (IsList (EachEntry (Names (object_named P)))) (InList (InEntries (InName (object_named P)))) (free_names P) ms h.0.dead f h.1.dead s
+free_alternative P ms n f h (inl (inr (inr (inr (inr (inr (inr s))))))) = free_default key.Range [] (IsObject (EachMember (IsRange P))) (InObject (InMembers (InNamed (variable_named P) InSpan))) (free_ranges P) ms h.0.ranges f h.1.ranges s
+free_alternative P ms n f h (inr s) = s.2 (subst (NoteTextFits P) (one_text P ms h.0 s.0 h.1 s.1) h.2)
+
+free_plain : (P : Program) → Free (IsPlainNote P) (InObject (InAlternative P))
+free_plain P = free_object (IsAlternative P) (InAlternative P) (free_alternative P)
+
+-- there are as many things as entries
+pub each_length : {A : Type 0} (M : Data → A → Type 0) (ds : Items) (xs : List A) → EachEntry M ds xs → length xs ≡ items_len ds
+each_length M no_items [] h = refl
+each_length M no_items (x ∷ xs) h = absurd h
+each_length M (item d ds) [] h = absurd h
+each_length M (item d ds) (x ∷ xs) h = ap suc (each_length M ds xs h.1)
+
+free_alternatives : (P : Program) (ds : Items) (note : Note) (f : CertFault) → EachEntry (IsPlainNote P) ds note → 1 ≤ length note → length note ≤ 4 → InAlternatives P ds f → ⊥
+free_alternatives P ds note f h some few (inl (inl s, e)) = absurd (omega (arith, each_length (IsPlainNote P) ds note h, some, s))
+free_alternatives P ds note f h some few (inl (inr s, e)) = absurd (omega (arith, each_length (IsPlainNote P) ds note h, few, s))
+free_alternatives P ds note f h some few (inr s) = free_entries (IsPlainNote P) (InObject (InAlternative P)) (free_plain P) ds note f h s
+
+free_note : (P : Program) (version : ℕ) → Free (IsNote P version) (InNote P version)
+free_note P version d note f (inl h) (inl s) = s.1 h.0
+free_note P version d note f (inl h) (inr (inl s)) = apart d s.0 (codes "never") s.1 h.0
+free_note P version d note f (inl h) (inr (inr s)) = list_apart d s.1 (codes "never") s.2 h.0
+free_note P version d note f (inr (inl h)) (inl s) = never (as_object d) h.1.0 s.0 h.1.1
+free_note P version d note f (inr (inl h)) (inr (inl s)) = free_plain P d h.0 f h.1 (inr s)
+free_note P version d note f (inr (inl h)) (inr (inr s)) = object_apart d h.1.0 s.1 h.1.1 s.2
+free_note P version d note f (inr (inr h)) (inl s) = never (as_array d) h.1.0 (s.2 h.0) h.1.1
+free_note P version d note f (inr (inr h)) (inr (inl s)) = object_apart d s.0 h.1.0 s.1 h.1.1
+free_note P version d note f (inr (inr h)) (inr (inr s)) =
+    free_alternatives P h.1.0 note f h.1.2 h.2 h.3 (subst (λ ds. InAlternatives P ds f) (both (as_array d) s.1 h.1.0 s.2 h.1.1) s.3)
+
+free_notes : (P : Program) (version : ℕ) (ds : Items) (notes : List Note) (f : CertFault) → EachEntry (IsNote P version) ds notes → length notes ≡ length (points_of P) → InNotes P version ds f → ⊥
+free_notes P version ds notes f h same (inl s) = s.0 (sym (each_length (IsNote P version) ds notes h) ∙ same)
+free_notes P version ds notes f h same (inr s) = free_entries (IsNote P version) (InNote P version) (free_note P version) ds notes f h s
+
+-- ---- guards
+
+free_integer : Free (λ d z. integer_of d ≡ Some z) InInteger
+free_integer d z f h s = never (integer_of d) z s.0 h
+
+free_value : (P : Program) (name : List ℕ) → Free (IsTurnValue P name) (InNamed (actor_named P) InInteger name)
+free_value P name d v f h s = free_named (actor_named P) (λ d z. integer_of d ≡ Some z) InInteger free_integer name d v.0 v.1 f h.0 h.1 s
+
+free_values : (P : Program) → FreeIn (AreTurnValues P) (InMembers (InNamed (actor_named P) InInteger))
+free_values P ms values f h s = free_members (IsTurnValue P) (InNamed (actor_named P) InInteger) (free_value P) ms h.0 f h.1 s
+
+-- an object lacks a key that it has
+lacks : {A : Type 0} (k : Key) (M : Data → A → Type 0) (ms : Members) (x : A) → At k M ms x → field k ms ≡ None → ⊥
+lacks k M ms x h none = never (field k ms) h.0 none h.1
+
+free_guard_object : (P : Program) → FreeIn (IsGuardObject P) (InGuardObject P)
+free_guard_object P ms (Sole a) f h (inl (has, inl s)) = free_keys place.Sole ms f h.0 s
+free_guard_object P ms (Sole a) f h (inl (has, inr s)) = free_field key.Sole (Names (actor_named P)) (InName (actor_named P)) (free_name (actor_named P)) ms a f h.1 s
+free_guard_object P ms (Sole a) f h (inr (inl s)) = lacks key.Sole (Names (actor_named P)) ms a h.1 s.0
+free_guard_object P ms (Sole a) f h (inr (inr s)) = lacks key.Sole (Names (actor_named P)) ms a h.1 s.0
+free_guard_object P ms (ByMutex m) f h (inl (has, s)) = unknown place.Mutex key.Sole ms has.0 h.0 has.1 refl
+free_guard_object P ms (ByMutex m) f h (inr (inl (none, has, inl s))) = free_keys place.Mutex ms f h.0 s
+free_guard_object P ms (ByMutex m) f h (inr (inl (none, has, inr s))) = free_field key.Mutex (Names (object_named P)) (InName (object_named P)) (free_name (object_named P)) ms m f h.1 s
+free_guard_object P ms (ByMutex m) f h (inr (inr s)) = lacks key.Mutex (Names (object_named P)) ms m h.1 s.1
+free_guard_object P ms InCritical f h s = h
+free_guard_object P ms (Turn x values) f h (inl (has, s)) = unknown place.Turn key.Sole ms has.0 h.0 has.1 refl
+free_guard_object P ms (Turn x values) f h (inr (inl (none, has, s))) = unknown place.Turn key.Mutex ms has.0 h.0 has.1 refl
+free_guard_object P ms (Turn x values) f h (inr (inr (no_sole, no_mutex, inl s))) = free_keys place.Turn ms f h.0 s
+free_guard_object P ms (Turn x values) f h (inr (inr (no_sole, no_mutex, inr (inl s)))) = free_needed key.Turn (Names (variable_named P)) (InName (variable_named P)) (free_name (variable_named P)) ms x f h.1 s
+free_guard_object P ms (Turn x values) f h (inr (inr (no_sole, no_mutex, inr (inr s)))) =
+    free_needed key.Values (IsObject (AreTurnValues P)) (InObject (InMembers (InNamed (actor_named P) InInteger))) (free_object (AreTurnValues P) (InMembers (InNamed (actor_named P) InInteger)) (free_values P)) ms values f h.2 s
+
+free_guard : (P : Program) → Free (IsGuard P) (InGuard P)
+free_guard P d g f (inl h) (inl s) = s.1 h.0
+free_guard P d g f (inl h) (inr s) = apart d s.0 (codes "critical") s.1 h.0
+free_guard P d g f (inr h) (inl s) = never (as_object d) h.0 s.0 h.1
+free_guard P d g f (inr h) (inr s) = free_object (IsGuardObject P) (InGuardObject P) (free_guard_object P) d g f h (inr s)
+
+-- ---- ends
+
+free_end_name : Free IsEndName InEndName
+free_end_name d end f h s = s.0 end h
+
+free_end : (P : Program) (ms : Members) (e : EndGuard) (f : CertFault) → IsEnd P ms e → EndFits P e → InEnd P ms f → ⊥
+free_end P ms e f h fits (inl s) = free_keys place.End ms f h.only s
+free_end P ms e f h fits (inr (inl s)) = free_needed key.Buffer (Names (object_named P)) (InName (object_named P)) (free_name (object_named P)) ms e.buffer f h.buffer s
+free_end P ms e f h fits (inr (inr (inl s))) = free_needed key.End IsEndName InEndName free_end_name ms e.end f h.end s
+free_end P ms e f h fits (inr (inr (inr (inl s)))) = free_needed key.Guard (IsGuard P) (InGuard P) (free_guard P) ms e.guard f h.guard s
+free_end P ms e f h fits (inr (inr (inr (inr s)))) = s.2 (subst (EndFits P) (one_end P ms e s.0 h s.1) fits)
+
+free_end_value : (P : Program) → Free (λ d e. IsObject (IsEnd P) d e × EndFits P e) (InObject (InEnd P))
+free_end_value P d e f h (inl s) = never (as_object d) h.0.0 s.0 h.0.1
+free_end_value P d e f h (inr s) = free_end P h.0.0 e f h.0.2 h.1 (subst (λ ms. InEnd P ms f) (both (as_object d) s.0 h.0.0 s.1 h.0.1) s.2)
+
+-- what the entries mean, each with what holds of all of it
+each_with : {A : Type 0} (M : Data → A → Type 0) (Q : A → Type 0) (ds : Items) (xs : List A) → EachEntry M ds xs → All Q xs → EachEntry (λ d x. M d x × Q x) ds xs
+each_with M Q no_items [] h all = tt
+each_with M Q no_items (x ∷ xs) h all = absurd h
+each_with M Q (item d ds) [] h all = absurd h
+each_with M Q (item d ds) (x ∷ xs) h all = ((h.0, All-head Q x xs all), each_with M Q ds xs h.1 (All-tail Q x xs all))
+
+free_all_ends : (P : Program) (ds : Items) (es : List EndGuard) (f : CertFault) → EachEntry (IsObject (IsEnd P)) ds es → EndsFit P es → InAllEnds P ds f → ⊥
+free_all_ends P ds es f h fit (inl s) =
+    free_entries (λ d e. IsObject (IsEnd P) d e × EndFits P e) (InObject (InEnd P)) (free_end_value P) ds es f (each_with (IsObject (IsEnd P)) (EndFits P) ds es h fit.0) s
+free_all_ends P ds es f h fit (inr s) = s.2 (subst (λ l. AllPairs (λ e g. AreOfOneEnd e g → ⊥) l) (one_ends_list P ds es s.0 h s.1) fit.1)
+
+free_ends_value : (P : Program) → Free (λ d es. IsList (EachEntry (IsObject (IsEnd P))) d es × EndsFit P es) (InList (InAllEnds P))
+free_ends_value P d es f h (inl s) = never (as_array d) h.0.0 s.0 h.0.1
+free_ends_value P d es f h (inr s) = free_all_ends P h.0.0 es f h.0.2 h.1 (subst (λ ds. InAllEnds P ds f) (both (as_array d) s.0 h.0.0 s.1 h.0.1) s.2)
+
+-- ---- the whole
+
+free_version : Free IsVersion InVersion
+free_version d v f h (inl s) = never (integer_of d) (pos v) s.0 h.0
+free_version d v f (h, inl is) (inr s) = s.2 (both (integer_of d) s.0 (pos v) s.1 h ∙ ap pos is)
+free_version d v f (h, inr is) (inr s) = s.3 (both (integer_of d) s.0 (pos v) s.1 h ∙ ap pos is)
+
+free_notes_value : (P : Program) (version : ℕ) → Free (λ d notes. IsList (EachEntry (IsNote P version)) d notes × (length notes ≡ length (points_of P))) (InList (InNotes P version))
+free_notes_value P version d notes f h (inl s) = never (as_array d) h.0.0 s.0 h.0.1
+free_notes_value P version d notes f h (inr s) = free_notes P version h.0.0 notes f h.0.2 h.1 (subst (λ ds. InNotes P version ds f) (both (as_array d) s.0 h.0.0 s.1 h.0.1) s.2)
+
+free_certificate : (P : Program) → FreeIn (IsCertificate P) (InCertificate P)
+free_certificate P ms C f h (inl s) = free_keys place.Certificate ms f h.only s
+free_certificate P ms C f h (inr (inl s)) = free_needed key.Version IsVersion InVersion free_version ms h.version f h.numbered s
+free_certificate P ms C f h (inr (inr (inl s))) =
+    free_needed key.Ends (λ d es. IsList (EachEntry (IsObject (IsEnd P))) d es × EndsFit P es) (InList (InAllEnds P)) (free_ends_value P) ms C.ends f (h.ends.0, h.ends.1, (h.ends.2, h.fit)) s
+free_certificate P ms C f h (inr (inr (inr s))) =
+    let version : s.0 ≡ h.version = one_at key.Version IsVersion one_version ms s.0 h.version s.1 h.numbered in
+    let there : InNeeded key.Notes (InList (InNotes P h.version)) ms f = subst (λ v. InNeeded key.Notes (InList (InNotes P v)) ms f) version s.2 in
+    free_needed key.Notes (λ d notes. IsList (EachEntry (IsNote P h.version)) d notes × (length notes ≡ length (points_of P))) (InList (InNotes P h.version)) (free_notes_value P h.version) ms C.notes f
+    (h.notes.0, h.notes.1, (h.notes.2, h.points)) there
+
+free_bytes : (P : Program) (bytes : List ℕ) (C : Certificate) (f : CertFault) → Means P bytes C → InBytes bytes f → ⊥
+free_bytes P bytes C fault.TooLong h s = absurd (omega (arith, h.text.size, s))
+free_bytes P bytes C fault.Json h s = never (read bytes) h.tree (s h.text.utf8) h.text.parsed
+free_bytes P bytes C f h s = absurd s
+
+pub no_meaning : (P : Program) (bytes : List ℕ) (f : CertFault) (C : Certificate) → IsPresent P bytes f → Means P bytes C → ⊥
+no_meaning P bytes f C (inl s) h = free_bytes P bytes C f h s
 no_meaning P bytes f C (inr s) h =
-    in_no_tree P s.0 C f (subst (λ d. IsTree P d C) (both (read bytes) h.tree s.0 h.text.parsed s.1.parsed) h.stands) s.2
+    free_object (IsCertificate P) (InCertificate P) (free_certificate P) h.tree C f h.means (subst (λ d. InTree P d f) (both (read bytes) s.0 h.tree s.1.parsed h.text.parsed) s.2)

@@ -1,17 +1,26 @@
--- One meaning at the most, and none where a fault stands.
-use Rattle.std.proofs.Common.{◌≡◌, ℕ, ℤ, zero, suc, pos, List, [], ◌∷◌, Option, Some, None, All, codes, refl, sym, ap, ◌∙◌, subst, inl, inr, arith}
+-- A text means one certificate at the most: at each level, a value means one thing.
+use Rattle.std.proofs.Common.{◌≡◌, ◌<◌, ◌+◌, ℕ, ℤ, zero, suc, pos, List, [], ◌∷◌, Bool, true, false, Option, Some, None, AllPairs, bytes_eq, codes, cond, nat_eq, length, get_or, refl, sym, ap, ◌∙◌, subst, inl, inr, arith}
+use Rattle.std.proofs.lemmas.Bool.{false≢true}
+use Rattle.std.proofs.lemmas.Bool.Decides.{Decides-eqb}
 use Rattle.std.proofs.lemmas.Option.{same_Some}
+use Rattle.std.proofs.lemmas.Slice.Eq.{bytes_eq-Decides}
 use Rattle.serde_json.specs.Data.{Data, Items, no_items, item, Members, no_members, member, null, boolean, number, string, array, object}
 use Rattle.serde_json.specs.Find.{as_array, as_object, as_str}
 use Rattle.serde_json.specs.Read.{read}
 use Rattle.fr_program.specs.Program.{Program}
-use Rattle.fr_notes.specs.Note.{Note}
-use Rattle.fr_ends.specs.Certificate.{Certificate}
-use Rattle.fr_ends.specs.Guard.{EndGuard}
-use Rattle.fr_cert.specs.Keys.{field, integer_of, end_at, variable_named}
-use Rattle.fr_cert.specs.Meaning.{NoteText, IsDepthAt, IsSpan, IsSpanOf, IsNamed, Named, RangesAt, IsNoteText, note_said, IsNote, EachNote, NotesAt, IsCertificate, IsTree, Means}
-use Rattle.fr_cert.specs.Written.{IsSaid}
-use Rattle.fr_cert.specs.declared.key.Key.TheVariants.{Notes, Crit, Range}
+use Rattle.fr_calls.specs.declared.buffer_end.End.{End as BufferEnd}
+use Rattle.fr_calls.specs.declared.buffer_end.End.TheVariants.{Writer, Reader}
+use Rattle.fr_notes.specs.Note.{Alternative, Note}
+use Rattle.fr_ends.specs.Certificate.{Certificate, value_for}
+use Rattle.fr_ends.specs.Guard.{Guard, Sole, ByMutex, InCritical, Turn, EndGuard}
+use Rattle.fr_ends.specs.Fits.{AreRising}
+use Rattle.fr_cert.specs.Keys.{AreKnown, is_key_of, key_text, field, integer_of, end_at, variable_named, object_named, actor_named}
+use Rattle.fr_cert.specs.Shapes.{At, OrDefault, IsObject, IsList, EachEntry, EachMember, Names, IsDepth, AreEnds, IsSpan}
+use Rattle.fr_cert.specs.Meaning.{NoteText, IsHeldCount, IsRange, AreNamed, IsNoteText, note_said, IsAlternative, IsPlainNote, IsNote, IsTurnValue, AreTurnValues, IsGuardObject, IsGuard, IsEndName, IsEnd, IsVersion, IsCertificate, IsTree, Means}
+use Rattle.fr_cert.specs.declared.key.Key.{Key}
+use Rattle.fr_cert.specs.declared.key.Key.TheVariants as key
+use Rattle.fr_cert.specs.declared.key.Place.{Place}
+use Rattle.fr_cert.specs.declared.key.Place.TheVariants as place
 
 -- two values that one place has are the same
 pub both : {A : Type 0} (o : Option A) (x y : A) → o ≡ Some x → o ≡ Some y → x ≡ y
@@ -20,48 +29,96 @@ both o x y p q = same_Some x y (sym p ∙ q)
 pub never : {A : Type 0} (o : Option A) (x : A) → o ≡ None → o ≡ Some x → ⊥
 never o x p q = let e = sym p ∙ q in cc
 
-one_depth : (o : Option Data) (n m : ℕ) → IsDepthAt o n → IsDepthAt o m → n ≡ m
-one_depth None n m h k = h ∙ sym k
-one_depth (Some d) n m h k = let e : pos n ≡ pos m = both (integer_of d) (pos n) (pos m) h.0 k.0 in cc
-
 pair : {A B : Type 0} (x y : A × B) → x.0 ≡ y.0 → x.1 ≡ y.1 → x ≡ y
 pair x y p q =
     let whole : (x.0, x.1) ≡ (y.0, y.1) = rw (p, q) refl in
     whole
 
-one_span : (d : Data) (r s : ℤ × ℤ) → IsSpanOf d r → IsSpanOf d s → r ≡ s
-one_span d r s h k =
-    let list : h.0 ≡ k.0 = both (as_array d) h.0 k.0 h.1 k.1 in
-    let there : IsSpan h.0 s = subst (λ ds. IsSpan ds s) (sym list) k.2 in
-    pair r s (both (end_at 0 h.0) r.0 s.0 h.2.lo there.lo) (both (end_at 1 h.0) r.1 s.1 h.2.hi there.hi)
+-- ---- values by their shape
 
-one_named : (P : Program) (name : List ℕ) (d : Data) (x y : ℕ × (ℤ × ℤ)) → IsNamed P name d x → IsNamed P name d y → x ≡ y
-one_named P name d x y h k = pair x y (both (variable_named P name) x.0 y.0 h.0 k.0) (one_span d x.1 y.1 h.1 k.1)
+-- a value means one thing at the most
+abbrev One : {A : Type 0} → (Data → A → Type 0) → Type 0
+One {A} M = (d : Data) (x y : A) → M d x → M d y → x ≡ y
 
-all_named : (P : Program) (ms : Members) (xs ys : List (ℕ × (ℤ × ℤ))) → Named P ms xs → Named P ms ys → xs ≡ ys
-all_named P no_members [] [] h k = refl
-all_named P no_members [] (y ∷ ys) h k = absurd k
-all_named P no_members (x ∷ xs) ys h k = absurd h
-all_named P (member name d ms) [] ys h k = absurd h
-all_named P (member name d ms) (x ∷ xs) [] h k = absurd k
-all_named P (member name d ms) (x ∷ xs) (y ∷ ys) h k = rw (one_named P name d x y h.0 k.0, all_named P ms xs ys h.1 k.1) refl
+-- so do the members of an object
+abbrev OneIn : {A : Type 0} → (Members → A → Type 0) → Type 0
+OneIn {A} M = (ms : Members) (x y : A) → M ms x → M ms y → x ≡ y
 
-one_ranges : (P : Program) (o : Option Data) (xs ys : List (ℕ × (ℤ × ℤ))) → RangesAt P o xs → RangesAt P o ys → xs ≡ ys
-one_ranges P None xs ys h k = h ∙ sym k
-one_ranges P (Some d) xs ys h k =
-    let object_ : h.0 ≡ k.0 = both (as_object d) h.0 k.0 h.1 k.1 in
-    all_named P h.0 xs ys h.2 (subst (λ ms. Named P ms ys) (sym object_) k.2)
+-- and the entries of a list
+abbrev OneOf : {A : Type 0} → (Items → A → Type 0) → Type 0
+OneOf {A} M = (ds : Items) (x y : A) → M ds x → M ds y → x ≡ y
 
-abbrev text_made : ℕ → List (ℕ × (ℤ × ℤ)) → NoteText
-text_made n xs = record { crit = n; ranges = xs }
+pub one_at : {A : Type 0} (k : Key) (M : Data → A → Type 0) → One M → OneIn (At k M)
+one_at k M one ms x y h g = one h.0 x y h.2 (subst (λ d. M d y) (both (field k ms) g.0 h.0 g.1 h.1) g.2)
 
-pub one_text : (P : Program) (ms : Members) (t u : NoteText) → IsNoteText P ms t → IsNoteText P ms u → t ≡ u
-one_text P ms t u h k =
-    let whole : text_made t.crit t.ranges ≡ text_made u.crit u.ranges =
-    rw (one_depth (field Crit ms) t.crit u.crit h.crit k.crit, one_ranges P (field Range ms) t.ranges u.ranges h.ranges k.ranges) refl in
+one_default : {A : Type 0} (default : A) (M : Data → A → Type 0) → One M → (o : Option Data) (x y : A) → OrDefault default M o x → OrDefault default M o y → x ≡ y
+one_default default M one None x y h g = h ∙ sym g
+one_default default M one (Some d) x y h g = one d x y h g
+
+one_object : {A : Type 0} (M : Members → A → Type 0) → OneIn M → One (IsObject M)
+one_object M one d x y h g = one h.0 x y h.2 (subst (λ ms. M ms y) (both (as_object d) g.0 h.0 g.1 h.1) g.2)
+
+one_list : {A : Type 0} (M : Items → A → Type 0) → OneOf M → One (IsList M)
+one_list M one d x y h g = one h.0 x y h.2 (subst (λ ds. M ds y) (both (as_array d) g.0 h.0 g.1 h.1) g.2)
+
+one_entries : {A : Type 0} (M : Data → A → Type 0) → One M → OneOf (EachEntry M)
+one_entries M one no_items [] [] h g = refl
+one_entries M one no_items [] (y ∷ ys) h g = absurd g
+one_entries M one no_items (x ∷ xs) ys h g = absurd h
+one_entries M one (item d ds) [] ys h g = absurd h
+one_entries M one (item d ds) (x ∷ xs) [] h g = absurd g
+one_entries M one (item d ds) (x ∷ xs) (y ∷ ys) h g = rw (one d x y h.0 g.0, one_entries M one ds xs ys h.1 g.1) refl
+
+one_members : {A : Type 0} (M : List ℕ → Data → A → Type 0) → ((name : List ℕ) → One (M name)) → OneIn (EachMember M)
+one_members M one no_members [] [] h g = refl
+one_members M one no_members [] (y ∷ ys) h g = absurd g
+one_members M one no_members (x ∷ xs) ys h g = absurd h
+one_members M one (member name d ms) [] ys h g = absurd h
+one_members M one (member name d ms) (x ∷ xs) [] h g = absurd g
+one_members M one (member name d ms) (x ∷ xs) (y ∷ ys) h g = rw (one name d x y h.0 g.0, one_members M one ms xs ys h.1 g.1) refl
+
+one_name : (named : List ℕ → Option ℕ) → One (Names named)
+one_name named d x y h g = both (named h.0) x y h.2 (subst (λ s. named s ≡ Some y) (both (as_str d) g.0 h.0 g.1 h.1) g.2)
+
+one_depth : One IsDepth
+one_depth d n m h g = let e : pos n ≡ pos m = both (integer_of d) (pos n) (pos m) h.0 g.0 in cc
+
+one_ends : OneOf AreEnds
+one_ends ds r s h g = pair r s (both (end_at 0 ds) r.0 s.0 h.lo g.lo) (both (end_at 1 ds) r.1 s.1 h.hi g.hi)
+
+-- ---- notes
+
+one_count : (P : Program) (name : List ℕ) → One (IsHeldCount P name)
+one_count P name d x y h g = pair x y (both (object_named P name) x.0 y.0 h.0 g.0) (one_depth d x.1 y.1 h.1 g.1)
+
+one_range : (P : Program) (name : List ℕ) → One (IsRange P name)
+one_range P name d x y h g = pair x y (both (variable_named P name) x.0 y.0 h.0 g.0) (one_list AreEnds one_ends d x.1 y.1 h.1 g.1)
+
+one_named : (P : Program) → One (AreNamed P)
+one_named P = one_list (EachEntry (Names (object_named P))) (one_entries (Names (object_named P)) (one_name (object_named P)))
+
+abbrev text_made : List (ℕ × ℕ) → ℕ → ℕ → List ℕ → List ℕ → List (ℕ × (ℤ × ℤ)) → NoteText
+text_made held crit susp live dead ranges = record { held = held; crit = crit; susp = susp; live = live; dead = dead; ranges = ranges }
+
+pub one_text : (P : Program) → OneIn (IsNoteText P)
+one_text P ms t u h g =
+    let held = one_default [] (IsObject (EachMember (IsHeldCount P))) (one_object (EachMember (IsHeldCount P)) (one_members (IsHeldCount P) (one_count P))) (field key.Held ms) t.held u.held h.held g.held in
+    let crit = one_default 0 IsDepth one_depth (field key.Crit ms) t.crit u.crit h.crit g.crit in
+    let susp = one_default 0 IsDepth one_depth (field key.Susp ms) t.susp u.susp h.susp g.susp in
+    let live = one_default [] (AreNamed P) (one_named P) (field key.Live ms) t.live u.live h.live g.live in
+    let dead = one_default [] (AreNamed P) (one_named P) (field key.Dead ms) t.dead u.dead h.dead g.dead in
+    let ranges = one_default [] (IsObject (EachMember (IsRange P))) (one_object (EachMember (IsRange P)) (one_members (IsRange P) (one_range P))) (field key.Range ms) t.ranges u.ranges h.ranges g.ranges in
+    let whole : text_made t.held t.crit t.susp t.live t.dead t.ranges ≡ text_made u.held u.crit u.susp u.live u.dead u.ranges =
+    rw (held, crit, susp, live, dead, ranges) refl in
     whole
 
--- no value is both an object and a text
+one_alternative : (P : Program) → OneIn (IsAlternative P)
+one_alternative P ms n m h g = h.3 ∙ ap (note_said P) (one_text P ms h.0 g.0 h.1 g.1) ∙ sym g.3
+
+one_plain : (P : Program) → One (IsPlainNote P)
+one_plain P = one_object (IsAlternative P) (one_alternative P)
+
+-- no value is two of an object, a list and a text
 pub apart : (d : Data) (ms : Members) (s : List ℕ) → as_object d ≡ Some ms → as_str d ≡ Some s → ⊥
 apart null ms s h k = cc
 apart (boolean b) ms s h k = cc
@@ -70,67 +127,180 @@ apart (string t) ms s h k = cc
 apart (array ds) ms s h k = cc
 apart (object m) ms s h k = cc
 
-one_note : (P : Program) (d : Data) (x y : Note) → IsNote P d x → IsNote P d y → x ≡ y
-one_note P d x y (inl h) (inl k) =
-    let object_ : h.0 ≡ k.0 = both (as_object d) h.0 k.0 h.1 k.1 in
-    let text : h.2.0 ≡ k.2.0 = one_text P h.0 h.2.0 k.2.0 h.2.1 (subst (λ ms. IsNoteText P ms k.2.0) (sym object_) k.2.1) in
-    h.2.3 ∙ ap (λ t. note_said P t ∷ []) text ∙ sym k.2.3
-one_note P d x y (inl h) (inr k) = absurd (apart d h.0 (codes "never") h.1 k.0)
-one_note P d x y (inr h) (inl k) = absurd (apart d k.0 (codes "never") k.1 h.0)
-one_note P d x y (inr h) (inr k) = h.1 ∙ sym k.1
+pub list_apart : (d : Data) (ds : Items) (s : List ℕ) → as_array d ≡ Some ds → as_str d ≡ Some s → ⊥
+list_apart null ds s h k = cc
+list_apart (boolean b) ds s h k = cc
+list_apart (number n) ds s h k = cc
+list_apart (string t) ds s h k = cc
+list_apart (array es) ds s h k = cc
+list_apart (object m) ds s h k = cc
 
-each_one : (P : Program) (ds : Items) (xs ys : List Note) → EachNote P ds xs → EachNote P ds ys → xs ≡ ys
-each_one P no_items [] [] h k = refl
-each_one P no_items [] (y ∷ ys) h k = absurd k
-each_one P no_items (x ∷ xs) ys h k = absurd h
-each_one P (item d ds) [] ys h k = absurd h
-each_one P (item d ds) (x ∷ xs) [] h k = absurd k
-each_one P (item d ds) (x ∷ xs) (y ∷ ys) h k = rw (one_note P d x y h.0 k.0, each_one P ds xs ys h.1 k.1) refl
+pub object_apart : (d : Data) (ms : Members) (ds : Items) → as_object d ≡ Some ms → as_array d ≡ Some ds → ⊥
+object_apart null ms ds h k = cc
+object_apart (boolean b) ms ds h k = cc
+object_apart (number n) ms ds h k = cc
+object_apart (string t) ms ds h k = cc
+object_apart (array es) ms ds h k = cc
+object_apart (object m) ms ds h k = cc
 
-one_list : (P : Program) (o : Option Data) (xs ys : List Note) → NotesAt P o xs → NotesAt P o ys → xs ≡ ys
-one_list P None xs ys h k = absurd h
-one_list P (Some d) xs ys h k =
-    let list : h.0 ≡ k.0 = both (as_array d) h.0 k.0 h.1 k.1 in
-    each_one P h.0 xs ys h.2 (subst (λ ds. EachNote P ds ys) (sym list) k.2)
+one_note : (P : Program) (version : ℕ) → One (IsNote P version)
+one_note P version d x y (inl h) (inl g) = h.1 ∙ sym g.1
+one_note P version d x y (inl h) (inr (inl g)) = absurd (apart d g.1.0 (codes "never") g.1.1 h.0)
+one_note P version d x y (inl h) (inr (inr g)) = absurd (list_apart d g.1.0 (codes "never") g.1.1 h.0)
+one_note P version d x y (inr (inl h)) (inl g) = absurd (apart d h.1.0 (codes "never") h.1.1 g.0)
+one_note P version d x y (inr (inl h)) (inr (inl g)) = h.2 ∙ ap (λ n. n ∷ []) (one_plain P d h.0 g.0 h.1 g.1) ∙ sym g.2
+one_note P version d x y (inr (inl h)) (inr (inr g)) = absurd (object_apart d h.1.0 g.1.0 h.1.1 g.1.1)
+one_note P version d x y (inr (inr h)) (inl g) = absurd (list_apart d h.1.0 (codes "never") h.1.1 g.0)
+one_note P version d x y (inr (inr h)) (inr (inl g)) = absurd (object_apart d g.1.0 h.1.0 g.1.1 h.1.1)
+one_note P version d x y (inr (inr h)) (inr (inr g)) = one_list (EachEntry (IsPlainNote P)) (one_entries (IsPlainNote P) (one_plain P)) d x y h.1 g.1
+
+-- ---- the values of a turn: lists that rise by actor and give each actor the same are the same
+
+-- the list rises, from actors above this one on
+abbrev pub RisesFrom : ℕ → List (ℕ × ℤ) → Type 0
+RisesFrom least [] = Unit {0}
+RisesFrom least (v ∷ vs) = (least < suc v.0) × RisesFrom (suc v.0) vs
+
+pub rises : (vs : List (ℕ × ℤ)) (least : ℕ) → AreRising vs → ((k : ℕ) (d : ℕ × ℤ) → k < length vs → least < suc (get_or vs k d).0) → RisesFrom least vs
+rises [] least h from = tt
+rises (v ∷ vs) least h from = (
+  from 0 v (omega arith),
+  rises vs (suc v.0) (λ i j d less within. h (suc i) (suc j) d (omega (arith, less)) (omega (arith, within)))
+      (λ k d within. let above : v.0 < (get_or vs k d).0 = h 0 (suc k) d (omega arith) (omega (arith, within)) in omega (arith, above)),
+)
+
+pub none_below : (vs : List (ℕ × ℤ)) (least a : ℕ) → RisesFrom least vs → a < least → value_for vs a ≡ None
+none_below [] least a h less = refl
+none_below (v ∷ vs) least a h less = go (nat_eq v.0 a) refl (none_below vs (suc v.0) a h.1 (omega (arith, h.0, less)))
+  where
+    go : (b : Bool) → nat_eq v.0 a ≡ b → value_for vs a ≡ None → cond b (Some v.1) (value_for vs a) ≡ None
+    go true e rest = let same = (Decides-eqb v.0 a).0 e in absurd (omega (arith, same, h.0, less))
+    go false e rest = rest
+
+first_value : (v : ℕ × ℤ) (vs : List (ℕ × ℤ)) → value_for (v ∷ vs) v.0 ≡ Some v.1
+first_value v vs = ap (λ b. cond b (Some v.1) (value_for vs v.0)) ((Decides-eqb v.0 v.0).1 refl)
+
+later_value : (v : ℕ × ℤ) (vs : List (ℕ × ℤ)) (a : ℕ) → (v.0 ≡ a → ⊥) → value_for (v ∷ vs) a ≡ value_for vs a
+later_value v vs a other = go (nat_eq v.0 a) refl
+  where
+    go : (b : Bool) → nat_eq v.0 a ≡ b → cond b (Some v.1) (value_for vs a) ≡ value_for vs a
+    go true e = absurd (other ((Decides-eqb v.0 a).0 e))
+    go false e = refl
+
+-- the two lists begin with one actor: if one began below the other, that one would lack it
+first_below : (v w : ℕ × ℤ) (vs ws : List (ℕ × ℤ)) (least : ℕ) → RisesFrom least (w ∷ ws) → v.0 < w.0 → value_for (v ∷ vs) v.0 ≡ value_for (w ∷ ws) v.0 → ⊥
+first_below v w vs ws least h less same =
+    never (value_for (w ∷ ws) v.0) v.1 (none_below (w ∷ ws) w.0 v.0 (omega arith, h.1) less) (sym same ∙ first_value v vs)
+
+rising_same : (vs ws : List (ℕ × ℤ)) (least : ℕ) → RisesFrom least vs → RisesFrom least ws → ((a : ℕ) → value_for vs a ≡ value_for ws a) → vs ≡ ws
+rising_same [] [] least h g same = refl
+rising_same [] (w ∷ ws) least h g same = absurd (never (value_for (w ∷ ws) w.0) w.1 (sym (same w.0)) (first_value w ws))
+rising_same (v ∷ vs) [] least h g same = absurd (never (value_for (v ∷ vs) v.0) v.1 (same v.0) (first_value v vs))
+rising_same (v ∷ vs) (w ∷ ws) least h g same =
+    let no_less : v.0 < w.0 → ⊥ = λ less. first_below v w vs ws least g less (same v.0) in
+    let no_more : w.0 < v.0 → ⊥ = λ less. first_below w v ws vs least h less (sym (same w.0)) in
+    let actor : v.0 ≡ w.0 = omega (arith, no_less, no_more) in
+    let value : v.1 ≡ w.1 = same_Some v.1 w.1 (sym (first_value v vs) ∙ same v.0 ∙ ap (value_for (w ∷ ws)) actor ∙ first_value w ws) in
+    let first : v ≡ w = pair v w actor value in
+    let rest : vs ≡ ws = rising_same vs ws (suc v.0) h.1 (subst (λ a. RisesFrom (suc a) ws) (sym actor) g.1) (later first) in
+    rw (first, rest) refl
+  where
+    later : v ≡ w → (a : ℕ) → value_for vs a ≡ value_for ws a
+    later first a = go (nat_eq v.0 a) refl
+      where
+        go : (b : Bool) → nat_eq v.0 a ≡ b → value_for vs a ≡ value_for ws a
+        go true e =
+            let here : v.0 ≡ a = (Decides-eqb v.0 a).0 e in
+            let there : w.0 ≡ a = ap (λ x. x.0) (sym first) ∙ here in
+            none_below vs (suc v.0) a h.1 (omega (arith, here)) ∙ sym (none_below ws (suc w.0) a g.1 (omega (arith, there)))
+        go false e =
+            let other : v.0 ≡ a → ⊥ = λ is. false≢true (sym e ∙ (Decides-eqb v.0 a).1 is) in
+            sym (later_value v vs a other) ∙ same a ∙ later_value w ws a (λ is. other (ap (λ x. x.0) first ∙ is))
+
+-- ---- guards
+
+one_turn_value : (P : Program) (name : List ℕ) → One (IsTurnValue P name)
+one_turn_value P name d x y h g = pair x y (both (actor_named P name) x.0 y.0 h.0 g.0) (both (integer_of d) x.1 y.1 h.1 g.1)
+
+one_turn : (P : Program) → OneIn (AreTurnValues P)
+one_turn P ms x y h g =
+    let given : g.0 ≡ h.0 = one_members (IsTurnValue P) (one_turn_value P) ms g.0 h.0 g.1 h.1 in
+    rising_same x y 0 (rises x 0 h.2 (λ k d within. omega arith)) (rises y 0 g.2 (λ k d within. omega arith))
+    (λ a. h.3 a ∙ sym (g.3 a ∙ ap (λ vs. value_for vs a) given))
+
+-- an object has no key that is unknown at its place
+pub unknown : (p : Place) (k : Key) (ms : Members) (d : Data) → AreKnown p ms → field k ms ≡ Some d → is_key_of p (key_text k) ≡ false → ⊥
+unfolding field
+unknown p k ms d h e hidden = false≢true (sym hidden ∙ h (key_text k) d e)
+
+one_guard_object : (P : Program) → OneIn (IsGuardObject P)
+one_guard_object P ms (Sole a) (Sole b) h g = ap Sole (one_at key.Sole (Names (actor_named P)) (one_name (actor_named P)) ms a b h.1 g.1)
+one_guard_object P ms (Sole a) (ByMutex m) h g = absurd (unknown place.Sole key.Mutex ms g.1.0 h.0 g.1.1 refl)
+one_guard_object P ms (Sole a) InCritical h g = absurd g
+one_guard_object P ms (Sole a) (Turn x vs) h g = absurd (unknown place.Sole key.Turn ms g.1.0 h.0 g.1.1 refl)
+one_guard_object P ms (ByMutex m) (Sole a) h g = absurd (unknown place.Mutex key.Sole ms g.1.0 h.0 g.1.1 refl)
+one_guard_object P ms (ByMutex m) (ByMutex n) h g = ap ByMutex (one_at key.Mutex (Names (object_named P)) (one_name (object_named P)) ms m n h.1 g.1)
+one_guard_object P ms (ByMutex m) InCritical h g = absurd g
+one_guard_object P ms (ByMutex m) (Turn x vs) h g = absurd (unknown place.Mutex key.Turn ms g.1.0 h.0 g.1.1 refl)
+one_guard_object P ms InCritical other h g = absurd h
+one_guard_object P ms (Turn x vs) (Sole a) h g = absurd (unknown place.Turn key.Sole ms g.1.0 h.0 g.1.1 refl)
+one_guard_object P ms (Turn x vs) (ByMutex m) h g = absurd (unknown place.Turn key.Mutex ms g.1.0 h.0 g.1.1 refl)
+one_guard_object P ms (Turn x vs) InCritical h g = absurd g
+one_guard_object P ms (Turn x vs) (Turn y ws) h g =
+    let variable = one_at key.Turn (Names (variable_named P)) (one_name (variable_named P)) ms x y h.1 g.1 in
+    let values = one_at key.Values (IsObject (AreTurnValues P)) (one_object (AreTurnValues P) (one_turn P)) ms vs ws h.2 g.2 in
+    rw (variable, values) refl
+
+one_guard : (P : Program) → One (IsGuard P)
+one_guard P d x y (inl h) (inl g) = h.1 ∙ sym g.1
+one_guard P d x y (inl h) (inr g) = absurd (apart d g.0 (codes "critical") g.1 h.0)
+one_guard P d x y (inr h) (inl g) = absurd (apart d h.0 (codes "critical") h.1 g.0)
+one_guard P d x y (inr h) (inr g) = one_object (IsGuardObject P) (one_guard_object P) d x y h g
+
+-- ---- ends
+
+-- two texts that differ are not the same
+differ : (s t : List ℕ) → bytes_eq s t ≡ false → s ≡ t → ⊥
+differ s t apart_ same = false≢true (sym apart_ ∙ (bytes_eq-Decides s t).1 same)
+
+one_end_name : One IsEndName
+one_end_name d Writer Writer h g = refl
+one_end_name d Writer Reader h g = absurd (differ (codes "writer") (codes "reader") refl (both (as_str d) (codes "writer") (codes "reader") h g))
+one_end_name d Reader Writer h g = absurd (differ (codes "reader") (codes "writer") refl (both (as_str d) (codes "reader") (codes "writer") h g))
+one_end_name d Reader Reader h g = refl
+
+abbrev end_made : ℕ → BufferEnd → Guard → EndGuard
+end_made buffer end guard = record { buffer = buffer; end = end; guard = guard }
+
+pub one_end : (P : Program) → OneIn (IsEnd P)
+one_end P ms e f h g =
+    let buffer = one_at key.Buffer (Names (object_named P)) (one_name (object_named P)) ms e.buffer f.buffer h.buffer g.buffer in
+    let end = one_at key.End IsEndName one_end_name ms e.end f.end h.end g.end in
+    let guard = one_at key.Guard (IsGuard P) (one_guard P) ms e.guard f.guard h.guard g.guard in
+    let whole : end_made e.buffer e.end e.guard ≡ end_made f.buffer f.end f.guard = rw (buffer, end, guard) refl in
+    whole
+
+pub one_ends_list : (P : Program) → OneOf (EachEntry (IsObject (IsEnd P)))
+one_ends_list P = one_entries (IsObject (IsEnd P)) (one_object (IsEnd P) (one_end P))
+
+-- ---- the whole
+
+pub one_version : One IsVersion
+one_version d n m h g = let e : pos n ≡ pos m = both (integer_of d) (pos n) (pos m) h.0 g.0 in cc
 
 abbrev certificate_made : List Note → List EndGuard → Certificate
 certificate_made notes ends = record { notes = notes; ends = ends }
 
-one_certificate : (P : Program) (ms : Members) (C D : Certificate) → IsCertificate P ms C → IsCertificate P ms D → C ≡ D
-one_certificate P ms C D h k =
-    let whole : certificate_made C.notes C.ends ≡ certificate_made D.notes D.ends =
-    rw (one_list P (field Notes ms) C.notes D.notes h.notes k.notes, h.unguarded ∙ sym k.unguarded) refl in
+one_certificate : (P : Program) → OneIn (IsCertificate P)
+one_certificate P ms C D h g =
+    let version = one_at key.Version IsVersion one_version ms h.version g.version h.numbered g.numbered in
+    let ends = one_at key.Ends (IsList (EachEntry (IsObject (IsEnd P)))) (one_list (EachEntry (IsObject (IsEnd P))) (one_ends_list P)) ms C.ends D.ends h.ends g.ends in
+    let there = subst (λ v. At key.Notes (IsList (EachEntry (IsNote P v))) ms D.notes) (sym version) g.notes in
+    let notes = one_at key.Notes (IsList (EachEntry (IsNote P h.version))) (one_list (EachEntry (IsNote P h.version)) (one_entries (IsNote P h.version) (one_note P h.version))) ms C.notes D.notes h.notes there in
+    let whole : certificate_made C.notes C.ends ≡ certificate_made D.notes D.ends = rw (notes, ends) refl in
     whole
 
-pub one_tree : (P : Program) (d : Data) (C D : Certificate) → IsTree P d C → IsTree P d D → C ≡ D
-one_tree P d C D h k =
-    let object_ : h.0 ≡ k.0 = both (as_object d) h.0 k.0 h.1 k.1 in
-    one_certificate P h.0 C D h.2 (subst (λ ms. IsCertificate P ms D) (sym object_) k.2)
-
 pub one_meaning : (P : Program) (bytes : List ℕ) (C D : Certificate) → Means P bytes C → Means P bytes D → C ≡ D
-one_meaning P bytes C D h k =
-    let tree : h.tree ≡ k.tree = both (read bytes) h.tree k.tree h.text.parsed k.text.parsed in
-    one_tree P h.tree C D h.stands (subst (λ d. IsTree P d D) (sym tree) k.stands)
-
--- what a text stands for is what keys can say
-
-note_is_said : (P : Program) (d : Data) (note : Note) → IsNote P d note → IsSaid P note
-note_is_said P d note (inl h) = inr (h.2.0, h.2.3)
-note_is_said P d note (inr h) = inl h.1
-
-one_more : {A : Type 0} (Q : A → Type 0) (x : A) (xs : List A) → Q x → All Q xs → All Q (x ∷ xs)
-one_more Q x xs h more zero d within = h
-one_more Q x xs h more (suc k) d within = more k d (omega (arith, within))
-
-each_is_said : (P : Program) (ds : Items) (notes : List Note) → EachNote P ds notes → All (IsSaid P) notes
-each_is_said P no_items [] h = λ k d within. absurd (omega (arith, within))
-each_is_said P no_items (note ∷ notes) h = absurd h
-each_is_said P (item d ds) [] h = absurd h
-each_is_said P (item d ds) (note ∷ notes) h = one_more (IsSaid P) note notes (note_is_said P d note h.0) (each_is_said P ds notes h.1)
-
-list_is_said : (P : Program) (o : Option Data) (notes : List Note) → NotesAt P o notes → All (IsSaid P) notes
-list_is_said P None notes h = absurd h
-list_is_said P (Some d) notes h = each_is_said P h.0 notes h.2
-
-pub tree_is_said : (P : Program) (d : Data) (C : Certificate) → IsTree P d C → All (IsSaid P) C.notes
-tree_is_said P d C h = list_is_said P (field Notes h.0) C.notes h.2.notes
+one_meaning P bytes C D h g =
+    let tree : g.tree ≡ h.tree = both (read bytes) g.tree h.tree g.text.parsed h.text.parsed in
+    one_object (IsCertificate P) (one_certificate P) h.tree C D h.means (subst (λ d. IsTree P d D) tree g.means)

@@ -3,11 +3,12 @@ use Rattle.std.proofs.Common.{◌≡◌, ℕ, ℤ, List, [], ◌∷◌, ◌++◌
 use Rattle.serde_json.specs.View.{members_view, view}
 use Rattle.serde_json.proofs.Views.{Entry}
 use Rattle.fr_program.specs.Program.{Program}
-use Rattle.fr_cert.specs.Meaning.{IsNamed, Named}
-use Rattle.fr_cert.specs.Faults.{InNamed, InMembers}
+use Rattle.fr_cert.specs.Meaning.{IsRange}
+use Rattle.fr_cert.specs.PlainMeaning.{Named}
+use Rattle.fr_cert.specs.PlainFaults.{InNamed, InMembers}
 use Rattle.fr_cert.specs.declared.fault.CertFault.{CertFault}
 
-pub named_push : (P : Program) (es : List Entry) (e : Entry) (xs : List (ℕ × (ℤ × ℤ))) (x : ℕ × (ℤ × ℤ)) → Named P (members_view es) xs → IsNamed P (string_bytes e.0) (view e.1) x
+pub named_push : (P : Program) (es : List Entry) (e : Entry) (xs : List (ℕ × (ℤ × ℤ))) (x : ℕ × (ℤ × ℤ)) → Named P (members_view es) xs → IsRange P (string_bytes e.0) (view e.1) x
     → Named P (members_view (es ++ e ∷ [])) (xs ++ x ∷ [])
 named_push P [] e [] x h p = (p, tt)
 named_push P [] e (y ∷ xs) x h p = absurd h

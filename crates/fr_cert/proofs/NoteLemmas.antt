@@ -16,10 +16,11 @@ use Rattle.fr_notes.specs.declared.note.NoteParts.{NoteParts}
 use Rattle.fr_notes.specs.declared.fault.NoteFault.{NoteFault}
 use Rattle.fr_notes.specs.declared.fault.NoteFault.TheVariants.{Memory, Count, Lives, Span}
 use Rattle.fr_notes.specs.Note.{Alternative}
-use Rattle.fr_notes.specs.Parts.{said, claim_said, range_in, range_by, range_said, Stands}
-use Rattle.fr_cert.specs.Meaning.{IsNoteText, IsInside, range_at, note_said}
+use Rattle.fr_notes.specs.Parts.{said, claim_said, range_in, range_by, range_said, HasFault}
+use Rattle.fr_cert.specs.PlainMeaning.{IsPlainText, plain_said}
+use Rattle.fr_cert.specs.Meaning.{IsInside, range_at}
 use Rattle.fr_cert.specs.Faults.{Standing}
-use Rattle.fr_cert.specs.Stands.{InPlain}
+use Rattle.fr_cert.specs.PlainStands.{InPlain}
 use Rattle.fr_cert.specs.Views.{named_of, text_of, IsPlainParts, refused_as}
 
 abbrev Given : Type 0
@@ -46,14 +47,14 @@ map_same f g e (x ∷ xs) = rw (e x, map_same f g e xs) refl
 claim_plain : (parts : NoteParts) → IsPlainParts parts → (o : ℕ) → claim_said parts o ≡ NotHeld
 claim_plain parts h o = rw (h.held, h.dead, h.live) refl
 
-claims_along : (f : ℕ → Claim) → ((o : ℕ) → f o ≡ NotHeld) → (from n : ℕ) → map f (range_with_len from n) ≡ replicate n NotHeld
+pub claims_along : (f : ℕ → Claim) → ((o : ℕ) → f o ≡ NotHeld) → (from n : ℕ) → map f (range_with_len from n) ≡ replicate n NotHeld
 claims_along f e from zero = refl
 claims_along f e from (suc n) = rw (e from, claims_along f e (from + 1) n) refl
 
 abbrev made : ℕ → ℕ → List Claim → List (ℤ × ℤ) → Alternative
 made c s k r = record { critical = c; suspended = s; claims = k; ranges = r }
 
-pub said_plain : (P : Program) (parts : NoteParts) → IsPlainParts parts → said P parts ≡ note_said P (text_of parts)
+pub said_plain : (P : Program) (parts : NoteParts) → IsPlainParts parts → said P parts ≡ plain_said P (text_of parts)
 said_plain P parts h =
     let whole : made parts.crit parts.susp (map (claim_said parts) (range_with_len 0 (length P.objects))) (map (range_said P parts.range.items) (range_with_len 0 (length P.variables)))
     ≡ made parts.crit 0 (replicate (length P.objects) NotHeld) (map (range_at P (map named_of parts.range.items)) (range_with_len 0 (length P.variables))) =
@@ -93,7 +94,7 @@ all_or_any Q decide xs none k d within =
       | inr not ↦ absurd (none (k, get_or xs k d, within, get_or_default xs k (get_or xs k d) d within, not))
     ]
 
-pub all_inside : (P : Program) (parts : NoteParts) → ((f : NoteFault) → Stands P parts f → ⊥) → All (IsInside P) (text_of parts).ranges
+pub all_inside : (P : Program) (parts : NoteParts) → ((f : NoteFault) → HasFault P parts f → ⊥) → All (IsInside P) (text_of parts).ranges
 all_inside P parts free =
     All-map (IsInside P) named_of parts.range.items (all_or_any (λ r. IsInside P (named_of r)) (λ r. inside_or P (named_of r)) parts.range.items (free Span))
 
@@ -101,14 +102,14 @@ any_map : {A B : Type 0} (f : B → A) (Q : A → Type 0) (xs : List B) → Any 
 any_map f Q xs h = (h.0, f h.1, rw (length-map xs f) h.2, get_or-map f xs h.0 h.1 (f h.1) h.2 ∙ ap f h.3, h.4)
 
 -- a fault of plain parts is a range outside the declared one
-pub plain_stands : (P : Program) (parts : NoteParts) (f : NoteFault) → IsPlainParts parts → Stands P parts f → Any (λ x. IsInside P x → ⊥) (text_of parts).ranges
+pub plain_stands : (P : Program) (parts : NoteParts) (f : NoteFault) → IsPlainParts parts → HasFault P parts f → Any (λ x. IsInside P x → ⊥) (text_of parts).ranges
 plain_stands P parts Memory h s = absurd s
 plain_stands P parts Count h s = absurd (omega (arith, ap length h.held, s.2))
 plain_stands P parts Lives h s = absurd (omega (arith, ap length h.dead, s.2))
 plain_stands P parts Span h s = any_map named_of (λ x. IsInside P x → ⊥) parts.range.items s
 
 -- so it stands where the parts were read from
-pub plain_fault : (P : Program) (ms : Members) (parts : NoteParts) (f : NoteFault) → IsNoteText P ms (text_of parts) → IsPlainParts parts → (f ≢ Memory → Stands P parts f)
+pub plain_fault : (P : Program) (ms : Members) (parts : NoteParts) (f : NoteFault) → IsPlainText P ms (text_of parts) → IsPlainParts parts → (f ≢ Memory → HasFault P parts f)
     → Standing (InPlain P ms) (refused_as f)
 plain_fault P ms parts Memory text plain h named = absurd (true≢false named)
 plain_fault P ms parts Count text plain h named = inr (text_of parts, text, plain_stands P parts Count plain (h (λ e. cc)), refl)

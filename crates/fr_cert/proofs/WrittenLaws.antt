@@ -25,8 +25,12 @@ use Rattle.fr_cert.specs.Keys.{AreKnown, is_key_of, key_text, field, variable_na
 use Rattle.fr_cert.specs.declared.key.Key.TheVariants as key
 use Rattle.fr_cert.specs.declared.key.Place.{Place}
 use Rattle.fr_cert.specs.declared.key.Place.TheVariants as place
-use Rattle.fr_cert.specs.Meaning.{NoteText, IsSpanOf, Named, IsNoteText, IsInside, range_at, note_said, IsNote, EachNote, IsTree, Means, most_bytes}
-use Rattle.fr_cert.specs.Written.{range_tree, is_declared, with_named, with_ranges, with_crit, with_range, alternative_tree, note_tree, notes_tree, cert_tree, IsSaid}
+use Rattle.fr_cert.specs.PlainMeaning.{PlainText, Named, IsPlainText, plain_said, IsNote, EachNote, IsTree}
+use Rattle.fr_cert.specs.Shapes.{IsSpan}
+use Rattle.fr_cert.specs.Meaning.{IsInside, range_at, Means, most_bytes}
+use Rattle.fr_cert.specs.Written.{range_tree, is_declared, with_named, with_ranges}
+use Rattle.fr_cert.specs.PlainWritten.{with_crit, with_range, alternative_tree, note_tree, notes_tree, cert_tree, IsSaid}
+use Rattle.fr_cert.proofs.Taken.{whole_tree}
 
 abbrev Given : Type 0
 Given = ℕ × (ℤ × ℤ)
@@ -37,7 +41,7 @@ integer_again : (z : ℤ) → as_integer (of_integer z) ≡ Some z
 integer_again (pos n) = refl
 integer_again (negsuc n) = refl
 
-span_again : (r : ℤ × ℤ) → r.0 ≤ℤ r.1 → IsSpanOf (range_tree r) r
+span_again : (r : ℤ × ℤ) → r.0 ≤ℤ r.1 → IsSpan (range_tree r) r
 span_again r order = (
   item (number (of_integer r.0)) (item (number (of_integer r.1)) no_items),
   refl,
@@ -93,7 +97,7 @@ record More (P : Program) (i : ℕ) (new : Given) (xs : List Given) (ms : Member
   each : AllByRecursion (IsBelow P (suc i)) ys
   found : (y : ℕ) → given ys y ≡ cond (nat_eq i y) (Some new) (given xs y)
 
-put_named : (P : Program) (name : List ℕ) (d : Data) (i : ℕ) (r : ℤ × ℤ) (ms : Members) (xs : List Given) → variable_named P name ≡ Some i → IsSpanOf d r → IsInside P (i, r) → Named P ms xs
+put_named : (P : Program) (name : List ℕ) (d : Data) (i : ℕ) (r : ℤ × ℤ) (ms : Members) (xs : List Given) → variable_named P name ≡ Some i → IsSpan d r → IsInside P (i, r) → Named P ms xs
     → AllByRecursion (IsBelow P i) xs → More P i (i, r) xs (put name d ms)
 put_named P name d i r no_members [] is span inside named each = record { ys = (i, r) ∷ []; named = ((is, span), tt); each = ((inside, omega arith), tt); found = λ y. refl }
 put_named P name d i r no_members (x ∷ xs) is span inside named each = absurd named
@@ -252,18 +256,18 @@ no_names : (P : Program) (ys : List Given) → Named P no_members ys → ys ≡ 
 no_names P [] h = refl
 no_names P (y ∷ ys) h = absurd h
 
-abbrev text_of_both : ℕ → List Given → NoteText
+abbrev text_of_both : ℕ → List Given → PlainText
 text_of_both c ys = record { crit = c; ranges = ys }
 
-note_text : (P : Program) (c : ℕ) (rs : Members) (ys : List Given) → c ≤ most_depth → Named P rs ys → IsNoteText P (with_range rs (with_crit c no_members)) (text_of_both c ys)
+note_text : (P : Program) (c : ℕ) (rs : Members) (ys : List Given) → c ≤ most_depth → Named P rs ys → IsPlainText P (with_range rs (with_crit c no_members)) (text_of_both c ys)
 unfolding field
-note_text P zero no_members ys small named = record { only = none_known place.Note; crit = refl; ranges = no_names P ys named }
+note_text P zero no_members ys small named = record { only = none_known place.PlainNote; crit = refl; ranges = no_names P ys named }
 note_text P (suc c) no_members ys small named =
-    record { only = known_more place.Note (key_text key.Crit) (number (unsigned (suc c))) no_members refl (none_known place.Note); crit = (refl, small); ranges = no_names P ys named }
+    record { only = known_more place.PlainNote (key_text key.Crit) (number (unsigned (suc c))) no_members refl (none_known place.PlainNote); crit = (refl, small); ranges = no_names P ys named }
 note_text P zero (member k d more) ys small named =
-    record { only = known_more place.Note (key_text key.Range) (object (member k d more)) no_members refl (none_known place.Note); crit = refl; ranges = (member k d more, refl, named) }
+    record { only = known_more place.PlainNote (key_text key.Range) (object (member k d more)) no_members refl (none_known place.PlainNote); crit = refl; ranges = (member k d more, refl, named) }
 note_text P (suc c) (member k d more) ys small named = record {
-  only = known_more place.Note (key_text key.Crit) (number (unsigned (suc c))) (member (key_text key.Range) (object (member k d more)) no_members) refl (known_more place.Note (key_text key.Range) (object (member k d more)) no_members refl (none_known place.Note));
+  only = known_more place.PlainNote (key_text key.Crit) (number (unsigned (suc c))) (member (key_text key.Range) (object (member k d more)) no_members) refl (known_more place.PlainNote (key_text key.Range) (object (member k d more)) no_members refl (none_known place.PlainNote));
   crit = (refl, small);
   ranges = (member k d more, refl, named);
 }
@@ -276,10 +280,10 @@ all_again Q (x ∷ xs) h (suc k) d within = all_again Q xs h.1 k d (omega (arith
 abbrev plain_made : Program → ℕ → List (ℤ × ℤ) → Alternative
 plain_made P c rs = record { critical = c; suspended = 0; claims = replicate (length P.objects) NotHeld; ranges = rs }
 
-alternative_again : (P : Program) (text : NoteText) → IsFaultless P → AlternativeFits P (note_said P text) → IsNote P (alternative_tree P (note_said P text)) (note_said P text ∷ [])
+alternative_again : (P : Program) (text : PlainText) → IsFaultless P → AlternativeFits P (plain_said P text) → IsNote P (alternative_tree P (plain_said P text)) (plain_said P text ∷ [])
 unfolding alternative_tree
 alternative_again P text faultless fits =
-    let n = note_said P text in
+    let n = plain_said P text in
     let whole = ranges_named P P.variables n.ranges 0 no_members [] (fits_at P n faultless fits) tt tt in
     inl (
       with_range (with_ranges P.variables n.ranges no_members) (with_crit n.critical no_members),
@@ -295,8 +299,8 @@ alternative_again P text faultless fits =
 note_again : (P : Program) (note : Note) → IsFaultless P → NoteFits P note → IsSaid P note → IsNote P (note_tree P note) note
 note_again P note faultless fits (inl none) = subst (λ m. IsNote P (note_tree P m) m) (sym none) (inr (refl, refl))
 note_again P note faultless fits (inr said) =
-    let there : NoteFits P (note_said P said.0 ∷ []) = subst (NoteFits P) said.1 fits in
-    subst (λ m. IsNote P (note_tree P m) m) (sym said.1) (alternative_again P said.0 faultless (there.1 0 (note_said P said.0) (omega arith)))
+    let there : NoteFits P (plain_said P said.0 ∷ []) = subst (NoteFits P) said.1 fits in
+    subst (λ m. IsNote P (note_tree P m) m) (sym said.1) (alternative_again P said.0 faultless (there.1 0 (plain_said P said.0) (omega arith)))
 
 notes_again : (P : Program) (notes : List Note) → IsFaultless P → All (NoteFits P) notes → All (IsSaid P) notes → EachNote P (notes_tree P notes) notes
 notes_again P [] faultless fits said = tt
@@ -387,5 +391,5 @@ pub written_again : (P : Program) (C : Certificate) (bytes : List ℕ) (d : Data
 written_again P C bytes d faultless fits said none same utf8 parsed size = record {
   tree = d;
   text = record { size = size; utf8 = utf8; parsed = parsed (subst (λ e. depth e ≤ max_depth) (sym same) (tree_depth P C)) };
-  stands = subst (λ e. IsTree P e C) (sym same) (tree_again P C faultless fits said none);
+  means = whole_tree P d C (subst (λ e. IsTree P e C) (sym same) (tree_again P C faultless fits said none));
 }

@@ -20,7 +20,8 @@ use Rattle.fr_ends.specs.Certificate.{Certificate}
 use Rattle.fr_cert.specs.Keys.{key_text}
 use Rattle.fr_cert.specs.declared.key.Key.TheVariants as key
 use Rattle.fr_notes.specs.View.{ends_of}
-use Rattle.fr_cert.specs.Written.{range_tree, is_declared, with_named, with_ranges, with_crit, with_range, alternative_tree, note_tree, notes_tree, cert_tree}
+use Rattle.fr_cert.specs.Written.{range_tree, is_declared, with_named, with_ranges}
+use Rattle.fr_cert.specs.PlainWritten.{with_crit, with_range, alternative_tree, note_tree, notes_tree, cert_tree}
 
 drop_here : {A : Type 0} (xs : List A) (i : ℕ) (x : A) → i < length xs → x ≡ get_or xs i x → drop i xs ≡ x ∷ drop (i + 1) xs
 drop_here xs i x within is = drop-cons xs i x within ∙ rw (sym is, add-one) refl

@@ -1,7 +1,7 @@
 -- The texts of certificate faults: the number and the name that a refusal's line shows.
 use Rattle.std.specs.Prelude.{ℕ, List, codes}
 use Rattle.fr_cert.specs.declared.fault.CertFault.{CertFault}
-use Rattle.fr_cert.specs.declared.fault.CertFault.TheVariants.{Memory, TooLong, Json, Shape, Version, PointCount, UnknownName, Note}
+use Rattle.fr_cert.specs.declared.fault.CertFault.TheVariants.{Memory, TooLong, Json, Shape, Version, PointCount, UnknownName, Note, Guard, EndTwice, Alternatives}
 
 -- the number and the name of a certificate fault, without the path of a departure
 abbrev pub text_of : CertFault → List ℕ
@@ -13,3 +13,6 @@ text_of Version = codes "4 Version"
 text_of PointCount = codes "5 PointCount"
 text_of UnknownName = codes "6 UnknownName"
 text_of Note = codes "7 Note"
+text_of Guard = codes "8 Guard"
+text_of EndTwice = codes "9 EndTwice"
+text_of Alternatives = codes "10 Alternatives"

@@ -1,21 +1,21 @@
--- The keys of a certificate's objects, and what stands at them.
+-- The keys of a certificate's objects, and what they hold.
 --
--- | word             | meaning                                                                      |
--- |------------------|------------------------------------------------------------------------------|
--- | key_text         | the text of a key                                                            |
--- | is_key_of        | a key that an object of a kind may have                                      |
--- | AreKnown         | an object has no other keys                                                  |
--- | field            | what an object holds at a key                                                |
--- | integer_of       | the integer that a value is                                                  |
--- | end_at           | the integer at a position of a list                                          |
--- | variable_named   | the number of the variable with a name                                       |
+-- | word                                      | meaning                                             |
+-- |-------------------------------------------|-----------------------------------------------------|
+-- | key_text                                  | the text of a key                                   |
+-- | is_key_of                                 | a key that an object of a kind may have             |
+-- | AreKnown                                  | an object has no other keys                         |
+-- | field                                     | what an object holds at a key                       |
+-- | integer_of                                | the integer that a value is                         |
+-- | end_at                                    | the integer at a position of a list                 |
+-- | variable_named, object_named, actor_named | the number of the thing with a name                 |
 use Rattle.std.specs.Prelude.{◌≡◌, ℕ, ℤ, List, Bool, ◌||◌, IsTrue, Option, Some, option_and_then, codes, position}
 use Rattle.std.specs.Str.{bytes_eq}
 use Rattle.serde_json.specs.Data.{Data, Items, Members}
 use Rattle.serde_json.specs.Find.{get_member, get_item, as_number, as_integer}
 use Rattle.fr_program.specs.Program.{Program}
 use Rattle.fr_cert.specs.declared.key.Key.{Key}
-use Rattle.fr_cert.specs.declared.key.Key.TheVariants.{Version, Ends, Notes, Crit, Range}
+use Rattle.fr_cert.specs.declared.key.Key.TheVariants.{Version, Ends, Notes, Buffer, End, Guard, Sole, Mutex, Turn, Values, Held, Crit, Susp, Live, Dead, Range}
 use Rattle.fr_cert.specs.declared.key.Place.{Place}
 use Rattle.fr_cert.specs.declared.key.Place.TheVariants as place
 
@@ -24,17 +24,33 @@ abbrev pub key_text : Key → List ℕ
 key_text Version = codes "version"
 key_text Ends = codes "ends"
 key_text Notes = codes "notes"
+key_text Buffer = codes "buffer"
+key_text End = codes "end"
+key_text Guard = codes "guard"
+key_text Sole = codes "sole"
+key_text Mutex = codes "mutex"
+key_text Turn = codes "turn"
+key_text Values = codes "values"
+key_text Held = codes "held"
 key_text Crit = codes "crit"
+key_text Susp = codes "susp"
+key_text Live = codes "live"
+key_text Dead = codes "dead"
 key_text Range = codes "range"
 
 -- the text is that of the key
 abbrev pub spells : List ℕ → Key → Bool
 spells text k = bytes_eq text (key_text k)
 
--- a key that the whole certificate, or a note, may have
+-- a key that the whole certificate, an end, each kind of guard, or a note may have; a plain note is one of today's code
 abbrev pub is_key_of : Place → List ℕ → Bool
 is_key_of place.Certificate t = spells t Version || spells t Ends || spells t Notes
-is_key_of place.Note t = spells t Crit || spells t Range
+is_key_of place.End t = spells t Buffer || spells t End || spells t Guard
+is_key_of place.Sole t = spells t Sole
+is_key_of place.Mutex t = spells t Mutex
+is_key_of place.Turn t = spells t Turn || spells t Values
+is_key_of place.Note t = spells t Held || spells t Crit || spells t Susp || spells t Live || spells t Dead || spells t Range
+is_key_of place.PlainNote t = spells t Crit || spells t Range
 
 -- each key of the object is known there
 abbrev pub AreKnown : Place → Members → Type 0
@@ -55,3 +71,11 @@ end_at i ds = option_and_then integer_of (get_item i ds)
 -- the number of the first variable with this name; an application has no second one
 abbrev pub variable_named : Program → List ℕ → Option ℕ
 variable_named P name = position (λ v. bytes_eq v.name name) P.variables
+
+-- the same of objects
+abbrev pub object_named : Program → List ℕ → Option ℕ
+object_named P name = position (λ o. bytes_eq o.name name) P.objects
+
+-- the same of actors
+abbrev pub actor_named : Program → List ℕ → Option ℕ
+actor_named P name = position (λ a. bytes_eq a.name name) P.actors

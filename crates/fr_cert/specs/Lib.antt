@@ -1,8 +1,14 @@
 pub mod Path
 pub mod Keys
+pub mod Shapes
 pub mod Meaning
 pub mod Faults
-pub mod Stands
-pub mod Views
-pub mod FaultText
+pub mod Present
+pub mod NotYet
 pub mod Written
+pub mod FaultText
+pub mod PlainMeaning
+pub mod PlainFaults
+pub mod PlainStands
+pub mod PlainWritten
+pub mod Views

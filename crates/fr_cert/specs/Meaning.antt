@@ -1,131 +1,182 @@
--- What the text of a certificate stands for, for an application.
+-- What the text of a certificate means, for an application.
 --
--- | word             | meaning                                                                                    |
--- |------------------|--------------------------------------------------------------------------------------------|
--- | NoteText         | a note as its object has it: a depth, and ranges of some variables by number               |
--- | IsDepthAt        | the depth that an optional key says                                                        |
--- | IsSpan, IsSpanOf | a list of two integers, the lower end first, and a value that is one                       |
--- | IsNamed, Named   | a variable's name beside its range, and an object of these                                 |
--- | RangesAt         | the ranges that an optional key says                                                       |
--- | IsNoteText       | an object stands for the parts of a note, key by key                                       |
--- | IsInside         | a range lies in the variable's declared one                                                |
--- | range_at         | the range that the parts give a variable                                                   |
--- | note_said        | the alternative that the parts say                                                         |
--- | IsPlain          | an object stands for a note with one alternative                                           |
--- | IsNote           | a value stands for a note                                                                  |
--- | EachNote         | the entries of a list stand for these notes, one for each                                  |
--- | NotesAt          | what stands at a key is such a list, with one note for each point                          |
--- | IsCertificate    | an object stands for a certificate, key by key                                             |
--- | IsTree           | a value is such an object                                                                  |
--- | IsTreeText       | the bytes are the text of this value                                                       |
--- | Means            | the bytes stand for a certificate of this application                                      |
-use Rattle.std.specs.Prelude.{◌≡◌, ◌<◌, ◌≤◌, ◌≤ℤ◌, ◌⊎◌, ℕ, ℤ, pos, List, [], ◌∷◌, Option, Some, None, option_map, option_and_then, unwrap_or, All, IsUtf8, codes, find, length, map, nat_eq, replicate}
-use Rattle.std.specs.List.{range_with_len}
-use Rattle.serde_json.specs.Data.{Data, Items, no_items, item, Members, no_members, member}
-use Rattle.serde_json.specs.Find.{get_item, as_array, as_object, as_str}
+-- | word                                | meaning                                                                |
+-- |-------------------------------------|------------------------------------------------------------------------|
+-- | NoteText                            | a note as its object has it: depths, counts, and numbers of things     |
+-- | IsHeldCount, IsRange, IsTurnValue   | a name beside a count, a range, a turn value                           |
+-- | AreNamed                            | a list of names of objects                                             |
+-- | IsNoteText                          | an object means the parts of a note, key by key                        |
+-- | IsInside, NoteTextFits              | a range is in the declared one; the parts are a note of the application |
+-- | claim_at, range_at, note_said       | what the parts say of an object, of a variable; the alternative        |
+-- | IsAlternative, IsPlainNote          | an object, a value means one alternative                               |
+-- | IsNote                              | a value means a note, in a version                                     |
+-- | AreTurnValues                       | an object means the values of a turn, rising by actor                  |
+-- | IsGuardObject, IsGuard              | an object, a value means a guard                                       |
+-- | IsEnd                               | an object means the guard of an end, key by key                        |
+-- | IsVersion                           | a value is one of the two versions                                     |
+-- | IsCertificate, IsTree               | an object means a certificate, key by key; a value is such an object   |
+-- | IsTreeText                          | the bytes are the text of this value                                   |
+-- | Means                               | the bytes mean a certificate of this application                       |
+use Rattle.std.specs.Prelude.{◌≡◌, ◌≢◌, ◌<◌, ◌≤◌, ◌≤ℤ◌, ◌⊎◌, ℕ, ℤ, pos, List, [], ◌∷◌, Bool, ◌||◌, IsTrue, if◌then◌else◌, Option, Some, None, is_some, option_map, unwrap_or, All, AllPairs, IsUtf8, codes, find, length, map, nat_eq}
+use Rattle.std.specs.List.{list_any, range_with_len}
+use Rattle.serde_json.specs.Data.{Data, Items, Members}
+use Rattle.serde_json.specs.Find.{as_array, as_str}
 use Rattle.serde_json.specs.Read.{read}
 use Rattle.fr_program.specs.Program.{Program}
 use Rattle.fr_program.specs.Lookup.{variable_at}
 use Rattle.fr_program.specs.Points.{points_of}
-use Rattle.fr_notes.specs.declared.claim.Claim.TheVariants.{NotHeld}
+use Rattle.fr_calls.specs.declared.buffer_end.End.{End as BufferEnd}
+use Rattle.fr_calls.specs.BufferEnd.{end_text}
+use Rattle.fr_calls.specs.State.{kind_of}
+use Rattle.fr_notes.specs.declared.claim.Claim.{Claim}
+use Rattle.fr_notes.specs.declared.claim.Claim.TheVariants.{NotHeld, Alive, Gone, HeldTimes}
 use Rattle.fr_notes.specs.Note.{Alternative, Note}
-use Rattle.fr_notes.specs.Fits.{most_depth}
-use Rattle.fr_ends.specs.Certificate.{Certificate}
-use Rattle.fr_cert.specs.Keys.{AreKnown, field, integer_of, end_at, variable_named}
-use Rattle.fr_cert.specs.declared.key.Key.TheVariants.{Version, Ends, Notes, Crit, Range}
+use Rattle.fr_notes.specs.Fits.{CanClaim, most_alternatives}
+use Rattle.fr_notes.specs.Parts.{claim_by}
+use Rattle.fr_ends.specs.Guard.{Guard, Sole, ByMutex, InCritical, Turn, EndGuard}
+use Rattle.fr_ends.specs.Certificate.{Certificate, value_for}
+use Rattle.fr_ends.specs.Fits.{AreRising, EndsFit}
+use Rattle.fr_cert.specs.Keys.{AreKnown, integer_of, variable_named, object_named, actor_named}
+use Rattle.fr_cert.specs.Shapes.{At, AtOrDefault, IsObject, IsList, EachEntry, EachMember, Names, IsDepth, IsSpan}
+use Rattle.fr_cert.specs.declared.key.Key.TheVariants as key
 use Rattle.fr_cert.specs.declared.key.Place.TheVariants as place
 
--- a note as its object has it: the depth in the critical section, and both ends of ranges of variables by number
+-- a note as its object has it: how often objects are held, by number, the two depths, the numbers of live and of dead
+-- objects, and both ends of ranges of variables, by number
 pub record NoteText : Type 0 where
+  pub held : List (ℕ × ℕ)
   pub crit : ℕ
+  pub susp : ℕ
+  pub live : List ℕ
+  pub dead : List ℕ
   pub ranges : List (ℕ × (ℤ × ℤ))
 
--- what stands at the key of a depth is the depth; with no such key it is 0
-abbrev pub IsDepthAt : Option Data → ℕ → Type 0
-IsDepthAt None n = n ≡ 0
-IsDepthAt (Some d) n = (integer_of d ≡ Some (pos n)) × (n ≤ most_depth)
+-- the name is that of the object with this number, and the value beside it is this count
+abbrev pub IsHeldCount : Program → List ℕ → Data → ℕ × ℕ → Type 0
+IsHeldCount P name d x = (object_named P name ≡ Some x.0) × IsDepth d x.1
 
--- exactly two integers, the lower end and the upper one
-pub record IsSpan (ds : Items) (range : ℤ × ℤ) : Type 0 where
-  pub lo : end_at 0 ds ≡ Some range.0
-  pub hi : end_at 1 ds ≡ Some range.1
-  pub only : get_item 2 ds ≡ None
-  pub order : range.0 ≤ℤ range.1
+-- the name is that of the variable with this number, and the value beside it is this range
+abbrev pub IsRange : Program → List ℕ → Data → ℕ × (ℤ × ℤ) → Type 0
+IsRange P name d x = (variable_named P name ≡ Some x.0) × IsSpan d x.1
 
--- the value is a list of them
-abbrev pub IsSpanOf : Data → ℤ × ℤ → Type 0
-IsSpanOf d range = (ds : Items) × (as_array d ≡ Some ds) × IsSpan ds range
+-- the value is a list of names of these objects
+abbrev pub AreNamed : Program → Data → List ℕ → Type 0
+AreNamed P d os = IsList (EachEntry (Names (object_named P))) d os
 
--- the name is that of the variable with this number, and beside it stands this range
-abbrev pub IsNamed : Program → List ℕ → Data → ℕ × (ℤ × ℤ) → Type 0
-IsNamed P name d x = (variable_named P name ≡ Some x.0) × IsSpanOf d x.1
-
--- the object names these variables with these ranges, in this order
-abbrev pub Named : Program → Members → List (ℕ × (ℤ × ℤ)) → Type 0
-Named P no_members [] = Unit {0}
-Named P no_members (x ∷ xs) = ⊥
-Named P (member name d ms) [] = ⊥
-Named P (member name d ms) (x ∷ xs) = IsNamed P name d x × Named P ms xs
-
--- what stands at the key of ranges is an object that names these; with no such key there are none
-abbrev pub RangesAt : Program → Option Data → List (ℕ × (ℤ × ℤ)) → Type 0
-RangesAt P None xs = xs ≡ []
-RangesAt P (Some d) xs = (ms : Members) × (as_object d ≡ Some ms) × Named P ms xs
-
--- the object stands for these parts of a note, key by key
+-- the object means these parts of a note, key by key; each key may be missing
 pub record IsNoteText (P : Program) (ms : Members) (text : NoteText) : Type 0 where
   pub only : AreKnown place.Note ms
-  pub crit : IsDepthAt (field Crit ms) text.crit
-  pub ranges : RangesAt P (field Range ms) text.ranges
+  pub held : AtOrDefault key.Held [] (IsObject (EachMember (IsHeldCount P))) ms text.held
+  pub crit : AtOrDefault key.Crit 0 IsDepth ms text.crit
+  pub susp : AtOrDefault key.Susp 0 IsDepth ms text.susp
+  pub live : AtOrDefault key.Live [] (AreNamed P) ms text.live
+  pub dead : AtOrDefault key.Dead [] (AreNamed P) ms text.dead
+  pub ranges : AtOrDefault key.Range [] (IsObject (EachMember (IsRange P))) ms text.ranges
 
--- the application has the variable, and the range lies in its declared one
+-- the application has the variable, and the range is inside its declared one
 abbrev pub IsInside : Program → ℕ × (ℤ × ℤ) → Type 0
 IsInside P x = (x.0 < length P.variables) × ((variable_at P x.0).lo ≤ℤ x.1.0) × (x.1.1 ≤ℤ (variable_at P x.0).hi)
+
+-- how often the object is held, if the list has it
+abbrev pub count_for : List (ℕ × ℕ) → ℕ → Option ℕ
+count_for held o = option_map (λ h. h.1) (find (λ h. nat_eq h.0 o) held)
+
+-- whether the list has the object
+abbrev pub has : List ℕ → ℕ → Bool
+has objects o = list_any (λ named. nat_eq named o) objects
+
+-- the parts are a note of the application: each count is one that an actor can hold, no object is named twice in one
+-- list, no dead object is named live or held, and each range is inside the declared one
+pub record NoteTextFits (P : Program) (text : NoteText) : Type 0 where
+  pub held : All (λ h. CanClaim (kind_of P h.0) (HeldTimes h.1)) text.held
+  pub live : AllPairs (λ o p. o ≢ p) text.live
+  pub dead : AllPairs (λ o p. o ≢ p) text.dead
+  pub apart : All (λ o. IsTrue (has text.live o || is_some (count_for text.held o)) → ⊥) text.dead
+  pub ranges : All (IsInside P) text.ranges
+
+-- what the parts say of an object: held so often, dead, live, or by default not held
+abbrev pub claim_at : NoteText → ℕ → Claim
+claim_at text o = claim_by (count_for text.held o) (if has text.dead o then Gone else (if has text.live o then Alive else NotHeld))
 
 -- the range of the variable with this number: the one that it is given, or the declared one
 abbrev pub range_at : Program → List (ℕ × (ℤ × ℤ)) → ℕ → ℤ × ℤ
 range_at P ranges x = unwrap_or (option_map (λ r. r.1) (find (λ r. nat_eq r.0 x) ranges)) ((variable_at P x).lo, (variable_at P x).hi)
 
--- the one alternative that the parts say: no mutex held, and nothing said of any object
+-- the one alternative that the parts say
 abbrev pub note_said : Program → NoteText → Alternative
 note_said P text = record {
   critical = text.crit;
-  suspended = 0;
-  claims = replicate (length P.objects) NotHeld;
+  suspended = text.susp;
+  claims = map (claim_at text) (range_with_len 0 (length P.objects));
   ranges = map (range_at P text.ranges) (range_with_len 0 (length P.variables));
 }
 
--- the object stands for the note with one alternative
-abbrev pub IsPlain : Program → Members → Note → Type 0
-IsPlain P ms note = (text : NoteText) × IsNoteText P ms text × All (IsInside P) text.ranges × (note ≡ note_said P text ∷ [])
+-- the object means this alternative
+abbrev pub IsAlternative : Program → Members → Alternative → Type 0
+IsAlternative P ms n = (text : NoteText) × IsNoteText P ms text × NoteTextFits P text × (n ≡ note_said P text)
 
--- the value stands for the note: an object, or `never`, with no alternative
-abbrev pub IsNote : Program → Data → Note → Type 0
-IsNote P d note = ((ms : Members) × (as_object d ≡ Some ms) × IsPlain P ms note) ⊎ ((as_str d ≡ Some (codes "never")) × (note ≡ []))
+-- the value is an object that does
+abbrev pub IsPlainNote : Program → Data → Alternative → Type 0
+IsPlainNote P d n = IsObject (IsAlternative P) d n
 
--- the entries of a list stand for these notes, one for each, in order
-abbrev pub EachNote : Program → Items → List Note → Type 0
-EachNote P no_items [] = Unit {0}
-EachNote P no_items (note ∷ notes) = ⊥
-EachNote P (item d ds) [] = ⊥
-EachNote P (item d ds) (note ∷ notes) = IsNote P d note × EachNote P ds notes
+-- the value means the note: `never`, which has no alternative, one alternative, or in version 2 a list of one to four
+abbrev pub IsNote : Program → ℕ → Data → Note → Type 0
+IsNote P version d note =
+    ((as_str d ≡ Some (codes "never")) × (note ≡ []))
+    ⊎ (((n : Alternative) × IsPlainNote P d n × (note ≡ n ∷ []))
+    ⊎ ((version ≡ 2) × IsList (EachEntry (IsPlainNote P)) d note × (1 ≤ length note) × (length note ≤ most_alternatives)))
 
--- what stands at the key of the notes is a list of them, one for each point
-abbrev pub NotesAt : Program → Option Data → List Note → Type 0
-NotesAt P None notes = ⊥
-NotesAt P (Some d) notes = (ds : Items) × (as_array d ≡ Some ds) × EachNote P ds notes × (length notes ≡ length (points_of P))
+-- the name is that of the actor with this number, and the value beside it is its turn value
+abbrev pub IsTurnValue : Program → List ℕ → Data → ℕ × ℤ → Type 0
+IsTurnValue P name d v = (actor_named P name ≡ Some v.0) × (integer_of d ≡ Some v.1)
 
--- the object stands for the certificate, key by key: version 1, no ends, and the notes
+-- the object gives each actor the value that it has in the list, which rises by actor
+abbrev pub AreTurnValues : Program → Members → List (ℕ × ℤ) → Type 0
+AreTurnValues P ms values =
+    (given : List (ℕ × ℤ)) × EachMember (IsTurnValue P) ms given × AreRising values
+    × ((a : ℕ) → value_for values a ≡ value_for given a)
+
+-- the object means the guard, key by key; a critical section is no object
+abbrev pub IsGuardObject : Program → Members → Guard → Type 0
+IsGuardObject P ms (Sole actor) = AreKnown place.Sole ms × At key.Sole (Names (actor_named P)) ms actor
+IsGuardObject P ms (ByMutex mutex) = AreKnown place.Mutex ms × At key.Mutex (Names (object_named P)) ms mutex
+IsGuardObject P ms InCritical = ⊥
+IsGuardObject P ms (Turn x values) =
+    AreKnown place.Turn ms × At key.Turn (Names (variable_named P)) ms x
+    × At key.Values (IsObject (AreTurnValues P)) ms values
+
+-- the value means the guard: the text `critical`, or such an object
+abbrev pub IsGuard : Program → Data → Guard → Type 0
+IsGuard P d guard = ((as_str d ≡ Some (codes "critical")) × (guard ≡ InCritical)) ⊎ IsObject (IsGuardObject P) d guard
+
+-- the value is the name of the end
+abbrev pub IsEndName : Data → BufferEnd → Type 0
+IsEndName d end = as_str d ≡ Some (end_text end)
+
+-- the object means the guard of an end, key by key
+pub record IsEnd (P : Program) (ms : Members) (e : EndGuard) : Type 0 where
+  pub only : AreKnown place.End ms
+  pub buffer : At key.Buffer (Names (object_named P)) ms e.buffer
+  pub end : At key.End IsEndName ms e.end
+  pub guard : At key.Guard (IsGuard P) ms e.guard
+
+-- the value is the version 1 or 2
+abbrev pub IsVersion : Data → ℕ → Type 0
+IsVersion d version = (integer_of d ≡ Some (pos version)) × ((version ≡ 1) ⊎ (version ≡ 2))
+
+-- the object means the certificate, key by key: a version, ends that fit the application, and one note for each point
 pub record IsCertificate (P : Program) (ms : Members) (C : Certificate) : Type 0 where
+  pub version : ℕ
   pub only : AreKnown place.Certificate ms
-  pub version : option_and_then integer_of (field Version ms) ≡ Some (pos 1)
-  pub ends : option_and_then as_array (field Ends ms) ≡ Some no_items
-  pub unguarded : C.ends ≡ []
-  pub notes : NotesAt P (field Notes ms) C.notes
+  pub numbered : At key.Version IsVersion ms version
+  pub ends : At key.Ends (IsList (EachEntry (IsObject (IsEnd P)))) ms C.ends
+  pub fit : EndsFit P C.ends
+  pub notes : At key.Notes (IsList (EachEntry (IsNote P version))) ms C.notes
+  pub points : length C.notes ≡ length (points_of P)
 
 -- the value is an object that does
 abbrev pub IsTree : Program → Data → Certificate → Type 0
-IsTree P d C = (ms : Members) × (as_object d ≡ Some ms) × IsCertificate P ms C
+IsTree P d C = IsObject (IsCertificate P) d C
 
 -- how many bytes the text of a certificate has at the most
 abbrev pub most_bytes : ℕ
@@ -137,8 +188,8 @@ pub record IsTreeText (bytes : List ℕ) (d : Data) : Type 0 where
   pub utf8 : IsUtf8 bytes
   pub parsed : read bytes ≡ Some d
 
--- the bytes stand, for this application, for this certificate
+-- the bytes mean, for this application, this certificate
 pub record Means (P : Program) (bytes : List ℕ) (C : Certificate) : Type 0 where
   pub tree : Data
   pub text : IsTreeText bytes tree
-  pub stands : IsTree P tree C
+  pub means : IsTree P tree C

@@ -1,4 +1,4 @@
--- What ranges and the parts of a note stand for, and what a fault of these parts is called.
+-- For private clauses: what ranges and the parts of a note stand for, and what a fault of these parts is called.
 use Rattle.std.specs.Prelude.{◌≡◌, ℕ, ℤ, [], map}
 use Rattle.fr_program.specs.declared.ids.VarId.{VarId}
 use Rattle.fr_program.specs.declared.range.Range.{Range}
@@ -9,14 +9,14 @@ use Rattle.fr_notes.specs.declared.fault.NoteFault.TheVariants as note
 use Rattle.fr_notes.specs.View.{ends_of}
 use Rattle.fr_cert.specs.declared.fault.CertFault.{CertFault}
 use Rattle.fr_cert.specs.declared.fault.CertFault.TheVariants as cert
-use Rattle.fr_cert.specs.Meaning.{NoteText}
+use Rattle.fr_cert.specs.PlainMeaning.{PlainText}
 
 -- a variable's number and the ends of its range
 abbrev pub named_of : VarId × Range → ℕ × (ℤ × ℤ)
 named_of x = (x.0.0, ends_of x.1)
 
 -- what an object has to say for these parts
-abbrev pub text_of : NoteParts → NoteText
+abbrev pub text_of : NoteParts → PlainText
 text_of parts = record { crit = parts.crit; ranges = map named_of parts.range.items }
 
 -- the parts say nothing but a depth in the critical section and ranges

@@ -1,27 +1,36 @@
 -- What is written for a certificate: compact JSON with its keys in the order of their bytes.
 --
--- | word                 | meaning                                                                        |
--- |----------------------|--------------------------------------------------------------------------------|
--- | range_tree           | a range as a list of its two ends                                              |
--- | is_declared          | the range is the whole declared one                                            |
--- | with_ranges          | members and, by name, the ranges that are narrower than the declared ones      |
--- | with_crit, with_range | members with the depth, with the ranges, where they aren't at their default   |
--- | alternative_tree     | a note with one alternative                                                    |
--- | note_tree, notes_tree | a note, and a list of notes                                                   |
--- | cert_tree            | the object of the whole certificate                                            |
--- | cert_text            | its text                                                                       |
--- | IsSaid               | the note is one that the keys of a note can say                                |
-use Rattle.std.specs.Prelude.{◌≡◌, ◌⊎◌, ◌&&◌, ℕ, zero, suc, ℤ, List, [], ◌∷◌, Bool, codes, if◌then◌else◌}
+-- | word                          | meaning                                                                        |
+-- |-------------------------------|--------------------------------------------------------------------------------|
+-- | range_tree                    | a range as a list of its two ends                                              |
+-- | is_declared                   | the range is the whole declared one                                            |
+-- | with_ranges                   | members and, by name, the ranges that are narrower than the declared ones      |
+-- | with_counts                   | members and, by name, how often objects are held                               |
+-- | names_where                   | the names of the objects of which this is said                                 |
+-- | with_depth, with_list, with_object | a key in front of members, where what it holds isn't the default          |
+-- | alternative_tree              | one alternative                                                                |
+-- | note_tree, notes_tree         | a note, and a list of notes                                                    |
+-- | with_values, guard_tree       | members and, by name, turn values; a guard                                     |
+-- | end_tree, ends_tree           | the guard of an end, and a list of them                                        |
+-- | version_of                    | 1 where each note has one alternative at the most, else 2                      |
+-- | cert_tree, cert_text          | the object of the whole certificate, and its text                              |
+use Rattle.std.specs.Prelude.{◌&&◌, ℕ, zero, suc, ℤ, List, [], ◌∷◌, Bool, true, false, codes, length, nat_le, if◌then◌else◌}
+use Rattle.std.specs.List.{list_all}
 use Rattle.std.specs.Ordering.{int_eq}
 use Rattle.serde_json.specs.Data.{Data, number, string, array, object, unsigned, Items, no_items, item, Members, no_members, member, put}
 use Rattle.serde_json.specs.Find.{of_integer}
 use Rattle.serde_json.specs.Written.{compact_text}
-use Rattle.fr_program.specs.Program.{Program, VariableOf}
+use Rattle.fr_program.specs.Program.{Program, VariableOf, ObjectOf}
+use Rattle.fr_program.specs.Lookup.{variable_at, object_at, actor_at}
+use Rattle.fr_calls.specs.BufferEnd.{end_text}
+use Rattle.fr_notes.specs.declared.claim.Claim.{Claim}
+use Rattle.fr_notes.specs.declared.claim.Claim.TheVariants.{NotHeld, Alive, Gone, HeldTimes}
 use Rattle.fr_notes.specs.Note.{Alternative, Note}
+use Rattle.fr_ends.specs.Guard.{Guard, Sole, ByMutex, InCritical, Turn, EndGuard}
 use Rattle.fr_ends.specs.Certificate.{Certificate}
 use Rattle.fr_cert.specs.Keys.{key_text}
-use Rattle.fr_cert.specs.Meaning.{NoteText, note_said}
-use Rattle.fr_cert.specs.declared.key.Key.TheVariants.{Version, Ends, Notes, Crit, Range}
+use Rattle.fr_cert.specs.declared.key.Key.{Key}
+use Rattle.fr_cert.specs.declared.key.Key.TheVariants as key
 
 -- both ends of a range, the lower one first
 abbrev pub range_tree : ℤ × ℤ → Data
@@ -41,38 +50,111 @@ with_ranges [] rs ms = ms
 with_ranges (v ∷ vs) [] ms = ms
 with_ranges (v ∷ vs) (r ∷ rs) ms = with_ranges vs rs (with_named v r ms)
 
--- the depth, if it isn't 0
-abbrev pub with_crit : ℕ → Members → Members
-with_crit zero ms = ms
-with_crit (suc n) ms = put (key_text Crit) (number (unsigned (suc n))) ms
+-- the count under the object's name, if it is held
+abbrev pub with_count : ObjectOf → Claim → Members → Members
+with_count o (HeldTimes count) ms = put o.name (number (unsigned count)) ms
+with_count o claim ms = ms
 
--- the ranges, if there are any
-abbrev pub with_range : Members → Members → Members
-with_range no_members ms = ms
-with_range (member k d more) ms = put (key_text Range) (object (member k d more)) ms
+-- so with each object and what is said of it
+unfoldable pub with_counts : List ObjectOf → List Claim → Members → Members
+with_counts [] cs ms = ms
+with_counts (o ∷ os) [] ms = ms
+with_counts (o ∷ os) (c ∷ cs) ms = with_counts os cs (with_count o c ms)
 
--- the object of a note with one alternative
+-- whether the object is said to be live, and not held
+abbrev pub is_alive : Claim → Bool
+is_alive Alive = true
+is_alive claim = false
+
+-- whether the object is said to be dead
+abbrev pub is_gone : Claim → Bool
+is_gone Gone = true
+is_gone claim = false
+
+-- the names of the objects of which this is said, in the order of their numbers
+unfoldable pub names_where : (Claim → Bool) → List ObjectOf → List Claim → Items
+names_where test [] cs = no_items
+names_where test (o ∷ os) [] = no_items
+names_where test (o ∷ os) (c ∷ cs) = if test c then item (string o.name) (names_where test os cs) else names_where test os cs
+
+-- the depth in front, if it isn't 0
+abbrev pub with_depth : Key → ℕ → Members → Members
+with_depth k zero ms = ms
+with_depth k (suc n) ms = member (key_text k) (number (unsigned (suc n))) ms
+
+-- the list in front, if it has an entry
+abbrev pub with_list : Key → Items → Members → Members
+with_list k no_items ms = ms
+with_list k (item d ds) ms = member (key_text k) (array (item d ds)) ms
+
+-- the object in front, if it has a member
+abbrev pub with_object : Key → Members → Members → Members
+with_object k no_members ms = ms
+with_object k (member name d more) ms = member (key_text k) (object (member name d more)) ms
+
+-- the object of one alternative: each key that isn't at its default; a held mutex is live by being held
 unfoldable pub alternative_tree : Program → Alternative → Data
-alternative_tree P n = object (with_range (with_ranges P.variables n.ranges no_members) (with_crit n.critical no_members))
+alternative_tree P n =
+    object (with_depth key.Crit n.critical
+    (with_list key.Dead (names_where is_gone P.objects n.claims)
+    (with_object key.Held (with_counts P.objects n.claims no_members)
+    (with_list key.Live (names_where is_alive P.objects n.claims)
+    (with_object key.Range (with_ranges P.variables n.ranges no_members)
+    (with_depth key.Susp n.suspended no_members))))))
 
--- `never`, or such an object
+-- several alternatives, in their order
+abbrev pub alternatives_tree : Program → List Alternative → Items
+alternatives_tree P [] = no_items
+alternatives_tree P (n ∷ more) = item (alternative_tree P n) (alternatives_tree P more)
+
+-- `never`, the one alternative, or the list of them
 abbrev pub note_tree : Program → Note → Data
 note_tree P [] = string (codes "never")
-note_tree P (n ∷ more) = alternative_tree P n
+note_tree P (n ∷ []) = alternative_tree P n
+note_tree P (n ∷ m ∷ more) = array (alternatives_tree P (n ∷ m ∷ more))
 
 -- the notes in their order
 abbrev pub notes_tree : Program → List Note → Items
 notes_tree P [] = no_items
 notes_tree P (note ∷ notes) = item (note_tree P note) (notes_tree P notes)
 
+-- the turn values under the names of their actors
+unfoldable pub with_values : Program → List (ℕ × ℤ) → Members → Members
+with_values P [] ms = ms
+with_values P (v ∷ vs) ms = with_values P vs (put (actor_at P v.0).name (number (of_integer v.1)) ms)
+
+-- a guard
+abbrev pub guard_tree : Program → Guard → Data
+guard_tree P (Sole actor) = object (member (key_text key.Sole) (string (actor_at P actor).name) no_members)
+guard_tree P (ByMutex mutex) = object (member (key_text key.Mutex) (string (object_at P mutex).name) no_members)
+guard_tree P InCritical = string (codes "critical")
+guard_tree P (Turn x values) =
+    object (member (key_text key.Turn) (string (variable_at P x).name)
+    (member (key_text key.Values) (object (with_values P values no_members)) no_members))
+
+-- the guard of an end
+abbrev pub end_tree : Program → EndGuard → Data
+end_tree P e =
+    object (member (key_text key.Buffer) (string (object_at P e.buffer).name)
+    (member (key_text key.End) (string (end_text e.end))
+    (member (key_text key.Guard) (guard_tree P e.guard) no_members)))
+
+-- the guards of ends, in their order
+abbrev pub ends_tree : Program → List EndGuard → Items
+ends_tree P [] = no_items
+ends_tree P (e ∷ es) = item (end_tree P e) (ends_tree P es)
+
+-- 1 where each note has one alternative at the most, else 2
+abbrev pub version_of : List Note → ℕ
+version_of notes = if list_all (λ note. nat_le (length note) 1) notes then 1 else 2
+
 -- the object of the whole certificate
 unfoldable pub cert_tree : Program → Certificate → Data
-cert_tree P C = object (member (key_text Ends) (array no_items) (member (key_text Notes) (array (notes_tree P C.notes)) (member (key_text Version) (number (unsigned 1)) no_members)))
+cert_tree P C =
+    object (member (key_text key.Ends) (array (ends_tree P C.ends))
+    (member (key_text key.Notes) (array (notes_tree P C.notes))
+    (member (key_text key.Version) (number (unsigned (version_of C.notes))) no_members)))
 
 -- the bytes of a certificate
 unfoldable pub cert_text : Program → Certificate → List ℕ
 cert_text P C = compact_text (cert_tree P C)
-
--- the note says no more than the keys of a note can say
-abbrev pub IsSaid : Program → Note → Type 0
-IsSaid P note = (note ≡ []) ⊎ ((text : NoteText) × (note ≡ note_said P text ∷ []))

@@ -18,7 +18,7 @@ pub enum CertFault {
     Json,
     /// A key or a value that a certificate doesn't have there, or one that is missing.
     Shape(Path),
-    /// The version is another integer than 1.
+    /// The version is another integer than those that are taken: 1, and later 2.
     Version,
     /// There isn't one note for each point.
     PointCount,
@@ -26,6 +26,13 @@ pub enum CertFault {
     UnknownName,
     /// A depth that is not 0 to 255, or a range that is empty or isn't inside the declared one.
     Note,
+    /// A guard of what is no stream or message buffer, of what is no mutex, or a turn with two equal
+    /// values or one past 64 bits.
+    Guard,
+    /// One end is listed twice.
+    EndTwice,
+    /// A list of no alternative, or of more than four.
+    Alternatives,
 }
 
 impl CertFault {
@@ -45,6 +52,9 @@ impl CertFault {
             CertFault::PointCount => "5 PointCount",
             CertFault::UnknownName => "6 UnknownName",
             CertFault::Note => "7 Note",
+            CertFault::Guard => "8 Guard",
+            CertFault::EndTwice => "9 EndTwice",
+            CertFault::Alternatives => "10 Alternatives",
         }
     }
 

@@ -8,12 +8,23 @@ pub(crate) enum Key {
     Version,
     Ends,
     Notes,
+    Buffer,
+    End,
+    Guard,
+    Sole,
+    Mutex,
+    Turn,
+    Values,
+    Held,
     Crit,
+    Susp,
+    Live,
+    Dead,
     Range,
 }
 
 impl Key {
-    /// The key as it stands in the text.
+    /// The key as the text has it.
     pub(crate) fn text(self) -> &'static str
         ensures { result.now ≡ key_text self }
     {
@@ -21,7 +32,18 @@ impl Key {
             Key::Version => "version",
             Key::Ends => "ends",
             Key::Notes => "notes",
+            Key::Buffer => "buffer",
+            Key::End => "end",
+            Key::Guard => "guard",
+            Key::Sole => "sole",
+            Key::Mutex => "mutex",
+            Key::Turn => "turn",
+            Key::Values => "values",
+            Key::Held => "held",
             Key::Crit => "crit",
+            Key::Susp => "susp",
+            Key::Live => "live",
+            Key::Dead => "dead",
             Key::Range => "range",
         }
     }
@@ -31,7 +53,28 @@ impl Key {
 #[derive(Clone, Copy, Debug)]
 pub(crate) enum Place {
     Certificate,
+    End,
+    /// A guard of one actor alone.
+    Sole,
+    /// A guard of whoever holds a mutex.
+    Mutex,
+    /// A guard of whose turn it is.
+    Turn,
     Note,
+    /// A note as it can be read today.
+    PlainNote,
+}
+
+// Whether a note's object may have this key.
+fn is_key_of_note(key: &str) -> bool
+    ensures { result ≡ is_key_of Place.Note key.now }
+{
+    key == "held"
+        || key == "crit"
+        || key == "susp"
+        || key == "live"
+        || key == "dead"
+        || key == "range"
 }
 
 /// Whether the object at this place may have this key.
@@ -40,6 +83,11 @@ pub(crate) fn is_key_of(place: Place, key: &str) -> bool
 {
     match place {
         Place::Certificate => key == "version" || key == "ends" || key == "notes",
-        Place::Note => key == "crit" || key == "range",
+        Place::End => key == "buffer" || key == "end" || key == "guard",
+        Place::Sole => key == "sole",
+        Place::Mutex => key == "mutex",
+        Place::Turn => key == "turn" || key == "values",
+        Place::Note => is_key_of_note(key),
+        Place::PlainNote => key == "crit" || key == "range",
     }
 }

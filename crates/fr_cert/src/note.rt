@@ -3,9 +3,10 @@ ghost use Rattle.std.specs.Prelude.{◌≡◌, ◌↔◌, IsTrue, Some, IfOk, If
 ghost use Rattle.serde_json.specs.Find.{as_str};
 ghost use Rattle.serde_json.specs.View.{view, members_view};
 ghost use Rattle.fr_cert.specs.Keys.{field};
-ghost use Rattle.fr_cert.specs.Meaning.{IsDepthAt, RangesAt, IsNoteText, IsPlain, IsNote};
-ghost use Rattle.fr_cert.specs.Faults.{Standing, InDepth, InField, InRanges};
-ghost use Rattle.fr_cert.specs.Stands.{InKeysOfNote, InPlain, InNote};
+ghost use Rattle.fr_cert.specs.PlainMeaning.{IsDepthAt, RangesAt, IsPlainText, IsPlain, IsNote};
+ghost use Rattle.fr_cert.specs.Faults.{Standing, InDepth, InField};
+ghost use Rattle.fr_cert.specs.PlainFaults.{InRanges};
+ghost use Rattle.fr_cert.specs.PlainStands.{InKeysOfNote, InPlain, InNote};
 ghost use Rattle.fr_notes.specs.Fits.{NoteFits};
 ghost use Rattle.fr_cert.specs.Views.{named_of, text_of, IsPlainParts, refused_as};
 
@@ -69,11 +70,11 @@ fn ranges_at(
 fn parts_of(alloc: Global, app: &App, object: &Map<String, Value>) -> Result<NoteParts, CertFault>
     ensures plain { IfOk result IsPlainParts }
     ensures ok { IfOk result
-        (λ parts. IsNoteText app.now (members_view object.now.entries) (text_of parts)) }
+        (λ parts. IsPlainText app.now (members_view object.now.entries) (text_of parts)) }
     ensures err { IfErr result
         (Standing (InKeysOfNote app.now (members_view object.now.entries))) }
 {
-    known_keys(alloc, object, Place::Note)?;
+    known_keys(alloc, object, Place::PlainNote)?;
     Ok(NoteParts {
         held: Vec::new(alloc),
         crit: crit_at(alloc, object)?,

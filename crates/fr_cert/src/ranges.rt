@@ -4,8 +4,11 @@ ghost use Rattle.std.specs.Str.{bytes_eq};
 ghost use Rattle.serde_json.specs.Find.{as_array, as_object, get_item};
 ghost use Rattle.serde_json.specs.View.{view, items_view, members_view};
 ghost use Rattle.fr_cert.specs.Keys.{variable_named, end_at};
-ghost use Rattle.fr_cert.specs.Meaning.{IsSpan, IsSpanOf, IsNamed, Named, RangesAt};
-ghost use Rattle.fr_cert.specs.Faults.{Standing, Departs, InEnds, InSpan, InNamed, InMembers, InRanges};
+ghost use Rattle.fr_cert.specs.Shapes.{AreEnds, IsSpan};
+ghost use Rattle.fr_cert.specs.Meaning.{IsRange};
+ghost use Rattle.fr_cert.specs.PlainMeaning.{Named, RangesAt};
+ghost use Rattle.fr_cert.specs.Faults.{Standing, Departs, InEnds, InSpan};
+ghost use Rattle.fr_cert.specs.PlainFaults.{InNamed, InMembers, InRanges};
 ghost use Rattle.fr_notes.specs.View.{ends_of};
 ghost use Rattle.fr_cert.specs.Views.{named_of};
 
@@ -38,7 +41,7 @@ fn end_at(ends: &Vec<Value>, index: usize) -> Option<i128>
 
 // The range with the two ends.
 fn span_of(alloc: Global, ends: &Vec<Value>) -> Result<Range, CertFault>
-    ensures ok { IfOk result (λ range. IsSpan (items_view ends.now.items) (ends_of range)) }
+    ensures ok { IfOk result (λ range. AreEnds (items_view ends.now.items) (ends_of range)) }
     ensures err { IfErr result (Standing (InEnds (items_view ends.now.items))) }
 {
     let Some(lo) = end_at(ends, 0) else {
@@ -58,7 +61,7 @@ fn span_of(alloc: Global, ends: &Vec<Value>) -> Result<Range, CertFault>
 
 // The range that a list of two integers stands for.
 fn range_of(alloc: Global, value: &Value) -> Result<Range, CertFault>
-    ensures ok { IfOk result (λ range. IsSpanOf (view value.now) (ends_of range)) }
+    ensures ok { IfOk result (λ range. IsSpan (view value.now) (ends_of range)) }
     ensures err { IfErr result (Standing (InSpan (view value.now))) }
 {
     span_of(alloc, list_in(alloc, value)?)
@@ -87,7 +90,7 @@ fn named_range(
     name: &str,
     value: &Value,
 ) -> Result<(VarId, Range), CertFault>
-    ensures ok { IfOk result (λ x. IsNamed app.now name.now (view value.now) (named_of x)) }
+    ensures ok { IfOk result (λ x. IsRange app.now name.now (view value.now) (named_of x)) }
     ensures err { IfErr result (Standing (InNamed app.now name.now (view value.now))) }
 {
     let Some(number) = variable_named(app, name) else {

@@ -9,10 +9,12 @@ ghost use Rattle.fr_notes.specs.Fits.{NoteFits, NotesFit};
 ghost use Rattle.fr_ends.specs.Certificate.{Certificate as CertificateOf};
 ghost use Rattle.fr_ends.specs.Fits.{CertificateFits};
 ghost use Rattle.fr_cert.specs.Keys.{field, integer_of};
-ghost use Rattle.fr_cert.specs.Meaning.{EachNote, NotesAt, IsCertificate, IsTree, IsTreeText, Means};
+ghost use Rattle.fr_cert.specs.Meaning.{IsTreeText, Means};
+ghost use Rattle.fr_cert.specs.PlainMeaning.{EachNote, NotesAt, IsCertificate, IsTree};
 ghost use Rattle.fr_cert.specs.Faults.{Standing, InNeeded};
-ghost use Rattle.fr_cert.specs.Written.{IsSaid};
-ghost use Rattle.fr_cert.specs.Stands.{InVersion, InGuards, InEach, InNotes, InCertificate, InTree, InBytes, Stands};
+ghost use Rattle.fr_cert.specs.NotYet.{IsRefused, IsWrittenToday};
+ghost use Rattle.fr_cert.specs.Present.{InBytes, IsPresent};
+ghost use Rattle.fr_cert.specs.PlainStands.{InVersion, InGuards, InEach, InNotes, InCertificate, InTree};
 ghost use Rattle.fr_cert.specs.declared.fault.CertFault.{CertFault as Refusal};
 
 use crate::fault::CertFault;
@@ -199,32 +201,33 @@ fn tree_of(alloc: Global, bytes: &[u8]) -> Result<Value, CertFault>
     }
 }
 
-/// The certificate that the bytes stand for, for this application.
+/// The certificate that the bytes mean, for this application.
 ///
 /// The bytes are a JSON text (RFC 8259), as the crate `serde_json` reads it, of at most 16,777,216
-/// bytes: an object of version 1, with an empty list of ends and one note for each point, each
-/// `"never"` or an object with the keys `crit` and `range`. `write_cert` can write it.
+/// bytes. Today it takes a text of version 1 with an empty list of ends and one note for each point,
+/// each `"never"` or an object with the keys `crit` and `range`; `write_cert` can write it. A text of
+/// the rest of the format is refused as `Shape` or `Version`.
 ///
-/// Its errors are those of `CertFault`: one that stands in the bytes, where they stand for no
-/// certificate. Of several, which one is named is open.
+/// Otherwise its errors are those of `CertFault`: one that is present in the bytes, where they mean
+/// no certificate. Of several, which one is named is open.
 pub fn read_cert(alloc: Global, app: &App, bytes: &[u8]) -> Result<Certificate, CertFault>
     ensures ok { IfOk result (Means app.now bytes.now) }
     ensures fits { IfOk result (CertificateFits app.now) }
-    ensures said { IfOk result (λ c. All (IsSaid app.now) c.notes) }
-    ensures err { IfErr result (Standing (Stands app.now bytes.now)) }
+    ensures written { IfOk result (IsWrittenToday app.now) }
+    ensures err { IfErr result (Standing (IsRefused app.now bytes.now)) }
 {
     let tree = tree_of(alloc, bytes)?;
     certificate_in(alloc, app, &tree)
 }
 
-/// Bytes stand, for an application, for one certificate at the most.
+/// Bytes mean, for an application, one certificate at the most.
 pub fn one_meaning()
     ensures { (P : Program) (bytes : List ℕ) (C D : CertificateOf) →
         Means P bytes C → Means P bytes D → C ≡ D }
 {}
 
-/// Bytes in which a fault stands stand for no certificate.
+/// Bytes in which a fault is present mean no certificate.
 pub fn no_meaning()
     ensures { (P : Program) (bytes : List ℕ) (f : Refusal) (C : CertificateOf) →
-        Stands P bytes f → Means P bytes C → ⊥ }
+        IsPresent P bytes f → Means P bytes C → ⊥ }
 {}

@@ -8,7 +8,9 @@ ghost use Rattle.fr_program.specs.View.{variable_of};
 ghost use Rattle.fr_notes.specs.View.{ends_of};
 ghost use Rattle.fr_notes.specs.Fits.{AlternativeFits, NoteFits, NotesFit};
 ghost use Rattle.fr_ends.specs.Fits.{CertificateFits};
-ghost use Rattle.fr_cert.specs.Written.{range_tree, is_declared, with_named, with_ranges, with_crit, with_range, alternative_tree, note_tree, notes_tree, cert_tree, cert_text, IsSaid};
+ghost use Rattle.fr_cert.specs.Written.{range_tree, is_declared, with_named, with_ranges, cert_text};
+ghost use Rattle.fr_cert.specs.PlainWritten.{with_crit, with_range, alternative_tree, note_tree, notes_tree, cert_tree};
+ghost use Rattle.fr_cert.specs.NotYet.{IsWrittenToday};
 ghost use Rattle.fr_cert.specs.Meaning.{Means, most_bytes};
 ghost use Rattle.fr_cert.specs.Views.{HasNumbers};
 
@@ -120,7 +122,7 @@ fn alternative_value(
     requires { AlternativeFits app.now alternative.now }
     ensures { IfOk result (λ v. view v ≡ alternative_tree app.now alternative.now) }
 {
-    app.is_faultless();
+    app.recall_faultless();
     let mut object = crit_value(alloc, alternative.crit)?;
     let ranges = ranges_value(alloc, app.variables(), &alternative.ranges)?;
     add_ranges(alloc, &mut object, ranges)?;
@@ -173,18 +175,19 @@ fn cert_value(alloc: Global, app: &App, certificate: &Certificate) -> Result<Val
     Ok(Value::Object(object))
 }
 
-/// The text of a certificate that fits the application and whose notes say no more than a depth in
-/// the critical section and ranges: compact JSON with its keys in the order of their bytes. A text
-/// of no more bytes than a reader takes stands for the certificate again.
+/// The text of a certificate that fits the application: compact JSON with its keys in the order of
+/// their bytes. A text of no more bytes than a reader takes means the certificate again.
+///
+/// Today it takes a certificate without guards whose notes say no more than a depth in the critical
+/// section and ranges.
 pub fn write_cert(alloc: Global, app: &App, certificate: &Certificate) -> Result<String, AllocError>
     requires fits { CertificateFits app.now certificate.now }
-    requires said { All (IsSaid app.now) certificate.now.notes }
+    requires taken { IsWrittenToday app.now certificate.now }
     ensures written { IfOk result (λ s. string_bytes s ≡ cert_text app.now certificate.now) }
     ensures again { IfOk result (λ s. length (string_bytes s) ≤ most_bytes
         → Means app.now (string_bytes s) certificate.now) }
 {
-    app.is_faultless();
-    certificate.ends.are_none();
+    app.recall_faultless();
     let value = cert_value(alloc, app, certificate)?;
     value.to_string(alloc)
 }

@@ -2,8 +2,17 @@
 use clap::{Arg, ArgAction, ArgMatches, Command, Error, value_parser};
 use std::alloc::{AllocError, Global};
 
+/// The name that the version is printed with, by `--version` and `check --version` alike.
+const NAME: &str = "fr_check";
+
+const STATUSES: &str = "Exit status:
+  0  The verdict is yes
+  1  The verdict is no
+  2  The words, the application or the certificate are refused
+  3  The machine failed: no memory, no thread, or a file that can't be read or written";
+
 /// What the command line asks for.
-#[derive(Clone, Copy, Debug)]
+#[derive(Clone, Copy)]
 pub enum Request<'a> {
     /// The verdict on the application and the certificate in these files, by this many workers.
     Check {
@@ -32,17 +41,20 @@ fn workers_arg<'a>(alloc: Global) -> Arg<'a> {
 
 fn check_command<'a>(alloc: Global) -> Result<Command<'a>, AllocError> {
     Command::new(alloc, "check")
+        .display_name(NAME)?
         .about("Prints the verdict on an application and a certificate")
+        .after_help(STATUSES)
         .arg(file_arg(alloc, "APP", "The application, in TOML"))?
         .arg(file_arg(alloc, "CERT", "The certificate, in JSON"))?
         .arg(workers_arg(alloc))
 }
 
 fn command<'a>(alloc: Global) -> Result<Command<'a>, AllocError> {
-    Command::new(alloc, "fr_check")
+    Command::new(alloc, NAME)
         .version("0.1.0")
         .propagate_version(true)
         .about("Checks that a multicore FreeRTOS application keeps the kernel's usage rules")
+        .after_help(STATUSES)
         .subcommand_required(true)
         .arg_required_else_help(true)
         .subcommand(check_command(alloc)?)

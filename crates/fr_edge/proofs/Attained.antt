@@ -20,17 +20,17 @@ use Rattle.fr_program.specs.Program.{Program}
 use Rattle.fr_program.specs.Lookup.{IsPoint}
 use Rattle.fr_program.specs.Fault.{IsFaultless, IsInstrJudgedYet, OperandsFit, AreApart}
 use Rattle.fr_calls.specs.declared.way.Way.{Way}
-use Rattle.fr_calls.specs.declared.way.Way.TheVariants.{Works, Fails}
+use Rattle.fr_calls.specs.declared.way.Way.TheVariants.{Then, Else}
 use Rattle.fr_calls.specs.State.{State, value_of, depth_of, write, in_critical, critical_at, held_at}
 use Rattle.fr_calls.specs.Rule.{operand_of, result_of}
-use Rattle.fr_calls.specs.Step.{Row}
+use Rattle.fr_calls.specs.Step.{Row, transition}
 use Rattle.fr_notes.specs.declared.change.Change.{Change}
 use Rattle.fr_notes.specs.Note.{Alternative, Within, range_of}
 use Rattle.fr_notes.specs.Fits.{AlternativeFits}
 use Rattle.fr_notes.specs.View.{ends_of}
 use Rattle.fr_notes.specs.Change.{CanBe, HasOperand, HasOperands, Turns, IsResult, IsBranch, same, branched, narrowed_to, range_after, new_range, HasChange, HasCallChange}
 use Rattle.fr_edge.proofs.Standing.{choose, choose-within, AreWithin, state-of, noted-here, value-here, left-here, right-here}
-use Rattle.fr_edge.proofs.Rules.{set-apart}
+use Rattle.fr_edge.proofs.RuleLaws.{set-apart}
 
 -- one of the two ends of a range
 abbrev pub end_of : Bool → ℤ × ℤ → ℤ
@@ -85,7 +85,7 @@ module _ (P : Program) (p : Point) (n : Alternative) (free : IsFaultless P) (poi
     pub within : AreWithin n values
     pub choice : ℤ
     pub mid : State
-    pub row : Row P (here values) p.actor.0 Before i way choice mid
+    pub row : Row P (transition (here values) p.actor.0 choice mid) Before i way
     pub fact : Q mid
 
   abbrev base : Bool → ℕ → ℤ
@@ -98,7 +98,7 @@ module _ (P : Program) (p : Point) (n : Alternative) (free : IsFaultless P) (poi
   abbrev pub Ends : Bool → ℕ → Change → State → Type 0
   Ends b x change mid = x < length P.variables → value_of mid x ≡ end_of b (new_range change x (range_of n x))
 
-  same-attained : (b : Bool) (x : ℕ) (i : Instr) (way : Way) → Row P (here (base b)) p.actor.0 Before i way (pos 0) (here (base b)) → Moves i way (Ends b x (same n))
+  same-attained : (b : Bool) (x : ℕ) (i : Instr) (way : Way) → Row P (transition (here (base b)) p.actor.0 (pos 0) (here (base b))) Before i way → Moves i way (Ends b x (same n))
   same-attained b x i way row = record {
     values = base b;
     within = base-within b;
@@ -108,10 +108,10 @@ module _ (P : Program) (p : Point) (n : Alternative) (free : IsFaultless P) (poi
     fact = λ l. value-here P p n free point fits (base b) x l;
   }
 
-  set-attained : (b : Bool) (x : ℕ) (y : VarId) (l : Operand) (op : Operator) (r : Operand) (span : Range) → HasOperands n (Set y l op r) → AreApart l r → IsResult n op l r span → Moves (Set y l op r) Works (Ends b x (record (same n) { first = Some (y, span) }))
+  set-attained : (b : Bool) (x : ℕ) (y : VarId) (l : Operand) (op : Operator) (r : Operand) (span : Range) → HasOperands n (Set y l op r) → AreApart l r → IsResult n op l r span → Moves (Set y l op r) Then (Ends b x (record (same n) { first = Some (y, span) }))
   set-attained b x y l op r span has apart is = go (nat_eq y.0 x) refl
     where
-      go : (d : Bool) → nat_eq y.0 x ≡ d → Moves (Set y l op r) Works (Ends b x (record (same n) { first = Some (y, span) }))
+      go : (d : Bool) → nat_eq y.0 x ≡ d → Moves (Set y l op r) Then (Ends b x (record (same n) { first = Some (y, span) }))
       go true e =
           let k = result-end n op l r span is b in
           let f = choose l k.0 (choose r k.1 (base b)) in
@@ -144,9 +144,9 @@ module _ (P : Program) (p : Point) (n : Alternative) (free : IsFaultless P) (poi
                 rw e (get_or-set_other S.values y.0 x w (pos 0) (λ q. let t = eq-eqb y.0 x (sym q) in cc) ∙ value-here P p n free point fits (base b) x lt);
           }
 
-  row-if : (S : State) (way : Way) (l : Operand) (comparison : Comparison) (r : Operand) (target : ℕ) → Turns way comparison (operand_of S l) (operand_of S r) → Row P S p.actor.0 Before (If l comparison r target) way (pos 0) S
-  row-if S Works l comparison r target t = (refl, t, refl)
-  row-if S Fails l comparison r target t = (refl, t, refl)
+  row-if : (S : State) (way : Way) (l : Operand) (comparison : Comparison) (r : Operand) (target : ℕ) → Turns way comparison (operand_of S l) (operand_of S r) → Row P (transition S p.actor.0 (pos 0) S) Before (If l comparison r target) way
+  row-if S Then l comparison r target t = (refl, t, refl)
+  row-if S Else l comparison r target t = (refl, t, refl)
 
   module _ (b : Bool) (x : ℕ) (way : Way) (l : Operand) (comparison : Comparison) (r : Operand) (target : ℕ) (has_l : HasOperand n l) (has_r : HasOperand n r) (apart : AreApart l r) where
     abbrev at : ℤ → ℤ → State
@@ -195,8 +195,8 @@ module _ (P : Program) (p : Point) (n : Alternative) (free : IsFaultless P) (poi
   changed-to : (b : Bool) (x : ℕ) (i : Instr) (way : Way) (change made : Change) → change ≡ made → Moves i way (Ends b x made) → Moves i way (Ends b x change)
   changed-to b x i way change made e m = subst (λ ch. Moves i way (Ends b x ch)) (sym e) m
 
-  call-attained : (b : Bool) (x : ℕ) (call : Call) (change : Change) → IsInstrJudgedYet (Calls call) → HasCallChange n call change → Moves (Calls call) Works (Ends b x change)
-  call-attained b x (EnterCritical form) change j k = changed-to b x (Calls (EnterCritical form)) Works change _ k (record {
+  call-attained : (b : Bool) (x : ℕ) (call : Call) (change : Change) → IsInstrJudgedYet (Calls call) → HasCallChange n call change → Moves (Calls call) Then (Ends b x change)
+  call-attained b x (EnterCritical form) change j k = changed-to b x (Calls (EnterCritical form)) Then change _ k (record {
     values = base b;
     within = base-within b;
     choice = pos 0;
@@ -204,7 +204,7 @@ module _ (P : Program) (p : Point) (n : Alternative) (free : IsFaultless P) (poi
     row = (refl, held-own p.actor.0 n.critical, refl);
     fact = λ l. value-here P p n free point fits (base b) x l;
   })
-  call-attained b x (ExitCritical form) change j k = changed-to b x (Calls (ExitCritical form)) Works change _ k.1 (record {
+  call-attained b x (ExitCritical form) change j k = changed-to b x (Calls (ExitCritical form)) Then change _ k.1 (record {
     values = base b;
     within = base-within b;
     choice = pos 0;
@@ -212,16 +212,16 @@ module _ (P : Program) (p : Point) (n : Alternative) (free : IsFaultless P) (poi
     row = (refl, refl);
     fact = λ l. value-here P p n free point fits (base b) x l;
   })
-  call-attained b x (Delay ticks) change j k = changed-to b x (Calls (Delay ticks)) Works change _ k (same-attained b x (Calls (Delay ticks)) Works (refl, refl))
-  call-attained b x DeleteSelf change j k = changed-to b x (Calls DeleteSelf) Works change _ k (same-attained b x (Calls DeleteSelf) Works (refl, refl))
+  call-attained b x (Delay ticks) change j k = changed-to b x (Calls (Delay ticks)) Then change _ k (same-attained b x (Calls (Delay ticks)) Then (refl, refl))
+  call-attained b x DeleteSelf change j k = changed-to b x (Calls DeleteSelf) Then change _ k (same-attained b x (Calls DeleteSelf) Then (refl, refl))
   call-attained b x call change j k = absurd j
 
   pub attained : (b : Bool) (x : ℕ) (i : Instr) (way : Way) (change : Change) → IsInstrJudgedYet i → HasOperands n i → OperandsFit i → HasChange n i way change → Moves i way (Ends b x change)
-  attained b x (Set y l op r) Works change j has fit k =
-      changed-to b x (Set y l op r) Works change _ k.2 (set-attained b x y l op r k.0 has (set-apart y l r op fit) k.1)
+  attained b x (Set y l op r) Then change j has fit k =
+      changed-to b x (Set y l op r) Then change _ k.2 (set-attained b x y l op r k.0 has (set-apart y l r op fit) k.1)
   attained b x (If l comparison r target) way change j has fit k =
       changed-to b x (If l comparison r target) way change _ k.is (branch-attained b x way l comparison r target has.0 has.1 fit change k)
-  attained b x (Goto target) Works change j has fit k = changed-to b x (Goto target) Works change _ k (same-attained b x (Goto target) Works (refl, refl))
-  attained b x Return Works change j has fit k = changed-to b x Return Works change _ k (same-attained b x Return Works (refl, refl))
-  attained b x (Calls call) Works change j has fit k = call-attained b x call change j k
+  attained b x (Goto target) Then change j has fit k = changed-to b x (Goto target) Then change _ k (same-attained b x (Goto target) Then (refl, refl))
+  attained b x Return Then change j has fit k = changed-to b x Return Then change _ k (same-attained b x Return Then (refl, refl))
+  attained b x (Calls call) Then change j has fit k = call-attained b x call change j k
   attained b x i way change j has fit k = absurd k

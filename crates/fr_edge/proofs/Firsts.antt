@@ -13,7 +13,7 @@ use Rattle.fr_program.specs.declared.ids.ActorId.{ActorId}
 use Rattle.fr_calls.specs.declared.way.Landing.TheVariants.{At as LandsAt}
 use Rattle.fr_calls.specs.Landing.{landing_of}
 use Rattle.fr_calls.specs.State.{Place, At, Done}
-use Rattle.fr_calls.specs.Rule.{Rule}
+use Rattle.fr_calls.specs.declared.rules.Rule.{Rule}
 use Rattle.fr_notes.specs.Note.{Alternative, Note}
 use Rattle.fr_notes.specs.Noted.{note_at}
 use Rattle.fr_notes.specs.Fits.{AlternativeFits, NotesFit}
@@ -67,9 +67,8 @@ module _ (P : Program) (notes : List Note) (p : Point) (note : Note) (is_note : 
   breaks-rule rule n m b keeps =
       keeps b.instr b.is b.own b.state (record { formed = b.noted.formed; at = b.noted.at; holds = (n, subst (λ q. Contains q n) is_note m, b.noted.holds) }) b.breach
 
-  pub least-rule : (k : ℕ) → NoteOutcome P p note (length note) (Some k) → IsLeastRule P notes p k
-  least-rule k o =
-      (o.0, o.1, breaks-rule o.0 o.2.0 o.2.1 o.2.2, λ other lt. keeps-rule other (o.3 other lt))
+  pub least-rule : (rule : Rule) → NoteOutcome P p note (length note) (Some rule) → IsLeastRule P notes p rule
+  least-rule rule o = (breaks-rule rule o.0.0 o.0.1 o.0.2, λ other lt. keeps-rule other (o.1 other lt))
 
   pub all-rules : NoteOutcome P p note (length note) None → KeepsRules P notes p
   all-rules o = λ rule. keeps-rule rule (λ n m. o n m rule)

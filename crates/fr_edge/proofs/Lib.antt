@@ -1,8 +1,8 @@
 pub mod Standing
-pub mod Rules
+pub mod RuleLaws
 pub mod Lists
 pub mod StartLaws
-pub mod Steps
+pub mod StepLaws
 pub mod Targets
 pub mod Attained
 pub mod Missing

@@ -1,10 +1,11 @@
 -- The first alternatives of a note, one more at a time.
-use Rattle.std.proofs.Common.{◌≡◌, ℕ, zero, suc, ◌+◌, ◌<◌, List, [], ◌∷◌, length, get_or, Option, Some, None, refl, sym, ap, ◌∙◌, subst, arith, ⊎_elim, min}
-use Rattle.std.proofs.lemmas.Bool.{cases_lt}
+use Rattle.std.proofs.Common.{◌≡◌, ℕ, zero, suc, ◌+◌, ◌<◌, List, [], ◌∷◌, length, get_or, Option, Some, None, refl, sym, ap, ◌∙◌, subst, arith, ⊎_elim, Bool, true, false}
+use Rattle.std.proofs.lemmas.Bool.{cases_lt, leb-true, leb-false}
 use Rattle.fr_program.specs.declared.ids.Point.{Point}
 use Rattle.fr_program.specs.Program.{Program}
-use Rattle.fr_calls.specs.Rule.{Rule, number_of}
-use Rattle.std.specs.Prelude.{All, Contains}
+use Rattle.fr_calls.specs.declared.rules.Rule.{Rule}
+use Rattle.fr_calls.specs.Rule.{number_of}
+use Rattle.std.specs.Prelude.{All, Contains, nat_le, if◌then◌else◌}
 use Rattle.fr_notes.specs.Fits.{AlternativeFits}
 use Rattle.fr_notes.specs.Note.{Alternative, Note}
 use Rattle.fr_edge.specs.Alternatives.{KeepsRuleBy, RuleOutcome, IsAmong, NoteOutcome, lesser_of}
@@ -29,23 +30,23 @@ module _ (P : Program) (p : Point) (note : Note) (k : ℕ) (x : Alternative) (l 
   keeps-more rule before now n m =
       among-case (KeepsRuleBy P p n rule) note k x n l is m (λ old. before n old) (λ e. subst (λ q. KeepsRuleBy P p q rule) e now)
 
-  now-least : (j : ℕ) → RuleOutcome P p x (Some j) → ((other : Rule) → number_of other < j → (n : Alternative) → IsAmong note k n → KeepsRuleBy P p n other) → NoteOutcome P p note (k + 1) (Some j)
+  now-least : (j : Rule) → RuleOutcome P p x (Some j) → ((other : Rule) → number_of other < number_of j → (n : Alternative) → IsAmong note k n → KeepsRuleBy P p n other) → NoteOutcome P p note (k + 1) (Some j)
   now-least j now before =
-      (now.0, now.1, (x, (k, omega arith, sym is), now.2), λ other lt n m. keeps-more other (before other lt) (now.3 other lt) n m)
+      ((x, (k, omega arith, sym is), now.0), λ other lt n m. keeps-more other (before other lt) (now.1 other lt) n m)
 
-  still-least : (j : ℕ) → NoteOutcome P p note k (Some j) → ((other : Rule) → number_of other < j → KeepsRuleBy P p x other) → NoteOutcome P p note (k + 1) (Some j)
+  still-least : (j : Rule) → NoteOutcome P p note k (Some j) → ((other : Rule) → number_of other < number_of j → KeepsRuleBy P p x other) → NoteOutcome P p note (k + 1) (Some j)
   still-least j before now =
-      (before.0, before.1, (before.2.0, among-more note k before.2.0 before.2.1, before.2.2), λ other lt n m. keeps-more other (before.3 other lt) (now other lt) n m)
+      ((before.0.0, among-more note k before.0.0 before.0.1, before.0.2), λ other lt n m. keeps-more other (before.1 other lt) (now other lt) n m)
 
-  pub note-step : (least now : Option ℕ) → NoteOutcome P p note k least → RuleOutcome P p x now → NoteOutcome P p note (k + 1) (lesser_of least now)
+  pub note-step : (least now : Option Rule) → NoteOutcome P p note k least → RuleOutcome P p x now → NoteOutcome P p note (k + 1) (lesser_of least now)
   note-step None None before now = λ n m rule. keeps-more rule (λ q o. before q o rule) (now rule) n m
   note-step None (Some j) before now = now-least j now (λ other lt n m. before n m other)
   note-step (Some i) None before now = still-least i before (λ other lt. now other)
-  note-step (Some i) (Some j) before now =
-      ⊎_elim (λ lt. let e : min i j ≡ i = omega arith in
-      subst (λ v. NoteOutcome P p note (k + 1) (Some v)) (sym e) (still-least i before (λ other less. now.3 other (omega arith)))) (λ ge.
-      let e : min i j ≡ j = omega arith in
-      subst (λ v. NoteOutcome P p note (k + 1) (Some v)) (sym e) (now-least j now (λ other less n m. before.3 other (omega arith) n m))) (cases_lt i j)
+  note-step (Some i) (Some j) before now = go (nat_le (number_of i) (number_of j)) refl
+    where
+      go : (b : Bool) → nat_le (number_of i) (number_of j) ≡ b → NoteOutcome P p note (k + 1) (if b then Some i else Some j)
+      go true e = let le = leb-true (number_of i) (number_of j) e in still-least i before (λ other less. now.1 other (omega (arith, le, less)))
+      go false e = let lt = leb-false (number_of i) (number_of j) e in now-least j now (λ other less n m. before.1 other (omega (arith, lt, less)) n m)
 
 -- an alternative that the code meets in a note fits
 pub item-fits : (P : Program) (items note : Note) (k : ℕ) (x : Alternative) → items ≡ note → k < length items → x ≡ get_or items k x → All (λ n. AlternativeFits P n) note → AlternativeFits P x

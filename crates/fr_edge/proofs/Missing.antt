@@ -11,8 +11,9 @@ use Rattle.fr_program.specs.Lookup.{instr_of, IsPoint}
 use Rattle.fr_program.specs.Fault.{IsFaultless, IsJudgedYet}
 use Rattle.fr_calls.specs.declared.way.Way.{Way}
 use Rattle.fr_calls.specs.State.{State, At, Done, place_of, goes_to}
-use Rattle.fr_calls.specs.Rule.{Rule, OneWriter, OneReader, GivenByHolder, AllowedInCritical, AllowedSuspended, AllowedInInterrupt, IsLive, LifeInOrder, SuitsSemaphore, DepthAboveZero, EndsInOrder, InRange}
-use Rattle.fr_calls.specs.Step.{StepBy, IsFree, SuitsInside, Row, landing, stops}
+use Rattle.fr_calls.specs.declared.rules.Rule.{Rule}
+use Rattle.fr_calls.specs.declared.rules.Rule.TheVariants.{OneWriter, OneReader, GivenByHolder, AllowedInCritical, AllowedSuspended, AllowedInInterrupt, IsLive, LifeInOrder, SuitsSemaphore, DepthAboveZero, EndsInOrder, InRange}
+use Rattle.fr_calls.specs.Step.{StepBy, IsFree, SuitsInside, Row, landing, stops, transition}
 use Rattle.fr_notes.specs.declared.change.Change.{Change}
 use Rattle.fr_notes.specs.Note.{Alternative, Note, HoldsOne, range_of}
 use Rattle.fr_notes.specs.Noted.{note_at, IsAt, NotedBy}
@@ -22,8 +23,8 @@ use Rattle.fr_edge.specs.Own.{is_own}
 use Rattle.fr_edge.specs.Alternatives.{GoesBy}
 use Rattle.fr_edge.specs.FirstOwn.{KeepsRules}
 use Rattle.fr_edge.proofs.Standing.{actor-there, side-before, noted-here}
-use Rattle.fr_edge.proofs.Rules.{has-operands}
-use Rattle.fr_edge.proofs.Steps.{After, after-row}
+use Rattle.fr_edge.proofs.RuleLaws.{has-operands}
+use Rattle.fr_edge.proofs.StepLaws.{After, after-row}
 use Rattle.fr_edge.proofs.Attained.{here, Moves, Ends, attained}
 
 stops-own : (i : Instr) (rule : Rule) → IsTrue (stops rule) → IsTrue (is_own i rule)
@@ -67,7 +68,7 @@ module _ (P : Program) (notes : List Note) (p : Point) (i : Instr) (way : Way) (
       is = is;
       free = is-free (here P p n free point fits (moves b x).values) (noted-at b x);
       mid = (moves b x).mid;
-      row = subst (λ s. Row P (here P p n free point fits (moves b x).values) p.actor.0 s i way (moves b x).choice (moves b x).mid) (sym (side-before P p judged point)) (moves b x).row;
+      row = subst (λ s. Row P (transition (here P p n free point fits (moves b x).values) p.actor.0 (moves b x).choice (moves b x).mid) s i way) (sym (side-before P p judged point)) (moves b x).row;
       moved = refl;
     }
 
@@ -96,6 +97,6 @@ module _ (P : Program) (notes : List Note) (p : Point) (i : Instr) (way : Way) (
 
     pub missing : (target : Point) (next : Note) → next ≡ note_at P notes target → target.actor ≡ p.actor → landing p.pc Before i way ≡ At target.pc target.side → ((m : Alternative) → Contains next m → Keeps n change m → ⊥) → GoesBy P notes p way target → ⊥
     missing target next is_next actor to none goes =
-        let g = goes actor n k (here P p n free point fits (moves false 0).values) (moves false 0).choice (after-state false 0) (noted-at false 0) (steps false 0) (arrives false 0 target actor to) in
+        let g = goes actor n k (here P p n free point fits (moves false 0).values, (moves false 0).choice, after-state false 0, noted-at false 0, steps false 0, arrives false 0 target actor to) in
         none g.0 (subst (λ note. Contains note g.0) (sym is_next) g.1) (keeps-what-holds g.0 (λ b x.
         g.2 (here P p n free point fits (moves b x).values) (moves b x).choice (after-state b x) (noted-at b x) (steps b x) (arrives b x target actor to)))

@@ -19,7 +19,8 @@ use Rattle.fr_program.specs.Program.{Program}
 use Rattle.fr_program.specs.Lookup.{instr_at, instr_of, no_actor, HasSide, IsPoint}
 use Rattle.fr_program.specs.Fault.{IsFaultless, IsJudgedYet, IsInstrJudgedYet, AreApart}
 use Rattle.fr_calls.specs.State.{State, Place, At, Exists, value_of}
-use Rattle.fr_calls.specs.Rule.{Rule, Breach, Breaches, operand_of}
+use Rattle.fr_calls.specs.declared.rules.Rule.{Rule}
+use Rattle.fr_calls.specs.Rule.{Breach, Breaches, operand_of}
 use Rattle.fr_notes.specs.Note.{Alternative, Within, HoldsOne, range_of}
 use Rattle.fr_notes.specs.Noted.{NotedBy}
 use Rattle.fr_notes.specs.Fits.{AlternativeFits}

@@ -15,7 +15,7 @@ use Rattle.fr_notes.specs.Note.{Alternative, Meets, Within, HoldsOne, claim_of, 
 use Rattle.fr_notes.specs.View.{ends_of}
 use Rattle.fr_notes.specs.Fits.{AlternativeFits}
 use Rattle.fr_edge.specs.Starts.{BeginsWithin}
-use Rattle.fr_edge.proofs.Rules.{empty}
+use Rattle.fr_edge.proofs.RuleLaws.{empty}
 
 module _ (rs : List Range) (vs : List Variable) (x : ℕ) (r : Range) (v : Variable) (l : x < length vs) (same : length rs ≡ length vs) (is : r ≡ get_or rs x r) (be : v ≡ get_or vs x v) where
   range-is : slice_index_or (map ends_of rs) x (pos 0, pos 0) ≡ ends_of r

@@ -1,8 +1,9 @@
--- A point's own obligations, one alternative of its note at a time, and the first of them that fails.
+-- For private clauses: a point's own obligations, one alternative of its note at a time.
 --
 -- | word                             | meaning                                                                     |
 -- |----------------------------------|-----------------------------------------------------------------------------|
 -- | KeepsRuleBy, BreaksRuleBy        | no state with the alternative breaches the rule; some state does            |
+-- | condition_by                     | the condition of an actor of which an alternative holds                     |
 -- | RuleOutcome                      | the least rule that an alternative breaks, or none                          |
 -- | IsAmong                          | an alternative is one of the first of a note                                |
 -- | NoteOutcome                      | the least rule that one of these alternatives breaks, or none               |
@@ -12,18 +13,20 @@
 -- | GoesOutcome                      | the least such point of both rows, or none                                  |
 -- | GoesWell, Misses                 | an alternative of the next note says no more than what a row leaves; none   |
 -- | IsOutBy                          | a `set` gives some number out of its target's declared range                |
--- | lesser_of                        | the lesser of two numbers, where there are any                              |
-use Rattle.std.specs.Prelude.{◌≡◌, ◌<◌, ◌≤ℤ◌, ◌⊎◌, ℕ, ℤ, List, Option, None, Some, slice_index_or, IsTrue, Contains, min}
+-- | lesser_of                        | the rule with the lesser number, where there are two                        |
+use Rattle.std.specs.Prelude.{◌≡◌, ◌<◌, ◌≤ℤ◌, ◌⊎◌, ℕ, ℤ, List, Option, None, Some, Bool, false, slice_index_or, IsTrue, Contains, nat_le, if◌then◌else◌}
 use Rattle.fr_program.specs.declared.instr.Instr.{Instr}
 use Rattle.fr_program.specs.declared.instr.Instr.TheVariants.{Set}
 use Rattle.fr_program.specs.declared.ids.Point.{Point}
 use Rattle.fr_program.specs.Program.{Program}
-use Rattle.fr_program.specs.Lookup.{IsPoint, instr_of, variable_at}
+use Rattle.fr_program.specs.Lookup.{IsPoint, instr_of, variable_at, actor_at, is_interrupt}
 use Rattle.fr_program.specs.Points.{point_number}
 use Rattle.fr_calls.specs.declared.way.Way.{Way}
 use Rattle.fr_calls.specs.State.{State}
-use Rattle.fr_calls.specs.Rule.{Rule, number_of, Breach, result_of, IsOutside}
-use Rattle.fr_calls.specs.Step.{StepBy}
+use Rattle.fr_calls.specs.declared.rules.Rule.{Rule}
+use Rattle.fr_calls.specs.declared.rules.Condition.{Condition}
+use Rattle.fr_calls.specs.Rule.{number_of, Breach, result_of, IsOutside}
+use Rattle.fr_calls.specs.Step.{CanStep, AlwaysLeaves}
 use Rattle.fr_notes.specs.Note.{Alternative, Note, HoldsOne}
 use Rattle.fr_notes.specs.Noted.{note_at, IsAt, NotedBy}
 use Rattle.fr_notes.specs.declared.change.Change.{Change}
@@ -44,23 +47,33 @@ pub record BreaksRuleBy (P : Program) (p : Point) (n : Alternative) (rule : Rule
   pub noted : NotedBy P p n state
   pub breach : Breach P state rule p.actor.0
 
--- the alternative keeps every rule, or breaks the rule with this number and keeps all lesser ones
-abbrev pub RuleOutcome : Program → Point → Alternative → Option ℕ → Type 0
+-- the condition of the point's actor, where the alternative holds of it: today no actor holds a mutex, since there are
+-- no objects
+abbrev pub condition_by : Program → Point → Alternative → Condition
+condition_by P p n = record {
+  interrupt = is_interrupt (actor_at P p.actor.0).kind;
+  critical = n.critical;
+  suspended = n.suspended;
+  holds = false;
+}
+
+-- the alternative keeps every rule, or breaks this one and keeps all with lesser numbers
+abbrev pub RuleOutcome : Program → Point → Alternative → Option Rule → Type 0
 RuleOutcome P p n None = (rule : Rule) → KeepsRuleBy P p n rule
-RuleOutcome P p n (Some k) =
-    (rule : Rule) × (number_of rule ≡ k) × BreaksRuleBy P p n rule × ((other : Rule) → number_of other < k → KeepsRuleBy P p n other)
+RuleOutcome P p n (Some rule) =
+    BreaksRuleBy P p n rule × ((other : Rule) → number_of other < number_of rule → KeepsRuleBy P p n other)
 
 -- the alternative is one of so many first ones
 abbrev pub IsAmong : Note → ℕ → Alternative → Type 0
 IsAmong note bound n = (k : ℕ) × (k < bound) × (slice_index_or note k n ≡ n)
 
--- each of so many first alternatives keeps every rule, or one of them breaks the rule with this number, and all keep
--- the lesser ones
-abbrev pub NoteOutcome : Program → Point → Note → ℕ → Option ℕ → Type 0
+-- each of so many first alternatives keeps every rule, or one of them breaks this one, and all keep those with lesser
+-- numbers
+abbrev pub NoteOutcome : Program → Point → Note → ℕ → Option Rule → Type 0
 NoteOutcome P p note bound None = (n : Alternative) → IsAmong note bound n → (rule : Rule) → KeepsRuleBy P p n rule
-NoteOutcome P p note bound (Some k) =
-    (rule : Rule) × (number_of rule ≡ k) × ((n : Alternative) × IsAmong note bound n × BreaksRuleBy P p n rule)
-    × ((other : Rule) → number_of other < k → (n : Alternative) → IsAmong note bound n → KeepsRuleBy P p n other)
+NoteOutcome P p note bound (Some rule) =
+    ((n : Alternative) × IsAmong note bound n × BreaksRuleBy P p n rule)
+    × ((other : Rule) → number_of other < number_of rule → (n : Alternative) → IsAmong note bound n → KeepsRuleBy P p n other)
 
 -- whatever numbers the operands of a `set` can be, its result lies in the target's declared range
 abbrev pub StaysIn : Program → Alternative → Instr → Type 0
@@ -68,14 +81,13 @@ StaysIn P n (Set x l op r) =
     (u v : ℤ) → CanBe n l u → CanBe n r v → ((variable_at P x.0).lo ≤ℤ result_of op u v) × (result_of op u v ≤ℤ (variable_at P x.0).hi)
 StaysIn P n i = Unit {0}
 
--- for each alternative of the point's note by which some state steps to t by this row, one alternative of t's note holds
--- after every such step
+-- for each alternative of the point's note with which some state steps to t by this row, one alternative of t's note is
+-- left by every such step
 abbrev pub GoesBy : Program → List Note → Point → Way → Point → Type 0
 GoesBy P notes p way t =
     t.actor ≡ p.actor → (n : Alternative) → Contains (note_at P notes p) n →
-    (S : State) (c : ℤ) (S' : State) → NotedBy P p n S → StepBy P way S p.actor.0 c S' → IsAt S' t →
-    (m : Alternative) × Contains (note_at P notes t) m
-    × ((T : State) (d : ℤ) (T' : State) → NotedBy P p n T → StepBy P way T p.actor.0 d T' → IsAt T' t → HoldsOne m p.actor.0 T')
+    CanStep P (NotedBy P p n) p.actor.0 way (λ S'. IsAt S' t) →
+    (m : Alternative) × Contains (note_at P notes t) m × AlwaysLeaves P (NotedBy P p n) p.actor.0 way (λ S'. IsAt S' t → HoldsOne m p.actor.0 S')
 
 -- steps by this row keep the note of each point of the actor, or miss that of the point with this number alone
 abbrev pub WayOutcome : Program → List Note → Point → Way → Option ℕ → Type 0
@@ -105,8 +117,8 @@ IsOutBy P n (Set x l op r) =
     (u : ℤ) × (v : ℤ) × CanBe n l u × CanBe n r v × IsOutside (variable_at P x.0).lo (variable_at P x.0).hi (result_of op u v)
 IsOutBy P n i = ⊥
 
--- the lesser of two numbers, where there are any
-abbrev pub lesser_of : Option ℕ → Option ℕ → Option ℕ
+-- the rule with the lesser number, where there are two
+abbrev pub lesser_of : Option Rule → Option Rule → Option Rule
 lesser_of None other = other
 lesser_of (Some one) None = Some one
-lesser_of (Some one) (Some other) = Some (min one other)
+lesser_of (Some one) (Some other) = if nat_le (number_of one) (number_of other) then Some one else Some other

@@ -1,5 +1,5 @@
 -- A point's own obligations: the entry, the rules, and where its steps go.
-use Rattle.std.specs.Prelude.{◌≡◌, ℤ, List, Some, Bool, true, false, IsTrue, Contains}
+use Rattle.std.specs.Prelude.{◌≡◌, List, Some, Bool, true, false, IsTrue, Contains}
 use Rattle.fr_program.specs.declared.instr.Instr.{Instr}
 use Rattle.fr_program.specs.declared.instr.Instr.TheVariants.{Call as Calls}
 use Rattle.fr_program.specs.declared.instr.Call.TheVariants.{Delete}
@@ -8,9 +8,11 @@ use Rattle.fr_program.specs.declared.ids.Side.TheVariants.{Before}
 use Rattle.fr_program.specs.Program.{Program}
 use Rattle.fr_program.specs.Lookup.{IsPoint, instr_of}
 use Rattle.fr_calls.specs.State.{State, start}
-use Rattle.fr_calls.specs.Rule.{Rule, OneWriter, OneReader, LifeInOrder, Breach}
+use Rattle.fr_calls.specs.declared.rules.Rule.{Rule}
+use Rattle.fr_calls.specs.declared.rules.Rule.TheVariants.{OneWriter, OneReader, LifeInOrder}
+use Rattle.fr_calls.specs.Rule.{Breach}
 use Rattle.fr_calls.specs.declared.way.Way.{Way}
-use Rattle.fr_calls.specs.Step.{StepBy}
+use Rattle.fr_calls.specs.Step.{CanStep, AlwaysLeaves}
 use Rattle.fr_notes.specs.Note.{Alternative, Note, HoldsOne, Holds}
 use Rattle.fr_notes.specs.Noted.{note_at, IsAt, Noted, NotedBy}
 
@@ -32,10 +34,9 @@ KeepsRule P notes p rule =
     (S : State) → Noted P notes p S → Breach P S rule p.actor.0 → ⊥
 
 -- For each alternative of the point's note, and each row by which some state with that alternative steps to t, one
--- alternative of t's note holds after every such step. A step to the end of the task owes nothing.
+-- alternative of t's note is left by every such step. A step to the end of the task owes nothing.
 abbrev pub Goes : Program → List Note → Point → Point → Type 0
 Goes P notes p t =
     IsPoint P t → t.actor ≡ p.actor → (n : Alternative) → Contains (note_at P notes p) n → (way : Way) →
-    (S : State) (c : ℤ) (S' : State) → NotedBy P p n S → StepBy P way S p.actor.0 c S' → IsAt S' t →
-    (m : Alternative) × Contains (note_at P notes t) m
-    × ((T : State) (d : ℤ) (T' : State) → NotedBy P p n T → StepBy P way T p.actor.0 d T' → IsAt T' t → HoldsOne m p.actor.0 T')
+    CanStep P (NotedBy P p n) p.actor.0 way (λ S'. IsAt S' t) →
+    (m : Alternative) × Contains (note_at P notes t) m × AlwaysLeaves P (NotedBy P p n) p.actor.0 way (λ S'. IsAt S' t → HoldsOne m p.actor.0 S')

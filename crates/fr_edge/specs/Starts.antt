@@ -1,4 +1,4 @@
--- Where a variable begins.
+-- For private clauses: where a variable begins.
 use Rattle.std.specs.Prelude.{ℕ, pos, List, map, slice_index_or}
 use Rattle.fr_program.specs.declared.parts.Variable.{Variable}
 use Rattle.fr_program.specs.declared.range.Range.{Range}

@@ -1,11 +1,11 @@
 // What a point owes by itself: `own` names the first of its own obligations that fails.
 #![tactic(auto)]
 
-mod failing;
-mod going;
-mod judging;
-mod ruling;
-mod starting;
+mod entry;
+mod failure;
+mod obligations;
+mod rules;
+mod steps;
 
-pub use failing::Own;
-pub use judging::own;
+pub use failure::Own;
+pub use obligations::own;

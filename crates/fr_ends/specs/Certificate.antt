@@ -9,13 +9,15 @@
 -- | guard_for          | the guard that is listed for an end                                         |
 use Rattle.std.specs.Prelude.{◌≡◌, ◌<◌, ℕ, ℤ, List, [], ◌∷◌, Option, None, Some, Bool, true, false, ◌&&◌, nat_eq, if◌then◌else◌, All}
 use Rattle.fr_calls.specs.State.{State, value_of, content_of, depth_of, count_held}
-use Rattle.fr_calls.specs.Rule.{End, Writer, Reader}
+use Rattle.fr_calls.specs.declared.buffer_end.End.{End}
+use Rattle.fr_calls.specs.declared.buffer_end.End.TheVariants.{Writer, Reader}
 pub use Rattle.fr_ends.specs.Guard.{Guard, Sole, ByMutex, InCritical, Turn, EndGuard}
-use Rattle.fr_ends.specs.declared.certificate.Certificate as declared
+use Rattle.fr_notes.specs.Note.{Note}
 
 -- a note for each point, in the order of the points' numbers, and the guards of ends
-abbrev pub Certificate : Type 0
-Certificate = declared.Certificate
+pub record Certificate : Type 0 where
+  pub notes : List Note
+  pub ends : List EndGuard
 
 -- the turn value that is listed for an actor; an actor that isn't listed never has the guard
 abbrev pub value_for : List (ℕ × ℤ) → ℕ → Option ℤ

@@ -3,11 +3,12 @@
 -- | word                          | meaning                                                        |
 -- |-------------------------------|----------------------------------------------------------------|
 -- | is_any_buffer, is_any_mutex   | a kind is one of the two buffers, one of the two mutexes       |
+-- | AreRising                     | the values of a turn go by rising actors                       |
 -- | GuardFits                     | the guard names things of the application                      |
 -- | EndFits                       | it is the guard of an end of a buffer, and fits                |
 -- | EndsFit                       | each end does, and none is listed twice                        |
 -- | CertificateFits               | the notes fit, and the ends do                                 |
-use Rattle.std.specs.Prelude.{◌≡◌, ◌<◌, List, Bool, true, false, IsTrue, length, All, AllPairs}
+use Rattle.std.specs.Prelude.{◌≡◌, ◌<◌, ℕ, ℤ, List, Bool, true, false, IsTrue, length, All, AllPairs}
 use Rattle.fr_program.specs.declared.parts.Kind.{Kind}
 use Rattle.fr_program.specs.declared.parts.Kind.TheVariants.{Mutex, Recursive, Stream, Message}
 use Rattle.fr_program.specs.Program.{Program}
@@ -29,13 +30,19 @@ is_any_mutex Mutex = true
 is_any_mutex Recursive = true
 is_any_mutex kind = false
 
--- the guard names an actor, a mutex, or a variable and actors of the application, with distinct turn values
+-- the values of a turn go by rising actors, so that no actor has two of them
+abbrev pub AreRising : List (ℕ × ℤ) → Type 0
+AreRising values = AllPairs (λ v w. v.0 < w.0) values
+
+-- the guard names an actor, a mutex, or a variable and actors of the application, with distinct turn values of 64 bits,
+-- rising by actor
 abbrev pub GuardFits : Program → Guard → Type 0
 GuardFits P (Sole actor) = actor < length P.actors
 GuardFits P (ByMutex mutex) = (mutex < length P.objects) × IsTrue (is_any_mutex (kind_of P mutex))
 GuardFits P InCritical = Unit {0}
 GuardFits P (Turn x values) =
     (x < length P.variables) × All (λ v. (v.0 < length P.actors) × IsNumber v.1) values × HasDistinctTurns (Turn x values)
+    × AreRising values
 
 -- a guard of a stream or message buffer, which fits
 pub record EndFits (P : Program) (e : EndGuard) : Type 0 where

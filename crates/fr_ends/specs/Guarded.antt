@@ -10,7 +10,8 @@ use Rattle.fr_program.specs.declared.ids.Side.TheVariants.{Before, Inside}
 use Rattle.fr_program.specs.Program.{Program}
 use Rattle.fr_program.specs.Lookup.{IsPoint, instr_of}
 use Rattle.fr_calls.specs.State.{State}
-use Rattle.fr_calls.specs.Rule.{End, is_at_end}
+use Rattle.fr_calls.specs.declared.buffer_end.End.{End}
+use Rattle.fr_calls.specs.Rule.{is_at_end}
 use Rattle.fr_notes.specs.Note.{Note}
 use Rattle.fr_notes.specs.Noted.{Noted}
 use Rattle.fr_ends.specs.Guard.{Guard}

@@ -1,6 +1,7 @@
 // The ends of stream and message buffers, and the guards that are listed for them.
 ghost use Rattle.std.specs.Prelude.{◌≡◌, [], length};
 
+use fr_calls::End;
 use fr_program::ObjId;
 use std::marker::Model;
 
@@ -8,7 +9,7 @@ use std::marker::Model;
 #[derive(Clone, Copy, Debug, PartialEq, Eq)]
 pub struct EndName {
     pub buffer: ObjId,
-    pub writer: bool,
+    pub end: End,
 }
 
 /// The guards that a certificate lists. No guard can be listed yet.

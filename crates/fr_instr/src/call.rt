@@ -7,7 +7,7 @@ ghost use Rattle.fr_instr.specs.declared.call.CallName.{CallName};
 use fr_program::{BufferKind, CreatedKind, DeletedKind, Form, GiveForm};
 
 /// Which of the calls a line makes. A take has the forms that a give has.
-#[derive(Clone, Copy, Debug, PartialEq)]
+#[derive(Clone, Copy)]
 pub(crate) enum CallName {
     Enter(Form),
     Exit(Form),

@@ -15,7 +15,7 @@ use crate::shape::Value;
 use fr_program::{BlockTime, Form, GiveForm, ObjId, Operand, TakeForm, Timing, VarId};
 
 /// The arguments of a call. No call has more than three.
-#[derive(Clone, Copy, Debug)]
+#[derive(Clone, Copy)]
 pub(crate) enum Args<'a, 'v> {
     None,
     One(Value<'a>),

@@ -4,16 +4,11 @@ ghost use Rattle.std.specs.Fmt.{signed_decimal};
 ghost use Rattle.std.specs.Int.{w64};
 ghost use Rattle.fr_instr.specs.Numbers.{IsInteger, IsNatural, IsTarget, IsTicks, IsLength};
 
+use fr_program::{MOST_SIZE, MOST_TICKS};
 use itoa::Buffer;
 
 /// The greatest target of a line.
 const MOST_TARGET: u32 = 2_147_483_647;
-
-/// The greatest block time, and the greatest delay.
-const MOST_TICKS: u32 = 2_147_483_647;
-
-/// The greatest length.
-const MOST_LENGTH: u32 = 65535;
 
 // The number that the text is the one way to write.
 fn number_of(text: &[u8]) -> Option<i64>
@@ -83,5 +78,5 @@ pub(crate) fn length_of(text: &[u8]) -> Option<u32>
     ensures some { IfSome result (IsLength text.now) }
     ensures none { IfNone result ((n : ℕ) → ¬ IsLength text.now n) }
 {
-    natural_of(text, 1, MOST_LENGTH)
+    natural_of(text, 1, MOST_SIZE)
 }

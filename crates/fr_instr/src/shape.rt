@@ -8,14 +8,14 @@ use fr_program::{Comparison, Operator};
 use std::alloc::{AllocError, Global};
 
 /// A word or a number, as its bytes.
-#[derive(Clone, Copy, Debug)]
+#[derive(Clone, Copy)]
 pub(crate) enum Value<'a> {
     Name(&'a [u8]),
     Number(&'a [u8]),
 }
 
 /// A call: the variable before it, its name, its arguments and the target behind it.
-#[derive(Debug, Drop)]
+#[derive(Drop)]
 pub(crate) struct CallShape<'a> {
     pub into: Option<&'a [u8]>,
     pub name: &'a [u8],
@@ -24,7 +24,7 @@ pub(crate) struct CallShape<'a> {
 }
 
 /// A line whose words and numbers are still bytes.
-#[derive(Debug, Drop)]
+#[derive(Drop)]
 pub(crate) enum Shape<'a> {
     Set(&'a [u8], Value<'a>),
     SetTo(&'a [u8], Value<'a>, Operator, Value<'a>),

@@ -9,7 +9,7 @@ use crate::fault::LineFault;
 use std::alloc::Global;
 
 /// A sign between words and numbers.
-#[derive(Clone, Copy, Debug, PartialEq, Eq)]
+#[derive(Clone, Copy)]
 pub enum Sign {
     Open,
     Close,
@@ -27,7 +27,7 @@ pub enum Sign {
 }
 
 /// A token of a line, as its bytes.
-#[derive(Clone, Copy, Debug)]
+#[derive(Clone, Copy)]
 pub enum Token<'a> {
     Word(&'a [u8]),
     Number(&'a [u8]),
@@ -35,7 +35,7 @@ pub enum Token<'a> {
 }
 
 /// A kind of byte.
-#[derive(Clone, Copy, Debug, PartialEq, Eq)]
+#[derive(Clone, Copy)]
 pub(crate) enum Class {
     Space,
     Word,

@@ -16,7 +16,7 @@ use itoa::Buffer;
 use std::alloc::{AllocError, Global};
 
 /// What stands in an argument's place.
-#[derive(Clone, Copy, Debug)]
+#[derive(Clone, Copy)]
 pub(crate) enum Arg {
     Object(ObjId),
     Operand(Operand),
@@ -212,26 +212,12 @@ fn call_name(call: Call) -> CallName
     }
 }
 
-fn action_else(action: Action) -> Option<usize>
-    ensures { (o : ObjId) → result ≡ (action_parts o action).or_else }
-{
-    match action {
-        Action::QueueSend { or_else, .. } => or_else,
-        Action::QueueReceive { or_else, .. } => or_else,
-        Action::Take { or_else, .. } => or_else,
-        Action::Give { or_else, .. } => or_else,
-        Action::Send { .. } => None,
-        Action::Receive { .. } => None,
-        Action::Reset { or_else, .. } => or_else,
-    }
-}
-
 fn call_else(call: Call) -> Option<usize>
     ensures { result ≡ (parts_of call).or_else }
 {
     match call {
         Call::Create { or_else, .. } => or_else,
-        Call::On { action, .. } => action_else(action),
+        Call::On { action, .. } => action.else_target(),
         _ => None,
     }
 }

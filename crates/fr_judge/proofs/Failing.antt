@@ -16,7 +16,8 @@ use Rattle.fr_program.specs.declared.ids.Side.{Side}
 use Rattle.fr_program.specs.declared.ids.Side.TheVariants.{Before, Inside}
 use Rattle.fr_program.specs.Program.{Program}
 use Rattle.fr_program.specs.Lookup.{HasSide, IsPoint, instr_of}
-use Rattle.fr_calls.specs.Rule.{End, is_at_end}
+use Rattle.fr_calls.specs.declared.buffer_end.End.{End}
+use Rattle.fr_calls.specs.Rule.{is_at_end}
 use Rattle.fr_edge.specs.Own.{is_own}
 use Rattle.fr_ends.specs.Certificate.{Certificate}
 use Rattle.fr_judge.specs.Part.{Part, EntryPart, RulePart, GoesPart, GuardPart, NearPart, SpoiledPart, IsKept}

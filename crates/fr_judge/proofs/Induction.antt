@@ -18,7 +18,11 @@ use Rattle.fr_program.specs.declared.ids.Side.TheVariants.{Before, Inside}
 use Rattle.fr_program.specs.Program.{Program}
 use Rattle.fr_program.specs.Lookup.{instr_at, no_actor, IsPlace, IsPoint, HasSide}
 use Rattle.fr_calls.specs.State.{State, At, Done, Exists, start}
-use Rattle.fr_calls.specs.Rule.{Rule, OneWriter, OneReader, LifeInOrder, InRange, End, Writer, Reader, Breach, SharesEnd, LifeOutOfOrder, Stands, is_at_end, IsInside}
+use Rattle.fr_calls.specs.declared.buffer_end.End.{End}
+use Rattle.fr_calls.specs.declared.buffer_end.End.TheVariants.{Writer, Reader}
+use Rattle.fr_calls.specs.declared.rules.Rule.{Rule}
+use Rattle.fr_calls.specs.declared.rules.Rule.TheVariants.{OneWriter, OneReader, LifeInOrder, InRange}
+use Rattle.fr_calls.specs.Rule.{Breach, SharesEnd, LifeOutOfOrder, Stands, is_at_end, IsInside}
 use Rattle.fr_calls.specs.Step.{Step}
 use Rattle.fr_calls.specs.Run.{Follows, IsRun}
 use Rattle.fr_calls.proofs.Built.{is-built}
@@ -68,10 +72,10 @@ module _ (P : Program) (C : Certificate) (certified : Certified P C) where
       let was : IsAt S p = sym (moved.others p.actor.0 ne) ∙ e in
       let n = keeps.notes p was in
       let by : NotedBy P p n.0 S = record { formed = keeps.formed; at = was; holds = n.2 } in
-      let k = certified.kept p (is_point S p keeps was) (SpoiledPart p0) (is_point S p0 keeps t.at) (λ q. ne (sym (ap (λ i. i.0) q))) n.0 n0.0 n.1 n0.1 way S c S' by by0 t in
-      (k.0, k.1, k.2 S c S' by by0 t) in
+      let k = certified.kept p (is_point S p keeps was) (SpoiledPart p0) (is_point S p0 keeps t.at) (λ q. ne (sym (ap (λ i. i.0) q))) n.0 n0.0 n.1 n0.1 way (S, c, S', (by, by0), t, tt) in
+      (k.0, k.1, k.2 S c S' (by, by0) t) in
       let mover : (p : Point) → IsAt S' p → p.actor.0 ≡ a → Holds (note_at P C.notes p) p.actor.0 S' = λ p e q.
-      let m = certified.kept p0 (is_point S p0 keeps t.at) (GoesPart p) (subst (λ s. Exists P p.actor.0 s) e (moved.formed.places p.actor.0)) (same_actor p a q) n0.0 n0.1 way S c S' by0 t e in
+      let m = certified.kept p0 (is_point S p0 keeps t.at) (GoesPart p) (subst (λ s. Exists P p.actor.0 s) e (moved.formed.places p.actor.0)) (same_actor p a q) n0.0 n0.1 way (S, c, S', by0, t, e) in
       (m.0, m.1, subst (λ b. HoldsOne m.0 b S') (sym q) (m.2 S c S' by0 t e)) in
       record {
         formed = moved.formed;
@@ -100,25 +104,21 @@ module _ (P : Program) (C : Certificate) (certified : Certified P C) where
       let p = point a breach.stands.pc breach.side in
       certified.kept p (is_point S p keeps breach.stands.at) (RulePart rule) breach.instr breach.stands.is own S (noted S p keeps breach.stands.at) breach
 
-  only-before : (a pc : ℕ) (side : Side) (kind : DeletedKind) (o : ObjId) → IsPlace P a pc side → instr_at P a pc ≡ Some (Calls (Delete kind o)) → side ≡ Before
-  only-before a pc Before kind o x e = refl
-  only-before a pc Inside kind o x e = elim (subst (λ i. HasSide i Inside) (same_Some _ _ (sym x.1 ∙ e)) x.2) [ ]
-
-  no-life : (S : State) (a : ℕ) (side : Side) (i : Instr) → KeepsNotes P C S → Stands P S a side i → LifeOutOfOrder P S a i → ⊥
-  no-life S a side (Calls (Delete kind o)) keeps stands (b, ne, action, (n, same, inside)) =
+  no-life : (S : State) (a : ℕ) (i : Instr) (side : Side) → KeepsNotes P C S → Stands P S a side i → LifeOutOfOrder P S a i side → ⊥
+  no-life S a (Calls (Delete kind o)) Before keeps stands (b, ne, action, (n, same, inside)) =
       let p = point b inside.pc Inside in
-      let q = point a stands.pc side in
+      let q = point a stands.pc Before in
       let at_q = is_point S q keeps stands.at in
       certified.kept p (is_point S p keeps inside.at) (NearPart q) at_q (λ e. ne (sym (ap (λ i. i.0) e))) o.0 action (n, same, refl, inside.is)
-      (kind, o, refl, only-before a stands.pc side kind o at_q stands.is, stands.is) S (noted S p keeps inside.at) (noted S q keeps stands.at)
-  no-life S a side (Calls (Create kind o e)) keeps stands h =
-      no-own S LifeInOrder a keeps (record { side = side; instr = Calls (Create kind o e); stands = stands; breaches = h }) refl
-  no-life S a side i keeps stands h = elim h [ ]
+      (kind, o, refl, refl, stands.is) S (noted S p keeps inside.at) (noted S q keeps stands.at)
+  no-life S a (Calls (Create kind o e)) Before keeps stands h =
+      no-own S LifeInOrder a keeps (record { side = Before; instr = Calls (Create kind o e); stands = stands; breaches = h }) refl
+  no-life S a i side keeps stands h = elim h [ ]
 
   no-breach : (S : State) → KeepsNotes P C S → (rule : Rule) (a : ℕ) → Breach P S rule a → ⊥
   no-breach S keeps OneWriter a breach = no-sharing S a Writer keeps breach.breaches
   no-breach S keeps OneReader a breach = no-sharing S a Reader keeps breach.breaches
-  no-breach S keeps LifeInOrder a breach = no-life S a breach.side breach.instr keeps breach.stands breach.breaches
+  no-breach S keeps LifeInOrder a breach = no-life S a breach.instr breach.side keeps breach.stands breach.breaches
   no-breach S keeps rule a breach = no-own S _ a keeps breach refl
 
   run-keeps : (S : State) (rest : List State) → KeepsNotes P C S → Follows P S rest → (k : ℕ) (d : State) → k < length (S ∷ rest) → KeepsNotes P C (get_or (S ∷ rest) k d)

@@ -3,10 +3,15 @@ pub mod Induction
 pub mod Numbers
 pub mod Failing
 pub mod Unique
+pub mod Here
 pub mod Round
 pub mod WorkedVerdicts
+pub mod WorkedWriters
+pub mod WorkedParts
 pub mod WorkedFaultless
+pub mod WritersFaultless
 pub mod Telling
 pub mod Judging
 pub mod OwnParts
 pub mod OneAnswer
+pub mod Theorem

@@ -6,12 +6,13 @@ use Rattle.fr_program.specs.Program.{Program}
 use Rattle.fr_program.specs.Lookup.{IsPoint}
 use Rattle.fr_program.specs.Points.{point_number}
 use Rattle.fr_program.specs.Fault.{IsFaultless, IsJudgedYet}
-use Rattle.fr_edge.specs.declared.failing.Own.{Own}
-use Rattle.fr_edge.specs.declared.failing.Own.TheVariants.{Entry as OwnEntry, Rule as OwnRule, Goes as OwnGoes}
+use Rattle.fr_calls.specs.declared.rules.Rule.{Rule as RuleOf}
+use Rattle.fr_calls.specs.Rule.{number_of}
+use Rattle.fr_edge.specs.declared.failure.Own.{Own}
+use Rattle.fr_edge.specs.declared.failure.Own.TheVariants.{Entry as OwnEntry, Rule as OwnRule, Goes as OwnGoes}
 use Rattle.fr_edge.specs.FirstOwn.{IsFirstOwn}
 use Rattle.fr_ends.specs.Certificate.{Certificate}
 use Rattle.fr_judge.specs.declared.part.Part.{Part as Told}
-use Rattle.fr_judge.specs.declared.part.Part.TheVariants.{Rule}
 use Rattle.fr_judge.specs.Part.{Part, EntryPart, RulePart, GoesPart, GuardPart, NearPart, SpoiledPart, IsKept, place_in_order, ComesBefore}
 use Rattle.fr_judge.specs.Verdict.{KeepsAll}
 use Rattle.fr_judge.specs.Told.{part_of_own, TellsFirst, IsOf}
@@ -31,9 +32,9 @@ module _ (P : Program) (judged : IsJudgedYet P) (C : Certificate) (p : Point) (i
   before-entry : (other : Part) → ComesBefore (place_in_order P other) (0, 0) → IsKept P C p other
   before-entry other lt = absurd (⊎_elim (λ h. omega (arith, h)) (λ h. omega (arith, h.1)) lt)
 
-  before-rule : (k : ℕ) → IsFirstOwn P C.notes p (Some (OwnRule k)) → (other : Part) → ComesBefore (place_in_order P other) (1, k) → IsKept P C p other
+  before-rule : (k : RuleOf) → IsFirstOwn P C.notes p (Some (OwnRule k)) → (other : Part) → ComesBefore (place_in_order P other) (1, number_of k) → IsKept P C p other
   before-rule k h EntryPart lt = h.0
-  before-rule k h (RulePart rule) lt = ⊎_elim (λ l. absurd (omega (arith, l))) (λ l. h.1.3 rule l.1) lt
+  before-rule k h (RulePart rule) lt = ⊎_elim (λ l. absurd (omega (arith, l))) (λ l. h.1.1 rule l.1) lt
   before-rule k h (GoesPart t) lt = absurd (⊎_elim (λ l. omega (arith, l)) (λ l. omega (arith, l.0)) lt)
   before-rule k h (GuardPart buffer end) lt = absurd (⊎_elim (λ l. omega (arith, l)) (λ l. omega (arith, l.0)) lt)
   before-rule k h (NearPart q) lt = absurd (⊎_elim (λ l. omega (arith, l)) (λ l. omega (arith, l.0)) lt)
@@ -50,9 +51,7 @@ module _ (P : Program) (judged : IsJudgedYet P) (C : Certificate) (p : Point) (i
   pub tells-first : (own : Option Own) → IsFirstOwn P C.notes p own → TellsFirst P C p (option_map part_of_own own)
   tells-first None h = keeps-all h
   tells-first (Some OwnEntry) h = (EntryPart, refl, record { fails = h; before = before-entry })
-  tells-first (Some (OwnRule k)) h =
-      let f : ℕ → Told = λ n. Rule n in
-      (RulePart h.1.0, ap f (sym h.1.1), record { fails = h.1.2; before = λ other lt. before-rule k h other (subst (λ n. ComesBefore (place_in_order P other) (1, n)) h.1.1 lt) })
+  tells-first (Some (OwnRule k)) h = (RulePart k, refl, record { fails = h.1.0; before = before-rule k h })
   tells-first (Some (OwnGoes t)) h = (GoesPart t, refl, record { fails = h.3; before = before-goes t h })
 
 -- what is told of a point is of the application

@@ -1,50 +1,33 @@
 -- A point before `goto 0` at instruction 0, with a note of one alternative that holds at the start, keeps every part but
 -- what others spoil: its step changes nothing and comes back to it.
-use Rattle.std.proofs.Common.{◌≡◌, ℕ, zero, suc, List, [], ◌∷◌, get_or, set, Some, sym, ap, ◌∙◌, subst, arith}
+use Rattle.std.proofs.Common.{◌≡◌, ℕ, zero, suc, [], ◌∷◌, Some, sym, ap, ◌∙◌, subst, arith}
 use Rattle.std.specs.Prelude.{ℤ, IsTrue, Contains}
-use Rattle.std.proofs.lemmas.Option.{same_Some}
-use Rattle.fr_program.specs.declared.instr.Instr.{Instr}
 use Rattle.fr_program.specs.declared.instr.Instr.TheVariants.{Goto}
 use Rattle.fr_program.specs.declared.ids.Point.{Point}
 use Rattle.fr_program.specs.declared.ids.Side.{Side}
 use Rattle.fr_program.specs.declared.ids.Side.TheVariants.{Before, Inside}
 use Rattle.fr_program.specs.Program.{Program}
 use Rattle.fr_program.specs.Lookup.{instr_at}
-use Rattle.fr_calls.specs.State.{State, Place, At, Done, place_of, goes_to}
-use Rattle.fr_calls.specs.Rule.{Rule, OneWriter, OneReader, GivenByHolder, IsLive, LifeInOrder, InRange, End, Stands, Breaches}
+use Rattle.fr_calls.specs.declared.buffer_end.End.{End}
+use Rattle.fr_calls.specs.State.{State, At, place_of, goes_to}
+use Rattle.fr_calls.specs.declared.rules.Rule.{Rule}
+use Rattle.fr_calls.specs.declared.rules.Rule.TheVariants.{OneWriter, OneReader, GivenByHolder, IsLive, LifeInOrder, InRange}
+use Rattle.fr_calls.specs.Rule.{Breaches}
 use Rattle.fr_calls.specs.declared.way.Way.{Way}
-use Rattle.fr_calls.specs.declared.way.Way.TheVariants.{Works, Fails}
-use Rattle.fr_calls.specs.Step.{StepBy, Row, landing}
-use Rattle.fr_notes.specs.Note.{Alternative, Note, HoldsOne}
+use Rattle.fr_calls.specs.declared.way.Way.TheVariants.{Then, Else}
+use Rattle.fr_calls.specs.Step.{StepBy, Row, landing, transition}
+use Rattle.fr_notes.specs.Note.{Alternative, HoldsOne}
 use Rattle.fr_notes.specs.Noted.{note_at, IsAt}
 use Rattle.fr_edge.specs.Own.{KeepsRule, Goes, is_own}
 use Rattle.fr_ends.specs.Certificate.{Certificate}
 use Rattle.fr_ends.specs.Guarded.{Guarded, Near}
 use Rattle.fr_judge.specs.WorkedVerdicts.{first}
+use Rattle.fr_judge.proofs.Here.{landed, rule-kept, steps-by}
 
 -- the only alternative of a list
 pub only-one : (n m : Alternative) → Contains (n ∷ []) m → m ≡ n
 only-one n m (zero, h, e) = sym e
 only-one n m (suc k, h, e) = absurd (omega arith)
-
-module _ (P : Program) (i : Instr) (is : instr_at P 0 0 ≡ Some i) where
-  -- an actor that stands there has that instruction, and is before it
-  pub stands-there : (S : State) (side : Side) (j : Instr) → IsAt S (first 0) → Stands P S 0 side j → (side ≡ Before) × (j ≡ i)
-  stands-there S side j at s =
-      let e : At 0 Before ≡ At s.pc side = sym at ∙ s.at in
-      let pc : 0 ≡ s.pc = cc in
-      (cc, same_Some _ _ (sym (subst (λ k. instr_at P 0 k ≡ Some j) (sym pc) s.is) ∙ is))
-
-  -- a rule that the instruction breaches in no state is kept
-  pub rule-kept : (notes : List Note) (rule : Rule) → ((S : State) → Breaches P S 0 Before i rule → ⊥) → KeepsRule P notes (first 0) rule
-  rule-kept notes rule free j at own S noted breach =
-      let e = stands-there S breach.side breach.instr noted.at breach.stands in
-      free S (subst (λ k. Breaches P S 0 Before k rule) e.1 (subst (λ s. Breaches P S 0 s breach.instr rule) e.0 breach.breaches))
-
--- an actor that was moved to a place stands there
-landed : (l : List Place) (p : Place) (pc : ℕ) (side : Side) → get_or (set l 0 p) 0 Done ≡ At pc side → p ≡ At pc side
-landed [] p pc side e = cc
-landed (x ∷ l) p pc side e = e
 
 pub not-inside : Before ≡ Inside → ⊥
 not-inside e = cc
@@ -60,26 +43,21 @@ module _ (P : Program) (C : Certificate) (n : Alternative) (is : instr_at P 0 0 
   rule-free rule own S b = cc
 
   pub rules-kept : (rule : Rule) → KeepsRule P C.notes (first 0) rule
-  rules-kept rule j at own =
-      let same = same_Some _ _ (sym at ∙ is) in
-      rule-kept P (Goto 0) is C.notes rule (rule-free rule (subst (λ k. IsTrue (is_own k rule)) same own)) j at own
+  rules-kept rule = rule-kept P (first 0) (Goto 0) is C.notes rule (λ S noted own b. rule-free rule own S b)
 
   -- the step leads to the same place and changes nothing else
   steps-back : (way : Way) (S : State) (c : ℤ) (S' : State) → IsAt S (first 0) → StepBy P way S 0 c S' → S' ≡ goes_to 0 (At 0 Before) S
   steps-back way S c S' at t =
-      let e = stands-there P (Goto 0) is S t.side t.instr at (record { pc = t.pc; at = t.at; is = t.is }) in
-      let row : Row P S 0 Before (Goto 0) way c t.mid = subst (λ k. Row P S 0 Before k way c t.mid) e.1 (subst (λ s. Row P S 0 s t.instr way c t.mid) e.0 t.row) in
-      let moved : S' ≡ goes_to 0 (landing t.pc Before (Goto 0) way) t.mid = subst (λ k. S' ≡ goes_to 0 (landing t.pc Before k way) t.mid) e.1 (subst (λ s. S' ≡ goes_to 0 (landing t.pc s t.instr way) t.mid) e.0 t.moved) in
-      by-way way t.mid t.pc row moved
+      let by = steps-by P (first 0) (Goto 0) is way S c S' at t in by-way way by.0 by.1 by.2
     where
-      by-way : (way : Way) (mid : State) (pc : ℕ) → Row P S 0 Before (Goto 0) way c mid → S' ≡ goes_to 0 (landing pc Before (Goto 0) way) mid → S' ≡ goes_to 0 (At 0 Before) S
-      by-way Works mid pc row moved = moved ∙ ap (λ T. goes_to 0 (At 0 Before) T) row.1
-      by-way Fails mid pc row moved = elim row [ ]
+      by-way : (way : Way) (mid : State) → Row P (transition S 0 c mid) Before (Goto 0) way → S' ≡ goes_to 0 (landing 0 Before (Goto 0) way) mid → S' ≡ goes_to 0 (At 0 Before) S
+      by-way Then mid row moved = moved ∙ ap (λ T. goes_to 0 (At 0 Before) T) row.1
+      by-way Else mid row moved = elim row [ ]
 
   pub goes-kept : (t : Point) → Goes P C.notes (first 0) t
-  goes-kept t at same m inside way S c S' by step lands =
+  goes-kept t at same m inside way (S, c, S', by, step, lands) =
       let back = subst (λ T. IsAt T t) (steps-back way S c S' by.at step) lands in
-      let place = landed S.places (At 0 Before) t.pc t.side (subst (λ a. place_of (goes_to 0 (At 0 Before) S) a ≡ At t.pc t.side) (ap (λ a. a.0) same) back) in
+      let place = landed S.places 0 (At 0 Before) t.pc t.side (subst (λ a. place_of (goes_to 0 (At 0 Before) S) a ≡ At t.pc t.side) (ap (λ a. a.0) same) back) in
       let point : t ≡ first 0 = ap (λ a. record { actor = a; pc = t.pc; side = t.side }) same ∙ here t.pc t.side place in (
         m,
         subst (λ q. Contains (note_at P C.notes q) m) (sym point) inside,

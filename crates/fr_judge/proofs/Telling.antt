@@ -7,7 +7,10 @@ use Rattle.fr_program.specs.declared.ids.Point.{Point}
 use Rattle.fr_program.specs.Program.{Program}
 use Rattle.fr_program.specs.Lookup.{IsPoint}
 use Rattle.fr_program.specs.Fault.{IsFaultless, IsJudgedYet}
-use Rattle.fr_calls.specs.Rule.{Rule, OneWriter, OneReader, number_of, End}
+use Rattle.fr_calls.specs.declared.buffer_end.End.{End}
+use Rattle.fr_calls.specs.declared.rules.Rule.{Rule}
+use Rattle.fr_calls.specs.declared.rules.Rule.TheVariants.{OneWriter, OneReader}
+use Rattle.fr_calls.specs.Rule.{number_of}
 use Rattle.fr_edge.specs.Own.{is_own}
 use Rattle.fr_ends.specs.Guard.{EndGuard, Guard, Sole, ByMutex, InCritical, Turn}
 use Rattle.fr_ends.specs.Certificate.{Certificate, HasDistinctTurns, AllHaveDistinctTurns}
@@ -19,11 +22,11 @@ use Rattle.fr_judge.specs.Told.{told_part, IsOf}
 use Rattle.fr_judge.proofs.Failing.{failing-owed}
 use Rattle.fr_judge.proofs.Numbers.{actor-below}
 
--- a rule that a point owes by itself is one of 3 to 12
-own-number : (i : _) (rule : Rule) → IsTrue (is_own i rule) → (3 ≤ number_of rule) × (number_of rule ≤ 12)
+-- a rule that a point owes by itself is none of 1 and 2
+own-number : (i : _) (rule : Rule) → IsTrue (is_own i rule) → 3 ≤ number_of rule
 own-number i OneWriter h = cc
 own-number i OneReader h = cc
-own-number i rule h = (omega arith, omega arith)
+own-number i rule h = omega arith
 
 module _ (P : Program) (faultless : IsFaultless P) (C : Certificate) (p : Point) where
   -- a part that isn't kept names what the application has

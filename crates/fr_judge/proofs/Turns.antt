@@ -5,7 +5,7 @@ use Rattle.std.proofs.lemmas.Option.{same_Some}
 use Rattle.std.proofs.lemmas.Bool.{eqb-true}
 use Rattle.std.proofs.lemmas.List.Elements.{All-head, All-tail}
 use Rattle.fr_calls.specs.State.{State, Content, Held, content_of, depth_in, count_held}
-use Rattle.fr_calls.specs.Rule.{End}
+use Rattle.fr_calls.specs.declared.buffer_end.End.{End}
 use Rattle.fr_ends.specs.Guard.{Guard, Sole, ByMutex, InCritical, Turn, EndGuard}
 use Rattle.fr_ends.specs.Certificate.{HasGuard, HasDistinctTurns, AllHaveDistinctTurns, same_end, guard_for}
 
@@ -18,7 +18,7 @@ held-alone (Held holder n) a b h k =
     sym (eqb-true holder a (positive_if (nat_eq holder a) n h)) ∙ eqb-true holder b (positive_if (nat_eq holder b) n k)
 held-alone c a b h k = absurd (omega arith)
 
-depth-alone : (c : Option (ℕ × ℕ)) (a b : ℕ) → 0 < depth_in c a → 0 < depth_in c b → a ≡ b
+pub depth-alone : (c : Option (ℕ × ℕ)) (a b : ℕ) → 0 < depth_in c a → 0 < depth_in c b → a ≡ b
 depth-alone None a b h k = absurd (omega arith)
 depth-alone (Some c) a b h k =
     sym (eqb-true c.0 a (positive_if (nat_eq c.0 a) c.1 h)) ∙ eqb-true c.0 b (positive_if (nat_eq c.0 b) c.1 k)

@@ -1,5 +1,5 @@
 -- An application of one task that goes round has no fault.
-use Rattle.std.proofs.Common.{◌≡◌, ℕ, zero, suc, ◌<◌, ◌≤◌, [], ◌∷◌, length, get_or, true, refl, ap, subst, arith}
+use Rattle.std.proofs.Common.{◌≡◌, ℕ, zero, suc, ◌<◌, ◌≤◌, [], ◌∷◌, length, get_or, true, false, refl, ap, subst, arith}
 use Rattle.std.specs.Prelude.{◌||◌}
 use Rattle.std.proofs.lemmas.Option.{same_Some}
 use Rattle.std.proofs.lemmas.List.Elements.{All-cons, All-nil}
@@ -22,24 +22,25 @@ each F h zero (suc pc) i e = cc
 each F h (suc a) pc i e = cc
 
 -- no reserved word has one letter
-long : (k : ℕ) → get_or reserved k (116 ∷ []) ≡ 116 ∷ [] → k < length reserved → ⊥
-long zero e h = let n : ◌≡◌ {A = ℕ} 3 1 = ap length e in omega arith
-long (suc zero) e h = let n : ◌≡◌ {A = ℕ} 2 1 = ap length e in omega arith
-long (suc (suc zero)) e h = let n : ◌≡◌ {A = ℕ} 4 1 = ap length e in omega arith
-long (suc (suc (suc zero))) e h = let n : ◌≡◌ {A = ℕ} 4 1 = ap length e in omega arith
-long (suc (suc (suc (suc zero)))) e h = let n : ◌≡◌ {A = ℕ} 6 1 = ap length e in omega arith
-long (suc (suc (suc (suc (suc zero))))) e h = let n : ◌≡◌ {A = ℕ} 4 1 = ap length e in omega arith
-long (suc (suc (suc (suc (suc (suc zero)))))) e h = let n : ◌≡◌ {A = ℕ} 4 1 = ap length e in omega arith
-long (suc (suc (suc (suc (suc (suc (suc zero))))))) e h = let n : ◌≡◌ {A = ℕ} 13 1 = ap length e in omega arith
-long (suc (suc (suc (suc (suc (suc (suc (suc k)))))))) e h = absurd (omega arith)
+long : (c k : ℕ) → get_or reserved k (c ∷ []) ≡ c ∷ [] → k < length reserved → ⊥
+long c zero e h = let n : ◌≡◌ {A = ℕ} 3 1 = ap length e in omega arith
+long c (suc zero) e h = let n : ◌≡◌ {A = ℕ} 2 1 = ap length e in omega arith
+long c (suc (suc zero)) e h = let n : ◌≡◌ {A = ℕ} 4 1 = ap length e in omega arith
+long c (suc (suc (suc zero))) e h = let n : ◌≡◌ {A = ℕ} 4 1 = ap length e in omega arith
+long c (suc (suc (suc (suc zero)))) e h = let n : ◌≡◌ {A = ℕ} 6 1 = ap length e in omega arith
+long c (suc (suc (suc (suc (suc zero))))) e h = let n : ◌≡◌ {A = ℕ} 4 1 = ap length e in omega arith
+long c (suc (suc (suc (suc (suc (suc zero)))))) e h = let n : ◌≡◌ {A = ℕ} 4 1 = ap length e in omega arith
+long c (suc (suc (suc (suc (suc (suc (suc zero))))))) e h = let n : ◌≡◌ {A = ℕ} 13 1 = ap length e in omega arith
+long c (suc (suc (suc (suc (suc (suc (suc (suc k)))))))) e h = absurd (omega arith)
 
-is-name : IsName (116 ∷ [])
-is-name = record {
+-- one letter is a name
+pub is-name : (c : ℕ) → (is_letter c || is_digit c) ≡ true → is_digit c ≡ false → IsName (c ∷ [])
+is-name c letter digit = record {
   some = omega arith;
   short = omega arith;
-  letters = All-cons (λ c. (is_letter c || is_digit c) ≡ true) 116 [] refl (All-nil (λ c. (is_letter c || is_digit c) ≡ true));
-  first = refl;
-  free = λ h. long h.0 h.2 h.1;
+  letters = All-cons (λ c. (is_letter c || is_digit c) ≡ true) c [] letter (All-nil (λ c. (is_letter c || is_digit c) ≡ true));
+  first = digit;
+  free = λ h. long c h.0 h.2 h.1;
 }
 
 faultless : IsFaultless round
@@ -55,7 +56,7 @@ faultless = record {
   results = each _ tt;
   operands = each _ tt;
   names = record {
-    names = All-cons IsName (116 ∷ []) [] is-name (All-nil IsName);
+    names = All-cons IsName (116 ∷ []) [] (is-name 116 refl refl) (All-nil IsName);
     once = λ i j d l h e. absurd (omega (arith, l, h));
     things = each _ (All-nil _, tt);
     owners = All-nil _;

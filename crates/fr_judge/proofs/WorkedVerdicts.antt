@@ -11,8 +11,10 @@ use Rattle.fr_program.specs.declared.ids.Side.TheVariants.{Before, Inside}
 use Rattle.fr_program.specs.Lookup.{HasSide, IsPlace, IsPoint}
 use Rattle.fr_program.specs.Points.{point_number}
 use Rattle.fr_calls.specs.State.{State, At, Exists, IsWellFormed, place_of, value_of, suspension_of, start, write, goes_to}
-use Rattle.fr_calls.specs.Rule.{Rule, OneWriter, OneReader, GivenByHolder, IsLive, LifeInOrder, EndsInOrder, InRange, Breaches, number_of}
-use Rattle.fr_calls.specs.declared.way.Way.TheVariants.{Works}
+use Rattle.fr_calls.specs.declared.rules.Rule.{Rule}
+use Rattle.fr_calls.specs.declared.rules.Rule.TheVariants.{OneWriter, OneReader, GivenByHolder, IsLive, LifeInOrder, EndsInOrder, InRange}
+use Rattle.fr_calls.specs.Rule.{Breaches, number_of}
+use Rattle.fr_calls.specs.declared.way.Way.TheVariants.{Then}
 use Rattle.fr_calls.specs.Step.{StepBy}
 use Rattle.fr_calls.proofs.Free.{before-free, no-use}
 use Rattle.fr_notes.specs.Note.{HoldsOne, Within, range_of}
@@ -22,7 +24,8 @@ use Rattle.fr_interfere.specs.Undisturbed.{Undisturbed}
 use Rattle.fr_judge.specs.Part.{Part, EntryPart, RulePart, GoesPart, GuardPart, NearPart, SpoiledPart, IsKept, ComesBefore, place_in_order}
 use Rattle.fr_judge.specs.WorkedVerdicts.{first, plain, alone, one_note, set_2, spoiling, x_declared, three_notes, RoundIsYes, ReturnIsNo, SpoilingIsNo}
 use Rattle.fr_judge.proofs.Numbers.{same-point}
-use Rattle.fr_judge.proofs.Round.{only-one, rule-kept, rules-kept, goes-kept, guard-kept, near-kept}
+use Rattle.fr_judge.proofs.Here.{rule-kept}
+use Rattle.fr_judge.proofs.Round.{only-one, rules-kept, goes-kept, guard-kept, near-kept}
 
 none : ⊥ → ⊥
 none h = h
@@ -79,9 +82,8 @@ later-kind m k n l (inr h) = absurd (omega (arith, l, h.0))
 
 return-parts : (other : Part) → ComesBefore (place_in_order (alone Return) other) (1, 11) → IsKept (alone Return) one_note (first 0) other
 return-parts EntryPart h = λ pc side. (plain [], (0, omega arith, refl), nothing-holds Return)
-return-parts (RulePart rule) h = λ j at own.
-    let same = same_Some _ _ (sym at) in
-    rule-kept (alone Return) Return refl one_note.notes rule (return-free rule (⊎_elim (λ l. absurd (omega (arith, l))) (λ l. l.1) h) (subst (λ k. IsTrue (is_own k rule)) same own)) j at own
+return-parts (RulePart rule) h =
+    rule-kept (alone Return) (first 0) Return refl one_note.notes rule (λ S noted own. return-free rule (⊎_elim (λ l. absurd (omega (arith, l))) (λ l. l.1) h) own S)
 return-parts (GoesPart t) h = later-kind 2 _ 11 (omega arith) h
 return-parts (GuardPart buffer end) h = later-kind 3 _ 11 (omega arith) h
 return-parts (NearPart q) h = later-kind 4 _ 11 (omega arith) h
@@ -124,18 +126,18 @@ spoiling-formed = record { actors = refl; suspensions = refl; variables = refl; 
 abbrev spoiled : State
 spoiled = goes_to 1 (At 1 Before) (write 0 (pos 2) (start spoiling))
 
-spoiling-step : StepBy spoiling Works (start spoiling) 1 (pos 0) spoiled
+spoiling-step : StepBy spoiling Then (start spoiling) 1 (pos 0) spoiled
 spoiling-step =
-    record { pc = 0; side = Before; instr = set_2; at = refl; is = refl; free = before-free spoiling (start spoiling) 1 set_2 refl none (no-use spoiling (start spoiling) 1 set_2 refl); mid = write 0 (pos 2) (start spoiling); row = (refl, refl); moved = refl }
+    record { pc = 0; side = Before; instr = set_2; at = refl; is = refl; free = before-free spoiling (start spoiling) 1 set_2 refl none (no-use spoiling (start spoiling) 1 set_2 Before refl); mid = write 0 (pos 2) (start spoiling); row = (refl, refl); moved = refl }
 
 spoiling-fails : Undisturbed spoiling three_notes.notes (first 0) (first 1) → ⊥
 spoiling-fails kept =
     let by0 : NotedBy spoiling (first 0) x_declared (start spoiling) = record { formed = spoiling-formed; at = refl; holds = x-holds 0 (omega arith) } in
     let by1 : NotedBy spoiling (first 1) x_declared (start spoiling) = record { formed = spoiling-formed; at = refl; holds = x-holds 1 (omega arith) } in
     let apart : (first 1).actor ≢ (first 0).actor = λ e. let z : ◌≡◌ {A = ℕ} 1 0 = ap (λ i. i.0) e in absurd (omega arith) in
-    let k = kept (set_2, refl, tt) apart x_declared x_declared (0, omega arith, refl) (0, omega arith, refl) Works (start spoiling) (pos 0) spoiled by0 by1 spoiling-step in
+    let k = kept (set_2, refl, tt) apart x_declared x_declared (0, omega arith, refl) (0, omega arith, refl) Then (start spoiling, pos 0, spoiled, (by0, by1), spoiling-step, tt) in
     let same = only-one x_declared k.0 k.1 in
-    let after = subst (λ n. HoldsOne n 0 spoiled) same (k.2 (start spoiling) (pos 0) spoiled by0 by1 spoiling-step) in
+    let after = subst (λ n. HoldsOne n 0 spoiled) same (k.2 (start spoiling) (pos 0) spoiled (by0, by1) spoiling-step) in
     absurd (omega (arith, ints, (after.variables 0).1))
 
 -- a point with a number below 1 is the first one

@@ -3,6 +3,9 @@ pub mod Verdict
 pub mod Owed
 pub mod Sound
 pub mod WorkedVerdicts
+pub mod WorkedWriters
+pub mod WorkedParts
 pub mod Told
 pub mod Texts
 pub mod Approved
+pub mod Theorem

@@ -8,14 +8,13 @@
 -- | KeepsBelow              | every part is kept at the points with lesser numbers                          |
 -- | TellsVerdict            | what is told is the verdict                                                   |
 -- | IsOf, Speaks            | a part names only what the application has, and so does a verdict             |
-use Rattle.std.specs.Prelude.{◌≡◌, ◌≤◌, ◌<◌, ℕ, Option, None, Some, Bool, true, false, length}
+use Rattle.std.specs.Prelude.{◌≡◌, ◌≤◌, ◌<◌, ℕ, Option, None, Some, length}
 use Rattle.fr_program.specs.declared.ids.Point.{Point}
 use Rattle.fr_program.specs.Program.{Program}
 use Rattle.fr_program.specs.Lookup.{IsPoint}
 use Rattle.fr_program.specs.Points.{point_number}
-use Rattle.fr_calls.specs.Rule.{number_of, End, Writer, Reader}
-use Rattle.fr_edge.specs.declared.failing.Own.{Own}
-use Rattle.fr_edge.specs.declared.failing.Own.TheVariants.{Entry as OwnEntry, Rule as OwnRule, Goes as OwnGoes}
+use Rattle.fr_edge.specs.declared.failure.Own.{Own}
+use Rattle.fr_edge.specs.declared.failure.Own.TheVariants.{Entry as OwnEntry, Rule as OwnRule, Goes as OwnGoes}
 use Rattle.fr_ends.specs.Certificate.{Certificate}
 use Rattle.fr_judge.specs.declared.part.Part.{Part as Told}
 use Rattle.fr_judge.specs.declared.part.Part.TheVariants.{Entry, Rule, Goes, Guard, Near, Spoiled}
@@ -24,24 +23,19 @@ use Rattle.fr_judge.specs.declared.part.Verdict.TheVariants.{Yes as TellsYes, No
 use Rattle.fr_judge.specs.Part.{Part, EntryPart, RulePart, GoesPart, GuardPart, NearPart, SpoiledPart}
 use Rattle.fr_judge.specs.Verdict.{Verdict, Yes, No, KeepsAll, IsFirstPart, IsVerdict}
 
--- whether this is the writing end
-abbrev pub is_writer : End → Bool
-is_writer Writer = true
-is_writer Reader = false
-
--- the part as the code has it: a rule by its number, an end by its buffer and its side
+-- the part as the code has it: an end by its buffer and its side
 abbrev pub told_part : Part → Told
 told_part EntryPart = Entry
-told_part (RulePart rule) = Rule (number_of rule)
+told_part (RulePart rule) = Rule rule
 told_part (GoesPart t) = Goes t
-told_part (GuardPart buffer end) = Guard (record { buffer = record { 0 = buffer }; writer = is_writer end })
+told_part (GuardPart buffer end) = Guard (record { buffer = record { 0 = buffer }; end = end })
 told_part (NearPart q) = Near q
 told_part (SpoiledPart q) = Spoiled q
 
 -- the part that an own obligation is
 abbrev pub part_of_own : Own → Told
 part_of_own OwnEntry = Entry
-part_of_own (OwnRule n) = Rule n
+part_of_own (OwnRule rule) = Rule rule
 part_of_own (OwnGoes t) = Goes t
 
 -- the verdict as the code has it
@@ -65,7 +59,7 @@ TellsVerdict P C told = (verdict : Verdict) × (told ≡ told_verdict verdict) �
 -- the part names a rule that a point can owe by itself, or a point or a buffer of the application
 abbrev pub IsOf : Program → Told → Type 0
 IsOf P Entry = Unit {0}
-IsOf P (Rule n) = (3 ≤ n) × (n ≤ 12)
+IsOf P (Rule rule) = 3 ≤ number_of rule
 IsOf P (Goes t) = IsPoint P t
 IsOf P (Guard e) = e.buffer.0 < length P.objects
 IsOf P (Near q) = IsPoint P q

@@ -3,6 +3,13 @@ ghost use Rattle.fr_judge.specs.Sound.{StartKeepsNotes, StepKeepsNotes, NotesExc
 ghost use Rattle.fr_judge.specs.Verdict.{IsVerdictOne};
 ghost use Rattle.fr_judge.specs.Owed.{OnlyOwedPartsFail};
 ghost use Rattle.fr_judge.specs.Texts.{IsAnswerOne};
+ghost use Rattle.fr_judge.specs.Theorem.{YesIsSafe};
+
+/// If bytes mean an application and a certificate for it, and the verdict on the two is yes, then no
+/// state of any run of the application breaches any of the twelve rules.
+pub fn yes_is_safe()
+    ensures { YesIsSafe }
+{}
 
 /// Where an application has no build fault, the turns of its certificate are distinct and every
 /// part is kept at every point, no state of any run breaches a rule; and every such state is well

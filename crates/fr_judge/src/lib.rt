@@ -1,22 +1,22 @@
 // The verdict on an application and a certificate, and why a Yes can be believed.
 //
-// Below it stand the own obligations of a point (fr_edge), what other actors' steps do to it (fr_interfere) and the
-// guards of buffers' ends (fr_ends). The laws here are functions that do nothing: each is there for its contract.
+// It uses the own obligations of a point (fr_edge), what other actors' steps do to it (fr_interfere) and the guards of
+// buffers' ends (fr_ends). The laws here are functions that do nothing: each is there for its contract.
 #![tactic(auto)]
 
+mod approval;
 mod laws;
 mod part;
-mod passed;
 mod text;
 mod verdict;
 mod worked;
 
+pub use approval::Passed;
 pub use laws::{
     a_step_keeps_notes, certified_is_safe, notes_exclude_breaches, only_owed_parts_fail,
-    the_answer_is_one, the_start_keeps_notes, the_verdict_is_one,
+    the_answer_is_one, the_start_keeps_notes, the_verdict_is_one, yes_is_safe,
 };
 pub use part::{Part, Verdict};
-pub use passed::Passed;
 pub use text::{Judged, TextFault, judge_text};
 pub use verdict::{job, judge};
-pub use worked::verdicts_as_worked;
+pub use worked::{parts_as_worked, two_writers_are_certified, verdicts_as_worked};

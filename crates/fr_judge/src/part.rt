@@ -1,4 +1,5 @@
 // What can fail at a point, and the verdict.
+use fr_calls::Rule;
 use fr_ends::EndName;
 use fr_program::Point;
 
@@ -9,7 +10,7 @@ pub enum Part {
     /// The actor doesn't begin with the note of its first point.
     Entry,
     /// This rule is breached in a state in which the note holds.
-    Rule(u8),
+    Rule(Rule),
     /// A step leads to this point and leaves a state in which its note doesn't hold.
     Goes(Point),
     /// The note doesn't imply the guard of this end, inside a call at that end.

@@ -3,7 +3,7 @@ ghost use Rattle.std.specs.Prelude.{◌≡◌, ◌<◌, Some, length, slice_get,
 ghost use Rattle.fr_program.specs.declared.ids.Point.{Point as PointOf};
 ghost use Rattle.fr_program.specs.Points.{points_of};
 ghost use Rattle.fr_calls.specs.Run.{IsSafe};
-ghost use Rattle.fr_edge.specs.declared.failing.Own.{Own as OwnPart};
+ghost use Rattle.fr_edge.specs.declared.failure.Own.{Own as OwnPart};
 ghost use Rattle.fr_ends.specs.Fits.{CertificateFits};
 ghost use Rattle.fr_judge.specs.Told.{TellsFirst, TellsVerdict, IsOf, Speaks, part_of_own};
 
@@ -34,8 +34,8 @@ pub fn job(app: &App, certificate: &Certificate, number: usize) -> Option<Part>
         TellsFirst app.now certificate.now p result }
     ensures speaks { IfSome result (λ part. IsOf app.now part) }
 {
-    app.is_faultless();
-    app.is_numbered();
+    app.recall_faultless();
+    app.recall_numbered();
     let _point = app.point(number);
     match own(app, &certificate.notes, number) {
         Some(failing) => Some(part_of_own(failing)),
@@ -52,8 +52,8 @@ pub fn judge(app: &App, certificate: &Certificate) -> Verdict
     ensures safe { result ≡ Verdict.Yes → IsSafe app.now }
     ensures speaks { Speaks app.now result }
 {
-    app.is_faultless();
-    app.is_numbered();
+    app.recall_faultless();
+    app.recall_numbered();
     for number in 0..app.points() {
         if let Some(part) = job(app, certificate, number) {
             return Verdict::No {

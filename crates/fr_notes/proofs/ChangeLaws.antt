@@ -15,8 +15,9 @@ use Rattle.fr_calls.specs.Rule.{result_of}
 use Rattle.fr_notes.specs.declared.change.Change.{Change}
 use Rattle.fr_notes.specs.Note.{Alternative, Within}
 use Rattle.fr_notes.specs.View.{ends_of}
-use Rattle.fr_notes.specs.Narrow.{AreLeast, NoPair}
-use Rattle.fr_notes.specs.Change.{operand_range, CanBe, IsResult, IsBranch, NoBranch, branched, IsCovered, new_range}
+use Rattle.fr_notes.specs.Comparison.{AreLeast, NoPair}
+use Rattle.fr_notes.specs.Change.{operand_range, CanBe, IsResult, IsBranch, NoBranch, branched, new_range}
+use Rattle.fr_notes.specs.Implication.{IsPart}
 
 module _ (n : Alternative) (o : Operand) (a : Range) (is : ends_of a ≡ operand_range n o) where
   pub is-in : (v : ℤ) → CanBe n o v → IsIn a v
@@ -79,13 +80,13 @@ module _ (n : Alternative) (l r : Operand) (a b : Range) (x : ends_of a ≡ oper
 pub at-map : (xs : List Range) (k : ℕ) (r : Range) → k < length xs → r ≡ get_or xs k r → slice_index_or (map ends_of xs) k (pos 0, pos 0) ≡ ends_of r
 at-map xs k r l e = get_or-map ends_of xs k r (pos 0, pos 0) l ∙ ap (λ z. ends_of z) (sym e)
 
-pub covered-at : (change : Change) (xs ys : List Range) (k : ℕ) (r s : Range) → k < length xs → length ys ≡ length xs → r ≡ get_or xs k r → s ≡ get_or ys k s → IsCovered (new_range change k (ends_of r)) (ends_of s) → IsCovered (new_range change k (slice_index_or (map ends_of xs) k (pos 0, pos 0))) (slice_index_or (map ends_of ys) k (pos 0, pos 0))
+pub covered-at : (change : Change) (xs ys : List Range) (k : ℕ) (r s : Range) → k < length xs → length ys ≡ length xs → r ≡ get_or xs k r → s ≡ get_or ys k s → IsPart (new_range change k (ends_of r)) (ends_of s) → IsPart (new_range change k (slice_index_or (map ends_of xs) k (pos 0, pos 0))) (slice_index_or (map ends_of ys) k (pos 0, pos 0))
 covered-at change xs ys k r s l same e f h =
     let a = at-map xs k r l e in
     let b = at-map ys k s (omega arith) f in
     rw (a, b) h
 
-pub at-covered : (change : Change) (xs ys : List Range) (k : ℕ) (r s : Range) → k < length xs → length ys ≡ length xs → r ≡ get_or xs k r → s ≡ get_or ys k s → IsCovered (new_range change k (slice_index_or (map ends_of xs) k (pos 0, pos 0))) (slice_index_or (map ends_of ys) k (pos 0, pos 0)) → IsCovered (new_range change k (ends_of r)) (ends_of s)
+pub at-covered : (change : Change) (xs ys : List Range) (k : ℕ) (r s : Range) → k < length xs → length ys ≡ length xs → r ≡ get_or xs k r → s ≡ get_or ys k s → IsPart (new_range change k (slice_index_or (map ends_of xs) k (pos 0, pos 0))) (slice_index_or (map ends_of ys) k (pos 0, pos 0)) → IsPart (new_range change k (ends_of r)) (ends_of s)
 at-covered change xs ys k r s l same e f h =
     let a = at-map xs k r l e in
     let b = at-map ys k s (omega arith) f in

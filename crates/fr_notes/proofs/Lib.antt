@@ -1,10 +1,10 @@
-pub mod NarrowLaws
+pub mod ComparisonLaws
 pub mod WorkedNotes
 pub mod WorkedParts
 pub mod Shown
-pub mod SaidLemmas
+pub mod PartsLemmas
 pub mod FitLemmas
-pub mod ImpliedLemmas
+pub mod ImplicationLemmas
 pub mod ChangeLaws
 pub mod KnownUses
 pub mod Holdings

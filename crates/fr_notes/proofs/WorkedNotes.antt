@@ -1,6 +1,6 @@
 -- The worked notes, row by row: a state to show where two alternatives are together, and what they say of one thing
 -- where they aren't.
-use Rattle.std.proofs.Common.{◌≡◌, ℕ, zero, suc, ◌<◌, ◌≤◌, [], ◌∷◌, get_or, Option, Some, None, Bool, true, false, refl, sym, ◌∙◌, arith}
+use Rattle.std.proofs.Common.{◌≡◌, ℕ, zero, suc, ◌<◌, ◌≤◌, [], ◌∷◌, get_or, Option, Some, None, Bool, true, false, refl, sym, subst, ◌∙◌, arith}
 use Rattle.std.specs.Prelude.{ℤ, pos, IfSome, nat_eq, if◌then◌else◌}
 use Rattle.std.proofs.lemmas.Int.{ints}
 use Rattle.std.proofs.lemmas.Bool.{eqb-true}
@@ -8,8 +8,8 @@ use Rattle.fr_program.specs.declared.instr.Instr.TheVariants.{Goto}
 use Rattle.fr_program.specs.declared.ids.Side.TheVariants.{Before}
 use Rattle.fr_program.specs.declared.parts.Kind.TheVariants.{Mutex}
 use Rattle.fr_calls.specs.State.{State, At, Content, Free, Held, CanHave, Exists, IsWellFormed, kind_of, place_of, content_of, value_of, depth_in}
-use Rattle.fr_notes.specs.Note.{Claim, NotHeld, Alive, HeldTimes, Meets, Within, HoldsOne, claim_of, range_of}
-use Rattle.fr_notes.specs.WorkedNotes.{two_tasks, says, any, WorkedClaims, WorkedTogether}
+use Rattle.fr_notes.specs.Note.{Alternative, Claim, NotHeld, Alive, Gone, HeldTimes, Meets, Within, HoldsOne, Holds, claim_of, range_of}
+use Rattle.fr_notes.specs.WorkedNotes.{two_tasks, says, any, Together, WorkedClaims, WorkedTogether}
 
 pub worked-claims : WorkedClaims
 worked-claims = record {
@@ -72,15 +72,31 @@ no-two (Some c) h k =
     let second = eqb-true c.0 1 (inside-is (nat_eq c.0 1) c.1 (omega (arith, k))) in
     absurd (omega (arith, first, second))
 
+-- a note of one alternative holds where that does
+only-one : (n : Alternative) (a : ℕ) (S : State) → Holds (n ∷ []) a S → HoldsOne n a S
+only-one n a S h =
+    let k : h.1.0 ≡ 0 = omega (arith, h.1.1) in
+    let e : n ≡ h.0 = subst (λ j. get_or (n ∷ []) j h.0 ≡ h.0) k h.1.2 in
+    subst (λ m. HoldsOne m a S) (sym e) h.2
+
+-- two alternatives that hold in one state are together
+together : (n m : Alternative) (S : State) → IsWellFormed two_tasks S → HoldsOne n 0 S → HoldsOne m 1 S → Together n m
+together n m S w h k = ((λ e. absurd (omega (arith, e))), S, w, (n, (0, omega arith, refl), h), (m, (0, omega arith, refl), k))
+
+-- and where none of them holds beside the other, they aren't
+apart : (n m : Alternative) → ((S : State) → HoldsOne n 0 S → HoldsOne m 1 S → ⊥) → Together n m → ⊥
+apart n m none t = none t.1 (only-one n 0 t.1 t.3) (only-one m 1 t.1 t.4)
+
 pub worked-together : WorkedTogether
 worked-together = record {
-  both_suspended = (state (pos 0) Free None 1 1, formed (pos 0) Free None 1 1 tt tt, holds 0 (pos 0) Free None 1 1 0 1 NotHeld any refl refl refl in-any, holds 1 (pos 0) Free None 1 1 0 1 NotHeld any refl refl refl in-any);
-  both_in_critical = λ t. no-two t.0.critical t.2.critical t.3.critical;
-  one_in_critical = (state (pos 0) Free (Some (0, 1)) 0 0, formed (pos 0) Free (Some (0, 1)) 0 0 tt (omega arith, omega arith), holds 0 (pos 0) Free (Some (0, 1)) 0 0 1 0 NotHeld any refl refl refl in-any, holds 1 (pos 0) Free (Some (0, 1)) 0 0 0 0 NotHeld any refl refl refl in-any);
-  both_hold = λ t. let e = sym (t.2.objects 0) ∙ t.3.objects 0 in cc;
-  one_holds = (state (pos 0) (Held 0 1) None 0 0, formed (pos 0) (Held 0 1) None 0 0 (omega arith, refl) tt, holds 0 (pos 0) (Held 0 1) None 0 0 0 0 (HeldTimes 1) any refl refl refl in-any, holds 1 (pos 0) (Held 0 1) None 0 0 0 0 Alive any refl refl (λ e. cc, refl) in-any);
-  live_and_dead = λ t. (t.2.objects 0).0 (t.3.objects 0);
-  held_and_dead = λ t. let e = sym (t.2.objects 0) ∙ t.3.objects 0 in cc;
-  ranges_meet = (state (pos 1) Free None 0 0, formed (pos 1) Free None 0 0 tt tt, holds 0 (pos 1) Free None 0 0 0 0 NotHeld (pos 0, pos 1) refl refl refl (omega (arith, ints), omega (arith, ints)), holds 1 (pos 1) Free None 0 0 0 0 NotHeld (pos 1, pos 2) refl refl refl (omega (arith, ints), omega (arith, ints)));
-  ranges_apart = λ t. absurd (omega (arith, ints, (t.2.variables 0).1, (t.3.variables 0).0));
+  both_suspended = together (says 0 1 NotHeld any) (says 0 1 NotHeld any) (state (pos 0) Free None 1 1) (formed (pos 0) Free None 1 1 tt tt) (holds 0 (pos 0) Free None 1 1 0 1 NotHeld any refl refl refl in-any) (holds 1 (pos 0) Free None 1 1 0 1 NotHeld any refl refl refl in-any);
+  both_in_critical = apart (says 1 0 NotHeld any) (says 2 0 NotHeld any) (λ S h k. no-two S.critical h.critical k.critical);
+  one_in_critical = together (says 1 0 NotHeld any) (says 0 0 NotHeld any) (state (pos 0) Free (Some (0, 1)) 0 0) (formed (pos 0) Free (Some (0, 1)) 0 0 tt (omega arith, omega arith)) (holds 0 (pos 0) Free (Some (0, 1)) 0 0 1 0 NotHeld any refl refl refl in-any) (holds 1 (pos 0) Free (Some (0, 1)) 0 0 0 0 NotHeld any refl refl refl in-any);
+  both_hold = apart (says 0 0 (HeldTimes 1) any) (says 0 0 (HeldTimes 1) any) (λ S h k. let e = sym (h.objects 0) ∙ k.objects 0 in cc);
+  one_holds = together (says 0 0 (HeldTimes 1) any) (says 0 0 Alive any) (state (pos 0) (Held 0 1) None 0 0) (formed (pos 0) (Held 0 1) None 0 0 (omega arith, refl) tt) (holds 0 (pos 0) (Held 0 1) None 0 0 0 0 (HeldTimes 1) any refl refl refl in-any) (holds 1 (pos 0) (Held 0 1) None 0 0 0 0 Alive any refl refl (λ e. cc, refl) in-any);
+  live_and_dead = apart (says 0 0 Alive any) (says 0 0 Gone any) (λ S h k. (h.objects 0).0 (k.objects 0));
+  held_and_dead = apart (says 0 0 (HeldTimes 1) any) (says 0 0 Gone any) (λ S h k. let e = sym (h.objects 0) ∙ k.objects 0 in cc);
+  ranges_meet = together (says 0 0 NotHeld (pos 0, pos 1)) (says 0 0 NotHeld (pos 1, pos 2)) (state (pos 1) Free None 0 0) (formed (pos 1) Free None 0 0 tt tt) (holds 0 (pos 1) Free None 0 0 0 0 NotHeld (pos 0, pos 1) refl refl refl (omega (arith, ints), omega (arith, ints))) (holds 1 (pos 1) Free None 0 0 0 0 NotHeld (pos 1, pos 2) refl refl refl (omega (arith, ints), omega (arith, ints)));
+  ranges_apart = apart (says 0 0 NotHeld (pos 0, pos 0)) (says 0 0 NotHeld (pos 1, pos 2)) (λ S h k. absurd (omega (arith, ints, (h.variables 0).1, (k.variables 0).0)));
+  one_actor = λ t. t.0 refl;
 }

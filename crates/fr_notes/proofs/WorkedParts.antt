@@ -6,10 +6,10 @@ use Rattle.fr_program.specs.declared.ids.ObjId.{ObjId}
 use Rattle.fr_program.specs.declared.range.Range.{Range}
 use Rattle.fr_calls.specs.State.{State, Free, Held, Dead, IsWellFormed, content_of, value_of}
 use Rattle.fr_notes.specs.Note.{Alternative, NotHeld, Alive, Gone, HeldTimes, Meets, Within, HoldsOne, claim_of, range_of}
-use Rattle.fr_notes.specs.Parts.{names, count_in, count_said, is_live_said, IsCount, IsInside}
+use Rattle.fr_notes.specs.Parts.{names, count_in, count_said, is_live_said, IsCount, IsNarrowing}
 use Rattle.fr_notes.specs.WorkedNotes.{two_tasks, says, any}
 use Rattle.fr_notes.specs.WorkedParts.{four_objects, object, held, IsRefusedCount, IsCountable, IsTorn, IsWhole, IsPast, IsKept, Implied, WorkedFaults, WorkedImplied}
-use Rattle.fr_notes.proofs.ImpliedLemmas.{only-one}
+use Rattle.fr_notes.proofs.ImplicationLemmas.{only-one}
 use Rattle.fr_notes.proofs.WorkedNotes.{state, formed, holds, in-any}
 
 -- the one entry of a list
@@ -26,11 +26,11 @@ refused-count o count refused parts e = subst (Any (λ h. IsCount four_objects h
 countable : (o count : ℕ) → IsCount four_objects (object o, count) → IsCountable o count
 countable o count is parts e there = only (λ h. IsCount four_objects h → ⊥) (object o, count) (subst (Any (λ h. IsCount four_objects h → ⊥)) e there) is
 
-past : (lo hi : ℤ) → ((range : Range) → range.lo ≡ lo → range.hi ≡ hi → IsInside four_objects (record { 0 = 0 }, range) → ⊥) → IsPast lo hi
-past lo hi refused parts range l h e = subst (Any (λ r. IsInside four_objects r → ⊥)) (sym e) (first (λ r. IsInside four_objects r → ⊥) (record { 0 = 0 }, range) [] (refused range l h))
+past : (lo hi : ℤ) → ((range : Range) → range.lo ≡ lo → range.hi ≡ hi → IsNarrowing four_objects (record { 0 = 0 }, range) → ⊥) → IsPast lo hi
+past lo hi refused parts range l h e = subst (Any (λ r. IsNarrowing four_objects r → ⊥)) (sym e) (first (λ r. IsNarrowing four_objects r → ⊥) (record { 0 = 0 }, range) [] (refused range l h))
 
-kept : (lo hi : ℤ) → ((range : Range) → range.lo ≡ lo → range.hi ≡ hi → IsInside four_objects (record { 0 = 0 }, range)) → IsKept lo hi
-kept lo hi is parts range l h e there = only (λ r. IsInside four_objects r → ⊥) (record { 0 = 0 }, range) (subst (Any (λ r. IsInside four_objects r → ⊥)) e there) (is range l h)
+kept : (lo hi : ℤ) → ((range : Range) → range.lo ≡ lo → range.hi ≡ hi → IsNarrowing four_objects (record { 0 = 0 }, range)) → IsKept lo hi
+kept lo hi is parts range l h e there = only (λ r. IsNarrowing four_objects r → ⊥) (record { 0 = 0 }, range) (subst (Any (λ r. IsNarrowing four_objects r → ⊥)) e there) (is range l h)
 
 -- whether parts with these lists say that the object is live or held
 abbrev said_live : List (ObjId × ℕ) → List ObjId → ℕ → Bool

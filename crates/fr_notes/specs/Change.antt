@@ -1,4 +1,4 @@
--- What a row of the step table makes of an alternative.
+-- For private clauses: what a row of the step table makes of an alternative.
 --
 -- | word                     | meaning                                                                             |
 -- |--------------------------|-------------------------------------------------------------------------------------|
@@ -10,7 +10,7 @@
 -- | IsBranch, NoBranch       | the least ranges of an `if`'s operands on one of its ways; it never goes that way   |
 -- | same, branched           | the change that changes nothing; the one that narrows two operands                  |
 -- | HasChange, HasNone       | the row makes this change; no state with the alternative has the row                |
--- | new_range, IsCovered     | a variable's range after a change; a range lies in another                          |
+-- | new_range                | a variable's range after a change                                                   |
 -- | Keeps                    | another alternative says no more than what a change leaves                          |
 use Rattle.std.specs.Prelude.{◌≡◌, ◌≤◌, ◌<◌, ◌≤ℤ◌, ◌+◌, ◌-◌, ℕ, ℤ, Option, None, Some, length, nat_eq, if◌then◌else◌, IsTrue, IsFalse}
 use Rattle.fr_program.specs.declared.ids.VarId.{VarId}
@@ -27,10 +27,11 @@ use Rattle.fr_program.specs.Limits.{IsNumber}
 use Rattle.fr_program.specs.Spans.{IsIn}
 use Rattle.fr_calls.specs.Rule.{result_of}
 use Rattle.fr_calls.specs.declared.way.Way.{Way}
-use Rattle.fr_calls.specs.declared.way.Way.TheVariants.{Works, Fails}
+use Rattle.fr_calls.specs.declared.way.Way.TheVariants.{Then, Else}
 use Rattle.fr_calls.specs.Step.{compare}
 use Rattle.fr_notes.specs.declared.change.Change.{Change}
 use Rattle.fr_notes.specs.Note.{Alternative, Within, range_of}
+use Rattle.fr_notes.specs.Implication.{IsPart}
 use Rattle.fr_notes.specs.View.{ends_of}
 
 -- both ends of the numbers that an operand can be
@@ -59,8 +60,8 @@ HasNumbers n = (x : ℕ) → IsNumber (range_of n x).0 × IsNumber (range_of n x
 
 -- at these numbers an `if` goes this way
 abbrev pub Turns : Way → Comparison → ℤ → ℤ → Type 0
-Turns Works comparison u v = IsTrue (compare comparison u v)
-Turns Fails comparison u v = IsFalse (compare comparison u v)
+Turns Then comparison u v = IsTrue (compare comparison u v)
+Turns Else comparison u v = IsFalse (compare comparison u v)
 
 -- the exact span of what a `set` computes: it has every result, and both of its ends are results
 pub record IsResult (n : Alternative) (op : Operator) (l r : Operand) (span : Range) : Type 0 where
@@ -107,24 +108,24 @@ HasCallChange n call change = ⊥
 
 -- the row makes this change; of a row of an instruction that isn't judged today nothing is said
 abbrev pub HasChange : Alternative → Instr → Way → Change → Type 0
-HasChange n (Set x l op r) Works change = (span : Range) × IsResult n op l r span × (change ≡ record (same n) { first = Some (x, span) })
+HasChange n (Set x l op r) Then change = (span : Range) × IsResult n op l r span × (change ≡ record (same n) { first = Some (x, span) })
 HasChange n (If l comparison r target) way change = IsBranch (Turns way comparison) n l r change
-HasChange n (Goto target) Works change = change ≡ same n
-HasChange n Return Works change = change ≡ same n
-HasChange n (Calls call) Works change = HasCallChange n call change
+HasChange n (Goto target) Then change = change ≡ same n
+HasChange n Return Then change = change ≡ same n
+HasChange n (Calls call) Then change = HasCallChange n call change
 HasChange n i way change = ⊥
 
 -- no state with the alternative has the row
 abbrev pub HasNone : Alternative → Instr → Way → Type 0
 HasNone n (If l comparison r target) way = NoBranch (Turns way comparison) n l r
-HasNone n (Calls (ExitCritical form)) Works = n.critical ≡ 0
-HasNone n (Set x l op r) Works = ⊥
-HasNone n (Goto target) Works = ⊥
-HasNone n Return Works = ⊥
-HasNone n (Calls (EnterCritical form)) Works = ⊥
-HasNone n (Calls Yield) Works = ⊥
-HasNone n (Calls (Delay ticks)) Works = ⊥
-HasNone n (Calls DeleteSelf) Works = ⊥
+HasNone n (Calls (ExitCritical form)) Then = n.critical ≡ 0
+HasNone n (Set x l op r) Then = ⊥
+HasNone n (Goto target) Then = ⊥
+HasNone n Return Then = ⊥
+HasNone n (Calls (EnterCritical form)) Then = ⊥
+HasNone n (Calls Yield) Then = ⊥
+HasNone n (Calls (Delay ticks)) Then = ⊥
+HasNone n (Calls DeleteSelf) Then = ⊥
 HasNone n i way = Unit {0}
 
 -- a variable's range, where a change has one for it, and else the one before
@@ -136,12 +137,8 @@ range_after (Some new) x before = if nat_eq new.0.0 x then ends_of new.1 else be
 abbrev pub new_range : Change → ℕ → ℤ × ℤ → ℤ × ℤ
 new_range change x before = range_after change.first x (range_after change.second x before)
 
--- the first range lies in the second
-abbrev pub IsCovered : ℤ × ℤ → ℤ × ℤ → Type 0
-IsCovered range other = (other.0 ≤ℤ range.0) × (range.1 ≤ℤ other.1)
-
 -- the other alternative says no more of the depths and the variables than what the change leaves of the first one
 pub record Keeps (n : Alternative) (change : Change) (other : Alternative) : Type 0 where
   pub critical : change.crit ≡ other.critical
   pub suspended : change.susp ≡ other.suspended
-  pub variables : (x : ℕ) → x < length n.ranges → IsCovered (new_range change x (range_of n x)) (range_of other x)
+  pub variables : (x : ℕ) → x < length n.ranges → IsPart (new_range change x (range_of n x)) (range_of other x)

@@ -1,17 +1,13 @@
 -- Two notes: whether one implies the other, and whether some state has both.
-use Rattle.std.specs.Prelude.{◌<◌, ℕ, length}
+use Rattle.std.specs.Prelude.{◌≢◌, ◌<◌, ℕ, length}
 use Rattle.fr_program.specs.Program.{Program}
 use Rattle.fr_calls.specs.State.{State, IsWellFormed}
-use Rattle.fr_notes.specs.Note.{Alternative, Note, HoldsOne, Holds}
+use Rattle.fr_notes.specs.Note.{Note, Holds}
 
 -- the second note holds of every actor in every state in which the first one does
 abbrev pub Implies : Program → Note → Note → Type 0
 Implies P one other = (a : ℕ) → a < length P.actors → (S : State) → IsWellFormed P S → Holds one a S → Holds other a S
 
--- some state has one alternative of one actor, and one of another
-abbrev pub AreTogetherBy : Program → ℕ → Alternative → ℕ → Alternative → Type 0
-AreTogetherBy P a n b m = (S : State) × IsWellFormed P S × HoldsOne n a S × HoldsOne m b S
-
--- some state has one note of one actor, and one of another
+-- of two actors: some state has one note of the one, and another note of the other
 abbrev pub AreTogether : Program → ℕ → Note → ℕ → Note → Type 0
-AreTogether P a one b other = (S : State) × IsWellFormed P S × Holds one a S × Holds other b S
+AreTogether P a one b other = (a ≢ b) × (S : State) × IsWellFormed P S × Holds one a S × Holds other b S

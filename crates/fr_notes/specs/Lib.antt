@@ -4,8 +4,8 @@ pub mod Noted
 pub mod Fits
 pub mod Parts
 pub mod Compare
-pub mod Implied
-pub mod Narrow
+pub mod Implication
+pub mod Comparison
 pub mod Change
 pub mod Known
 pub mod KnownView

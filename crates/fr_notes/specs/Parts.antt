@@ -7,8 +7,8 @@
 -- | claim_said, range_said  | what the parts say of an object, of a variable                                    |
 -- | said                    | the alternative that the parts say                                                |
 -- | is_live_said            | whether the parts say that an object is live, or held                             |
--- | IsCount, IsInside       | a count that an object can be held, a range inside the declared one               |
--- | Stands                  | this fault stands in the parts                                                    |
+-- | IsCount, IsNarrowing    | a count that an object can be held, a range inside the declared one               |
+-- | HasFault                | the parts have this fault                                                         |
 use Rattle.std.specs.Prelude.{◌<◌, ◌≤ℤ◌, ◌||◌, ℕ, ℤ, List, Option, None, Some, Bool, IsTrue, length, map, find, nat_eq, if◌then◌else◌, is_some, Any}
 use Rattle.std.specs.List.{list_any, range_with_len}
 use Rattle.std.specs.Option.{option_map}
@@ -81,12 +81,12 @@ abbrev pub IsCount : Program → ObjId × ℕ → Type 0
 IsCount P h = (h.0.0 < length P.objects) × CanClaim (kind_of P h.0.0) (HeldTimes h.1)
 
 -- the application has this variable, and the range is inside its declared one
-abbrev pub IsInside : Program → VarId × Range → Type 0
-IsInside P r = (r.0.0 < length P.variables) × ((variable_at P r.0.0).lo ≤ℤ r.1.lo) × (r.1.hi ≤ℤ (variable_at P r.0.0).hi)
+abbrev pub IsNarrowing : Program → VarId × Range → Type 0
+IsNarrowing P r = (r.0.0 < length P.variables) × ((variable_at P r.0.0).lo ≤ℤ r.1.lo) × (r.1.hi ≤ℤ (variable_at P r.0.0).hi)
 
--- this fault stands: a count that can't be, an object both dead and live or held, a range not inside the declared one
-abbrev pub Stands : Program → NoteParts → NoteFault → Type 0
-Stands P parts Memory = ⊥
-Stands P parts Count = Any (λ h. IsCount P h → ⊥) parts.held.items
-Stands P parts Lives = Any (λ o. IsTrue (is_live_said parts o.0)) parts.dead.items
-Stands P parts Span = Any (λ r. IsInside P r → ⊥) parts.range.items
+-- the parts have this fault: a count that can't be, an object both dead and live or held, a range not inside the declared one
+abbrev pub HasFault : Program → NoteParts → NoteFault → Type 0
+HasFault P parts Memory = ⊥
+HasFault P parts Count = Any (λ h. IsCount P h → ⊥) parts.held.items
+HasFault P parts Lives = Any (λ o. IsTrue (is_live_said parts o.0)) parts.dead.items
+HasFault P parts Span = Any (λ r. IsNarrowing P r → ⊥) parts.range.items

@@ -1,4 +1,4 @@
--- What an alternative in code stands for.
+-- What an alternative in code means.
 use Rattle.std.specs.Prelude.{ℤ, map}
 use Rattle.fr_program.specs.declared.range.Range.{Range}
 use Rattle.fr_notes.specs.declared.note.Alternative.TheInside.{Inside}

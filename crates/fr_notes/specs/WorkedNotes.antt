@@ -5,7 +5,7 @@
 -- | WorkedClaims       | claims of actor 0 about an object                                                 |
 -- | two_tasks          | tasks 0 and 1, a variable x from 0 to 2 and a mutex                               |
 -- | says               | an alternative by its two depths, its claim of the mutex and its range of x       |
--- | Together           | some state has one alternative of task 0 and another of task 1                    |
+-- | Together           | notes of one alternative, one of task 0 and one of task 1, are together           |
 -- | WorkedTogether     | pairs for which that is so, and pairs for which it isn't                          |
 use Rattle.std.specs.Prelude.{ℕ, ℤ, pos, [], ◌∷◌, None, true}
 use Rattle.fr_program.specs.declared.instr.Instr.TheVariants.{Goto}
@@ -14,7 +14,7 @@ use Rattle.fr_program.specs.declared.parts.ActorKind.TheVariants.{Task}
 use Rattle.fr_program.specs.Program.{Program, ActorOf}
 use Rattle.fr_calls.specs.State.{State, Dead, Free, Held}
 use Rattle.fr_notes.specs.Note.{Alternative, Claim, NotHeld, Alive, Gone, HeldTimes, Meets, Holds}
-use Rattle.fr_notes.specs.Compare.{AreTogetherBy}
+use Rattle.fr_notes.specs.Compare.{AreTogether}
 
 -- claims of actor 0 about an object
 pub record WorkedClaims : Type 0 where
@@ -52,9 +52,9 @@ says critical suspended claim range = record { critical = critical; suspended = 
 abbrev pub any : ℤ × ℤ
 any = (pos 0, pos 2)
 
--- some state has one alternative of task 0 and another of task 1
+-- a note of one alternative of task 0 and another of task 1 are together
 abbrev pub Together : Alternative → Alternative → Type 0
-Together n m = AreTogetherBy two_tasks 0 n 1 m
+Together n m = AreTogether two_tasks 0 (n ∷ []) 1 (m ∷ [])
 
 -- pairs of alternatives
 pub record WorkedTogether : Type 0 where
@@ -68,3 +68,5 @@ pub record WorkedTogether : Type 0 where
   pub held_and_dead : Together (says 0 0 (HeldTimes 1) any) (says 0 0 Gone any) → ⊥
   pub ranges_meet : Together (says 0 0 NotHeld (pos 0, pos 1)) (says 0 0 NotHeld (pos 1, pos 2))
   pub ranges_apart : Together (says 0 0 NotHeld (pos 0, pos 0)) (says 0 0 NotHeld (pos 1, pos 2)) → ⊥
+  -- a note and itself, of one actor: that asks for two
+  pub one_actor : AreTogether two_tasks 0 (says 0 0 NotHeld any ∷ []) 0 (says 0 0 NotHeld any ∷ []) → ⊥

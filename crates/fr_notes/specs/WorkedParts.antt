@@ -8,7 +8,7 @@
 -- | IsRefusedCount, IsCountable | a count that is none of the object, and one that is                                |
 -- | IsTorn, IsWhole             | objects that are said both live or held and dead, and objects that aren't          |
 -- | IsPast, IsKept              | a range of x that isn't inside its declared one, and one that is                   |
--- | WorkedFaults                | parts in which a fault stands, and parts in which it doesn't                       |
+-- | WorkedFaults                | parts that have a fault, and parts that have none                       |
 -- | Implied                     | a note with one alternative implies one with another                               |
 -- | WorkedImplied               | pairs for which that is so, and pairs for which it isn't                           |
 use Rattle.std.specs.Prelude.{◌≡◌, ℕ, ℤ, pos, negsuc, List, [], ◌∷◌, None, true}
@@ -20,7 +20,7 @@ use Rattle.fr_program.specs.Program.{Program, ObjectOf}
 use Rattle.fr_notes.specs.declared.note.NoteParts.{NoteParts}
 use Rattle.fr_notes.specs.declared.fault.NoteFault.TheVariants.{Count, Lives, Span}
 use Rattle.fr_notes.specs.Note.{Alternative, NotHeld, Alive, Gone, HeldTimes}
-use Rattle.fr_notes.specs.Parts.{Stands}
+use Rattle.fr_notes.specs.Parts.{HasFault}
 use Rattle.fr_notes.specs.Compare.{Implies}
 use Rattle.fr_notes.specs.WorkedNotes.{two_tasks, says, any}
 
@@ -46,29 +46,29 @@ held o count = (object o, count) ∷ []
 
 -- parts that say so have a fault in their counts
 abbrev pub IsRefusedCount : ℕ → ℕ → Type 0
-IsRefusedCount o count = (parts : NoteParts) → parts.held.items ≡ held o count → Stands four_objects parts Count
+IsRefusedCount o count = (parts : NoteParts) → parts.held.items ≡ held o count → HasFault four_objects parts Count
 
 -- or they have none
 abbrev pub IsCountable : ℕ → ℕ → Type 0
-IsCountable o count = (parts : NoteParts) → parts.held.items ≡ held o count → Stands four_objects parts Count → ⊥
+IsCountable o count = (parts : NoteParts) → parts.held.items ≡ held o count → HasFault four_objects parts Count → ⊥
 
 -- parts that name these objects as held, live and dead have a fault in their lives
 abbrev pub IsTorn : List (ObjId × ℕ) → List ObjId → List ObjId → Type 0
-IsTorn hs ls ds = (parts : NoteParts) → parts.held.items ≡ hs → parts.live.items ≡ ls → parts.dead.items ≡ ds → Stands four_objects parts Lives
+IsTorn hs ls ds = (parts : NoteParts) → parts.held.items ≡ hs → parts.live.items ≡ ls → parts.dead.items ≡ ds → HasFault four_objects parts Lives
 
 -- or they have none
 abbrev pub IsWhole : List (ObjId × ℕ) → List ObjId → List ObjId → Type 0
-IsWhole hs ls ds = (parts : NoteParts) → parts.held.items ≡ hs → parts.live.items ≡ ls → parts.dead.items ≡ ds → Stands four_objects parts Lives → ⊥
+IsWhole hs ls ds = (parts : NoteParts) → parts.held.items ≡ hs → parts.live.items ≡ ls → parts.dead.items ≡ ds → HasFault four_objects parts Lives → ⊥
 
 -- parts that give x this range have a fault in their ranges
 abbrev pub IsPast : ℤ → ℤ → Type 0
-IsPast lo hi = (parts : NoteParts) (range : Range) → range.lo ≡ lo → range.hi ≡ hi → parts.range.items ≡ (record { 0 = 0 }, range) ∷ [] → Stands four_objects parts Span
+IsPast lo hi = (parts : NoteParts) (range : Range) → range.lo ≡ lo → range.hi ≡ hi → parts.range.items ≡ (record { 0 = 0 }, range) ∷ [] → HasFault four_objects parts Span
 
 -- or they have none
 abbrev pub IsKept : ℤ → ℤ → Type 0
-IsKept lo hi = (parts : NoteParts) (range : Range) → range.lo ≡ lo → range.hi ≡ hi → parts.range.items ≡ (record { 0 = 0 }, range) ∷ [] → Stands four_objects parts Span → ⊥
+IsKept lo hi = (parts : NoteParts) (range : Range) → range.lo ≡ lo → range.hi ≡ hi → parts.range.items ≡ (record { 0 = 0 }, range) ∷ [] → HasFault four_objects parts Span → ⊥
 
--- parts in which a fault stands, and parts in which it doesn't
+-- parts that have a fault, and parts that have none
 pub record WorkedFaults : Type 0 where
   pub mutex_once : IsCountable 0 1
   pub mutex_twice : IsRefusedCount 0 2

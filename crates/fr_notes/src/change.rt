@@ -6,7 +6,8 @@ ghost use Rattle.fr_calls.specs.Step.{compare};
 ghost use Rattle.fr_notes.specs.View.{ends_of};
 
 use crate::claim::Claim;
-use crate::narrow::{narrowed, negated};
+use crate::comparison::{narrowed, negated};
+use crate::implication::is_part;
 use crate::note::Alternative;
 use fr_calls::Way;
 use fr_program::{Call, Comparison, Instr, ObjId, Operand, Operator, Range, VarId};
@@ -78,7 +79,8 @@ impl Alternative {
     }
 }
 
-ghost use Rattle.fr_notes.specs.Change.{HasOperand, HasOperands, HasNumbers, Turns, IsResult, same, narrowed_to, IsBranch, NoBranch, HasCallChange, HasChange, HasNone, range_after, new_range, IsCovered, Keeps};
+ghost use Rattle.fr_notes.specs.Change.{HasOperand, HasOperands, HasNumbers, Turns, IsResult, same, narrowed_to, IsBranch, NoBranch, HasCallChange, HasChange, HasNone, range_after, new_range, Keeps};
+ghost use Rattle.fr_notes.specs.Implication.{IsPart};
 
 /// The variable's new range, where the operand is one.
 fn narrowed_to(operand: Operand, range: Range) -> Option<(VarId, Range)>
@@ -95,8 +97,8 @@ fn comparison_for(comparison: Comparison, way: Way) -> Comparison
     ensures { (u v : ℤ) → (IsTrue (compare result u v) ↔ Turns way comparison u v) }
 {
     match way {
-        Way::Works => comparison,
-        Way::Fails => negated(comparison),
+        Way::Then => comparison,
+        Way::Else => negated(comparison),
     }
 }
 
@@ -151,7 +153,7 @@ pub fn change_by(alternative: &Alternative, instr: &Instr, way: Way) -> Option<C
                 operator,
                 right,
             },
-            Way::Works,
+            Way::Then,
         ) => {
             let result = alternative.result(*operator, *left, *right);
             Some(Change {
@@ -159,15 +161,15 @@ pub fn change_by(alternative: &Alternative, instr: &Instr, way: Way) -> Option<C
                 ..alternative.unchanged()
             })
         }
-        (Instr::Goto { .. } | Instr::Return, Way::Works) => Some(alternative.unchanged()),
-        (Instr::Call(call), Way::Works) => change_of_call(alternative, call),
+        (Instr::Goto { .. } | Instr::Return, Way::Then) => Some(alternative.unchanged()),
+        (Instr::Call(call), Way::Then) => change_of_call(alternative, call),
         _ => None,
     }
 }
 
 fn change_of_call(alternative: &Alternative, call: &Call) -> Option<Change>
     ensures some { IfSome result (λ change. HasCallChange alternative.now call.now change) }
-    ensures none { IfNone result (HasNone alternative.now (Instr.Call call.now) Way.Works) }
+    ensures none { IfNone result (HasNone alternative.now (Instr.Call call.now) Way.Then) }
 {
     let same = alternative.unchanged();
     match call {
@@ -198,24 +200,17 @@ fn range_after(new: Option<(VarId, Range)>, variable: usize, range: Range) -> Ra
     }
 }
 
-/// Whether the first range lies in the second.
-fn is_covered(range: Range, other: Range) -> bool
-    ensures { IsTrue result ↔ IsCovered (ends_of range) (ends_of other) }
-{
-    other.lo <= range.lo && range.hi <= other.hi
-}
-
 fn keeps_range(change: &Change, variable: usize, range: Range, other: Range) -> bool
-    ensures { IsTrue result ↔ IsCovered (new_range change.now variable (ends_of range)) (ends_of other) }
+    ensures { IsTrue result ↔ IsPart (new_range change.now variable (ends_of range)) (ends_of other) }
 {
     let before = range_after(change.second, variable, range);
-    is_covered(range_after(change.first, variable, before), other)
+    is_part(range_after(change.first, variable, before), other)
 }
 
 fn keeps_ranges(ranges: &[Range], change: &Change, others: &[Range]) -> bool
     requires { length others.now ≡ length ranges.now }
     ensures { IsTrue result ↔ ((x : ℕ) → x < length ranges.now →
-        IsCovered (new_range change.now x (slice_index_or (map ends_of ranges.now) x (pos 0, pos 0)))
+        IsPart (new_range change.now x (slice_index_or (map ends_of ranges.now) x (pos 0, pos 0)))
         (slice_index_or (map ends_of others.now) x (pos 0, pos 0))) }
 {
     for (variable, range) in ranges.iter().enumerate() {

@@ -15,7 +15,7 @@ pub enum Claim {
 }
 
 impl Claim {
-    ghost use Rattle.fr_notes.specs.Implied.{ClaimImplies};
+    ghost use Rattle.fr_notes.specs.Implication.{ClaimImplies};
 
     /// Whether an actor of which this claim holds has the other one hold of it too.
     pub fn implies(self, other: Claim) -> bool

@@ -3,10 +3,10 @@ ghost use Rattle.std.specs.Prelude.{◌↔◌, IsTrue, map};
 ghost use Rattle.fr_notes.specs.Fits.{CanClaim, ClaimsFit, RangesFit, AlternativeFits, NoteFits};
 ghost use Rattle.fr_notes.specs.View.{ends_of};
 
+use crate::checks::{is_count, is_narrowing};
 use crate::claim::Claim;
 use crate::note::{Alternative, Note};
-use crate::said::{object_count, variable_count};
-use crate::stands::{is_count, is_inside};
+use crate::parts::{object_count, variable_count};
 use fr_program::{App, Kind, ObjId, Range, VarId};
 
 const MOST_ALTERNATIVES: usize = 4;
@@ -42,7 +42,7 @@ fn ranges_fit(app: &App, ranges: &[Range]) -> bool
         return false;
     }
     for (variable, range) in ranges.iter().enumerate() {
-        if !is_inside(app, VarId(variable), *range) {
+        if !is_narrowing(app, VarId(variable), *range) {
             return false;
         }
     }

@@ -4,25 +4,25 @@
 #![tactic(auto)]
 
 mod change;
+mod checks;
 mod claim;
+mod comparison;
 mod fault;
 mod fits;
 mod holding;
-mod implying;
+mod implication;
 mod kept;
 mod known;
 mod laws;
-mod narrow;
 mod note;
 mod notes;
-mod said;
-mod stands;
+mod parts;
 mod worked;
 
 pub use change::{Change, change_by, keeps};
 pub use claim::Claim;
 pub use fault::{NoteFault, NotesFault};
-pub use implying::implies;
+pub use implication::implies;
 pub use laws::fitting_can_hold;
 pub use note::{Alternative, Note, NoteParts};
 pub use notes::Notes;

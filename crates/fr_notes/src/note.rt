@@ -1,10 +1,10 @@
 // Notes: what a certificate says of an actor at a point.
 ghost use Rattle.std.specs.Prelude.{◌≡◌, ◌≢◌, [], ◌∷◌, IfOk, IfErr, OnOk};
 
+use crate::checks::check_note;
 use crate::claim::Claim;
 use crate::fault::NoteFault;
-use crate::said::{claims_said, ranges_said};
-use crate::stands::check_note;
+use crate::parts::{claims_said, ranges_said};
 use fr_program::{App, ObjId, Range, VarId};
 use std::alloc::Global;
 use std::marker::Model;
@@ -45,8 +45,8 @@ impl Model for Note {
 }
 
 /// What a plain note says, where it says more than the default: no mutex held, depth 0, objects
-/// live or dead, and variables anywhere in their declared ranges. A number stands once in a list;
-/// where one stands twice, its first entry counts.
+/// live or dead, and variables anywhere in their declared ranges. A number is in a list at most
+/// once; where it is there twice, its first entry counts.
 #[derive(Debug, Drop)]
 pub struct NoteParts {
     pub held: Vec<(ObjId, u32)>,
@@ -80,7 +80,7 @@ impl NoteParts {
 impl Note {
     ghost use Rattle.fr_notes.specs.declared.fault.NoteFault.{NoteFault as NoteFaultOf};
     ghost use Rattle.fr_notes.specs.Fits.{NoteFits};
-    ghost use Rattle.fr_notes.specs.Parts.{said, Stands};
+    ghost use Rattle.fr_notes.specs.Parts.{said, HasFault};
 
     /// The note that holds of no actor in no state. Takes no memory.
     pub fn never(alloc: Global) -> Note
@@ -91,20 +91,20 @@ impl Note {
         }
     }
 
-    /// The plain note that the parts say: Ok exactly where none of the three faults stands and no
+    /// The plain note that the parts say: Ok exactly where none of the three faults is present and no
     /// allocation was refused. `Count`: a count is not 1 to 255, is not 1 on a plain mutex, or is of
     /// no mutex. `Lives`: an object is both live and dead, or held and dead. `Span`: a range isn't
     /// inside the variable's declared one. Of several faults, which one is named is open; `Memory`
-    /// is named only where none of the three stands.
+    /// is named only where none of the three is present.
     pub fn build(alloc: Global, app: &App, parts: NoteParts) -> Result<Note, NoteFault>
         ensures says { IfOk result (λ note. note ≡ said app.now parts ∷ []) }
         ensures fits { IfOk result (λ note. NoteFits app.now note) }
-        ensures free { OnOk result ((fault : NoteFaultOf) → Stands app.now parts fault → ⊥) }
-        ensures stands { IfErr result (λ f. f ≢ NoteFault.Memory → Stands app.now parts f) }
+        ensures free { OnOk result ((fault : NoteFaultOf) → HasFault app.now parts fault → ⊥) }
+        ensures stands { IfErr result (λ f. f ≢ NoteFault.Memory → HasFault app.now parts f) }
         ensures memory { IfErr result
-            (λ f. f ≡ NoteFault.Memory → (fault : NoteFaultOf) → Stands app.now parts fault → ⊥) }
+            (λ f. f ≡ NoteFault.Memory → (fault : NoteFaultOf) → HasFault app.now parts fault → ⊥) }
     {
-        app.is_faultless();
+        app.recall_faultless();
         check_note(app, &parts)?;
         let claims = claims_said(alloc, app, &parts)?;
         let ranges = ranges_said(alloc, app, &parts.range)?;

@@ -9,7 +9,7 @@ pub fn notes_as_worked()
     ensures together { WorkedTogether }
 {}
 
-/// Parts in which a fault stands and parts in which it doesn't, and notes of which one implies the
+/// Parts that have a fault and parts that have none, and notes of which one implies the
 /// other or doesn't.
 pub fn parts_as_worked()
     ensures faults { WorkedFaults }

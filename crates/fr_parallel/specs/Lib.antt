@@ -1,4 +1,4 @@
 pub mod Worked
 pub mod Kept
-pub mod Tasks
+pub mod Assignments
 pub mod Bytes

@@ -11,7 +11,7 @@ ghost use Rattle.fr_parallel.specs.Kept.{IsNoCrew};
 
 use crate::fault::ParFault;
 use crate::gate::Gate;
-use crate::judging::{is_crew, judge_with};
+use crate::verdict::{is_crew, judge_with};
 use fr_cert::{CertFault, read_cert};
 use fr_judge::Judged;
 use fr_reader::{ReadFault, read_app};

@@ -3,11 +3,11 @@ ghost use Rattle.std.specs.Prelude.{◌≡◌, ◌≢◌, ◌<◌, length, All, 
 ghost use Rattle.fr_parallel.specs.declared.fault.ParFault.TheVariants.{Workers};
 ghost use Rattle.fr_ends.specs.Fits.{CertificateFits};
 ghost use Rattle.fr_parallel.specs.Kept.{IsFor, IsNewFor, IsWorked, IsWorkedBy};
-ghost use Rattle.fr_parallel.specs.Tasks.{IsDoneBy, IsNewOf, IsReady};
+ghost use Rattle.fr_parallel.specs.Assignments.{IsDoneBy, IsNewOf, IsReady};
 
 use crate::fault::ParFault;
 use crate::gate::Gate;
-use crate::worker::{Task, work};
+use crate::worker::{Assignment, work};
 use fr_board::{Board, Pass};
 use fr_ends::Certificate;
 use fr_program::App;
@@ -16,14 +16,14 @@ use std::sync::Wait;
 use std::thread;
 use std::thread::{Promise, PromisedHandle, Scope, Threads};
 
-impl<'s> Promise<Pass> for Task<'s> {
-    ghost use Rattle.fr_parallel.specs.Tasks.{IsDoneBy};
+impl<'s> Promise<Pass> for Assignment<'s> {
+    ghost use Rattle.fr_parallel.specs.Assignments.{IsDoneBy};
 
     ghost kept_by = { λ t p. IsDoneBy t 1 p };
 }
 
 // Waits for the threads that were started.
-fn join_all<'s, R: Threads>(rt: &R, mut handles: Vec<PromisedHandle<Pass, Task<'s>>>) {
+fn join_all<'s, R: Threads>(rt: &R, mut handles: Vec<PromisedHandle<Pass, Assignment<'s>>>) {
     while let Some(handle) = handles.pop() {
         handle.join(rt);
     }
@@ -34,26 +34,26 @@ fn start_all<'s, E, R: Threads, G: Gate>(
     rt: &R,
     scope: &Scope<'s, E>,
     alloc: Global,
-    task: Task<'s>,
+    assignment: Assignment<'s>,
     mut passes: Vec<Pass>,
     gate: &'s G,
-) -> Result<Vec<PromisedHandle<Pass, Task<'s>>>, ParFault>
-    requires ready { IsReady task }
-    requires new { All (λ p. IsNewOf task p) passes.items }
+) -> Result<Vec<PromisedHandle<Pass, Assignment<'s>>>, ParFault>
+    requires ready { IsReady assignment }
+    requires new { All (λ p. IsNewOf assignment p) passes.items }
     ensures count { IfOk result (λ h. length h.items ≡ length passes.items) }
-    ensures each { IfOk result (λ h. All (λ x. x.promise ≡ task.entry) h.items) }
+    ensures each { IfOk result (λ h. All (λ x. x.promise ≡ assignment.entry) h.items) }
     ensures fault { IfErr result (λ e. e ≢ Workers) }
 {
-    let Task {
+    let Assignment {
         app,
         certificate,
         board,
-    } = task;
+    } = assignment;
     let mut handles = Vec::new(alloc);
     while let Some(pass) = passes.pop() {
         let worker = passes.len();
         let Ok(handle) = scope.spawn_with(
-            task,
+            assignment,
             move || -> Pass
                 requires jobs { IsFor app.now board.now }
                 requires fits { CertificateFits app.now certificate.now }
@@ -80,19 +80,19 @@ fn start_all<'s, E, R: Threads, G: Gate>(
 // Joins all threads, and their passes into one.
 fn gather<'s, R: Threads>(
     rt: &R,
-    task: Task<'s>,
-    mut handles: Vec<PromisedHandle<Pass, Task<'s>>>,
+    assignment: Assignment<'s>,
+    mut handles: Vec<PromisedHandle<Pass, Assignment<'s>>>,
 ) -> Pass
     requires some { 0 < length handles.items }
-    requires each { All (λ x. x.promise ≡ task) handles.items }
-    ensures { IsDoneBy task.entry (length handles.entry.items) result }
+    requires each { All (λ x. x.promise ≡ assignment) handles.items }
+    ensures { IsDoneBy assignment.entry (length handles.entry.items) result }
 {
     let Some(first) = handles.pop() else {
         unreachable!()
     };
     let mut all = first.join(rt);
     while let Some(handle) = handles.pop() {
-        all = task.board.join(all, handle.join(rt));
+        all = assignment.board.join(all, handle.join(rt));
     }
     all
 }
@@ -127,13 +127,13 @@ pub(crate) fn worked_by_all<R: Threads + Wait + Sync, G: Gate>(
                 certificate.entry.now (length passes.items) p) }
             ensures fault { IfErr result (λ e. e ≢ Workers) }
         {
-            let task = Task {
+            let assignment = Assignment {
                 app,
                 certificate,
                 board,
             };
-            let handles = start_all(rt, scope, alloc, task, passes, gate)?;
-            Ok(gather(rt, task, handles))
+            let handles = start_all(rt, scope, alloc, assignment, passes, gate)?;
+            Ok(gather(rt, assignment, handles))
         },
     )
 }

@@ -9,11 +9,11 @@ mod bytes;
 mod crew;
 mod fault;
 mod gate;
-mod judging;
+mod verdict;
 mod worker;
 
 pub use bytes::{BytesFault, judge_bytes};
 pub use fault::ParFault;
 pub use gate::{Gate, Open};
-pub use judging::judge_with;
+pub use verdict::judge_with;
 pub use worker::work;

@@ -6,7 +6,7 @@ ghost use Rattle.fr_board.specs.Progress.{new_progress};
 ghost use Rattle.fr_board.specs.Values.{IsOf};
 ghost use Rattle.fr_ends.specs.Fits.{CertificateFits};
 ghost use Rattle.fr_parallel.specs.Kept.{IsFor, IsWorked};
-ghost use Rattle.fr_parallel.specs.Tasks.{IsReady, KeepsIn};
+ghost use Rattle.fr_parallel.specs.Assignments.{IsReady, KeepsIn};
 ghost use Rattle.fr_parallel.specs.Worked.{Settles};
 
 use crate::gate::Gate;
@@ -17,30 +17,30 @@ use fr_program::App;
 
 /// What workers work on: the points of an application, by a certificate that fits it, and the board that hands them out.
 #[derive(Clone, Copy)]
-pub(crate) struct Task<'s> {
+pub(crate) struct Assignment<'s> {
     pub app: &'s App,
     pub certificate: &'s Certificate,
     pub board: &'s Board,
 }
 
 // What a worker does with one claim: it leaves it where a lower number has failed, and judges it otherwise.
-fn settle<G: Gate>(task: Task, pass: &mut Pass, claim: Claim, worker: usize, gate: &G)
-    requires ready { IsReady task }
-    requires own { IsOf task.board.now pass.old }
-    requires number { claim < task.board.now.jobs }
+fn settle<G: Gate>(assignment: Assignment, pass: &mut Pass, claim: Claim, worker: usize, gate: &G)
+    requires ready { IsReady assignment }
+    requires own { IsOf assignment.board.now pass.old }
+    requires number { claim < assignment.board.now.jobs }
     requires claim { outcome_of claim pass.old.progress.drawn ≡ Some Open }
-    ensures own { IsOf task.entry.board.now pass.new }
-    ensures settled { Settles (KeepsIn task.entry) pass.old.progress claim pass.new.progress }
+    ensures own { IsOf assignment.entry.board.now pass.new }
+    ensures settled { Settles (KeepsIn assignment.entry) pass.old.progress claim pass.new.progress }
 {
     let number = claim.number();
-    if task.board.look(pass) < number {
-        task.board.skip(pass, claim);
+    if assignment.board.look(pass) < number {
+        assignment.board.skip(pass, claim);
         return;
     }
     gate.arrive(worker, number);
-    match job(task.app, task.certificate, number as usize) {
-        None => task.board.passed(pass, claim),
-        Some(_) => task.board.failed(pass, claim),
+    match job(assignment.app, assignment.certificate, number as usize) {
+        None => assignment.board.passed(pass, claim),
+        Some(_) => assignment.board.failed(pass, claim),
     }
 }
 
@@ -65,13 +65,13 @@ pub fn work<G: Gate>(
     requires fits { CertificateFits app.now certificate.now }
     ensures { IsWorked board.now app.now certificate.now result }
 {
-    let task = Task {
+    let assignment = Assignment {
         app,
         certificate,
         board,
     };
     while let Some(claim) = board.draw(&mut pass) {
-        settle(task, &mut pass, claim, worker, gate);
+        settle(assignment, &mut pass, claim, worker, gate);
     }
     pass
 }

@@ -1,19 +1,30 @@
 -- From the checks of lists, instructions and names to the faults of the whole.
-use Rattle.std.proofs.Common.{◌≡◌, ◌≢◌, ◌<◌, ℕ, List, [], ◌∷◌, Bool, true, false, IsTrue, length, map, get_or, subst, sym, ◌∙◌, All, AllPairs, Option, Some, slice_get, suc, ◌+◌, ◌-◌, refl, arith}
-use Rattle.std.proofs.lemmas.Bool.{false≢true}
+use Rattle.std.proofs.Common.{◌≡◌, ◌≢◌, ◌<◌, ◌≤◌, ℕ, List, [], ◌∷◌, Bool, true, false, not, IsTrue, IfSome, length, map, get_or, subst, sym, ap, ◌∙◌, All, AllPairs, Option, None, Some, slice_get, suc, ◌+◌, ◌-◌, refl, arith}
+use Rattle.std.specs.List.{position, position_or_len}
+use Rattle.std.specs.Option.{option_map}
+use Rattle.std.proofs.lemmas.Bool.{false≢true, not-true, not-false}
+use Rattle.std.proofs.lemmas.Option.{none-some, slice_get-map, slice_get-get_or}
+use Rattle.std.proofs.lemmas.Grind.{common_steps}
 use Rattle.std.proofs.lemmas.List.{get_or-map, get_or_default, length-map}
 use Rattle.std.proofs.lemmas.List.Elements.{All-map}
+use Rattle.std.proofs.lemmas.List.Quantifiers.{position-Some}
+use Rattle.std.proofs.lemmas.List.Sums.{fails_before_first}
+use Rattle.fr_program.specs.declared.ids.ActorId.{ActorId}
+use Rattle.fr_program.specs.declared.parts.Actor.{Actor}
 use Rattle.fr_program.specs.declared.instr.Instr.{Instr}
 use Rattle.fr_program.specs.declared.instr.Instr.TheVariants.{Goto, Return, Call as Calls}
 use Rattle.fr_program.specs.declared.instr.Call.TheVariants.{DeleteSelf}
+use Rattle.fr_program.specs.declared.fault.CodeLine.{CodeLine}
 use Rattle.fr_program.specs.declared.fault.BuildFault.{BuildFault}
 use Rattle.fr_program.specs.declared.fault.BuildFault.TheVariants.{Memory, TooMany, BadRange, BadTarget, FallsOff, TwoShared, NotOwner, KindMismatch, FromIsrInTask, ResultRange, Operands, Names, NotYet}
 use Rattle.fr_program.specs.Program.{Program, ActorOf}
 use Rattle.fr_program.specs.Lookup.{actor_at, no_actor}
-use Rattle.fr_program.specs.Limits.{IsName, names_of}
-use Rattle.fr_program.specs.Fault.{IsFreeOf, IsFaultless, IsJudgedYet, IsInstrJudgedYet, Leaves, EndsWell}
-use Rattle.fr_program.specs.InstrFault.{IsCodeFreeOf, IsCodeFaultless}
+use Rattle.fr_program.specs.Limits.{InstrInLimits, IsName, names_of}
+use Rattle.fr_program.specs.Uses.{TargetsBelow}
+use Rattle.fr_program.specs.Fault.{AtLine, SharesAtMostOne, MayUseAll, SuitsKind, SuitsActor, ResultsFit, OperandsFit, NamesThings, IsFreeOf, IsFaultless, IsJudgedYet, IsInstrJudgedYet, Leaves, EndsWell}
+use Rattle.fr_program.specs.InstrFault.{HasFault, HasFaultIn, IsCodeFaultless}
 use Rattle.fr_program.specs.ListFault.{leaves, ends_well, AreListsFaultless, AreNamesFaultless, IsActorJudgedYet, IsAlone}
+use Rattle.fr_program.specs.View.{actor_of}
 use Rattle.fr_program.proofs.ListLemmas.{All-unmapped}
 use Rattle.fr_program.proofs.InstrLemmas.{All-slice_get, instr_at-within, code-from_places}
 
@@ -26,21 +37,56 @@ some_element (x ∷ xs) k below = x
 pub refuted : (b : Bool) {F : Type 0} → b ≡ false → (F → IsTrue b) → F → ⊥
 refuted b failed passes holds = false≢true (sym failed ∙ passes holds)
 
--- where a fault doesn't stand at all, it stands at no instruction
-pub code_free : (P : Program) (fault : BuildFault) → IsFreeOf P fault → IsCodeFreeOf P fault
-code_free P BadRange free = free.code
-code_free P BadTarget free = free
-code_free P TwoShared free = free
-code_free P NotOwner free = free
-code_free P KindMismatch free = free
-code_free P FromIsrInTask free = free
-code_free P ResultRange free = free
-code_free P Operands free = free
-code_free P Names free = free.things
-code_free P Memory free = λ a pc i at. tt
-code_free P TooMany free = λ a pc i at. tt
-code_free P FallsOff free = λ a pc i at. tt
-code_free P NotYet free = λ a pc i at. tt
+-- what is said of the instruction at a line of code holds of the one that was read there
+at_line : (P : Program) (line at : CodeLine) (actor : ActorOf) (i : Instr) (F : ActorOf → ActorId → Instr → Type 0) → line ≡ at → actor_at P at.actor.0 ≡ actor →
+    slice_get actor.code at.pc ≡ Some i → AtLine P line (F (actor_at P line.actor.0) line.actor) → F actor at.actor i
+at_line P line at actor i F same is there holds =
+    let L : CodeLine → Type 0 = λ l. AtLine P l (F (actor_at P l.actor.0) l.actor) in
+    let A : ActorOf → Type 0 = λ x. IfSome (slice_get x.code at.pc) (F x at.actor) in
+    let O : Option Instr → Type 0 = λ o. IfSome o (F actor at.actor) in
+    subst O there (subst A is (subst L same holds))
+
+-- so an instruction that has a fault makes it one of the application
+pub fault_at : (P : Program) (at : CodeLine) (actor : ActorOf) (i : Instr) (f : BuildFault) → actor_at P at.actor.0 ≡ actor → slice_get actor.code at.pc ≡ Some i →
+    HasFault P at actor i f → IsFreeOf P f → ⊥
+fault_at P at actor i (BadRange (Some line)) is there has free = has.1 (at_line P line at actor i (λ x a j. InstrInLimits j) has.0 is there free)
+fault_at P at actor i (BadTarget line) is there has free = has.1 (at_line P line at actor i (λ x a j. TargetsBelow (length x.code) j) has.0 is there free)
+fault_at P at actor i (TwoShared line) is there has free = has.1 (at_line P line at actor i (λ x a j. SharesAtMostOne P j) has.0 is there free)
+fault_at P at actor i (NotOwner line) is there has free = has.1 (at_line P line at actor i (λ x a j. MayUseAll P a.0 j) has.0 is there free)
+fault_at P at actor i (KindMismatch line) is there has free = has.1 (at_line P line at actor i (λ x a j. SuitsKind P j) has.0 is there free)
+fault_at P at actor i (FromIsrInTask line) is there has free = has.1 (at_line P line at actor i (λ x a j. SuitsActor x j) has.0 is there free)
+fault_at P at actor i (ResultRange line) is there has free = has.1 (at_line P line at actor i (λ x a j. ResultsFit P j) has.0 is there free)
+fault_at P at actor i (Operands line) is there has free = has.1 (at_line P line at actor i (λ x a j. OperandsFit j) has.0 is there free)
+fault_at P at actor i (Names (Some line)) is there has free = has.1 (at_line P line at actor i (λ x a j. NamesThings P j) has.0 is there free)
+fault_at P at actor i f is there has free = absurd has
+
+-- an instruction that was read from the code of its actor
+pub has_fault_in : (P : Program) (a : ActorId) (actor : ActorOf) (ys : List Instr) (pc : ℕ) (d : Instr) (f : BuildFault) → ys ≡ actor.code → pc < length ys →
+    HasFault P (record { actor = a; pc = pc }) actor (get_or ys pc d) f → HasFaultIn P a actor f
+has_fault_in P a actor ys pc d f same below has = (pc, get_or ys pc d, rw (← same) (slice_get-get_or ys pc d below), has)
+
+-- what holds of whatever an option has
+pub if_some : {X : Type 0} (F : X → Type 0) (o : Option X) → ((x : X) → o ≡ Some x → F x) → IfSome o F
+if_some F None each = tt
+if_some F (Some x) each = each x refl
+
+-- an application has none of the faults but what isn't judged yet
+pub free_of : (P : Program) (f : BuildFault) → f ≢ NotYet → IsFaultless P → IsFreeOf P f
+free_of P Memory yet h = tt
+free_of P TooMany yet h = h.small
+free_of P (BadRange None) yet h = record { variables = h.limits.variables; objects = h.limits.objects }
+free_of P (BadRange (Some at)) yet h = if_some InstrInLimits _ (h.limits.code at.actor.0 at.pc)
+free_of P (BadTarget at) yet h = if_some (TargetsBelow (length (actor_at P at.actor.0).code)) _ (h.targets at.actor.0 at.pc)
+free_of P (FallsOff a) yet h = if_some EndsWell _ (λ x is. All-slice_get EndsWell P.actors a.0 x h.ends is)
+free_of P (TwoShared at) yet h = if_some (SharesAtMostOne P) _ (h.shared at.actor.0 at.pc)
+free_of P (NotOwner at) yet h = if_some (MayUseAll P at.actor.0) _ (h.owners at.actor.0 at.pc)
+free_of P (KindMismatch at) yet h = if_some (SuitsKind P) _ (h.kinds at.actor.0 at.pc)
+free_of P (FromIsrInTask at) yet h = if_some (SuitsActor (actor_at P at.actor.0)) _ (h.forms at.actor.0 at.pc)
+free_of P (ResultRange at) yet h = if_some (ResultsFit P) _ (h.results at.actor.0 at.pc)
+free_of P (Operands at) yet h = if_some OperandsFit _ (h.operands at.actor.0 at.pc)
+free_of P (Names None) yet h = record { names = h.names.names; once = h.names.once; owners = h.names.owners }
+free_of P (Names (Some at)) yet h = if_some (NamesThings P) _ (h.names.things at.actor.0 at.pc)
+free_of P NotYet yet h = absurd (yet refl)
 
 -- lists, instructions and names without a fault are an application without one
 pub faultless : (P : Program) → AreListsFaultless P → IsCodeFaultless P → AreNamesFaultless P → IsFaultless P
@@ -84,11 +130,21 @@ true-ends (i ∷ code) test =
     (length code, size, true-leaves (slice_get (i ∷ code) (length code)) (rw at at test))
 
 -- the ends of codes, one by one
-pub all_end : (actors : List ActorOf) → All (λ a. ends_well a ≡ true) actors → All EndsWell actors
-all_end actors each = λ k d below. true-ends (get_or actors k d).code (each k d below)
+pub all_end : (actors : List Actor) → position (λ a. not (ends_well (actor_of a))) actors ≡ None → All EndsWell (map actor_of actors)
+all_end actors none =
+    let falls : Actor → Bool = λ a. not (ends_well (actor_of a)) in
+    let past : length actors ≤ position_or_len falls actors = grind (arith, common_steps) in
+    All-map EndsWell actor_of actors (λ k d below. true-ends (get_or actors k d).code.items (not-false (ends_well (actor_of (get_or actors k d))) (fails_before_first falls actors k d (omega (arith, past, below)))))
 
-pub each_ends : (actors : List ActorOf) → All EndsWell actors → All (λ a. ends_well a ≡ true) actors
-each_ends actors each = λ k d below. let e = each k d below in ends-true (get_or actors k d).code e.0 e.1 e.2
+-- the first one that doesn't end well is an actor of which that is said
+pub falls_off : (actors : List Actor) (k : ℕ) → position (λ a. not (ends_well (actor_of a))) actors ≡ Some k → IfSome (slice_get (map actor_of actors) k) EndsWell → ⊥
+falls_off [] k first ends = absurd (none-some k first)
+falls_off (a ∷ rest) k first ends =
+    let found = position-Some (λ (x : Actor). not (ends_well (actor_of x))) (a ∷ rest) k a first in
+    let is : slice_get (map actor_of (a ∷ rest)) k ≡ Some (actor_of (get_or (a ∷ rest) k a)) =
+    slice_get-map actor_of (a ∷ rest) k ∙ ap (option_map actor_of) (slice_get-get_or (a ∷ rest) k a found.0) in
+    let here : EndsWell (actor_of (get_or (a ∷ rest) k a)) = subst (λ o. IfSome o EndsWell) is ends in
+    false≢true (sym (not-true _ found.1) ∙ ends-true (get_or (a ∷ rest) k a).code.items here.0 here.1 here.2)
 
 -- what is judged today, by actors and by the application's places
 pub judged-from_actors : (P : Program) → IsAlone P → All IsActorJudgedYet P.actors → IsJudgedYet P

@@ -107,7 +107,7 @@ from_at n (x ∷ actors) (suc a) pc i s at has =
 
 -- ---- from a number to its place
 
--- where in a code a point with this number stands
+-- where in a code a point with this number is
 record Listed (a pc : ℕ) (code : List Instr) (k : ℕ) (p : Point) : Type 0 where
   place : ℕ
   instr : Instr

@@ -1,17 +1,21 @@
--- Applications without a fault: one fact for each build fault, that it does not stand.
+-- Applications without a fault: one fact for each build fault, that it is not present.
 --
 -- | word             | meaning                                                                             |
 -- |------------------|-------------------------------------------------------------------------------------|
 -- | EachInstr        | something holds of each instruction, with the actor that has it                     |
+-- | AtLine           | something holds of the instruction at a line of code, if there is one               |
 -- | Leaves           | the instruction doesn't go on to the next one                                       |
 -- | SuitsKind        | the call names an object of the kind that it is for                                 |
+-- | SharesAtMostOne  | an instruction names shared variables at most once                                  |
+-- | MayUse           | an actor may use a variable                                                         |
+-- | MayUseAll        | an actor may use each variable of an instruction                                    |
 -- | Covers           | the range of a variable has the whole of these numbers                              |
 -- | ResultsFit       | the range of a variable has all that a `pick` or a call can give it                 |
 -- | SuitsActor       | a task makes no call that is for interrupts                                         |
 -- | OperandsFit      | no variable is both operands, and `*` has a number among its operands               |
 -- | NamesThings      | each number in the instruction names a variable or an object                        |
--- | IsFreeOf         | this fault does not stand                                                           |
--- | IsFaultless      | none of the eleven faults stands                                                    |
+-- | IsFreeOf         | this fault is not present at the line or the actor that it is about                 |
+-- | IsFaultless      | none of the eleven faults is present                                                |
 -- | IsJudgedYet      | the application has only what is judged today                                       |
 use Rattle.std.specs.Prelude.{◌≡◌, ◌≢◌, ◌≤◌, ◌<◌, ◌≤ℤ◌, ◌⊎◌, ◌+◌, ℕ, ℤ, pos, [], Option, None, Some, Bool, false, IsTrue, length, IfSome, All, AllPairs, count_by, slice_get, is_none}
 use Rattle.fr_program.specs.declared.instr.Instr.{Instr}
@@ -28,6 +32,7 @@ use Rattle.fr_program.specs.declared.ids.VarId.{VarId}
 use Rattle.fr_program.specs.declared.parts.Kind.{Kind}
 use Rattle.fr_program.specs.declared.parts.Kind.TheVariants.{Queue}
 use Rattle.fr_program.specs.declared.parts.ActorKind.TheVariants.{Task}
+use Rattle.fr_program.specs.declared.fault.CodeLine.{CodeLine}
 use Rattle.fr_program.specs.declared.fault.BuildFault.{BuildFault}
 use Rattle.fr_program.specs.declared.fault.BuildFault.TheVariants.{Memory, TooMany, BadRange, BadTarget, FallsOff, TwoShared, NotOwner, KindMismatch, FromIsrInTask, ResultRange, Operands, Names, NotYet}
 use Rattle.fr_program.specs.Program.{Program, ActorOf}
@@ -38,6 +43,10 @@ use Rattle.fr_program.specs.Uses.{variables_of, object_named, TargetsBelow, make
 -- something about each instruction, and the actor that has it
 abbrev pub EachInstr : Program → (ℕ → Instr → Type 0) → Type 0
 EachInstr P F = (a pc : ℕ) (i : Instr) → instr_at P a pc ≡ Some i → F a i
+
+-- something about the instruction at this line of code, if there is one
+abbrev pub AtLine : Program → CodeLine → (Instr → Type 0) → Type 0
+AtLine P line F = IfSome (instr_at P line.actor.0 line.pc) F
 
 -- the instruction doesn't go on to the next one
 abbrev pub Leaves : Option Instr → Type 0
@@ -53,6 +62,18 @@ EndsWell actor = (last : ℕ) × (length actor.code ≡ last + 1) × Leaves (sli
 -- whether this is a variable with no owner
 abbrev pub is_shared : Program → VarId → Bool
 is_shared P x = elim (slice_get P.variables x.0) [ None ↦ false | Some v ↦ is_none v.owner ]
+
+-- the instruction names shared variables at most once
+abbrev pub SharesAtMostOne : Program → Instr → Type 0
+SharesAtMostOne P i = count_by (is_shared P) (variables_of i) ≤ 1
+
+-- the variable, where it is owned, is this actor's
+abbrev pub MayUse : Program → ℕ → VarId → Type 0
+MayUse P a x = IfSome (variable_at P x.0).owner (λ owner. owner.0 ≡ a)
+
+-- the actor with this number may use each variable of the instruction
+abbrev pub MayUseAll : Program → ℕ → Instr → Type 0
+MayUseAll P a i = All (λ x. MayUse P a x) (variables_of i)
 
 -- the object, where there is one, is of a kind that passes this test
 abbrev pub HasKind : Program → ℕ → (Kind → Bool) → Type 0
@@ -113,7 +134,7 @@ OperandsFit i = Unit {0}
 abbrev pub NamesThings : Program → Instr → Type 0
 NamesThings P i = All (λ x. x.0 < length P.variables) (variables_of i) × IfSome (object_named i) (λ o. o < length P.objects)
 
--- names are names, each stands once, and each number names something
+-- names are names, each is given once, and each number names something
 pub record HasNames (P : Program) : Type 0 where
   pub names : All IsName (names_of P)
   pub once : AllPairs (λ x y. x ≢ y) (names_of P)
@@ -152,32 +173,45 @@ pub record IsJudgedYet (P : Program) : Type 0 where
   pub tasks : All (λ a. a.kind ≡ Task) P.actors
   pub code : EachInstr P (λ a i. IsInstrJudgedYet i)
 
--- this fault does not stand
+-- the numbers of variables and objects are within their limits
+pub record AreThingsInLimits (P : Program) : Type 0 where
+  pub variables : All VariableInLimits P.variables
+  pub objects : All (λ o. KindInLimits o.kind) P.objects
+
+-- names are names, each is given once, and each owner is an actor that is there
+pub record AreThingsNamed (P : Program) : Type 0 where
+  pub names : All IsName (names_of P)
+  pub once : AllPairs (λ x y. x ≢ y) (names_of P)
+  pub owners : All (λ v. IfSome v.owner (λ owner. owner.0 < length P.actors)) P.variables
+
+-- this fault is not present at the line or the actor that it is about; with none, not where things are declared
 abbrev pub IsFreeOf : Program → BuildFault → Type 0
 IsFreeOf P Memory = Unit {0}
 IsFreeOf P TooMany = IsSmall P
-IsFreeOf P BadRange = IsInLimits P
-IsFreeOf P BadTarget = EachInstr P (λ a i. TargetsBelow (length (actor_at P a).code) i)
-IsFreeOf P FallsOff = All EndsWell P.actors
-IsFreeOf P TwoShared = EachInstr P (λ a i. count_by (is_shared P) (variables_of i) ≤ 1)
-IsFreeOf P NotOwner = EachInstr P (λ a i. All (λ x. IfSome (variable_at P x.0).owner (λ owner. owner.0 ≡ a)) (variables_of i))
-IsFreeOf P KindMismatch = EachInstr P (λ a i. SuitsKind P i)
-IsFreeOf P FromIsrInTask = EachInstr P (λ a i. SuitsActor (actor_at P a) i)
-IsFreeOf P ResultRange = EachInstr P (λ a i. ResultsFit P i)
-IsFreeOf P Operands = EachInstr P (λ a i. OperandsFit i)
-IsFreeOf P Names = HasNames P
+IsFreeOf P (BadRange None) = AreThingsInLimits P
+IsFreeOf P (BadRange (Some at)) = AtLine P at InstrInLimits
+IsFreeOf P (BadTarget at) = AtLine P at (TargetsBelow (length (actor_at P at.actor.0).code))
+IsFreeOf P (FallsOff a) = IfSome (slice_get P.actors a.0) EndsWell
+IsFreeOf P (TwoShared at) = AtLine P at (SharesAtMostOne P)
+IsFreeOf P (NotOwner at) = AtLine P at (MayUseAll P at.actor.0)
+IsFreeOf P (KindMismatch at) = AtLine P at (SuitsKind P)
+IsFreeOf P (FromIsrInTask at) = AtLine P at (SuitsActor (actor_at P at.actor.0))
+IsFreeOf P (ResultRange at) = AtLine P at (ResultsFit P)
+IsFreeOf P (Operands at) = AtLine P at OperandsFit
+IsFreeOf P (Names None) = AreThingsNamed P
+IsFreeOf P (Names (Some at)) = AtLine P at (NamesThings P)
 IsFreeOf P NotYet = IsJudgedYet P
 
--- an application: parts in which none of the eleven faults stands
+-- an application: parts in which none of the eleven faults is present
 pub record IsFaultless (P : Program) : Type 0 where
-  pub small : IsFreeOf P TooMany
-  pub limits : IsFreeOf P BadRange
-  pub targets : IsFreeOf P BadTarget
-  pub ends : IsFreeOf P FallsOff
-  pub shared : IsFreeOf P TwoShared
-  pub owners : IsFreeOf P NotOwner
-  pub kinds : IsFreeOf P KindMismatch
-  pub forms : IsFreeOf P FromIsrInTask
-  pub results : IsFreeOf P ResultRange
-  pub operands : IsFreeOf P Operands
-  pub names : IsFreeOf P Names
+  pub small : IsSmall P
+  pub limits : IsInLimits P
+  pub targets : EachInstr P (λ a i. TargetsBelow (length (actor_at P a).code) i)
+  pub ends : All EndsWell P.actors
+  pub shared : EachInstr P (λ a i. SharesAtMostOne P i)
+  pub owners : EachInstr P (λ a i. MayUseAll P a i)
+  pub kinds : EachInstr P (λ a i. SuitsKind P i)
+  pub forms : EachInstr P (λ a i. SuitsActor (actor_at P a) i)
+  pub results : EachInstr P (λ a i. ResultsFit P i)
+  pub operands : EachInstr P (λ a i. OperandsFit i)
+  pub names : HasNames P

@@ -1,4 +1,4 @@
--- The limits on numbers, and on what may stand in an instruction.
+-- The limits on numbers, and on what an instruction may have.
 --
 -- | word                                          | meaning                                                         |
 -- |-----------------------------------------------|-----------------------------------------------------------------|

@@ -6,7 +6,7 @@
 -- | leaves, ends_well                  | whether an instruction, the last of a code, doesn't go on        |
 -- | IsWord                             | a name, except that it may be a reserved word                    |
 -- | AreListsFaultless                  | variables, objects and ends of codes have no fault               |
--- | AreNamesFaultless                  | names are names, and each stands once                            |
+-- | AreNamesFaultless                  | names are names, and each is given once                          |
 -- | IsAlone, IsActorJudgedYet          | no object and one actor; a task that is judged today             |
 use Rattle.std.specs.Prelude.{◌≡◌, ◌<◌, ◌≤◌, ◌≢◌, List, [], ℕ, length, IfSome, All, AllPairs, Option, Some, Bool, true, false, slice_get, slice_index, ◌-◌, ◌||◌}
 use Rattle.fr_program.specs.declared.instr.Instr.{Instr}
@@ -40,7 +40,7 @@ pub record AreListsFaultless (P : Program) : Type 0 where
   pub ends : All EndsWell P.actors
   pub owners : All (HasOwner (length P.actors)) P.variables
 
--- names are names, and each stands once
+-- names are names, and each is given once
 pub record AreNamesFaultless (P : Program) : Type 0 where
   pub names : All IsName (names_of P)
   pub once : AllPairs (λ x y. x ≢ y) (names_of P)

@@ -2,7 +2,7 @@
 --
 -- | word                                | meaning                                                          |
 -- |-------------------------------------|------------------------------------------------------------------|
--- | actor_at, object_at, variable_at    | the thing with this number, or a stand-in where there is none    |
+-- | actor_at, object_at, variable_at    | the thing with this number, or an empty one where there is none  |
 -- | is_interrupt                        | whether a kind of actor is the interrupt                         |
 -- | instr_at, instr_of                  | the instruction at a place of an actor's code, at a point        |
 -- | HasSide                             | the sides of an instruction at which an actor can stand          |
@@ -19,15 +19,15 @@ use Rattle.fr_program.specs.declared.parts.ActorKind.{ActorKind}
 use Rattle.fr_program.specs.declared.parts.ActorKind.TheVariants.{Task, Interrupt}
 use Rattle.fr_program.specs.Program.{Program, VariableOf, ObjectOf, ActorOf}
 
--- what stands for an actor, an object or a variable that the application doesn't have
+-- what is read for an actor that the application doesn't have
 abbrev pub no_actor : ActorOf
 no_actor = record { name = []; kind = Task; code = [] }
 
--- what stands for an object that the application doesn't have
+-- what is read for an object that the application doesn't have
 abbrev pub no_object : ObjectOf
 no_object = record { name = []; kind = Mutex; live = false }
 
--- what stands for a variable that the application doesn't have
+-- what is read for a variable that the application doesn't have
 abbrev pub no_variable : VariableOf
 no_variable = record { name = []; lo = pos 0; hi = pos 0; init = pos 0; owner = None }
 

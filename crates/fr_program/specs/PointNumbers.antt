@@ -16,7 +16,7 @@ abbrev pub starts_from : ℕ → List ActorOf → List (List ℕ)
 starts_from n [] = []
 starts_from n (actor ∷ actors) = starts_along n actor.code ∷ starts_from (n + count_of_actor actor) actors
 
--- points and their numbers are inverse: each point stands at its number, and the list has points alone
+-- points and their numbers are inverse: each point is at its number, and the list has points alone
 pub record PointsAreNumbered (P : Program) : Type 0 where
   pub at : (p : Point) → IsPoint P p → slice_get (points_of P) (point_number P p) ≡ Some p
   pub listed : (k : ℕ) (p : Point) → slice_get (points_of P) k ≡ Some p → IsPoint P p × (point_number P p ≡ k)

@@ -2,13 +2,14 @@
 --
 -- | word                             | meaning                                                             |
 -- |----------------------------------|---------------------------------------------------------------------|
--- | variables_of                     | the variables of an instruction, each as often as it stands there   |
+-- | variables_of                     | the variables of an instruction, each as often as it is named there |
 -- | object_named                     | the object that an instruction names, if it names one               |
 -- | else_of                          | the `else` target of an object call                                 |
 -- | TargetsBelow                     | each target is below this number                                    |
 -- | is_semaphore, is_buffer          | a kind is one of the semaphores, the kind of this buffer call       |
 -- | makes_kind, drops_kind, acts_on  | a create, a delete, an object call suits this kind of object        |
 -- | is_from_isr                      | the call's name ends in FromISR or _FROM_ISR                        |
+-- | is_action_from_isr               | the same of an object call                                          |
 use Rattle.std.specs.Prelude.{◌<◌, ◌++◌, ℕ, List, [], ◌∷◌, Option, None, Some, Bool, true, false, IfSome}
 use Rattle.fr_program.specs.declared.instr.Instr.{Instr}
 use Rattle.fr_program.specs.declared.instr.Instr.TheVariants.{Set, If, Goto, Pick, Call as Calls}
@@ -51,7 +52,7 @@ action_variables (Send kind n timing result) = option_list result
 action_variables (Receive kind n timing result) = option_list result
 action_variables action = []
 
--- the variables of an instruction, each as often as it stands there
+-- the variables of an instruction, each as often as it is named there
 abbrev pub variables_of : Instr → List VarId
 variables_of (Set x l op r) = x ∷ (operand_variables l ++ operand_variables r)
 variables_of (If l comparison r target) = operand_variables l ++ operand_variables r
@@ -133,14 +134,19 @@ abbrev pub is_timing_from_isr : Timing → Bool
 is_timing_from_isr (Waits time) = false
 is_timing_from_isr TimedFromIsr = true
 
+-- whether an object call is in the form for interrupts
+abbrev pub is_action_from_isr : Action → Bool
+is_action_from_isr (QueueSend value timing e) = is_timing_from_isr timing
+is_action_from_isr (QueueReceive into timing e) = is_timing_from_isr timing
+is_action_from_isr (Take TakeFromIsr e) = true
+is_action_from_isr (Give GiveFromIsr e) = true
+is_action_from_isr (Send kind n timing result) = is_timing_from_isr timing
+is_action_from_isr (Receive kind n timing result) = is_timing_from_isr timing
+is_action_from_isr action = false
+
 -- the calls whose names end in FromISR or _FROM_ISR
 abbrev pub is_from_isr : Call → Bool
 is_from_isr (EnterCritical FromIsr) = true
 is_from_isr (ExitCritical FromIsr) = true
-is_from_isr (On o (QueueSend value timing e)) = is_timing_from_isr timing
-is_from_isr (On o (QueueReceive into timing e)) = is_timing_from_isr timing
-is_from_isr (On o (Take TakeFromIsr e)) = true
-is_from_isr (On o (Give GiveFromIsr e)) = true
-is_from_isr (On o (Send kind n timing result)) = is_timing_from_isr timing
-is_from_isr (On o (Receive kind n timing result)) = is_timing_from_isr timing
+is_from_isr (On o action) = is_action_from_isr action
 is_from_isr call = false

@@ -16,7 +16,7 @@ use crate::table::{Table, table_of};
 use std::alloc::Global;
 use std::marker::Model;
 
-/// An application in which no build fault stands.
+/// An application in which no build fault is present.
 #[derive(Debug, Drop)]
 pub struct App {
     parts: Parts,
@@ -45,18 +45,19 @@ impl App {
     ghost use Rattle.fr_program.specs.Lookup.{instr_of, object_at, variable_at, actor_at, is_interrupt};
     ghost use Rattle.fr_program.specs.View.{variable_of, object_of};
 
-    /// The application that the parts say: Ok exactly where no build fault stands and no allocation
-    /// was refused. The table of points and the list of names take memory. Names are compared pair
-    /// by pair, which is cheap since more than 160 are refused before.
+    /// The application that the parts say: Ok exactly where no build fault is present and no
+    /// allocation was refused. The table of points and the list of names take memory. Names are
+    /// compared pair by pair, which is cheap since more than 160 are refused before.
     ///
-    /// On a refusal the parts come back unchanged, with a fault that stands. Where several stand,
-    /// which one is named is open, but `NotYet` comes after all others. `Memory` says that an
-    /// allocation was refused. The rules are this project's profile.
+    /// On a refusal the parts come back unchanged, with a fault that is present at the line or the
+    /// actor that it names. Where several are present, which one is named is open, but `NotYet`
+    /// comes after all others. `Memory` says that an allocation was refused. The rules are this
+    /// project's profile.
     pub fn build(alloc: Global, parts: Parts) -> Result<App, (BuildFault, Parts)>
         ensures same { IfOk result (λ app. app ≡ program_of parts) }
         ensures faultless { IfOk result (λ app. IsFaultless app) }
         ensures judged { IfOk result (λ app. IsJudgedYet app) }
-        ensures stands { IfErr result
+        ensures present { IfErr result
             (λ e. e.0 ≢ BuildFault.Memory → IsFreeOf (program_of parts) e.0 → ⊥) }
         ensures returned { IfErr result (λ e. e.1 ≡ parts) }
     {
@@ -85,16 +86,16 @@ impl App {
         self.points[k]
     }
 
-    /// No build fault stands in an application, and it has only what is judged today.
-    pub fn is_faultless(&self)
+    /// Recalls that an application has no build fault, and only what is judged today.
+    pub fn recall_faultless(&self)
         ensures faultless { IsFaultless self.now }
         ensures judged { IsJudgedYet self.now }
     {
         let _ = &self.parts;
     }
 
-    /// Points and their numbers are inverse to each other.
-    pub fn is_numbered(&self)
+    /// Recalls that points and their numbers are inverse to each other.
+    pub fn recall_numbered(&self)
         ensures { PointsAreNumbered self.now }
     {}
 
@@ -206,7 +207,7 @@ fn checked_table(alloc: Global, parts: &Parts) -> Result<Table, BuildFault>
         (λ t. map (λ v. v.items) t.starts.items ≡ starts_from 0 (program_of parts.now).actors) }
     ensures faultless { OnOk result (IsFaultless (program_of parts.now)) }
     ensures judged { OnOk result (IsJudgedYet (program_of parts.now)) }
-    ensures stands { IfErr result
+    ensures present { IfErr result
         (λ f. f ≢ BuildFault.Memory → IsFreeOf (program_of parts.now) f → ⊥) }
 {
     check_parts(alloc, parts)?;

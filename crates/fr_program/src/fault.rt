@@ -2,11 +2,21 @@
 ghost use Rattle.std.specs.Prelude.{◌≡◌, Some};
 ghost use Rattle.fr_program.specs.declared.fault.BuildFault.TheVariants.{Memory};
 
+use crate::ids::ActorId;
 use std::alloc::{AllocError, AllocFailed};
 use std::error::Error;
 use std::fmt;
 
-/// Why parts are no application. Its text is the number and the name that a refusal's line shows.
+/// A line of an actor's code.
+#[derive(Clone, Copy, Debug, PartialEq, Eq)]
+pub struct CodeLine {
+    pub actor: ActorId,
+    /// The instruction's place in the actor's code, from 0.
+    pub pc: usize,
+}
+
+/// Why parts are no application, and where: the line of code, or the actor, that the fault is
+/// about. Its text is the number and the name that a refusal's line shows.
 #[derive(Clone, Copy, Debug, PartialEq, Eq)]
 pub enum BuildFault {
     /// An allocation was refused.
@@ -14,26 +24,28 @@ pub enum BuildFault {
     /// Over 32 actors, 64 variables, 64 objects or 512 instructions of an actor.
     TooMany,
     /// A lower bound above its upper one, an initial value outside its range, or a size, first
-    /// count, length, block time or delay out of its limits.
-    BadRange,
+    /// count, length, block time or delay out of its limits: at a line of code, or with none where
+    /// a variable or an object is declared so.
+    BadRange(Option<CodeLine>),
     /// A target past the end of the code.
-    BadTarget,
+    BadTarget(CodeLine),
     /// Code that is empty, or whose last instruction can go on to a next one.
-    FallsOff,
-    /// Shared variables stand more than once in an instruction.
-    TwoShared,
+    FallsOff(ActorId),
+    /// An instruction names shared variables more than once.
+    TwoShared(CodeLine),
     /// An instruction names another actor's variable.
-    NotOwner,
+    NotOwner(CodeLine),
     /// A call on an object of another kind.
-    KindMismatch,
+    KindMismatch(CodeLine),
     /// A task makes a call that is for interrupts.
-    FromIsrInTask,
+    FromIsrInTask(CodeLine),
     /// A variable's range lacks a part of what a `pick`, a result or a received value can be.
-    ResultRange,
+    ResultRange(CodeLine),
     /// One variable is both operands of a `set` or an `if`, or both operands of `*` are variables.
-    Operands,
-    /// A name that is none or stands twice, or a number that names nothing.
-    Names,
+    Operands(CodeLine),
+    /// A number that names nothing, at a line of code; or with none, a name that is none or is
+    /// given twice, or an owner that is no actor.
+    Names(Option<CodeLine>),
     /// The application is not judged yet: it has an object, an interrupt, a second actor, or an
     /// instruction other than `set`, `if`, `goto`, `return`, entering and leaving a critical section
     /// in the task's form, `vTaskDelay` and `vTaskDelete(NULL)`.
@@ -50,16 +62,16 @@ impl BuildFault {
         match self {
             BuildFault::Memory => "0 Memory",
             BuildFault::TooMany => "1 TooMany",
-            BuildFault::BadRange => "2 BadRange",
-            BuildFault::BadTarget => "3 BadTarget",
-            BuildFault::FallsOff => "4 FallsOff",
-            BuildFault::TwoShared => "5 TwoShared",
-            BuildFault::NotOwner => "6 NotOwner",
-            BuildFault::KindMismatch => "7 KindMismatch",
-            BuildFault::FromIsrInTask => "8 FromIsrInTask",
-            BuildFault::ResultRange => "9 ResultRange",
-            BuildFault::Operands => "10 Operands",
-            BuildFault::Names => "11 Names",
+            BuildFault::BadRange(_) => "2 BadRange",
+            BuildFault::BadTarget(_) => "3 BadTarget",
+            BuildFault::FallsOff(_) => "4 FallsOff",
+            BuildFault::TwoShared(_) => "5 TwoShared",
+            BuildFault::NotOwner(_) => "6 NotOwner",
+            BuildFault::KindMismatch(_) => "7 KindMismatch",
+            BuildFault::FromIsrInTask(_) => "8 FromIsrInTask",
+            BuildFault::ResultRange(_) => "9 ResultRange",
+            BuildFault::Operands(_) => "10 Operands",
+            BuildFault::Names(_) => "11 Names",
             BuildFault::NotYet => "12 NotYet",
         }
     }

@@ -1,15 +1,17 @@
 // Instructions: the lines of an actor's code.
+ghost use Rattle.std.specs.Prelude.{◌≡◌};
+
 use crate::ids::{ObjId, VarId};
 
 /// A number, or the value of a variable.
-#[derive(Clone, Copy, Debug, PartialEq)]
+#[derive(Clone, Copy, Debug)]
 pub enum Operand {
     Number(i64),
     Variable(VarId),
 }
 
 /// What a `set` computes of its two operands.
-#[derive(Clone, Copy, Debug, PartialEq)]
+#[derive(Clone, Copy, Debug)]
 pub enum Operator {
     Plus,
     Minus,
@@ -17,7 +19,7 @@ pub enum Operator {
 }
 
 /// How an `if` compares its two operands: `<`, `<=`, `>`, `>=`, `==`, `!=`.
-#[derive(Clone, Copy, Debug, PartialEq)]
+#[derive(Clone, Copy, Debug)]
 pub enum Comparison {
     Less,
     AtMost,
@@ -28,14 +30,14 @@ pub enum Comparison {
 }
 
 /// How long a task's call may wait: a number of ticks, or `portMAX_DELAY`, which is without limit.
-#[derive(Clone, Copy, Debug, PartialEq)]
+#[derive(Clone, Copy, Debug)]
 pub enum BlockTime {
     Ticks(u32),
     MaxDelay,
 }
 
 /// The form of a call that has no block time: the one for tasks, or the one for interrupts.
-#[derive(Clone, Copy, Debug, PartialEq)]
+#[derive(Clone, Copy, Debug)]
 pub enum Form {
     Task,
     FromIsr,
@@ -43,14 +45,25 @@ pub enum Form {
 
 /// The form of a call on a queue or a buffer: a task's, with its block time, or the one for
 /// interrupts, which answers at once.
-#[derive(Clone, Copy, Debug, PartialEq)]
+#[derive(Clone, Copy, Debug)]
 pub enum Timing {
     Waits(BlockTime),
     FromIsr,
 }
 
+impl Timing {
+    ghost use Rattle.fr_program.specs.Uses.{is_timing_from_isr};
+
+    /// Whether this is the form for interrupts.
+    pub fn is_from_isr(self) -> bool
+        ensures { result ≡ is_timing_from_isr self }
+    {
+        matches!(self, Timing::FromIsr)
+    }
+}
+
 /// `xSemaphoreTake`, `xSemaphoreTakeRecursive` or `xSemaphoreTakeFromISR`.
-#[derive(Clone, Copy, Debug, PartialEq)]
+#[derive(Clone, Copy, Debug)]
 pub enum TakeForm {
     Plain(BlockTime),
     Recursive(BlockTime),
@@ -58,7 +71,7 @@ pub enum TakeForm {
 }
 
 /// `xSemaphoreGive`, `xSemaphoreGiveRecursive` or `xSemaphoreGiveFromISR`.
-#[derive(Clone, Copy, Debug, PartialEq)]
+#[derive(Clone, Copy, Debug)]
 pub enum GiveForm {
     Plain,
     Recursive,
@@ -66,14 +79,14 @@ pub enum GiveForm {
 }
 
 /// Whether a buffer call is one for stream buffers or one for message buffers.
-#[derive(Clone, Copy, Debug, PartialEq)]
+#[derive(Clone, Copy, Debug)]
 pub enum BufferKind {
     Stream,
     Message,
 }
 
 /// What a create call makes.
-#[derive(Clone, Copy, Debug, PartialEq)]
+#[derive(Clone, Copy, Debug)]
 pub enum CreatedKind {
     Queue,
     Binary,
@@ -85,7 +98,7 @@ pub enum CreatedKind {
 }
 
 /// What a delete call takes: `vSemaphoreDelete` is for semaphores and mutexes of every kind.
-#[derive(Clone, Copy, Debug, PartialEq)]
+#[derive(Clone, Copy, Debug)]
 pub enum DeletedKind {
     Queue,
     Semaphore,
@@ -95,7 +108,7 @@ pub enum DeletedKind {
 
 /// What an object call does. Such a call has a begin and an end, and between them its actor is
 /// inside it. `or_else` is the instruction that follows a failure, where the line names one.
-#[derive(Clone, Copy, Debug, PartialEq)]
+#[derive(Clone, Copy, Debug)]
 pub enum Action {
     QueueSend {
         value: Operand,
@@ -135,8 +148,41 @@ pub enum Action {
     },
 }
 
+impl Action {
+    ghost use Rattle.fr_program.specs.Uses.{else_of, is_action_from_isr};
+
+    /// The instruction that follows a failure, where the line names one.
+    pub fn else_target(self) -> Option<usize>
+        ensures { result ≡ else_of self }
+    {
+        match self {
+            Action::QueueSend { or_else, .. }
+            | Action::QueueReceive { or_else, .. }
+            | Action::Take { or_else, .. }
+            | Action::Give { or_else, .. }
+            | Action::Reset { or_else, .. } => or_else,
+            Action::Send { .. } | Action::Receive { .. } => None,
+        }
+    }
+
+    /// Whether this is a form for interrupts.
+    pub fn is_from_isr(self) -> bool
+        ensures { result ≡ is_action_from_isr self }
+    {
+        match self {
+            Action::QueueSend { timing, .. }
+            | Action::QueueReceive { timing, .. }
+            | Action::Send { timing, .. }
+            | Action::Receive { timing, .. } => timing.is_from_isr(),
+            Action::Take { form, .. } => matches!(form, TakeForm::FromIsr),
+            Action::Give { form, .. } => matches!(form, GiveForm::FromIsr),
+            Action::Reset { .. } => false,
+        }
+    }
+}
+
 /// A kernel call.
-#[derive(Clone, Copy, Debug, PartialEq)]
+#[derive(Clone, Copy, Debug)]
 pub enum Call {
     EnterCritical(Form),
     ExitCritical(Form),
@@ -162,8 +208,23 @@ pub enum Call {
     },
 }
 
+impl Call {
+    ghost use Rattle.fr_program.specs.Uses.{is_from_isr};
+
+    /// Whether the call's name ends in FromISR or _FROM_ISR.
+    pub fn is_from_isr(self) -> bool
+        ensures { result ≡ is_from_isr self }
+    {
+        match self {
+            Call::EnterCritical(form) | Call::ExitCritical(form) => matches!(form, Form::FromIsr),
+            Call::On { action, .. } => action.is_from_isr(),
+            _ => false,
+        }
+    }
+}
+
 /// One line of an actor's code. A target is an instruction's place in that code, from 0.
-#[derive(Clone, Copy, Debug, PartialEq)]
+#[derive(Clone, Copy, Debug)]
 pub enum Instr {
     Set {
         target: VarId,

@@ -1,6 +1,6 @@
 // Applications: variables, kernel objects, tasks and interrupts with their code, and the points at which an actor
 // can stand. An `App` has no build fault, and its points and their numbers are inverse to each other; all other
-// crates stand on this one.
+// crates rest on this one.
 #![tactic(auto)]
 
 mod app;
@@ -14,8 +14,8 @@ mod table;
 mod worked;
 
 pub use app::App;
-pub use check::is_name;
-pub use fault::BuildFault;
+pub use check::{MOST_SIZE, MOST_TICKS, is_name};
+pub use fault::{BuildFault, CodeLine};
 pub use ids::{ActorId, ObjId, Point, Side, VarId};
 pub use instr::{
     Action, BlockTime, BufferKind, Call, Comparison, CreatedKind, DeletedKind, Form, GiveForm,

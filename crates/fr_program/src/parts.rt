@@ -3,7 +3,7 @@ use crate::ids::ActorId;
 use crate::instr::Instr;
 
 /// What an object is, with the keys that only its kind has.
-#[derive(Clone, Copy, Debug, PartialEq)]
+#[derive(Clone, Copy, Debug)]
 pub enum Kind {
     /// Holds up to `size` values from `lo` to `hi`.
     Queue { size: i64, lo: i64, hi: i64 },
@@ -26,7 +26,7 @@ pub enum ActorKind {
 }
 
 /// A variable: a whole number from `lo` to `hi`, at `init` when the scheduler starts. One with an
-/// owner stands in its owner's code alone; one with none is shared.
+/// owner is named in its owner's code alone; one with none is shared.
 #[derive(Debug, Drop)]
 pub struct Variable {
     pub name: String,

@@ -14,9 +14,9 @@ use Rattle.fr_program.specs.declared.parts.Kind.{Kind}
 use Rattle.fr_program.specs.declared.parts.Kind.TheVariants as kind
 use Rattle.fr_program.specs.Program.{Program, VariableOf, ObjectOf, ActorOf}
 use Rattle.fr_program.specs.Limits.{IsName}
-use Rattle.fr_program.specs.declared.fault.BuildFault.{BuildFault}
-use Rattle.fr_program.specs.declared.fault.BuildFault.TheVariants as build
-use Rattle.fr_program.specs.Fault.{IsFreeOf, IsFaultless}
+use Rattle.fr_program.specs.declared.fault.BuildFault.TheVariants.{NotYet}
+use Rattle.fr_program.specs.Fault.{IsFreeOf}
+use Rattle.fr_program.proofs.FaultLemmas.{free_of}
 use Rattle.fr_instr.specs.Names.{NamesOf}
 use Rattle.fr_instr.specs.Lines.{IsLine}
 use Rattle.fr_instr.proofs.LineLaws.{no_line}
@@ -27,8 +27,8 @@ use Rattle.fr_reader.specs.Meaning.{names_in, actors_in, lists_in, AreNames, IsO
 use Rattle.fr_reader.specs.Stands.{StandsTwice, InNames, IsNoOwner, InOwners, InLines, InCode, InBuild, InTexts, InBytes, Stands}
 use Rattle.fr_reader.specs.declared.key.Key.{Key}
 use Rattle.fr_reader.specs.declared.key.Key.TheVariants as key
-use Rattle.fr_reader.specs.declared.key.Place.{Place}
-use Rattle.fr_reader.specs.declared.key.Place.TheVariants as place
+use Rattle.fr_reader.specs.declared.key.TableKind.{TableKind}
+use Rattle.fr_reader.specs.declared.key.TableKind.TheVariants as table_kind
 use Rattle.fr_reader.specs.declared.fault.ReadFault.{ReadFault}
 use Rattle.fr_reader.specs.declared.fault.ReadFault.TheVariants as fault
 use Rattle.fr_reader.proofs.Laws.{both, never, same_array, same_table, same_kind, text_at, at_get, one_texts, one_program}
@@ -39,26 +39,26 @@ Fits k None = IsRequired k → ⊥
 Fits k (Some d) = suits k d ≡ true
 
 -- so at each key that such a table may have, and it has no other
-record IsShaped (place : Place) (ms : Members) : Type 0 where
-  fits : (k : Key) → IsKeyOf place k → Fits k (field k ms)
-  only : AreKnown place ms
+record IsShaped (table_kind : TableKind) (ms : Members) : Type 0 where
+  fits : (k : Key) → IsKeyOf table_kind k → Fits k (field k ms)
+  only : AreKnown table_kind ms
 
 fits_some : (k : Key) (o : Option Data) (d : Data) → o ≡ Some d → suits k d ≡ true → Fits k o
 fits_some k o d e suit = subst (Fits k) (sym e) suit
 
-in_no_table : (place : Place) (ms : Members) (f : ReadFault) → IsShaped place ms → InTable place ms f → ⊥
-in_no_table place ms (fault.Missing k) h s = let fits : IsRequired k → ⊥ = subst (Fits k) s.2 (h.fits k s.0) in fits s.1
-in_no_table place ms (fault.WrongType k) h s =
+in_no_table : (table_kind : TableKind) (ms : Members) (f : ReadFault) → IsShaped table_kind ms → InTable table_kind ms f → ⊥
+in_no_table table_kind ms (fault.Missing k) h s = let fits : IsRequired k → ⊥ = subst (Fits k) s.2 (h.fits k s.0) in fits s.1
+in_no_table table_kind ms (fault.WrongType k) h s =
     let fits : suits k s.0 ≡ true = subst (Fits k) s.1 (h.fits k s.3) in
     false≢true (sym s.2 ∙ fits)
-in_no_table place ms (fault.UnknownKey t) h s = false≢true (sym s.2 ∙ h.only (string_bytes t) s.0 s.1)
-in_no_table place ms f h s = absurd s
+in_no_table table_kind ms (fault.UnknownKey t) h s = false≢true (sym s.2 ∙ h.only (string_bytes t) s.0 s.1)
+in_no_table table_kind ms f h s = absurd s
 
 owner_fits : (o : Option (List ℕ)) → Fits key.Owner (option_map string o)
 owner_fits None = λ r. r
 owner_fits (Some t) = refl
 
-variable_fits : (ms : Members) (v : VariableText) → IsVariable ms v → (k : Key) → IsKeyOf place.Variable k → Fits k (field k ms)
+variable_fits : (ms : Members) (v : VariableText) → IsVariable ms v → (k : Key) → IsKeyOf table_kind.Variable k → Fits k (field k ms)
 variable_fits ms v h key.Name known = fits_some key.Name (field key.Name ms) (string v.name) h.name refl
 variable_fits ms v h key.Lo known = fits_some key.Lo (field key.Lo ms) (integer v.lo) h.lo refl
 variable_fits ms v h key.Hi known = fits_some key.Hi (field key.Hi ms) (integer v.hi) h.hi refl
@@ -67,7 +67,7 @@ variable_fits ms v h key.Owner known = subst (Fits key.Owner) (sym h.owner) (own
 variable_fits ms v h k known = absurd (false≢true known)
 
 in_no_variable : (ms : Members) (v : VariableText) (f : ReadFault) → IsVariable ms v → InVariable ms f → ⊥
-in_no_variable ms v f h s = in_no_table place.Variable ms f (record { fits = variable_fits ms v h; only = h.only }) s
+in_no_variable ms v f h s = in_no_table table_kind.Variable ms f (record { fits = variable_fits ms v h; only = h.only }) s
 
 own_fits : (j : Kind) (ms : Members) → HasKind ms j → (k : Key) → IsTrue (is_own_key (kind_named j) (key_text k)) → Fits k (field k ms)
 own_fits (kind.Queue s l h) ms own key.Size known = fits_some key.Size (field key.Size ms) (integer s) own.0 refl
@@ -79,7 +79,7 @@ own_fits (kind.Stream s) ms own key.Size known = fits_some key.Size (field key.S
 own_fits (kind.Message s) ms own key.Size known = fits_some key.Size (field key.Size ms) (integer s) own refl
 own_fits j ms own k known = absurd (false≢true known)
 
-object_fits : (ms : Members) (o : ObjectOf) → IsObject ms o → (k : Key) → IsKeyOf (place.Object (kind_named o.kind)) k → Fits k (field k ms)
+object_fits : (ms : Members) (o : ObjectOf) → IsObject ms o → (k : Key) → IsKeyOf (table_kind.Object (kind_named o.kind)) k → Fits k (field k ms)
 object_fits ms o h key.Name known = fits_some key.Name (field key.Name ms) (string o.name) h.name refl
 object_fits ms o h key.Kind known = fits_some key.Kind (field key.Kind ms) (string (kind_word (kind_named o.kind))) h.kind refl
 object_fits ms o h key.Live known = fits_some key.Live (field key.Live ms) (boolean o.live) h.live refl
@@ -95,7 +95,7 @@ in_no_object : (ms : Members) (o : ObjectOf) (f : ReadFault) → IsObject ms o �
 in_no_object ms o f h (inl s) = in_no_kind kind_word ms (kind_named o.kind) f h.kind s
 in_no_object ms o f h (inr s) =
     let same = same_kind s.0 (kind_named o.kind) (text_at (field key.Kind ms) (kind_word s.0) (kind_word (kind_named o.kind)) s.1 h.kind) in
-    in_no_table (place.Object (kind_named o.kind)) ms f (record { fits = object_fits ms o h; only = h.only }) (subst (λ k. InTable (place.Object k) ms f) same s.2)
+    in_no_table (table_kind.Object (kind_named o.kind)) ms f (record { fits = object_fits ms o h; only = h.only }) (subst (λ k. InTable (table_kind.Object k) ms f) same s.2)
 
 -- an entry that has a fault stands for nothing, so neither does its list
 thing_at : {A : Type 0} (R : Data → A → Type 0) (ds : Items) (xs : List A) (i : ℕ) (d : Data) → Each R ds xs → get_item i ds ≡ Some d → (x : A) × R d x
@@ -122,7 +122,7 @@ in_no_entry list R F f none d x h s = let e = h.1 in cc
 in_no_line : (f : ReadFault) (d : Data) (t : List ℕ) → IsText d t → InLineOf d f → ⊥
 in_no_line f d t h s = never (as_str d) t s.1 (ap as_str h)
 
-actor_fits : (ms : Members) (a : ActorText) → IsActor ms a → (k : Key) → IsKeyOf place.Actor k → Fits k (field k ms)
+actor_fits : (ms : Members) (a : ActorText) → IsActor ms a → (k : Key) → IsKeyOf table_kind.Actor k → Fits k (field k ms)
 actor_fits ms a h key.Name known = fits_some key.Name (field key.Name ms) (string a.name) h.name refl
 actor_fits ms a h key.Kind known = fits_some key.Kind (field key.Kind ms) (string (actor_word a.kind)) h.kind refl
 actor_fits ms a h key.Code known = fits_some key.Code (field key.Code ms) (array h.code.0) h.code.1 refl
@@ -130,7 +130,7 @@ actor_fits ms a h k known = absurd (false≢true known)
 
 in_no_actor : (ms : Members) (a : ActorText) (f : ReadFault) → IsActor ms a → InActor ms f → ⊥
 in_no_actor ms a f h (inl s) = in_no_kind actor_word ms a.kind f h.kind s
-in_no_actor ms a f h (inr (inl s)) = in_no_table place.Actor ms f (record { fits = actor_fits ms a h; only = h.only }) s
+in_no_actor ms a f h (inr (inl s)) = in_no_table table_kind.Actor ms f (record { fits = actor_fits ms a h; only = h.only }) s
 in_no_actor ms a f h (inr (inr s)) =
     let same = same_array s.0 h.code.0 (both (field key.Code ms) (array s.0) (array h.code.0) s.1 h.code.1) in
     in_no_each IsText InLineOf f (in_no_line f) h.code.0 a.lines h.code.2 (subst (λ ds. InEach InLineOf ds f) same s.2)
@@ -146,14 +146,14 @@ list_fits R k l None xs h = absurd l
 list_fits R k l (Some (array ds)) xs h = absurd l
 list_fits R k l (Some d) xs h = absurd h
 
-root_fits : (root : Members) (t : Texts) → AreTexts root t → (k : Key) → IsKeyOf place.Application k → Fits k (field k root)
+root_fits : (root : Members) (t : Texts) → AreTexts root t → (k : Key) → IsKeyOf table_kind.Application k → Fits k (field k root)
 root_fits root t h key.Variable known = list_fits (IsTableOf IsVariable) key.Variable tt (field key.Variable root) t.variables h.variables
 root_fits root t h key.Object known = list_fits (IsTableOf IsObject) key.Object tt (field key.Object root) t.objects h.objects
 root_fits root t h key.Actor known = list_fits (IsTableOf IsActor) key.Actor tt (field key.Actor root) t.actors h.actors
 root_fits root t h k known = absurd (false≢true known)
 
 in_no_application : (root : Members) (t : Texts) (f : ReadFault) → AreTexts root t → InApplication root f → ⊥
-in_no_application root t f h (inl s) = in_no_table place.Application root f (record { fits = root_fits root t h; only = h.only }) s
+in_no_application root t f h (inl s) = in_no_table table_kind.Application root f (record { fits = root_fits root t h; only = h.only }) s
 in_no_application root t f h (inr (inl s)) =
     in_no_at (IsTableOf IsVariable) (InEntry key.Variable InVariable) f (in_no_entry key.Variable IsVariable InVariable f (λ ms v. in_no_variable ms v f)) (field key.Variable root) t.variables h.variables s
 in_no_application root t f h (inr (inr (inl s))) =
@@ -213,25 +213,10 @@ in_no_texts t P f names says free (inr (n, inl s)) = in_no_owners (actors_in t) 
 in_no_texts t P f names says free (inr (n, inr (inl s))) = in_no_code (lists_in t) t.actors P.actors f says.actors s.2
 in_no_texts t P f names says free (inr (n, inr (inr s))) = free s
 
--- an application has none of the faults but what isn't judged yet
-free_of : (P : Program) (b : BuildFault) → is_not_yet (fault.Build b) ≡ false → IsFaultless P → IsFreeOf P b
-free_of P build.Memory n h = tt
-free_of P build.TooMany n h = h.small
-free_of P build.BadRange n h = h.limits
-free_of P build.BadTarget n h = h.targets
-free_of P build.FallsOff n h = h.ends
-free_of P build.TwoShared n h = h.shared
-free_of P build.NotOwner n h = h.owners
-free_of P build.KindMismatch n h = h.kinds
-free_of P build.FromIsrInTask n h = h.forms
-free_of P build.ResultRange n h = h.results
-free_of P build.Operands n h = h.operands
-free_of P build.Names n h = h.names
-free_of P build.NotYet n h = absurd (cc)
-
 not_built : (bytes : List ℕ) (P : Program) (f : ReadFault) → is_not_yet f ≡ false → (m : Means bytes P) → InBuild m.texts f → ⊥
 not_built bytes P (fault.Build b) named m s =
-    s.2 (subst (λ Q. IsFreeOf Q b) (one_program m.texts P s.0 m.names m.says s.1) (free_of P b named m.faultless))
+    let yet : b ≢ NotYet = λ e. false≢true (sym named ∙ ap (λ x. is_not_yet (fault.Build x)) e) in
+    s.2 (subst (λ Q. IsFreeOf Q b) (one_program m.texts P s.0 m.names m.says s.1) (free_of P b yet m.faultless))
 not_built bytes P f named m s = absurd s
 
 in_no_bytes : (bytes : List ℕ) (P : Program) (f : ReadFault) → Means bytes P → InBytes bytes f → ⊥

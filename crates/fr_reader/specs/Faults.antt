@@ -17,8 +17,8 @@ use Rattle.fr_program.specs.declared.fault.BuildFault.TheVariants as build
 use Rattle.fr_reader.specs.declared.key.Key.{Key}
 use Rattle.fr_reader.specs.declared.key.Key.TheVariants as key
 use Rattle.fr_reader.specs.declared.key.ObjectKind.{ObjectKind}
-use Rattle.fr_reader.specs.declared.key.Place.{Place}
-use Rattle.fr_reader.specs.declared.key.Place.TheVariants as place
+use Rattle.fr_reader.specs.declared.key.TableKind.{TableKind}
+use Rattle.fr_reader.specs.declared.key.TableKind.TheVariants as table_kind
 use Rattle.fr_reader.specs.declared.fault.ReadFault.{ReadFault}
 use Rattle.fr_reader.specs.declared.fault.ReadFault.TheVariants as fault
 
@@ -39,15 +39,15 @@ abbrev pub Standing : (ReadFault → Type 0) → ReadFault → Type 0
 Standing P f = is_memory f ≡ false → P f
 
 -- the fault stands in a table of this kind: a key is missing, of a wrong type, or unknown
-abbrev pub InTable : Place → Members → ReadFault → Type 0
-InTable place ms (fault.Missing k) = IsKeyOf place k × IsRequired k × (field k ms ≡ None)
-InTable place ms (fault.WrongType k) = (d : Data) × (field k ms ≡ Some d) × (suits k d ≡ false) × IsKeyOf place k
-InTable place ms (fault.UnknownKey s) = (d : Data) × (get_member (string_bytes s) ms ≡ Some d) × (is_key_of place (string_bytes s) ≡ false)
-InTable place ms f = ⊥
+abbrev pub InTable : TableKind → Members → ReadFault → Type 0
+InTable table_kind ms (fault.Missing k) = IsKeyOf table_kind k × IsRequired k × (field k ms ≡ None)
+InTable table_kind ms (fault.WrongType k) = (d : Data) × (field k ms ≡ Some d) × (suits k d ≡ false) × IsKeyOf table_kind k
+InTable table_kind ms (fault.UnknownKey s) = (d : Data) × (get_member (string_bytes s) ms ≡ Some d) × (is_key_of table_kind (string_bytes s) ≡ false)
+InTable table_kind ms f = ⊥
 
 -- the fault stands in a variable's table
 abbrev pub InVariable : Members → ReadFault → Type 0
-InVariable = InTable place.Variable
+InVariable = InTable table_kind.Variable
 
 -- the fault stands at `kind`: it is missing, or none of the words that kinds have
 abbrev pub InKind : {K : Type 0} → (K → List ℕ) → Members → ReadFault → Type 0
@@ -57,7 +57,7 @@ InKind word ms f = ⊥
 
 -- the fault stands in an object's table: at its kind, or among the keys that its kind has
 abbrev pub InObject : Members → ReadFault → Type 0
-InObject ms f = InKind kind_word ms f ⊎ ((k : ObjectKind) × (field key.Kind ms ≡ Some (string (kind_word k))) × InTable (place.Object k) ms f)
+InObject ms f = InKind kind_word ms f ⊎ ((k : ObjectKind) × (field key.Kind ms ≡ Some (string (kind_word k))) × InTable (table_kind.Object k) ms f)
 
 -- the fault stands in an entry of an array: it is no table, or the fault stands in that table
 abbrev pub InEntry : Key → (Members → ReadFault → Type 0) → Data → ReadFault → Type 0
@@ -74,7 +74,7 @@ InLine d f = (f ≡ fault.WrongType key.Code) × (as_str d ≡ None)
 
 -- the fault stands in an actor's table: at its kind, at one of its keys, or in an entry of its code
 abbrev pub InActor : Members → ReadFault → Type 0
-InActor ms f = InKind actor_word ms f ⊎ (InTable place.Actor ms f ⊎ ((ds : Items) × (field key.Code ms ≡ Some (array ds)) × InEach InLine ds f))
+InActor ms f = InKind actor_word ms f ⊎ (InTable table_kind.Actor ms f ⊎ ((ds : Items) × (field key.Code ms ≡ Some (array ds)) × InEach InLine ds f))
 
 -- the fault stands in an entry of what the key of a list holds
 abbrev pub InEachAt : (Data → ReadFault → Type 0) → Option Data → ReadFault → Type 0
@@ -84,5 +84,5 @@ InEachAt F (Some d) f = ⊥
 
 -- the fault stands in the table of the whole text: at one of its keys, or in an entry of one of the three lists
 abbrev pub InApplication : Members → ReadFault → Type 0
-InApplication root f = InTable place.Application root f ⊎ (InEachAt (InEntry key.Variable InVariable) (field key.Variable root) f
+InApplication root f = InTable table_kind.Application root f ⊎ (InEachAt (InEntry key.Variable InVariable) (field key.Variable root) f
     ⊎ (InEachAt (InEntry key.Object InObject) (field key.Object root) f ⊎ InEachAt (InEntry key.Actor InActor) (field key.Actor root) f))

@@ -23,8 +23,8 @@ use Rattle.fr_reader.specs.declared.key.Key.{Key}
 use Rattle.fr_reader.specs.declared.key.Key.TheVariants as key
 use Rattle.fr_reader.specs.declared.key.ObjectKind.{ObjectKind}
 use Rattle.fr_reader.specs.declared.key.ObjectKind.TheVariants.{Queue, Binary, Counting, Mutex, Recursive, Stream, Message}
-use Rattle.fr_reader.specs.declared.key.Place.{Place}
-use Rattle.fr_reader.specs.declared.key.Place.TheVariants as place
+use Rattle.fr_reader.specs.declared.key.TableKind.{TableKind}
+use Rattle.fr_reader.specs.declared.key.TableKind.TheVariants as table_kind
 
 -- the text of a key
 abbrev pub key_text : Key → List ℕ
@@ -82,15 +82,15 @@ is_own_key Mutex t = false
 is_own_key Recursive t = false
 
 -- a key that a table of this kind may have
-abbrev pub is_key_of : Place → List ℕ → Bool
-is_key_of place.Application t = spells t key.Variable || spells t key.Object || spells t key.Actor
-is_key_of place.Variable t = spells t key.Name || spells t key.Lo || spells t key.Hi || spells t key.Init || spells t key.Owner
-is_key_of (place.Object o) t = spells t key.Name || spells t key.Kind || spells t key.Live || is_own_key o t
-is_key_of place.Actor t = spells t key.Name || spells t key.Kind || spells t key.Code
+abbrev pub is_key_of : TableKind → List ℕ → Bool
+is_key_of table_kind.Application t = spells t key.Variable || spells t key.Object || spells t key.Actor
+is_key_of table_kind.Variable t = spells t key.Name || spells t key.Lo || spells t key.Hi || spells t key.Init || spells t key.Owner
+is_key_of (table_kind.Object o) t = spells t key.Name || spells t key.Kind || spells t key.Live || is_own_key o t
+is_key_of table_kind.Actor t = spells t key.Name || spells t key.Kind || spells t key.Code
 
 -- the same, of a key by its name here
-abbrev pub IsKeyOf : Place → Key → Type 0
-IsKeyOf place k = IsTrue (is_key_of place (key_text k))
+abbrev pub IsKeyOf : TableKind → Key → Type 0
+IsKeyOf table_kind k = IsTrue (is_key_of table_kind (key_text k))
 
 -- a key that stands in each table that may have it: all but `owner` and the three lists
 abbrev pub IsRequired : Key → Type 0

@@ -16,8 +16,8 @@ use Rattle.fr_program.specs.declared.parts.ActorKind.{ActorKind}
 use Rattle.fr_program.specs.Program.{ObjectOf}
 use Rattle.fr_reader.specs.Keys.{field, is_key_of, kind_word, kind_named, actor_word}
 use Rattle.fr_reader.specs.declared.key.Key.TheVariants as key
-use Rattle.fr_reader.specs.declared.key.Place.{Place}
-use Rattle.fr_reader.specs.declared.key.Place.TheVariants as place
+use Rattle.fr_reader.specs.declared.key.TableKind.{TableKind}
+use Rattle.fr_reader.specs.declared.key.TableKind.TheVariants as table_kind
 
 -- a variable as its table has it
 pub record VariableText : Type 0 where
@@ -40,8 +40,8 @@ pub record Texts : Type 0 where
   pub actors : List ActorText
 
 -- each key of the table is known there
-abbrev pub AreKnown : Place → Members → Type 0
-AreKnown place ms = (k : List ℕ) (d : Data) → get_member k ms ≡ Some d → IsTrue (is_key_of place k)
+abbrev pub AreKnown : TableKind → Members → Type 0
+AreKnown table_kind ms = (k : List ℕ) (d : Data) → get_member k ms ≡ Some d → IsTrue (is_key_of table_kind k)
 
 -- the table stands for the variable, key by key
 pub record IsVariable (ms : Members) (v : VariableText) : Type 0 where
@@ -50,7 +50,7 @@ pub record IsVariable (ms : Members) (v : VariableText) : Type 0 where
   pub hi : field key.Hi ms ≡ Some (integer v.hi)
   pub init : field key.Init ms ≡ Some (integer v.init)
   pub owner : field key.Owner ms ≡ option_map string v.owner
-  pub only : AreKnown place.Variable ms
+  pub only : AreKnown table_kind.Variable ms
 
 -- the table has the keys that only this kind has
 abbrev pub HasKind : Members → Kind → Type 0
@@ -66,7 +66,7 @@ pub record IsObject (ms : Members) (o : ObjectOf) : Type 0 where
   pub kind : field key.Kind ms ≡ Some (string (kind_word (kind_named o.kind)))
   pub own : HasKind ms o.kind
   pub live : field key.Live ms ≡ Some (boolean o.live)
-  pub only : AreKnown (place.Object (kind_named o.kind)) ms
+  pub only : AreKnown (table_kind.Object (kind_named o.kind)) ms
 
 -- the entries stand for these things, one for each, in order
 abbrev pub Each : {A : Type 0} → (Data → A → Type 0) → Items → List A → Type 0
@@ -84,7 +84,7 @@ pub record IsActor (ms : Members) (a : ActorText) : Type 0 where
   pub name : field key.Name ms ≡ Some (string a.name)
   pub kind : field key.Kind ms ≡ Some (string (actor_word a.kind))
   pub code : (ds : Items) × (field key.Code ms ≡ Some (array ds)) × Each IsText ds a.lines
-  pub only : AreKnown place.Actor ms
+  pub only : AreKnown table_kind.Actor ms
 
 -- the value is a table that stands for this
 abbrev pub IsTableOf : {A : Type 0} → (Members → A → Type 0) → Data → A → Type 0
@@ -101,4 +101,4 @@ pub record AreTexts (root : Members) (texts : Texts) : Type 0 where
   pub variables : EachAt (IsTableOf IsVariable) (field key.Variable root) texts.variables
   pub objects : EachAt (IsTableOf IsObject) (field key.Object root) texts.objects
   pub actors : EachAt (IsTableOf IsActor) (field key.Actor root) texts.actors
-  pub only : AreKnown place.Application root
+  pub only : AreKnown table_kind.Application root

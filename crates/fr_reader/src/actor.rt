@@ -8,7 +8,7 @@ ghost use Rattle.fr_reader.specs.Faults.{InTable, InKind, InActor, InLine, InEnt
 ghost use Rattle.fr_reader.specs.Views.{actor_text, line_text};
 
 use crate::fault::ReadFault;
-use crate::key::{Key, Place};
+use crate::key::{Key, TableKind};
 use crate::table::{found_at, known_keys, text_at};
 use fr_program::ActorKind;
 use std::alloc::Global;
@@ -52,7 +52,7 @@ fn kind_at(table: &Table) -> Result<ActorKind, ReadFault>
 
 fn code_at(table: &Table) -> Result<&Array, ReadFault>
     ensures ok { IfOk result (λ a. field Key.Code (table_view table.now) ≡ Some (array (array_view a.now))) }
-    ensures err { IfErr result (Standing (InTable Place.Actor (table_view table.now))) }
+    ensures err { IfErr result (Standing (InTable TableKind.Actor (table_view table.now))) }
 {
     let Some(value) = found_at(table, Key::Code) else {
         return Err(ReadFault::Missing(Key::Code));
@@ -90,9 +90,9 @@ fn actor_of(alloc: Global, table: &Table) -> Result<ActorText<'_>, ReadFault>
     ensures ok { IfOk result (λ a. IsActor (table_view table.now) (actor_text a)) }
     ensures err { IfErr result (Standing (InActor (table_view table.now))) }
 {
-    known_keys(alloc, table, Place::Actor)?;
+    known_keys(alloc, table, TableKind::Actor)?;
     Ok(ActorText {
-        name: text_at(table, Place::Actor, Key::Name)?,
+        name: text_at(table, TableKind::Actor, Key::Name)?,
         kind: kind_at(table)?,
         lines: lines_of(alloc, code_at(table)?)?,
     })

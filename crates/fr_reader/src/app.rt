@@ -13,7 +13,8 @@ use fr_program::App;
 use std::alloc::Global;
 use toml::Table;
 
-const MOST_BYTES: usize = 1_048_576;
+/// How many bytes the text of an application has at the most.
+pub const MOST_BYTES: usize = 1_048_576;
 
 // The table that the bytes are the text of.
 fn table_of(alloc: Global, bytes: &[u8]) -> Result<Table, ReadFault>

@@ -57,7 +57,7 @@ pub(crate) enum ObjectKind {
 
 /// A kind of table.
 #[derive(Clone, Copy, Debug)]
-pub(crate) enum Place {
+pub(crate) enum TableKind {
     Application,
     Variable,
     Object(ObjectKind),
@@ -65,18 +65,18 @@ pub(crate) enum Place {
 }
 
 /// Whether a table of this kind may have this key.
-pub(crate) fn is_key_of(place: Place, key: &str) -> bool
-    ensures { result ≡ is_key_of place key.now }
+pub(crate) fn is_key_of(kind: TableKind, key: &str) -> bool
+    ensures { result ≡ is_key_of kind key.now }
 {
-    match place {
-        Place::Application => key == "variable" || key == "object" || key == "actor",
-        Place::Variable => {
+    match kind {
+        TableKind::Application => key == "variable" || key == "object" || key == "actor",
+        TableKind::Variable => {
             key == "name" || key == "lo" || key == "hi" || key == "init" || key == "owner"
         }
-        Place::Object(kind) => {
-            key == "name" || key == "kind" || key == "live" || is_own_key(kind, key)
+        TableKind::Object(object) => {
+            key == "name" || key == "kind" || key == "live" || is_own_key(object, key)
         }
-        Place::Actor => key == "name" || key == "kind" || key == "code",
+        TableKind::Actor => key == "name" || key == "kind" || key == "code",
     }
 }
 

@@ -15,6 +15,6 @@ mod table;
 mod texts;
 mod variable;
 
-pub use app::{no_meaning, one_meaning, read_app};
+pub use app::{MOST_BYTES, no_meaning, one_meaning, read_app};
 pub use fault::ReadFault;
 pub use key::Key;

@@ -8,7 +8,7 @@ ghost use Rattle.fr_reader.specs.Faults.{InTable, InKind, InObject, InEntry, InE
 ghost use Rattle.fr_reader.specs.Views.{object_text};
 
 use crate::fault::ReadFault;
-use crate::key::{Key, ObjectKind, Place};
+use crate::key::{Key, ObjectKind, TableKind};
 use crate::table::{found_at, integer_at, known_keys, live_at, text_at};
 use fr_program::Kind;
 use std::alloc::Global;
@@ -59,27 +59,27 @@ fn kind_at(table: &Table) -> Result<ObjectKind, ReadFault>
 fn kind_of(table: &Table, kind: ObjectKind) -> Result<Kind, ReadFault>
     ensures named { IfOk result (λ k. kind_named k ≡ kind) }
     ensures ok { IfOk result (HasKind (table_view table.now)) }
-    ensures err { IfErr result (Standing (InTable (Place.Object kind) (table_view table.now))) }
+    ensures err { IfErr result (Standing (InTable (TableKind.Object kind) (table_view table.now))) }
 {
-    let place = Place::Object(kind);
+    let table_kind = TableKind::Object(kind);
     match kind {
         ObjectKind::Queue => Ok(Kind::Queue {
-            size: integer_at(table, place, Key::Size)?,
-            lo: integer_at(table, place, Key::Lo)?,
-            hi: integer_at(table, place, Key::Hi)?,
+            size: integer_at(table, table_kind, Key::Size)?,
+            lo: integer_at(table, table_kind, Key::Lo)?,
+            hi: integer_at(table, table_kind, Key::Hi)?,
         }),
         ObjectKind::Binary => Ok(Kind::Binary),
         ObjectKind::Counting => Ok(Kind::Counting {
-            size: integer_at(table, place, Key::Size)?,
-            first: integer_at(table, place, Key::First)?,
+            size: integer_at(table, table_kind, Key::Size)?,
+            first: integer_at(table, table_kind, Key::First)?,
         }),
         ObjectKind::Mutex => Ok(Kind::Mutex),
         ObjectKind::Recursive => Ok(Kind::Recursive),
         ObjectKind::Stream => Ok(Kind::Stream {
-            size: integer_at(table, place, Key::Size)?,
+            size: integer_at(table, table_kind, Key::Size)?,
         }),
         ObjectKind::Message => Ok(Kind::Message {
-            size: integer_at(table, place, Key::Size)?,
+            size: integer_at(table, table_kind, Key::Size)?,
         }),
     }
 }
@@ -88,14 +88,14 @@ fn kind_of(table: &Table, kind: ObjectKind) -> Result<Kind, ReadFault>
 fn object_of(alloc: Global, table: &Table, kind: ObjectKind) -> Result<ObjectText<'_>, ReadFault>
     requires { field Key.Kind (table_view table.now) ≡ Some (string (kind_word kind)) }
     ensures ok { IfOk result (λ o. IsObject (table_view table.now) (object_text o)) }
-    ensures err { IfErr result (Standing (InTable (Place.Object kind) (table_view table.now))) }
+    ensures err { IfErr result (Standing (InTable (TableKind.Object kind) (table_view table.now))) }
 {
-    let place = Place::Object(kind);
-    known_keys(alloc, table, place)?;
+    let table_kind = TableKind::Object(kind);
+    known_keys(alloc, table, table_kind)?;
     Ok(ObjectText {
-        name: text_at(table, place, Key::Name)?,
+        name: text_at(table, table_kind, Key::Name)?,
         kind: kind_of(table, kind)?,
-        live: live_at(table, place)?,
+        live: live_at(table, table_kind)?,
     })
 }
 

@@ -7,7 +7,7 @@ ghost use Rattle.fr_reader.specs.Faults.{InTable, Standing};
 ghost use Rattle.fr_reader.specs.Texts.{AreKnown};
 
 use crate::fault::ReadFault;
-use crate::key::{self, Key, Place};
+use crate::key::{self, Key, TableKind};
 use std::alloc::Global;
 use toml::{Table, Value};
 
@@ -19,12 +19,12 @@ pub(crate) fn found_at(table: &Table, key: Key) -> Option<&Value>
 }
 
 // The number at a key that a table of this kind has to have.
-pub(crate) fn integer_at(table: &Table, place: Place, key: Key) -> Result<i64, ReadFault>
-    requires known { IsKeyOf place key }
+pub(crate) fn integer_at(table: &Table, kind: TableKind, key: Key) -> Result<i64, ReadFault>
+    requires known { IsKeyOf kind key }
     requires required { IsRequired key }
     requires number { IsNumberKey key }
     ensures ok { IfOk result (λ n. field key (table_view table.now) ≡ Some (integer n)) }
-    ensures err { IfErr result (Standing (InTable place (table_view table.now))) }
+    ensures err { IfErr result (Standing (InTable kind (table_view table.now))) }
 {
     let Some(value) = found_at(table, key) else {
         return Err(ReadFault::Missing(key));
@@ -36,12 +36,12 @@ pub(crate) fn integer_at(table: &Table, place: Place, key: Key) -> Result<i64, R
 }
 
 // The text at a key that a table of this kind has to have.
-pub(crate) fn text_at(table: &Table, place: Place, key: Key) -> Result<&str, ReadFault>
-    requires known { IsKeyOf place key }
+pub(crate) fn text_at(table: &Table, kind: TableKind, key: Key) -> Result<&str, ReadFault>
+    requires known { IsKeyOf kind key }
     requires required { IsRequired key }
     requires text { IsTextKey key }
     ensures ok { IfOk result (λ s. field key (table_view table.now) ≡ Some (string s.now)) }
-    ensures err { IfErr result (Standing (InTable place (table_view table.now))) }
+    ensures err { IfErr result (Standing (InTable kind (table_view table.now))) }
 {
     let Some(value) = found_at(table, key) else {
         return Err(ReadFault::Missing(key));
@@ -53,10 +53,10 @@ pub(crate) fn text_at(table: &Table, place: Place, key: Key) -> Result<&str, Rea
 }
 
 // The truth value at the key `live`.
-pub(crate) fn live_at(table: &Table, place: Place) -> Result<bool, ReadFault>
-    requires { IsKeyOf place Key.Live }
+pub(crate) fn live_at(table: &Table, kind: TableKind) -> Result<bool, ReadFault>
+    requires { IsKeyOf kind Key.Live }
     ensures ok { IfOk result (λ b. field Key.Live (table_view table.now) ≡ Some (boolean b)) }
-    ensures err { IfErr result (Standing (InTable place (table_view table.now))) }
+    ensures err { IfErr result (Standing (InTable kind (table_view table.now))) }
 {
     let Some(value) = found_at(table, Key::Live) else {
         return Err(ReadFault::Missing(Key::Live));
@@ -68,12 +68,12 @@ pub(crate) fn live_at(table: &Table, place: Place) -> Result<bool, ReadFault>
 }
 
 // No key of the table is unknown there.
-pub(crate) fn known_keys(alloc: Global, table: &Table, place: Place) -> Result<(), ReadFault>
-    ensures ok { OnOk result (AreKnown place (table_view table.now)) }
-    ensures err { IfErr result (Standing (InTable place (table_view table.now))) }
+pub(crate) fn known_keys(alloc: Global, table: &Table, kind: TableKind) -> Result<(), ReadFault>
+    ensures ok { OnOk result (AreKnown kind (table_view table.now)) }
+    ensures err { IfErr result (Standing (InTable kind (table_view table.now))) }
 {
     for name in table.keys() {
-        if !key::is_key_of(place, name.as_str()) {
+        if !key::is_key_of(kind, name.as_str()) {
             return Err(ReadFault::UnknownKey(String::from_str(alloc, name.as_str())?));
         }
     }

@@ -9,7 +9,7 @@ ghost use Rattle.fr_reader.specs.Views.{variable_text, object_text, actor_text, 
 
 use crate::actor::{self, ActorText};
 use crate::fault::ReadFault;
-use crate::key::{Key, Place};
+use crate::key::{Key, TableKind};
 use crate::object::{self, ObjectText};
 use crate::table::{found_at, known_keys};
 use crate::variable::{self, VariableText};
@@ -27,10 +27,10 @@ pub(crate) struct Texts<'a> {
 
 // The array at the key of a list, if the key is there.
 fn array_at(table: &Table, key: Key) -> Result<Option<&Array>, ReadFault>
-    requires known { IsKeyOf Place.Application key }
+    requires known { IsKeyOf TableKind.Application key }
     requires list { IsListKey key }
     ensures ok { IfOk result (λ o. option_map (λ a. array (array_view a.now)) o ≡ field key (table_view table.now)) }
-    ensures err { IfErr result (Standing (InTable Place.Application (table_view table.now))) }
+    ensures err { IfErr result (Standing (InTable TableKind.Application (table_view table.now))) }
 {
     let Some(value) = found_at(table, key) else {
         return Ok(None);
@@ -76,7 +76,7 @@ pub(crate) fn texts_of(alloc: Global, table: &Table) -> Result<Texts<'_>, ReadFa
     ensures ok { IfOk result (λ texts. AreTexts (table_view table.now) (texts_view texts)) }
     ensures err { IfErr result (Standing (InApplication (table_view table.now))) }
 {
-    known_keys(alloc, table, Place::Application)?;
+    known_keys(alloc, table, TableKind::Application)?;
     Ok(Texts {
         variables: variables_at(alloc, table)?,
         objects: objects_at(alloc, table)?,

@@ -8,7 +8,7 @@ ghost use Rattle.fr_reader.specs.Faults.{InTable, InVariable, InEntry, InEach, S
 ghost use Rattle.fr_reader.specs.Views.{variable_text};
 
 use crate::fault::ReadFault;
-use crate::key::{Key, Place};
+use crate::key::{Key, TableKind};
 use crate::table::{found_at, integer_at, known_keys, text_at};
 use std::alloc::Global;
 use toml::value::Array;
@@ -26,7 +26,7 @@ pub(crate) struct VariableText<'a> {
 
 fn owner_at(table: &Table) -> Result<Option<&str>, ReadFault>
     ensures ok { IfOk result (λ o. field Key.Owner (table_view table.now) ≡ option_map string (option_copied o)) }
-    ensures err { IfErr result (Standing (InTable Place.Variable (table_view table.now))) }
+    ensures err { IfErr result (Standing (InTable TableKind.Variable (table_view table.now))) }
 {
     let Some(value) = found_at(table, Key::Owner) else {
         return Ok(None);
@@ -42,12 +42,12 @@ fn variable_of(alloc: Global, table: &Table) -> Result<VariableText<'_>, ReadFau
     ensures ok { IfOk result (λ v. IsVariable (table_view table.now) (variable_text v)) }
     ensures err { IfErr result (Standing (InVariable (table_view table.now))) }
 {
-    known_keys(alloc, table, Place::Variable)?;
+    known_keys(alloc, table, TableKind::Variable)?;
     Ok(VariableText {
-        name: text_at(table, Place::Variable, Key::Name)?,
-        lo: integer_at(table, Place::Variable, Key::Lo)?,
-        hi: integer_at(table, Place::Variable, Key::Hi)?,
-        init: integer_at(table, Place::Variable, Key::Init)?,
+        name: text_at(table, TableKind::Variable, Key::Name)?,
+        lo: integer_at(table, TableKind::Variable, Key::Lo)?,
+        hi: integer_at(table, TableKind::Variable, Key::Hi)?,
+        init: integer_at(table, TableKind::Variable, Key::Init)?,
         owner: owner_at(table)?,
     })
 }

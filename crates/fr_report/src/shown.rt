@@ -2,9 +2,10 @@
 ghost use Rattle.std.specs.Prelude.{◌≡◌, ◌≤◌, Some};
 ghost use Rattle.fr_program.specs.Lookup.{IsPoint, actor_at, object_at};
 ghost use Rattle.fr_program.specs.Points.{point_number};
-ghost use Rattle.fr_report.specs.Report.{point_text, rule_text, side_text, end_text};
+ghost use Rattle.fr_report.specs.Report.{point_text, rule_text, side_text};
 ghost use Rattle.fr_report.specs.Shown.{shown_text};
 
+use fr_calls::Rule;
 use fr_program::{ActorId, App, ObjId, Point, Side};
 use std::fmt;
 
@@ -69,13 +70,6 @@ fn side_name(side: Side) -> &'static str
     }
 }
 
-/// Which end of a buffer it is.
-pub fn end_name(writer: bool) -> &'static str
-    ensures { result.now ≡ end_text writer }
-{
-    if writer { "writer" } else { "reader" }
-}
-
 impl fmt::Display for ShownPoint<'_> {
     ghost use Rattle.fr_report.specs.Shown.{shown_text};
 
@@ -87,22 +81,23 @@ impl fmt::Display for ShownPoint<'_> {
     }
 }
 
-/// What a report says of a breached rule, by its number, 3 to 12.
-pub fn rule_text(rule: u8) -> &'static str
-    requires least { 3 ≤ rule }
-    requires most { rule ≤ 12 }
+/// What a report says of a breached rule. Rules 1 and 2 are told as guards, so that nobody reads
+/// their two texts.
+pub fn rule_text(rule: Rule) -> &'static str
     ensures { result.now ≡ rule_text rule }
 {
     match rule {
-        3 => "mutex given by an actor that does not hold it",
-        4 => "call not allowed in a critical section",
-        5 => "call not allowed while the scheduler is suspended",
-        6 => "call not allowed in an interrupt",
-        7 => "handle is not live",
-        8 => "object deleted in use or created while live",
-        9 => "call does not suit this kind of semaphore",
-        10 => "depth is already zero",
-        11 => "actor ends in the wrong way",
-        _ => "value out of its declared range",
+        Rule::OneWriter => "two actors at the writing end of a buffer",
+        Rule::OneReader => "two actors at the reading end of a buffer",
+        Rule::GivenByHolder => "mutex given by an actor that does not hold it",
+        Rule::AllowedInCritical => "call not allowed in a critical section",
+        Rule::AllowedSuspended => "call not allowed while the scheduler is suspended",
+        Rule::AllowedInInterrupt => "call not allowed in an interrupt",
+        Rule::IsLive => "handle is not live",
+        Rule::LifeInOrder => "object deleted in use or created while live",
+        Rule::SuitsSemaphore => "call does not suit this kind of semaphore",
+        Rule::DepthAboveZero => "depth is already zero",
+        Rule::EndsInOrder => "actor ends in the wrong way",
+        Rule::InRange => "value out of its declared range",
     }
 }

@@ -4,7 +4,7 @@ ghost use Rattle.fr_program.specs.Lookup.{IsPoint};
 ghost use Rattle.fr_judge.specs.Told.{Speaks, IsOf};
 ghost use Rattle.fr_report.specs.Report.{report_text, part_text};
 
-use crate::shown::{ShownPoint, end_name, object_name, rule_text};
+use crate::shown::{ShownPoint, object_name, rule_text};
 use fr_ends::EndName;
 use fr_judge::{Part, Verdict};
 use fr_program::{App, Point};
@@ -40,8 +40,8 @@ fn part_text(alloc: Global, app: &App, part: Part) -> Result<String, AllocError>
     match part {
         Part::Entry => String::from_str(alloc, "entry"),
         Part::Rule(rule) => {
-            let text = rule_text(rule);
-            format!(in alloc; "rule {rule}: {text}")
+            let (number, text) = (rule.number(), rule_text(rule));
+            format!(in alloc; "rule {number}: {text}")
         }
         Part::Goes(point) => {
             let to = ShownPoint::of(app, point);
@@ -62,6 +62,6 @@ fn part_text(alloc: Global, app: &App, part: Part) -> Result<String, AllocError>
 fn guard_text(alloc: Global, app: &App, end: EndName) -> Result<String, AllocError>
     ensures { IfOk result (λ text. string_bytes text ≡ part_text app.now (Part.Guard end)) }
 {
-    let (buffer, side) = (object_name(app, end.buffer), end_name(end.writer));
+    let (buffer, side) = (object_name(app, end.buffer), end.end.text());
     format!(in alloc; "guard {buffer} {side}")
 }

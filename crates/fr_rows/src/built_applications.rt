@@ -1,13 +1,19 @@
 // What no clause says: that builds succeed, the sizes that are taken, and examples of refusals.
 use fr_program::{
-    Action, Actor, ActorId, ActorKind, App, BlockTime, BufferKind, BuildFault, Call, Instr, Kind,
-    ObjId, Object, Parts, Point, Side, Timing, VarId, Variable,
+    Action, Actor, ActorId, ActorKind, App, BlockTime, BufferKind, BuildFault, Call, CodeLine,
+    Instr, Kind, ObjId, Object, Parts, Point, Side, Timing, VarId, Variable,
 };
 use std::alloc::{AllocError, Global};
 use std::process::Abort;
 use std::test::Fail;
 
 const BACK: Instr = Instr::Goto { target: 0 };
+
+/// The first line of the first actor.
+const FIRST: CodeLine = CodeLine {
+    actor: ActorId(0),
+    pc: 0,
+};
 
 fn variable(alloc: Global, name: &str, owner: Option<ActorId>) -> Result<Variable, AllocError> {
     Ok(Variable {
@@ -119,7 +125,7 @@ fn lengths_have_limits(rt: HostRuntime) -> Result<(), Fail> {
     let alloc = rt.alloc();
     for length in [0, 65536] {
         let parts = parts(alloc, send(length), "x", None, true)?;
-        refused(&rt, alloc, parts, BuildFault::BadRange);
+        refused(&rt, alloc, parts, BuildFault::BadRange(Some(FIRST)));
     }
     for length in [1, 65535] {
         let parts = parts(alloc, send(length), "x", None, true)?;
@@ -132,11 +138,11 @@ fn lengths_have_limits(rt: HostRuntime) -> Result<(), Fail> {
 fn numbers_name_things(rt: HostRuntime) -> Result<(), Fail> {
     let alloc = rt.alloc();
     let past_objects = parts(alloc, send(8), "x", None, false)?;
-    refused(&rt, alloc, past_objects, BuildFault::Names);
+    refused(&rt, alloc, past_objects, BuildFault::Names(Some(FIRST)));
     let past_variables = parts(alloc, pick(1), "x", None, false)?;
-    refused(&rt, alloc, past_variables, BuildFault::Names);
+    refused(&rt, alloc, past_variables, BuildFault::Names(Some(FIRST)));
     let past_actors = parts(alloc, BACK, "x", Some(ActorId(1)), false)?;
-    refused(&rt, alloc, past_actors, BuildFault::Names);
+    refused(&rt, alloc, past_actors, BuildFault::Names(None));
     Ok(())
 }
 
@@ -145,7 +151,7 @@ fn names_stand_once_and_are_words(rt: HostRuntime) -> Result<(), Fail> {
     let alloc = rt.alloc();
     for name in ["t", "goto", "a23456789b123456789c123456789d123", "1a", ""] {
         let parts = parts(alloc, BACK, name, None, false)?;
-        refused(&rt, alloc, parts, BuildFault::Names);
+        refused(&rt, alloc, parts, BuildFault::Names(None));
     }
     for name in ["goto_1", "a23456789b123456789c123456789d12", "_"] {
         let parts = parts(alloc, BACK, name, None, false)?;

@@ -33,16 +33,18 @@ fn fault(alloc: Global, crit: u8, lo: i128, hi: i128) -> Option<Option<NoteFault
 }
 
 #[test]
-fn ranges_inside_the_declared_one(rt: HostRuntime) {
-    assert!(rt; fault(rt.alloc(), 0, -1, 3) == Some(None));
-    assert!(rt; fault(rt.alloc(), 255, 3, 3) == Some(None));
-}
-
-#[test]
-fn ranges_past_the_declared_one(rt: HostRuntime) {
-    assert!(rt; fault(rt.alloc(), 0, -2, 3) == Some(Some(NoteFault::Span)));
-    assert!(rt; fault(rt.alloc(), 0, -1, 4) == Some(Some(NoteFault::Span)));
-    assert!(rt; fault(rt.alloc(), 1, 4, 4) == Some(Some(NoteFault::Span)));
+fn ranges_and_the_declared_one(rt: HostRuntime) {
+    let past = Some(NoteFault::Span);
+    let cases = [
+        (0, -1, 3, None),
+        (255, 3, 3, None),
+        (0, -2, 3, past),
+        (0, -1, 4, past),
+        (1, 4, 4, past),
+    ];
+    for (crit, lo, hi, wanted) in cases {
+        assert!(rt; fault(rt.alloc(), crit, lo, hi) == Some(wanted));
+    }
 }
 
 /// What comes of so many notes, alternately never and one that says nothing: how many of them the

@@ -37,46 +37,37 @@ fn misshapen_at(alloc: Global, certificate: &[u8]) -> Option<String> {
 }
 
 #[test]
-fn empty_certificate(rt: HostRuntime) {
-    let text = r#"{"ends":[],"notes":[],"version":1}"#;
-    assert!(rt;
-        writes(
-            rt.alloc(),
+fn certificates_that_are_written(rt: HostRuntime) {
+    let cases: [(&[u8], &[u8], &str); 5] = [
+        (
             b"",
             br#"{"version":1,"ends":[],"notes":[]}"#,
-            text
-        )
-    );
-}
-
-#[test]
-fn first_certificate(rt: HostRuntime) {
-    let certificate = br#"{"version":1,"ends":[],"notes":[{},{"crit":1},{"crit":1},{},{}]}"#;
-    let text = r#"{"ends":[],"notes":[{},{"crit":1},{"crit":1},{},{}],"version":1}"#;
-    assert!(rt; writes(rt.alloc(), FIRST, certificate, text));
-}
-
-#[test]
-fn never(rt: HostRuntime) {
-    let certificate = br#" { "notes" : [ "never" ] , "ends" : [ ] , "version" : 1 } "#;
-    let text = r#"{"ends":[],"notes":["never"],"version":1}"#;
-    assert!(rt; writes(rt.alloc(), LOOP, certificate, text));
-}
-
-#[test]
-fn range_as_declared(rt: HostRuntime) {
-    let certificate =
-        br#"{"version":1,"ends":[],"notes":[{"crit":0,"range":{"b":[0,9],"a":[-5,5]}}]}"#;
-    let text = r#"{"ends":[],"notes":[{}],"version":1}"#;
-    assert!(rt; writes(rt.alloc(), LOOP, certificate, text));
-}
-
-#[test]
-fn ranges_by_name(rt: HostRuntime) {
-    let certificate =
-        br#"{"version":1,"ends":[],"notes":[{"range":{"b":[1,9],"a":[-5,-1]},"crit":255}]}"#;
-    let text = r#"{"ends":[],"notes":[{"crit":255,"range":{"a":[-5,-1],"b":[1,9]}}],"version":1}"#;
-    assert!(rt; writes(rt.alloc(), LOOP, certificate, text));
+            r#"{"ends":[],"notes":[],"version":1}"#,
+        ),
+        (
+            FIRST,
+            br#"{"version":1,"ends":[],"notes":[{},{"crit":1},{"crit":1},{},{}]}"#,
+            r#"{"ends":[],"notes":[{},{"crit":1},{"crit":1},{},{}],"version":1}"#,
+        ),
+        (
+            LOOP,
+            br#" { "notes" : [ "never" ] , "ends" : [ ] , "version" : 1 } "#,
+            r#"{"ends":[],"notes":["never"],"version":1}"#,
+        ),
+        (
+            LOOP,
+            br#"{"version":1,"ends":[],"notes":[{"crit":0,"range":{"b":[0,9],"a":[-5,5]}}]}"#,
+            r#"{"ends":[],"notes":[{}],"version":1}"#,
+        ),
+        (
+            LOOP,
+            br#"{"version":1,"ends":[],"notes":[{"range":{"b":[1,9],"a":[-5,-1]},"crit":255}]}"#,
+            r#"{"ends":[],"notes":[{"crit":255,"range":{"a":[-5,-1],"b":[1,9]}}],"version":1}"#,
+        ),
+    ];
+    for (app, certificate, text) in cases {
+        assert!(rt; writes(rt.alloc(), app, certificate, text));
+    }
 }
 
 #[test]

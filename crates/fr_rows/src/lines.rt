@@ -1,5 +1,5 @@
-// Lines that are read, each with the line that is written for it, and texts that are none.
-use fr_instr::{LineFault, Names, read_line, write_line};
+// Lines that are read, each with the line that is written for it, and texts that are refused.
+use fr_instr::{Names, read_line, write_line};
 use std::alloc::Global;
 use std::test::Fail;
 
@@ -13,7 +13,7 @@ fn names(alloc: Global) -> Result<Names, Fail> {
     Ok(names)
 }
 
-// A line as it may stand in a file, and behind the bar as it is written.
+// A text, and behind the bar the line that is written for it, or the fault that it is refused by.
 const LINES: &str = "set x = 3|set x = 3 + 0
 set x = x --1|set x = x - -1
 set x=x*-9223372036854775808|set x = x * -9223372036854775808
@@ -76,10 +76,8 @@ xMessageBufferReceiveFromISR(mb, 8)|xMessageBufferReceiveFromISR(mb, 8)
 x = xMessageBufferReceiveFromISR(mb, 8)|x = xMessageBufferReceiveFromISR(mb, 8)
 xStreamBufferReset(sb) else 1|xStreamBufferReset(sb) else 1
 xMessageBufferReset(mb)|xMessageBufferReset(mb)
-set x = 2147483648|set x = 2147483648 + 0";
-
-// A text that is no line, and behind the bar the fault.
-const REFUSED: &str = "goto -1|5 BadNumber
+set x = 2147483648|set x = 2147483648 + 0
+goto -1|5 BadNumber
 goto 01|5 BadNumber
 goto -0|5 BadNumber
 goto 2147483648|5 BadNumber
@@ -109,57 +107,37 @@ z = xStreamBufferSend(sb, 1, 0)|2 UnknownName
 xTaskNotifyGive(t)|3 UnknownCall
 xQueueSend(q)|4 ArgCount
 vTaskDelay()|4 ArgCount
-xQueueSend(q, 1, 0, 0)|4 ArgCount";
+xQueueSend(q, 1, 0, 0)|4 ArgCount
+set x = 1\t|1 Syntax
+goto\u{a0}1|1 Syntax";
 
-// Reads the line, and writes it.
-fn rewritten(alloc: Global, text: &str, names: &Names) -> Option<String> {
+// The line that is written for the text, or the fault that it is refused by.
+fn answer(alloc: Global, text: &str, names: &Names) -> Option<String> {
     match read_line(alloc, text, names) {
         Ok(line) => write_line(alloc, &line, names).ok(),
-        Err(_) => None,
+        Err(fault) => String::from_str(alloc, fault.text()).ok(),
     }
 }
 
-// Whether the line is written like this, and what is written is written so again.
-fn is_written(alloc: Global, text: &str, written: &str, names: &Names) -> bool {
-    match rewritten(alloc, text, names) {
-        Some(line) => line.as_str() == written,
+fn answers(alloc: Global, text: &str, names: &Names, wanted: &str) -> bool {
+    match answer(alloc, text, names) {
+        Some(line) => line.as_str() == wanted,
         None => false,
     }
 }
 
 #[test]
-fn writes_what_it_reads(rt: HostRuntime) -> Result<(), Fail> {
+fn lines_that_are_read_written_or_refused(rt: HostRuntime) -> Result<(), Fail> {
     let names = names(rt.alloc())?;
     for row in LINES.lines() {
-        let (text, written) = row.split_once('|').unwrap_or((row, ""));
-        assert!(rt; is_written(rt.alloc(), text, written, &names), "{text}");
-        assert!(rt; is_written(rt.alloc(), written, written, &names), "{text}");
-    }
-    Ok(())
-}
-
-#[test]
-fn refuses_lines(rt: HostRuntime) -> Result<(), Fail> {
-    let names = names(rt.alloc())?;
-    for row in REFUSED.lines() {
-        let (text, fault) = row.split_once('|').unwrap_or((row, ""));
-        let refusal = match read_line(rt.alloc(), text, &names) {
-            Ok(_) => "read",
-            Err(fault) => fault.text(),
-        };
-        assert_eq!(rt; refusal, fault, "{text}");
-    }
-    Ok(())
-}
-
-#[test]
-fn refuses_other_white_space(rt: HostRuntime) -> Result<(), Fail> {
-    let names = names(rt.alloc())?;
-    for text in ["set x = 1\n", "set x = 1\t", "goto\u{a0}1"] {
-        assert_eq!(rt;
-            read_line(rt.alloc(), text, &names).err(),
-            Some(LineFault::Syntax)
+        let (text, wanted) = row.split_once('|').unwrap_or((row, ""));
+        assert!(rt; answers(rt.alloc(), text, &names, wanted), "{text}");
+        let is_line = !wanted.starts_with(|c: char| c.is_ascii_digit());
+        assert!(rt;
+            !is_line || answers(rt.alloc(), wanted, &names, wanted),
+            "{text}"
         );
     }
+    assert!(rt; answers(rt.alloc(), "set x = 1\n", &names, "1 Syntax"));
     Ok(())
 }

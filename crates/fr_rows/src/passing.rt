@@ -1,4 +1,5 @@
 // Applications that pass with their certificate, and those that come back.
+use fr_calls::Rule;
 use fr_cert::read_cert;
 use fr_judge::{Part, Passed, Verdict};
 use fr_program::App;
@@ -30,17 +31,13 @@ fn has_one_task(app: &App) -> bool {
 }
 
 #[test]
-fn passes_where_the_verdict_is_yes(rt: HostRuntime) {
+fn passes_only_where_the_verdict_is_yes(rt: HostRuntime) {
     assert!(rt; passes(rt.alloc(), ROUND) == Some(Ok(true)));
-}
-
-#[test]
-fn comes_back_where_the_verdict_is_no(rt: HostRuntime) {
-    let returned = match passes(rt.alloc(), RETURNING) {
+    let comes_back = match passes(rt.alloc(), RETURNING) {
         Some(Err((same, Verdict::No { point, part }))) => {
-            same && point.pc == 0 && part == Part::Rule(11)
+            same && point.pc == 0 && part == Part::Rule(Rule::EndsInOrder)
         }
         _ => false,
     };
-    assert!(rt; returned);
+    assert!(rt; comes_back);
 }

@@ -1,6 +1,6 @@
 // The true answer, or that there was no memory: so each of these tests passes whichever allocation is refused
 // (`rt try --test --fail-alloc N`).
-use crate::answer::is_memory;
+use fr_calls::Rule;
 use fr_cert::{CertFault, read_cert, write_cert};
 use fr_judge::{Part, TextFault, Verdict, judge_text};
 use fr_reader::{ReadFault, read_app};
@@ -21,45 +21,47 @@ const FIRST_NOTES: &[u8] =
 const DELAYED_NOTES: &[u8] =
     br#"{"version":1,"ends":[],"notes":[{},{"crit":1},{"crit":1},{"crit":1},{}]}"#;
 
-#[test]
-fn verdict_yes(rt: HostRuntime) {
-    let kept = match &judge_text(rt.alloc(), FIRST, FIRST_NOTES) {
-        Ok(judged) => judged.verdict == Verdict::Yes,
-        Err(fault) => is_memory(fault),
-    };
-    assert!(rt; kept);
+/// Whether an allocation was refused.
+fn is_memory(fault: &TextFault) -> bool {
+    match fault {
+        TextFault::Memory => true,
+        TextFault::App(fault) => fault.is_memory(),
+        TextFault::Cert(fault) => fault.is_memory(),
+    }
 }
 
 #[test]
-fn verdict_no(rt: HostRuntime) {
-    let kept = match &judge_text(rt.alloc(), DELAYED_INSIDE, DELAYED_NOTES) {
+fn verdicts(rt: HostRuntime) {
+    let yes = match &judge_text(rt.alloc(), FIRST, FIRST_NOTES) {
+        Ok(judged) => judged.verdict == Verdict::Yes,
+        Err(fault) => is_memory(fault),
+    };
+    assert!(rt; yes);
+    let no = match &judge_text(rt.alloc(), DELAYED_INSIDE, DELAYED_NOTES) {
         Ok(judged) => match judged.verdict {
-            Verdict::No { point, part } => point.pc == 2 && part == Part::Rule(4),
+            Verdict::No { point, part } => point.pc == 2
+                && part == Part::Rule(Rule::AllowedInCritical),
             Verdict::Yes => false,
         },
         Err(fault) => is_memory(fault),
     };
-    assert!(rt; kept);
+    assert!(rt; no);
 }
 
 #[test]
-fn refused_application(rt: HostRuntime) {
-    let kept = match &judge_text(rt.alloc(), b"alarm = 1", FIRST_NOTES) {
+fn refusals(rt: HostRuntime) {
+    let app = match &judge_text(rt.alloc(), b"alarm = 1", FIRST_NOTES) {
         Err(TextFault::App(ReadFault::UnknownKey(_))) => true,
         Err(fault) => is_memory(fault),
         Ok(_) => false,
     };
-    assert!(rt; kept);
-}
-
-#[test]
-fn refused_certificate(rt: HostRuntime) {
-    let kept = match &judge_text(rt.alloc(), FIRST, DELAYED_INSIDE) {
+    assert!(rt; app);
+    let certificate = match &judge_text(rt.alloc(), FIRST, DELAYED_INSIDE) {
         Err(TextFault::Cert(CertFault::Json)) => true,
         Err(fault) => is_memory(fault),
         Ok(_) => false,
     };
-    assert!(rt; kept);
+    assert!(rt; certificate);
 }
 
 /// What is written for the first certificate, and the report on it; None where there is no memory.

@@ -1,7 +1,8 @@
 // Whole judgements by workers in threads. A gate that waits gives up after a while, and notes it.
+use fr_calls::Rule;
 use fr_cert::read_cert;
 use fr_judge::{Judged, Part, Verdict};
-use fr_parallel::{BytesFault, Gate, Open, ParFault, judge_bytes, judge_with};
+use fr_parallel::{BytesFault, Gate, Open, judge_bytes, judge_with};
 use fr_reader::read_app;
 use std::alloc::{AllocError, Global};
 use std::sync::Wait;
@@ -123,36 +124,8 @@ fn is_no_at_3(answer: &Result<Judged, BytesFault>) -> bool {
                 verdict: Verdict::No { point, part },
                 ..
             },
-        ) => point.pc == 3 && *part == Part::Rule(10),
+        ) => point.pc == 3 && *part == Part::Rule(Rule::DepthAboveZero),
         _ => false,
-    }
-}
-
-#[test]
-fn more_workers_than_jobs(rt: HostRuntime) -> Result<(), Fail> {
-    let alloc = rt.alloc();
-    let app = task(alloc, 2, &[])?;
-    let certificate = plain(alloc, 2)?;
-    let two = judge_bytes(
-        &rt,
-        alloc,
-        app.as_bytes(),
-        certificate.as_bytes(),
-        64,
-        &Open,
-    );
-    assert!(rt; is_yes(&two));
-    let none = plain(alloc, 0)?;
-    let empty = judge_bytes(&rt, alloc, b"", none.as_bytes(), 64, &Open);
-    assert!(rt; is_yes(&empty));
-    Ok(())
-}
-
-#[test]
-fn numbers_of_workers_that_are_refused(rt: HostRuntime) {
-    for workers in [0, 65] {
-        let answer = judge_bytes(&rt, rt.alloc(), b"[", b"[", workers, &Open);
-        assert!(rt; matches!(&answer, Err(BytesFault::Par(ParFault::Workers))));
     }
 }
 
@@ -234,7 +207,8 @@ fn verdict_on<R: Threads + Wait + Sync>(
 fn a_task_that_was_read_already(rt: HostRuntime) {
     assert!(rt; verdict_on(&rt, rt.alloc(), 7, &[]) == Some(Verdict::Yes));
     let failing = match verdict_on(&rt, rt.alloc(), 7, &[2, 5]) {
-        Some(Verdict::No { point, part }) => point.pc == 2 && part == Part::Rule(10),
+        Some(Verdict::No { point, part }) => point.pc == 2
+            && part == Part::Rule(Rule::DepthAboveZero),
         _ => false,
     };
     assert!(rt; failing);

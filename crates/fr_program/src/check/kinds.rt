@@ -1,13 +1,10 @@
-// Calls on objects of another kind, calls that are for interrupts, and results that don't fit.
+// Calls on objects of another kind, and calls that are for interrupts.
 ghost use Rattle.std.specs.Prelude.{◌≡◌, ◌≤◌, ◌↔◌, IsTrue};
-ghost use Rattle.fr_program.specs.Uses.{makes_kind, drops_kind, acts_on, is_semaphore, is_buffer, is_from_isr, is_timing_from_isr};
+ghost use Rattle.fr_program.specs.Uses.{makes_kind, drops_kind, acts_on, is_semaphore, is_buffer};
 ghost use Rattle.fr_program.specs.Fault.{SuitsKind, SuitsActor};
 ghost use Rattle.fr_program.specs.View.{actor_of, program_of};
 
-use crate::ids::ObjId;
-use crate::instr::{
-    Action, BufferKind, Call, CreatedKind, DeletedKind, Form, GiveForm, Instr, TakeForm, Timing,
-};
+use crate::instr::{Action, BufferKind, Call, CreatedKind, DeletedKind, Instr};
 use crate::parts::{Actor, ActorKind, Kind, Parts};
 
 pub fn suits_kind(parts: &Parts, instr: Instr) -> bool
@@ -98,47 +95,7 @@ pub fn suits_actor(actor: &Actor, instr: Instr) -> bool
     ensures { IsTrue result ↔ SuitsActor (actor_of actor.now) instr }
 {
     match (actor.kind, instr) {
-        (ActorKind::Task, Instr::Call(call)) => !is_from_isr(call),
+        (ActorKind::Task, Instr::Call(call)) => !call.is_from_isr(),
         _ => true,
-    }
-}
-
-fn is_from_isr(call: Call) -> bool
-    ensures { result ≡ is_from_isr call }
-{
-    match call {
-        Call::EnterCritical(Form::FromIsr) => true,
-        Call::ExitCritical(Form::FromIsr) => true,
-        Call::On { object, action } => is_action_from_isr(object, action),
-        _ => false,
-    }
-}
-
-fn is_action_from_isr(object: ObjId, action: Action) -> bool
-    ensures { result ≡ is_from_isr (Call.On object action) }
-{
-    match action {
-        Action::QueueSend { timing, .. } => is_timing_from_isr(timing),
-        Action::QueueReceive { timing, .. } => is_timing_from_isr(timing),
-        Action::Take {
-            form: TakeForm::FromIsr,
-            ..
-        } => true,
-        Action::Give {
-            form: GiveForm::FromIsr,
-            ..
-        } => true,
-        Action::Send { timing, .. } => is_timing_from_isr(timing),
-        Action::Receive { timing, .. } => is_timing_from_isr(timing),
-        _ => false,
-    }
-}
-
-fn is_timing_from_isr(timing: Timing) -> bool
-    ensures { result ≡ is_timing_from_isr timing }
-{
-    match timing {
-        Timing::Waits(_) => false,
-        Timing::FromIsr => true,
     }
 }

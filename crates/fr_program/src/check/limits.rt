@@ -15,9 +15,11 @@ const MOST_OBJECTS: usize = 64;
 
 const MOST_INSTRUCTIONS: usize = 512;
 
-const MOST_SIZE: u32 = 65535;
+/// The greatest size of an object, and the greatest length of a buffer call.
+pub const MOST_SIZE: u32 = 65535;
 
-const MOST_TICKS: u32 = 2147483647;
+/// The greatest number of ticks in a block time or a delay.
+pub const MOST_TICKS: u32 = 2147483647;
 
 pub fn is_small(parts: &Parts) -> bool
     ensures { IsTrue result ↔ IsSmall (program_of parts.now) }

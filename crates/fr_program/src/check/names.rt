@@ -1,4 +1,4 @@
-// Names: what may be one, and that each stands once. There are at most 160, so each pair is compared.
+// Names: what may be one, and that each is given once. There are at most 160, so each pair is compared.
 ghost use Rattle.std.specs.Prelude.{◌≡◌, ◌≢◌, ◌≤◌, ◌<◌, ◌↔◌, ◌||◌, IsTrue, All, AllPairs, Contains, IfOk, IfErr, map, length, slice_index, take, drop};
 ghost use Rattle.fr_program.specs.Limits.{IsName, names_of, is_letter, is_digit, reserved};
 ghost use Rattle.fr_program.specs.ListFault.{HasOwner, IsWord};
@@ -85,7 +85,7 @@ fn is_end_word(name: &str) -> bool
     name == "return" || name == "else" || name == "NULL" || name == "portMAX_DELAY"
 }
 
-pub fn stand_once(names: &[&str]) -> bool
+pub fn are_distinct(names: &[&str]) -> bool
     ensures { IsTrue result ↔ AllPairs (λ x y. x.now ≢ y.now) names.now }
 {
     for (k, name) in names.iter().enumerate() {

@@ -1,10 +1,10 @@
 // Targets, and the ends of codes.
-ghost use Rattle.std.specs.Prelude.{◌≡◌, ◌<◌, ◌↔◌, IsTrue, IfSome, All, true};
-ghost use Rattle.fr_program.specs.Uses.{TargetsBelow, else_of};
+ghost use Rattle.std.specs.Prelude.{◌≡◌, ◌<◌, ◌↔◌, IsTrue, IfSome, not, position};
+ghost use Rattle.fr_program.specs.Uses.{TargetsBelow};
 ghost use Rattle.fr_program.specs.ListFault.{ends_well};
 ghost use Rattle.fr_program.specs.View.{actor_of};
 
-use crate::instr::{Action, Call, Instr};
+use crate::instr::{Call, Instr};
 use crate::parts::Actor;
 
 pub fn are_targets_below(length: usize, instr: Instr) -> bool
@@ -14,7 +14,7 @@ pub fn are_targets_below(length: usize, instr: Instr) -> bool
         Instr::If { target, .. } => target < length,
         Instr::Goto { target } => target < length,
         Instr::Call(Call::Create { or_else, .. }) => is_else_below(length, or_else),
-        Instr::Call(Call::On { object: _, action }) => is_else_below(length, else_of(action)),
+        Instr::Call(Call::On { object: _, action }) => is_else_below(length, action.else_target()),
         _ => true,
     }
 }
@@ -28,24 +28,11 @@ fn is_else_below(length: usize, or_else: Option<usize>) -> bool
     }
 }
 
-fn else_of(action: Action) -> Option<usize>
-    ensures { result ≡ else_of action }
+/// The number of the first actor whose code doesn't end well.
+pub fn first_falling_off(actors: &[Actor]) -> Option<usize>
+    ensures { result ≡ position (λ a. not (ends_well (actor_of a))) actors.now }
 {
-    match action {
-        Action::QueueSend { or_else, .. } => or_else,
-        Action::QueueReceive { or_else, .. } => or_else,
-        Action::Take { or_else, .. } => or_else,
-        Action::Give { or_else, .. } => or_else,
-        Action::Reset { or_else, .. } => or_else,
-        Action::Send { .. } => None,
-        Action::Receive { .. } => None,
-    }
-}
-
-pub fn each_ends_well(actors: &[Actor]) -> bool
-    ensures { IsTrue result ↔ All (λ a. ends_well (actor_of a) ≡ true) actors.now }
-{
-    actors.iter().all(|actor| ends_well(actor))
+    actors.iter().position(|actor| !ends_well(actor))
 }
 
 fn ends_well(actor: &Actor) -> bool

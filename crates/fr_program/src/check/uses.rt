@@ -1,8 +1,8 @@
 // The variables of an instruction: how many are shared, whose they are, and whether they are there.
 ghost use Rattle.std.specs.Prelude.{◌≡◌, ◌≤◌, ◌<◌, ◌↔◌, ◌++◌, IsTrue, IfSome, All, count_by, length};
 ghost use Rattle.fr_program.specs.Uses.{variables_of, action_variables, operand_variables, option_list, object_named};
-ghost use Rattle.fr_program.specs.Fault.{is_shared, NamesThings};
-ghost use Rattle.fr_program.specs.InstrFault.{used, SharesAtMostOne, MayUse, MayUseAll, InEachPlace, IsVariable};
+ghost use Rattle.fr_program.specs.Fault.{is_shared, SharesAtMostOne, MayUse, MayUseAll, NamesThings};
+ghost use Rattle.fr_program.specs.InstrFault.{used, InEachPlace, IsVariable};
 ghost use Rattle.fr_program.specs.View.{program_of};
 
 use crate::ids::{ActorId, VarId};

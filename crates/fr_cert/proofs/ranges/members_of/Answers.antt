@@ -4,8 +4,9 @@ use Rattle.std.specs.Map.Iter.{deref_pair}
 use Rattle.std.proofs.lemmas.Map.Iter.{rest_more, rest_all}
 use Rattle.serde_json.specs.View.{members_view, view}
 use Rattle.serde_json.proofs.Views.{Entry}
-use Rattle.fr_cert.specs.Meaning.{IsNamed, Named}
-use Rattle.fr_cert.specs.Faults.{InNamed, InMembers}
+use Rattle.fr_cert.specs.Meaning.{IsRange}
+use Rattle.fr_cert.specs.PlainMeaning.{Named}
+use Rattle.fr_cert.specs.PlainFaults.{InNamed, InMembers}
 use Rattle.fr_cert.specs.Views.{named_of}
 use Rattle.fr_cert.proofs.MemberLemmas.{named_push, map_push, in_members}
 use Rattle.fr_cert.proofs.ranges.members_of.Goals as goal
@@ -33,7 +34,7 @@ loop-name-preserved c =
     let next = rest_more deref_pair c.loop-name.name-iterator c.next.new.self c.next.result (c.in-Some.name, c.in-Some.value) c.in-Some.is c.next.ensures.steps in
     let inv = c.loop-name.invariant in
     let x = named_of c.in_ok-named_range.field-0 in
-    let Here : List ℕ → Type 0 = λ name. IsNamed P name (view e.1) x in (
+    let Here : List ℕ → Type 0 = λ name. IsRange P name (view e.1) x in (
       inv.0 ++ e ∷ [],
       inv.1 ∙ ap (λ t. inv.0 ++ t) next ∙ sym (append_assoc inv.0 (e ∷ []) c.next.new.self),
       rw (c.in_ok-push.ensures.items, map_push named_of c.loop-name.ranges.items c.in_ok-named_range.field-0)

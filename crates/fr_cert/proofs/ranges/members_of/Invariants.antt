@@ -1,7 +1,7 @@
 use Rattle.std.proofs.Common.{◌≡◌, List, ◌++◌, map}
 use Rattle.serde_json.specs.View.{members_view}
 use Rattle.serde_json.proofs.Views.{Entry}
-use Rattle.fr_cert.specs.Meaning.{Named}
+use Rattle.fr_cert.specs.PlainMeaning.{Named}
 use Rattle.fr_cert.specs.Views.{named_of}
 use Rattle.fr_cert.proofs.ranges.members_of.Given as goal
 

@@ -4,7 +4,7 @@ use Rattle.serde_json.specs.View.{view}
 use Rattle.serde_json.proofs.Views.{get_item_within}
 use Rattle.fr_notes.specs.Fits.{NoteFits}
 use Rattle.fr_cert.specs.Path.{at}
-use Rattle.fr_cert.specs.Stands.{InNote}
+use Rattle.fr_cert.specs.PlainStands.{InNote}
 use Rattle.fr_cert.proofs.EntryLemmas.{each_more, each_all}
 use Rattle.fr_cert.proofs.FaultLemmas.{within_of}
 use Rattle.fr_cert.proofs.reading.each_note.Goals as goal

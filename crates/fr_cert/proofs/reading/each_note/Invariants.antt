@@ -1,7 +1,7 @@
 use Rattle.std.proofs.Common.{All, take}
 use Rattle.serde_json.specs.View.{items_view}
 use Rattle.fr_notes.specs.Fits.{NoteFits}
-use Rattle.fr_cert.specs.Meaning.{EachNote}
+use Rattle.fr_cert.specs.PlainMeaning.{EachNote}
 use Rattle.fr_cert.proofs.reading.each_note.Given as goal
 
 abbrev pub invariant-loop-index : goal.invariant-loop-index

@@ -3,7 +3,7 @@ use Rattle.serde_json.specs.View.{view}
 use Rattle.fr_cert.specs.Path.{key}
 use Rattle.fr_cert.specs.Keys.{key_text}
 use Rattle.fr_cert.specs.Faults.{deeper}
-use Rattle.fr_cert.specs.Stands.{InNotes}
+use Rattle.fr_cert.specs.PlainStands.{InNotes}
 use Rattle.fr_cert.specs.declared.key.Key.TheVariants.{Notes}
 use Rattle.fr_cert.proofs.FaultLemmas.{within_of}
 use Rattle.fr_cert.proofs.reading.notes_at.Goals as goal

@@ -3,7 +3,8 @@ use Rattle.serde_json.specs.Data.{object, no_members}
 use Rattle.serde_json.specs.View.{members_view}
 use Rattle.serde_json.proofs.Views.{view-Object}
 use Rattle.fr_notes.specs.View.{ends_of}
-use Rattle.fr_cert.specs.Written.{with_ranges, with_crit, with_range, alternative_tree}
+use Rattle.fr_cert.specs.Written.{with_ranges}
+use Rattle.fr_cert.specs.PlainWritten.{with_crit, with_range, alternative_tree}
 use Rattle.fr_cert.proofs.FitLemmas.{AreNumbers, fit_numbers, all_numbers}
 use Rattle.fr_cert.proofs.writing.alternative_value.Goals as goal
 
@@ -11,7 +12,7 @@ pub ranges_value-requires-clause-numbers : goal.ranges_value-requires-clause-num
 ranges_value-requires-clause-numbers c =
     let n = c.args.alternative.now in
     let same : map ends_of c.deref.result.now ≡ n.ranges = ap (map ends_of) c.deref.ensures.value ∙ ap (λ a. a.ranges) c.alternative.view_is in
-    all_numbers c.deref.result.now (subst (All AreNumbers) (sym same) (fit_numbers c.args.app.now n c.is_faultless.ensures.faultless.limits c.requires))
+    all_numbers c.deref.result.now (subst (All AreNumbers) (sym same) (fit_numbers c.args.app.now n c.recall_faultless.ensures.faultless.limits c.requires))
 
 pub returns : goal.returns
 unfolding alternative_tree

@@ -3,6 +3,7 @@ use Rattle.std.proofs.lemmas.Result.{IfOk-weaker}
 use Rattle.std.proofs.lemmas.Str.{IsUtf8-string_bytes}
 use Rattle.serde_json.specs.Written.{has_float, compact_text}
 use Rattle.fr_cert.specs.Written.{cert_text}
+use Rattle.fr_cert.proofs.Taken.{all_said, tree_same}
 use Rattle.fr_cert.proofs.WrittenLemmas.{no_float}
 use Rattle.fr_cert.proofs.WrittenLaws.{written_again}
 use Rattle.fr_cert.proofs.writing.write_cert.Goals as goal
@@ -10,9 +11,15 @@ use Rattle.fr_cert.proofs.writing.write_cert.Goals as goal
 pub returns-clause-written : goal.returns-clause-written
 unfolding cert_text
 returns-clause-written c =
+    let P = c.args.app.now in
+    let C = c.args.certificate.now in
     let tree = c.in_ok-value.ensures in
-    IfOk-weaker c.to_string.result _ _ (λ s text. text (ap has_float tree ∙ no_float c.args.app.now c.args.certificate.now) ∙ ap compact_text tree) c.to_string.ensures.text
+    let whole = tree_same P C c.requires.taken.0 (all_said P C.notes c.requires.taken.1) in
+    IfOk-weaker c.to_string.result _ _ (λ s text. text (ap has_float tree ∙ no_float P C) ∙ (ap compact_text tree ∙ ap compact_text whole)) c.to_string.ensures.text
 
 pub returns-clause-again : goal.returns-clause-again
 returns-clause-again c =
-    IfOk-weaker c.to_string.result _ _ (λ s parsed size. written_again c.args.app.now c.args.certificate.now _ _ c.is_faultless.ensures.faultless c.requires.fits c.requires.said c.are_none.ensures c.in_ok-value.ensures (IsUtf8-string_bytes s) parsed size) c.to_string.ensures.reads_back
+    let P = c.args.app.now in
+    let C = c.args.certificate.now in
+    let said = all_said P C.notes c.requires.taken.1 in
+    IfOk-weaker c.to_string.result _ _ (λ s parsed size. written_again P C _ _ c.recall_faultless.ensures.faultless c.requires.fits said c.requires.taken.0 c.in_ok-value.ensures (IsUtf8-string_bytes s) parsed size) c.to_string.ensures.reads_back

@@ -7,13 +7,13 @@ use Rattle.fr_judge.proofs.verdict.judge.Goals as goal
 
 pub returns-in-Some-clause-verdict : goal.returns-in-Some-clause-verdict
 returns-in-Some-clause-verdict c =
-    first-failure c.args.app.now c.args.certificate.now c.is_numbered.ensures c.loop-number.number c.point.result c.in-Some.part c.loop-number.invariant c.point.ensures (c.in-Some.ensures.first c.point.result c.point.ensures)
+    first-failure c.args.app.now c.args.certificate.now c.recall_numbered.ensures c.loop-number.number c.point.result c.in-Some.part c.loop-number.invariant c.point.ensures (c.in-Some.ensures.first c.point.result c.point.ensures)
 
 pub returns-clause-verdict : goal.returns-clause-verdict
 returns-clause-verdict c =
-    (Yes, refl, all-keep c.args.app.now c.args.certificate.now c.is_numbered.ensures (λ p is lt. c.loop-number.invariant p is (omega (arith, lt, c.points-number-end.ensures, c.loop-number-test.false))))
+    (Yes, refl, all-keep c.args.app.now c.args.certificate.now c.recall_numbered.ensures (λ p is lt. c.loop-number.invariant p is (omega (arith, lt, c.points-number-end.ensures, c.loop-number-test.false))))
 
 pub returns-clause-safe : goal.returns-clause-safe
 returns-clause-safe c e =
-    yes-safe c.args.app.now c.args.certificate.now c.is_faultless.ensures.faultless c.requires.fits
-    (Yes, refl, all-keep c.args.app.now c.args.certificate.now c.is_numbered.ensures (λ p is lt. c.loop-number.invariant p is (omega (arith, lt, c.points-number-end.ensures, c.loop-number-test.false))))
+    yes-safe c.args.app.now c.args.certificate.now c.recall_faultless.ensures.faultless c.requires.fits
+    (Yes, refl, all-keep c.args.app.now c.args.certificate.now c.recall_numbered.ensures (λ p is lt. c.loop-number.invariant p is (omega (arith, lt, c.points-number-end.ensures, c.loop-number-test.false))))

@@ -1,4 +1,4 @@
-use Rattle.fr_notes.specs.Narrow.{Compares}
+use Rattle.fr_notes.specs.Comparison.{Compares}
 use Rattle.fr_notes.specs.Change.{Turns}
 use Rattle.fr_notes.proofs.ChangeLaws.{branch-made}
 use Rattle.fr_notes.proofs.change.branch.Goals as goal

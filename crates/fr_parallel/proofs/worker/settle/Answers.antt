@@ -2,13 +2,13 @@ use Rattle.std.proofs.Common.{rules, ℕ, ap, ◌∙◌, subst}
 use Rattle.fr_board.specs.declared.progress.Outcome.TheVariants.{Failed}
 use Rattle.fr_board.specs.declared.progress.Progress.{Progress}
 use Rattle.fr_board.specs.Progress.{after_outcome}
-use Rattle.fr_parallel.specs.Tasks.{KeepsIn}
+use Rattle.fr_parallel.specs.Assignments.{KeepsIn}
 use Rattle.fr_parallel.proofs.Verdicts.{told-fails}
 use Rattle.fr_parallel.proofs.worker.settle.Goals as goal
 
 pub returns-in-Some-clause-settled : goal.returns-in-Some-clause-settled
 returns-in-Some-clause-settled g c =
-    let t = c.args.task in
+    let t = c.args.assignment in
     let number = c.number-number in
     let fails = told-fails t.app.now t.certificate.now number.result c.in-Some.field-0 (search rules) c.in-Some.ensures.first in (
       Failed,

@@ -19,7 +19,7 @@ returns-then-not-is_key_of-clause-err c _ =
     c.in_ok-from_str.ensures.ok ∙ c.as_str-then-not-is_key_of.ensures.value in (
       found.0,
       rw same found.1,
-      ap (is_key_of c.args.place) (same ∙ sym c.as_str.ensures.value) ∙ sym c.is_key_of.ensures ∙ c.if-not-is_key_of.true,
+      ap (is_key_of c.args.kind) (same ∙ sym c.as_str.ensures.value) ∙ sym c.is_key_of.ensures ∙ c.if-not-is_key_of.true,
     )
 
 pub loop-name-preserved : goal.loop-name-preserved
@@ -28,13 +28,13 @@ loop-name-preserved c =
     let inv = c.loop-name.invariant in (
       inv.0 ++ c.in-Some.name.now ∷ [],
       inv.1 ∙ ap (λ t. inv.0 ++ t) next ∙ sym (append_assoc inv.0 (c.in-Some.name.now ∷ []) c.next.new.self),
-      known_push (λ k. IsTrue (is_key_of c.args.place (string_bytes k))) inv.0 c.in-Some.name.now inv.2 (ap (is_key_of c.args.place) (sym c.as_str.ensures.value) ∙ sym c.is_key_of.ensures ∙ c.if-not-is_key_of.false),
+      known_push (λ k. IsTrue (is_key_of c.args.kind (string_bytes k))) inv.0 c.in-Some.name.now inv.2 (ap (is_key_of c.args.kind) (sym c.as_str.ensures.value) ∙ sym c.is_key_of.ensures ∙ c.if-not-is_key_of.false),
     )
 
 pub returns-clause-ok : goal.returns-clause-ok
 returns-clause-ok c =
     let end = rest_all deref c.loop-name.name-iterator c.next.new.self c.next.result c.in-None.is c.next.ensures.steps in
     let inv = c.loop-name.invariant in
-    let P : List (String Global) → Type 0 = AllByRecursion (λ k. IsTrue (is_key_of c.args.place (string_bytes k))) in
+    let P : List (String Global) → Type 0 = AllByRecursion (λ k. IsTrue (is_key_of c.args.kind (string_bytes k))) in
     let all : P (keys_of c.args.table.now.entries) = subst P (sym (inv.1 ∙ ap (λ t. inv.0 ++ t) end ∙ append-nil inv.0)) inv.2 in
-    each_known (λ k. IsTrue (is_key_of c.args.place k)) c.args.table.now.entries all
+    each_known (λ k. IsTrue (is_key_of c.args.kind k)) c.args.table.now.entries all

@@ -1,5 +1,5 @@
 use Rattle.fr_program.specs.declared.ids.VarId.{VarId}
-use Rattle.fr_program.specs.InstrFault.{MayUse}
+use Rattle.fr_program.specs.Fault.{MayUse}
 use Rattle.fr_program.specs.Uses.{variables_of}
 use Rattle.fr_program.specs.View.{program_of}
 use Rattle.fr_program.proofs.UsesLemmas.{All-used, used-All}

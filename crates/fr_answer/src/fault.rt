@@ -1,0 +1,99 @@
+// Why a command has no answer, with its exit status and its line.
+ghost use Rattle.std.specs.Prelude.{◌≡◌, IfOk, string_bytes};
+ghost use Rattle.fr_answer.specs.declared.fault.CheckFault.TheVariants.{Memory};
+ghost use Rattle.fr_answer.specs.Checked.{fault_status, line_of};
+
+use fr_cert::CertFault;
+use fr_parallel::{BytesFault, ParFault};
+use fr_reader::ReadFault;
+use std::alloc::{AllocError, Global};
+
+/// Why a command has no answer.
+#[derive(Debug, Drop)]
+pub enum CheckFault {
+    /// The application's bytes are refused.
+    App(ReadFault),
+    /// The certificate's bytes are refused.
+    Cert(CertFault),
+    /// The number of workers is not 1 to 64.
+    Workers,
+    /// The number of rounds is not 1 to 64.
+    Rounds,
+    /// There are over 1,000,000 polls.
+    Polls,
+    /// An allocation was refused.
+    Memory,
+    /// A thread couldn't be started.
+    Thread,
+    /// A file couldn't be read.
+    Read,
+    /// The writer failed.
+    Write,
+}
+
+impl CheckFault {
+    ghost use Rattle.fr_answer.specs.Checked.{check_fault};
+
+    /// The fault that bytes without a verdict come to, with each inner fault of memory as `Memory`.
+    pub fn of_bytes(fault: BytesFault) -> CheckFault
+        ensures { result ≡ check_fault fault }
+    {
+        match fault {
+            BytesFault::Par(ParFault::Memory) => CheckFault::Memory,
+            BytesFault::Par(ParFault::Workers) => CheckFault::Workers,
+            BytesFault::Par(ParFault::Threads) => CheckFault::Thread,
+            BytesFault::App(fault) => {
+                if fault.is_memory() {
+                    CheckFault::Memory
+                } else {
+                    CheckFault::App(fault)
+                }
+            }
+            BytesFault::Cert(fault) => {
+                if fault.is_memory() {
+                    CheckFault::Memory
+                } else {
+                    CheckFault::Cert(fault)
+                }
+            }
+        }
+    }
+}
+
+impl From<AllocError> for CheckFault {
+    ghost from_gives = { λ _ e. e ≡ Memory };
+
+    fn from(_refused: AllocError) -> CheckFault {
+        CheckFault::Memory
+    }
+}
+
+/// The exit status: 2 where the input or the words are refused, 3 where the machine failed.
+pub fn status(fault: &CheckFault) -> u8
+    ensures { result ≡ fault_status fault.now }
+{
+    match fault {
+        CheckFault::App(_)
+        | CheckFault::Cert(_)
+        | CheckFault::Workers
+        | CheckFault::Rounds
+        | CheckFault::Polls => 2,
+        CheckFault::Memory | CheckFault::Thread | CheckFault::Read | CheckFault::Write => 3,
+    }
+}
+
+/// The line for standard error, without its newline. An error says that an allocation was refused.
+pub fn fault_line(alloc: Global, fault: &CheckFault) -> Result<String, AllocError>
+    ensures { IfOk result (λ line. string_bytes line ≡ line_of fault.now) }
+{
+    match fault {
+        CheckFault::App(fault) => format!(in alloc; "refused: app {fault}"),
+        CheckFault::Cert(fault) => format!(in alloc; "refused: cert {fault}"),
+        CheckFault::Workers => String::from_str(alloc, "refused: workers"),
+        CheckFault::Rounds => String::from_str(alloc, "refused: rounds"),
+        CheckFault::Polls => String::from_str(alloc, "refused: polls"),
+        CheckFault::Memory => String::from_str(alloc, "machine: memory"),
+        CheckFault::Thread => String::from_str(alloc, "machine: thread"),
+        CheckFault::Read | CheckFault::Write => String::from_str(alloc, "machine: file"),
+    }
+}

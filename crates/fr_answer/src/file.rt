@@ -1,0 +1,60 @@
+// Reading a file's bytes.
+ghost use Rattle.std.specs.Prelude.{◌≡◌, ◌≤◌, ◌+◌, IfOk, vec_len};
+ghost use Rattle.std.specs.Io.KnownBytes.{Consumes, IsAtEnd};
+ghost use Rattle.fr_answer.specs.Checked.{load_fault};
+
+use crate::fault::CheckFault;
+use std::alloc::Global;
+use std::io::Read;
+
+/// The most bytes of an application.
+pub const MOST_APP_BYTES: usize = 1_048_576;
+
+/// The most bytes of a certificate.
+pub const MOST_CERTIFICATE_BYTES: usize = 16_777_216;
+
+/// Why a file's bytes couldn't be had.
+#[derive(Clone, Copy, Debug, PartialEq, Eq)]
+pub enum LoadFault {
+    /// An allocation was refused.
+    Memory,
+    /// A read failed.
+    Device,
+}
+
+impl LoadFault {
+    /// The fault of a check whose file couldn't be read.
+    pub fn check_fault(self) -> CheckFault
+        ensures { result ≡ load_fault self }
+    {
+        match self {
+            LoadFault::Memory => CheckFault::Memory,
+            LoadFault::Device => CheckFault::Read,
+        }
+    }
+}
+
+/// Reads to the end, or to `limit` plus 1 bytes, so that a text that is too long shows as such. Ok
+/// is what was read. A read that fails is `Device`, with no second try.
+pub fn load<R: Read>(alloc: Global, reader: &mut R, limit: usize) -> Result<Vec<u8>, LoadFault>
+    requires { limit ≤ 16777216 }
+    ensures read { IfOk result
+        (λ bytes. Consumes (R.remaining reader.old) (R.remaining reader.new) bytes.items) }
+    ensures most { IfOk result (λ bytes. vec_len bytes ≤ limit + 1) }
+    ensures whole { IfOk result (λ bytes. vec_len bytes ≤ limit → IsAtEnd (R.remaining reader.new)) }
+{
+    let mut bytes = Vec::new(alloc);
+    let mut chunk = [0u8; 4096];
+    while bytes.len() <= limit {
+        let want = (limit + 1 - bytes.len()).min(chunk.len());
+        let got = match reader.read(&mut chunk[..want]) {
+            Ok(0) => return Ok(bytes),
+            Ok(got) => got,
+            Err(_) => return Err(LoadFault::Device),
+        };
+        if bytes.extend_from_slice(&chunk[..got]).is_err() {
+            return Err(LoadFault::Memory);
+        }
+    }
+    Ok(bytes)
+}

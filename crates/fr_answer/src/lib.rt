@@ -1,0 +1,14 @@
+// What answers a command, from the bytes of the files to the report, the exit status and a refusal's line. `load` reads a
+// file, `check_with` judges and writes the report, and `answer_check` is the whole of it: the program and the worked
+// rows both call it, and its contract says what an exit status means.
+#![tactic(auto)]
+
+mod answer;
+mod check;
+mod fault;
+mod file;
+
+pub use answer::{answer_check, answer_fault};
+pub use check::{check_to, check_with};
+pub use fault::{CheckFault, fault_line, status};
+pub use file::{LoadFault, MOST_APP_BYTES, MOST_CERTIFICATE_BYTES, load};

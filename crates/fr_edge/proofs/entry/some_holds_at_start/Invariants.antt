@@ -1,0 +1,8 @@
+use Rattle.std.proofs.Common.{ℕ}
+use Rattle.fr_calls.specs.State.{start}
+use Rattle.fr_notes.specs.Note.{Alternative, HoldsOne}
+use Rattle.fr_edge.specs.Alternatives.{IsAmong}
+use Rattle.fr_edge.proofs.entry.some_holds_at_start.Given as goal
+
+abbrev pub invariant-loop-alternative : goal.invariant-loop-alternative
+invariant-loop-alternative l = (a : ℕ) (n : Alternative) → IsAmong l.alternative-items l.alternative-index n → HoldsOne n a (start l.app) → ⊥

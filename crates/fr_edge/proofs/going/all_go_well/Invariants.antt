@@ -1,6 +1,0 @@
-use Rattle.fr_notes.specs.Note.{Alternative}
-use Rattle.fr_edge.specs.Alternatives.{IsAmong, GoesWell}
-use Rattle.fr_edge.proofs.going.all_go_well.Given as goal
-
-abbrev pub invariant-loop-alternative : goal.invariant-loop-alternative
-invariant-loop-alternative l = (n : Alternative) → IsAmong l.alternative-items l.alternative-index n → GoesWell n l.instr l.way l.next

@@ -1,6 +1,0 @@
-use Rattle.std.proofs.Common.{◌<◌, ℕ}
-use Rattle.fr_edge.specs.Starts.{BeginsWithin}
-use Rattle.fr_edge.proofs.starting.begins_with_ranges.Given as goal
-
-abbrev pub invariant-loop-x : goal.invariant-loop-x
-invariant-loop-x l = (k : ℕ) → k < l.x → BeginsWithin l.ranges l.variables k

@@ -1,0 +1,96 @@
+// Whether a point's note holds when the scheduler starts.
+ghost use Rattle.std.specs.Prelude.{◌≡◌, ◌<◌, ◌↔◌, ℕ, [], length, All, IsTrue};
+ghost use Rattle.fr_calls.specs.State.{start};
+ghost use Rattle.fr_notes.specs.Fits.{AlternativeFits};
+ghost use Rattle.fr_notes.specs.Note.{HoldsOne, Holds, Within};
+ghost use Rattle.fr_notes.specs.Noted.{note_at};
+ghost use Rattle.fr_notes.specs.View.{ends_of};
+ghost use Rattle.fr_edge.specs.Own.{Entry};
+ghost use Rattle.fr_edge.specs.Starts.{BeginsWithin};
+
+use fr_notes::{Alternative, Claim, Note, Notes};
+use fr_program::{App, Object, Point, Range, Side, Variable};
+
+fn is_declared_claim(claim: Claim, object: &Object) -> bool {
+    match claim {
+        Claim::NotHeld => true,
+        Claim::Alive => object.live,
+        Claim::Gone => !object.live,
+        Claim::HeldTimes(_) => false,
+    }
+}
+
+fn begins_in(range: Range, variable: &Variable) -> bool
+    ensures { IsTrue result ↔ Within (ends_of range) variable.now.init }
+{
+    let number = i128::from(variable.init);
+    range.lo <= number && number <= range.hi
+}
+
+/// Today no application has objects, so that there are no claims.
+fn begins_with_claims(objects: &[Object], claims: &[Claim]) -> bool
+    ensures { claims.now ≡ [] → IsTrue result }
+{
+    objects
+        .iter()
+        .zip(claims)
+        .all(|(object, claim)| is_declared_claim(*claim, object))
+}
+
+fn begins_with_ranges(variables: &[Variable], ranges: &[Range]) -> bool
+    requires { length ranges.now ≡ length variables.now }
+    ensures { IsTrue result ↔ ((x : ℕ) → x < length variables.now → BeginsWithin ranges.now variables.now x) }
+{
+    for (x, variable) in variables.iter().enumerate() {
+        if !begins_in(ranges[x], variable) {
+            return false;
+        }
+    }
+    true
+}
+
+/// Whether the alternative holds of an actor when the scheduler starts.
+fn holds_at_start(app: &App, alternative: &Alternative) -> bool
+    requires { AlternativeFits app.now alternative.now }
+    ensures { (a : ℕ) → (IsTrue result ↔ HoldsOne alternative.now a (start app.now)) }
+{
+    app.recall_faultless();
+    if alternative.crit != 0 {
+        return false;
+    }
+    if alternative.susp != 0 {
+        return false;
+    }
+    if !begins_with_claims(app.objects(), &alternative.claims) {
+        return false;
+    }
+    begins_with_ranges(app.variables(), &alternative.ranges)
+}
+
+/// Whether some alternative of the note holds of an actor when the scheduler starts.
+fn some_holds_at_start(app: &App, note: &Note) -> bool
+    requires { All (λ n. AlternativeFits app.now n) note.now }
+    ensures { (a : ℕ) → (IsTrue result ↔ Holds note.now a (start app.now)) }
+{
+    for alternative in note.alternatives() {
+        if holds_at_start(app, alternative) {
+            return true;
+        }
+    }
+    false
+}
+
+/// Whether the point's actor doesn't begin there, or begins with the note.
+pub fn enters(app: &App, notes: &Notes, note: &Note, point: Point) -> bool
+    requires fits { All (λ n. AlternativeFits app.now n) note.now }
+    requires note { note.now ≡ note_at app.now notes.now point }
+    ensures { IsTrue result ↔ Entry app.now notes.now point }
+{
+    if point.pc != 0 {
+        return true;
+    }
+    match point.side {
+        Side::Before => some_holds_at_start(app, note),
+        Side::Inside => true,
+    }
+}

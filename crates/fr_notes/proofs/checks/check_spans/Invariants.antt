@@ -1,0 +1,7 @@
+use Rattle.std.specs.List.{AllWithin}
+use Rattle.fr_notes.specs.Parts.{IsNarrowing}
+use Rattle.fr_notes.proofs.checks.check_spans.Given as goal
+
+-- no entry so far has the fault
+abbrev pub invariant-loop-entry : goal.invariant-loop-entry
+invariant-loop-entry l = AllWithin (IsNarrowing l.app) l.narrower 0 l.entry-index

@@ -1,0 +1,13 @@
+use Rattle.std.proofs.Common.{arith}
+use Rattle.std.proofs.lemmas.Int.{ints, clamps}
+use Rattle.std.proofs.lemmas.Option.{IfSome_then}
+use Rattle.fr_notes.proofs.ComparisonLaws.{none_then}
+use Rattle.fr_notes.proofs.comparison.down_to.Goals as goal
+
+pub returns-clause-some : goal.returns-clause-some
+returns-clause-some c = IfSome_then c.new.result c.new.ensures.some (λ new h. (omega (arith, ints, clamps), omega (arith, ints, clamps)))
+
+pub returns-clause-none : goal.returns-clause-none
+returns-clause-none c =
+    let o = c.args.range.ordered in
+    none_then c.new.result c.new.ensures.none (λ h. omega (arith, ints, clamps))

@@ -1,7 +1,0 @@
-use Rattle.std.specs.List.{AllWithin}
-use Rattle.fr_notes.specs.Implied.{ImpliesSome}
-use Rattle.fr_notes.proofs.implying.imply_each.Given as goal
-
--- each alternative so far implies some other one
-abbrev pub invariant-loop-alternative : goal.invariant-loop-alternative
-invariant-loop-alternative l = AllWithin (ImpliesSome l.others) l.alternatives 0 l.alternative-index

@@ -1,0 +1,22 @@
+-- What the workers of one assignment owe and hand back.
+use Rattle.std.specs.Prelude.{ℕ}
+use Rattle.fr_board.specs.Values.{PassValue}
+use Rattle.fr_ends.specs.Fits.{CertificateFits}
+use Rattle.fr_parallel.specs.declared.worker.Assignment.{Assignment}
+use Rattle.fr_parallel.specs.Kept.{IsFor, IsNewFor, IsWorkedBy, KeepsAt}
+
+-- the board has a job for each point, and the certificate fits
+abbrev pub IsReady : Assignment → Type 0
+IsReady t = IsFor t.app.now t.board.now × CertificateFits t.app.now t.certificate.now
+
+-- a pass of the assignment's board that has done nothing
+abbrev pub IsNewOf : Assignment → PassValue → Type 0
+IsNewOf t p = IsNewFor t.board.now p
+
+-- the point with this number keeps every part
+abbrev pub KeepsIn : Assignment → ℕ → Type 0
+KeepsIn t number = KeepsAt t.app.now t.certificate.now number
+
+-- the passes of so many workers after their turns, as one
+abbrev pub IsDoneBy : Assignment → ℕ → PassValue → Type 0
+IsDoneBy t count p = IsWorkedBy t.board.now t.app.now t.certificate.now count p

@@ -1,0 +1,104 @@
+// The verdict, found by several workers.
+ghost use Rattle.std.specs.Prelude.{◌≡◌, ◌↔◌, length, IfOk, OnOk, IfErr, IsErrOf, Some, IsTrue};
+ghost use Rattle.fr_board.specs.Tally.{IsNewBoard, IsSeatCount};
+ghost use Rattle.fr_program.specs.Points.{points_of};
+ghost use Rattle.fr_calls.specs.Run.{IsSafe};
+ghost use Rattle.fr_ends.specs.Fits.{CertificateFits};
+ghost use Rattle.fr_judge.specs.declared.part.Verdict.TheVariants.{Yes};
+ghost use Rattle.fr_judge.specs.Told.{TellsVerdict, Speaks};
+ghost use Rattle.fr_parallel.specs.declared.fault.ParFault.TheVariants.{Workers};
+ghost use Rattle.fr_parallel.specs.Kept.{IsLeastFailing, IsNoCrew};
+
+use crate::crew::worked_by_all;
+use crate::fault::ParFault;
+use crate::gate::Gate;
+use fr_board::{Board, BoardFault, Pass};
+use fr_ends::Certificate;
+use fr_judge::{Verdict, job};
+use fr_program::App;
+use std::alloc::Global;
+use std::sync::Wait;
+use std::thread::Threads;
+
+// Whether there can be so many workers.
+pub(crate) fn is_crew(workers: usize) -> bool
+    ensures { IsTrue result ↔ IsSeatCount workers }
+{
+    0 < workers && workers <= 64
+}
+
+// A board with a job for each point, and a pass for each worker.
+fn board_for(alloc: Global, app: &App, workers: usize) -> Result<(Board, Vec<Pass>), ParFault>
+    ensures new { IfOk result (λ r. IsNewBoard (length (points_of app.now)) workers r.0 r.1.items) }
+    ensures count { OnOk result (IsSeatCount workers) }
+    ensures fault { IfErr result (λ e. (e ≡ Workers) ↔ IsNoCrew workers) }
+{
+    app.recall_faultless();
+    match Board::new(alloc, app.points() as u64, workers) {
+        Ok(made) => Ok(made),
+        Err(BoardFault::Memory) => Err(ParFault::Memory),
+        Err(BoardFault::Seats) => Err(ParFault::Workers),
+        Err(BoardFault::Jobs) => unreachable!(),
+    }
+}
+
+// The verdict No, where the least point that fails has this number.
+fn refused_at(app: &App, certificate: &Certificate, number: usize) -> Verdict
+    requires fits { CertificateFits app.now certificate.now }
+    requires least { IsLeastFailing app.now certificate.now (Some number) }
+    ensures verdict { TellsVerdict app.now certificate.now result }
+    ensures speaks { Speaks app.now result }
+{
+    match job(app, certificate, number) {
+        Some(part) => Verdict::No {
+            point: app.point(number),
+            part,
+        },
+        None => unreachable!(),
+    }
+}
+
+// The verdict, where the least point that fails has this number, or none does.
+fn verdict_at(app: &App, certificate: &Certificate, least: Option<u64>) -> Verdict
+    requires fits { CertificateFits app.now certificate.now }
+    requires least { IsLeastFailing app.now certificate.now least }
+    ensures verdict { TellsVerdict app.now certificate.now result }
+    ensures speaks { Speaks app.now result }
+{
+    match least {
+        None => Verdict::Yes,
+        Some(number) => refused_at(app, certificate, number as usize),
+    }
+}
+
+/// The verdict on an application and a certificate that fits it, found by this many workers, each in a thread of its own.
+///
+/// It is the one verdict of both, whichever worker judges what and in whatever order. A `Yes` says that no state of any run of the
+/// application breaches a rule, and a `No` names only what the application has.
+///
+/// # Errors
+///
+/// `Workers` exactly where `workers` isn't 1 to 64, before any memory is asked for; `Memory` where memory is refused; `Threads`
+/// where a thread can't be started. Threads that were started have ended then.
+pub fn judge_with<R: Threads + Wait + Sync, G: Gate>(
+    rt: &R,
+    alloc: Global,
+    app: &App,
+    certificate: &Certificate,
+    workers: usize,
+    gate: &G,
+) -> Result<Verdict, ParFault>
+    requires fits { CertificateFits app.now certificate.now }
+    ensures verdict { IfOk result (λ v. TellsVerdict app.now certificate.now v) }
+    ensures safe { IfOk result (λ v. v ≡ Yes → IsSafe app.now) }
+    ensures speaks { IfOk result (λ v. Speaks app.now v) }
+    ensures workers { IsErrOf result Workers ↔ IsNoCrew workers }
+{
+    let (board, passes) = board_for(alloc, app, workers)?;
+    let all = worked_by_all(rt, alloc, app, certificate, &board, passes, gate)?;
+    app.recall_faultless();
+    match board.finish(all) {
+        Ok(tally) => Ok(verdict_at(app, certificate, tally.least)),
+        Err(_) => unreachable!(),
+    }
+}

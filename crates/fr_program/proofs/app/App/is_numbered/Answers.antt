@@ -1,5 +1,0 @@
-use Rattle.fr_program.proofs.PointLaws.{points_are_numbered}
-use Rattle.fr_program.proofs.app.App.is_numbered.Goals as goal
-
-pub returns : goal.returns
-returns c = points_are_numbered c.args.self.now

@@ -1,0 +1,144 @@
+// The worked rows: answers each row of the folder that the first word names by the call that the program makes, and tells
+// those that get another answer than their files hold. What needs code is in the tests.
+#![tactic(auto)]
+
+mod answer;
+#[cfg(test)]
+mod application_texts;
+#[cfg(test)]
+mod board_draws;
+#[cfg(test)]
+mod built_applications;
+#[cfg(test)]
+mod built_notes;
+#[cfg(test)]
+mod certificates;
+#[cfg(test)]
+mod faults;
+mod files;
+#[cfg(test)]
+mod lines;
+#[cfg(test)]
+mod own_obligations;
+#[cfg(test)]
+mod passing;
+#[cfg(test)]
+mod plain_notes;
+mod row;
+#[cfg(test)]
+mod want_of_memory;
+#[cfg(test)]
+mod workers;
+
+use answer::Answer;
+use files::names_in;
+use row::{Cut, Row};
+use std::env;
+use std::io::{self, ErrorKind};
+use std::process::ExitCode;
+use std::sync::Wait;
+use std::thread::Threads;
+
+const MACHINE: u8 = 3;
+
+/// Whether the row is answered as its files say, and if not, prints it with both answers.
+fn is_kept<R: Threads + Wait + Sync>(
+    rt: &HostRuntime,
+    threads: &R,
+    row: &Row,
+    cut: Option<Cut>,
+) -> io::Result<bool> {
+    let alloc = rt.alloc();
+    let (app, certificate) = (row.app(cut), row.certificate(cut));
+    let answer = Answer::to_files(threads, alloc, app, certificate, row.workers);
+    if answer.is_same(&row.expected) {
+        return Ok(true);
+    }
+    let (expected, got) = (row.expected.text(alloc)?, answer.text(alloc)?);
+    let length = match cut {
+        Some(cut) => format!(in alloc; ", a file cut to {} bytes", cut.length)?,
+        None => String::new(alloc),
+    };
+    println!(rt;
+        "{}{length}: differs\n  expected {expected}\n  got {got}",
+        row.name
+    )?;
+    Ok(false)
+}
+
+/// Whether each answer to the row is as its files say: one, or one for each length that a file is cut to.
+fn is_row_kept<R: Threads + Wait + Sync>(
+    rt: &HostRuntime,
+    threads: &R,
+    row: &Row,
+) -> io::Result<bool> {
+    if row.cuts.is_empty() {
+        return is_kept(rt, threads, row, None);
+    }
+    for cut in &row.cuts {
+        if !is_kept(rt, threads, row, Some(*cut))? {
+            return Ok(false);
+        }
+    }
+    Ok(true)
+}
+
+/// Whether the row with this name can be read and is kept; an error of its files is told as a difference.
+fn is_told_right<R: Threads + Wait + Sync>(
+    rt: &HostRuntime,
+    threads: &R,
+    folder: &str,
+    name: &str,
+) -> io::Result<bool> {
+    match Row::read(rt, folder, name) {
+        Ok(row) => is_row_kept(rt, threads, &row),
+        Err(error) => {
+            println!(rt; "{name}: {error}")?;
+            Ok(false)
+        }
+    }
+}
+
+fn answer_rows<R: Threads + Wait + Sync>(
+    rt: &HostRuntime,
+    threads: &R,
+    folder: &str,
+) -> io::Result<u8> {
+    let names = names_in(rt, folder)?;
+    if names.is_empty() {
+        return Err(io::Error::new(ErrorKind::InvalidData, "there are no rows"));
+    }
+    let mut differing: Vec<&str> = Vec::new(rt.alloc());
+    for name in &names {
+        if !is_told_right(rt, threads, folder, name.as_str())? {
+            differing.push(name.as_str())?;
+        }
+    }
+    println!(rt; "{} rows, {} differ", names.len(), differing.len())?;
+    Ok(u8::from(!differing.is_empty()))
+}
+
+/// The folder that the first word names.
+fn folder(rt: &HostRuntime) -> io::Result<String> {
+    let words: Vec<String> = env::args(rt)?.collect(rt.alloc())?;
+    match words.get(1) {
+        Some(word) => Ok(word.clone()?),
+        None => Err(io::Error::new(ErrorKind::InvalidInput, "name the folder of the rows")),
+    }
+}
+
+/// Does what the word asks for. The handle `threads` is the runtime's own, by which threads are started.
+fn run<R: Threads + Wait + Sync>(rt: &HostRuntime, threads: &R) -> io::Result<u8> {
+    let folder = folder(rt)?;
+    answer_rows(rt, threads, folder.as_str())
+}
+
+fn main(rt: HostRuntime) -> ExitCode {
+    match run(&rt, &rt) {
+        Ok(status) => ExitCode::from(status),
+        Err(error) => {
+            let _told = eprintln!(&rt; "{error}");
+            ExitCode::from(MACHINE)
+        }
+    }
+}
