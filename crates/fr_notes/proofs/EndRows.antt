@@ -22,8 +22,9 @@ use Rattle.fr_program.specs.Program.{Program}
 use Rattle.fr_program.specs.Uses.{action_variables}
 use Rattle.fr_calls.specs.declared.way.Way.{Way}
 use Rattle.fr_calls.specs.State.{State, Content, Dead, Held, CanHave, content_of, kind_of, becomes, count_held}
-use Rattle.fr_calls.specs.Rule.{GivesUnheld, UsesDead, IsLive, used_object}
-use Rattle.fr_calls.specs.Step.{Ends, IsFree, with_result}
+use Rattle.fr_calls.specs.declared.rules.Rule.TheVariants.{IsLive}
+use Rattle.fr_calls.specs.Rule.{GivesUnheld, UsesDead, used_object}
+use Rattle.fr_calls.specs.Step.{Completes, IsFree, transition, with_result}
 use Rattle.fr_calls.proofs.Free.{inside-free, live-use}
 use Rattle.fr_notes.specs.Note.{Within, HeldTimes}
 use Rattle.fr_notes.specs.View.{ends_of}
@@ -154,14 +155,14 @@ module _ (P : Program) (S : State) (a b : ℕ) (o : ObjId) where
   unheld-gives ne kind action known is t i = absurd (false≢true t)
 
   -- where a use of the object is free, the object is live
-  pub free-live : (side : Side) (i : Instr) → used_object i ≡ Some o.0 → IsFree P S a side i → content_of S o.0 ≢ Dead
+  pub free-live : (side : Side) (i : Instr) → used_object i side ≡ Some o.0 → IsFree P S a side i → content_of S o.0 ≢ Dead
   free-live side i uses free dead = free.0 IsLive refl (o.0, uses, dead)
 
 -- what the end of an object call has to give, on an object of which this is known and which is `new` after it
 pub record IsEndRow (s : Site) (o : ObjId) (known new : Holding) (action : Action) (way : Way) (result : Option VarId) (span : Range) : Type 0 where
-  pub after : (S : State) (c : ℤ) (mid : State) → IsKnown s S → IsIn (mover s) (other s) known (content_of S o.0) → Ends s.app S (mover s) o.0 action way c mid → (made : Content) × (v : ℤ) × (mid ≡ with_result result v (becomes o.0 made S)) × IsIn (mover s) (other s) new made × Within (ends_of span) v
+  pub after : (S : State) (c : ℤ) (mid : State) → IsKnown s S → IsIn (mover s) (other s) known (content_of S o.0) → Completes s.app (transition S (mover s) c mid) o.0 action way → (made : Content) × (v : ℤ) × (mid ≡ with_result result v (becomes o.0 made S)) × IsIn (mover s) (other s) new made × Within (ends_of span) v
   pub shown : (d : Bool) → (before : Content) × CanHave s.app (kind_of s.app o.0) before × IsIn (mover s) (other s) known before
-      × ((S : State) → IsKnown s S → content_of S o.0 ≡ before → (c : ℤ) × (made : Content) × Ends s.app S (mover s) o.0 action way c (with_result result (end_of d (ends_of span)) (becomes o.0 made S)))
+      × ((S : State) → IsKnown s S → content_of S o.0 ≡ before → (c : ℤ) × (made : Content) × Completes s.app (transition S (mover s) c (with_result result (end_of d (ends_of span)) (becomes o.0 made S))) o.0 action way)
 
 module _ (P : Program) (k : Known) (p : Point) (o : ObjId) (known : Holding) (action : Action) (e : IsEnd P k p o known action) where
   abbrev i : Instr
@@ -179,7 +180,7 @@ module _ (P : Program) (k : Known) (p : Point) (o : ObjId) (known : Holding) (ac
 
     end-free : IsIn (mover s) (other s) known (content_of S o.0) → IsFree P S p.actor.0 Inside i
     end-free inside =
-        inside-free P S p.actor.0 i e.suits (gives-held P S (mover s) (other s) o action known e.held inside) (live-use P S p.actor.0 i o.0 refl (living-live (mover s) (other s) (content_of S o.0) (holding k o.0) known e.living inside))
+        inside-free P S p.actor.0 i e.suits (gives-held P S (mover s) (other s) o action known e.held inside) (live-use P S p.actor.0 i Inside o.0 refl (living-live (mover s) (other s) (content_of S o.0) (holding k o.0) known e.living inside))
 
   pub end-left : (way : Way) (new : Holding) (result : Option VarId) (span : Range) → Follows known new → IfSome result (λ x. x.0 < length P.variables) → ((q : Point) (there : IsOther P k p q) → IsEndRow (site P k p q Inside i e.spot there) o known new action way result span) → IsLeft P k p way (resulting k o (mover_claim new) result span)
   end-left way new result span follows variable row = object-left P k p Inside i way e.spot o new result span (λ q there.
@@ -201,5 +202,5 @@ module _ (P : Program) (k : Known) (p : Point) (o : ObjId) (known : Holding) (ac
         variable = variable;
       })
 
-  pub end-never : (way : Way) → ((q : Point) (there : IsOther P k p q) (S : State) (c : ℤ) (mid : State) → IsKnown (site P k p q Inside i e.spot there) S → IsIn p.actor.0 (other (site P k p q Inside i e.spot there)) known (content_of S o.0) → Ends P S p.actor.0 o.0 action way c mid → ⊥) → NeverSteps P k p way
+  pub end-never : (way : Way) → ((q : Point) (there : IsOther P k p q) (S : State) (c : ℤ) (mid : State) → IsKnown (site P k p q Inside i e.spot there) S → IsIn p.actor.0 (other (site P k p q Inside i e.spot there)) known (content_of S o.0) → Completes P (transition S p.actor.0 c mid) o.0 action way → ⊥) → NeverSteps P k p way
   end-never way none = row-never P k p Inside i way e.spot (λ q there S c mid is free ends. none q there S c mid is (end-in q there S is free) ends)

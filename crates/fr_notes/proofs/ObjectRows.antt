@@ -16,7 +16,7 @@ use Rattle.fr_program.specs.declared.instr.Instr.{Instr}
 use Rattle.fr_program.specs.declared.range.Range.{Range}
 use Rattle.fr_calls.specs.declared.way.Way.{Way}
 use Rattle.fr_calls.specs.State.{State, Content, Dead, CanHave, content_of, value_of, kind_of, becomes, write}
-use Rattle.fr_calls.specs.Step.{Row, IsFree, with_result}
+use Rattle.fr_calls.specs.Step.{Row, IsFree, transition, with_result}
 use Rattle.fr_notes.specs.declared.change.Change.{Change}
 use Rattle.fr_notes.specs.Note.{Within}
 use Rattle.fr_notes.specs.View.{ends_of}
@@ -31,10 +31,10 @@ use Rattle.fr_notes.proofs.Rows.{Attains, IsAfter, IsRow, site, row-exact}
 
 -- what a row on an object has to give; the object is `new` after it, and the result, if there is one, is in the span
 pub record IsObjectRow (s : Site) (side : Side) (i : Instr) (way : Way) (o : ObjId) (new : Holding) (result : Option VarId) (span : Range) : Type 0 where
-  pub after : (S : State) (c : ℤ) (mid : State) → IsKnown s S → IsFree s.app S (mover s) side i → Row s.app S (mover s) side i way c mid → (made : Content) × (v : ℤ) × (mid ≡ with_result result v (becomes o.0 made S)) × IsIn (mover s) (other s) new made × Within (ends_of span) v
+  pub after : (S : State) (c : ℤ) (mid : State) → IsKnown s S → IsFree s.app S (mover s) side i → Row s.app (transition S (mover s) c mid) side i way → (made : Content) × (v : ℤ) × (mid ≡ with_result result v (becomes o.0 made S)) × IsIn (mover s) (other s) new made × Within (ends_of span) v
   -- for each end a content before, and from each state with that content the row
   pub shown : (d : Bool) → (before : Content) × CanHave s.app (kind_of s.app o.0) before × IsIn (mover s) (other s) (holding s.known o.0) before
-      × ((S : State) → IsKnown s S → content_of S o.0 ≡ before → (c : ℤ) × (made : Content) × Row s.app S (mover s) side i way c (with_result result (end_of d (ends_of span)) (becomes o.0 made S)) × IsFree s.app S (mover s) side i)
+      × ((S : State) → IsKnown s S → content_of S o.0 ≡ before → (c : ℤ) × (made : Content) × Row s.app (transition S (mover s) c (with_result result (end_of d (ends_of span)) (becomes o.0 made S))) side i way × IsFree s.app S (mover s) side i)
   pub taught : taught (mover_claim new) (other_claim (holding s.known o.0)) ≡ other_claim new
   pub some : new ≢ Unheld
   pub object : o.0 < length s.app.objects
@@ -89,7 +89,7 @@ module _ (s : Site) (side : Side) (i : Instr) (way : Way) (o : ObjId) (new : Hol
     unfolding base
     base-can = instead-same o.0 (r.shown d).0 (usual s).content
 
-    row-there : (f : Choice) → IsChosen s f → f.content o.0 ≡ (r.shown d).0 → (c : ℤ) × (made : Content) × Row s.app (drawn s f) (mover s) side i way c (with_result result (end_of d (ends_of span)) (becomes o.0 made (drawn s f))) × IsFree s.app (drawn s f) (mover s) side i
+    row-there : (f : Choice) → IsChosen s f → f.content o.0 ≡ (r.shown d).0 → (c : ℤ) × (made : Content) × Row s.app (transition (drawn s f) (mover s) c (with_result result (end_of d (ends_of span)) (becomes o.0 made (drawn s f)))) side i way × IsFree s.app (drawn s f) (mover s) side i
     row-there f chosen e = (r.shown d).3 (drawn s f) (drawn-known s f chosen) (drawn-content s f o.0 r.object ∙ e)
 
   ends-written : (result : Option VarId) (r : IsObjectRow s side i way o new result span) → IfSome (resulting s.known o (mover_claim new) result span).first (λ w. (d : Bool) → Attains s side i way (λ mid. value_of mid w.0.0 ≡ end_of d (ends_of w.1)))
