@@ -14,3 +14,6 @@ pub mod Rows
 pub mod PlainRows
 pub mod ObjectRows
 pub mod EndRows
+pub mod SemaphoreContents
+pub mod Ends
+pub mod SemaphoreRows
