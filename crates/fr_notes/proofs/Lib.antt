@@ -17,3 +17,4 @@ pub mod EndRows
 pub mod SemaphoreContents
 pub mod Ends
 pub mod SemaphoreRows
+pub mod QueueRows

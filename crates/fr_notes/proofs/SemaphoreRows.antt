@@ -18,7 +18,7 @@ use Rattle.fr_calls.specs.State.{State, Content, Count, CanHave, content_of, kin
 use Rattle.fr_calls.specs.Rule.{is_unsuited}
 use Rattle.fr_calls.specs.Step.{taken, given, is_full, take_can_time_out}
 use Rattle.fr_notes.specs.Known.{Known, IsLeft, NeverSteps}
-use Rattle.fr_notes.specs.Holding.{Holding, Unheld, Living, Lifeless, Own, Others, holding, living, mover_claim, taken_by, given_by, is_given_unheld}
+use Rattle.fr_notes.specs.Holding.{Holding, Unheld, Living, Lifeless, Own, Others, holding, living, mover_claim, taken_by, given_by, can_be_full, is_given_unheld}
 use Rattle.fr_notes.specs.Spot.{IsEnd, claiming}
 use Rattle.fr_notes.proofs.Holdings.{IsIn, HoldingFits}
 use Rattle.fr_notes.proofs.Seen.{apart}
@@ -96,12 +96,6 @@ can-be-given P a b (Message size) form or_else before known content made l f sui
 can-be-given P a b kind form or_else before Lifeless content made l f suits held t m = never-lifeless before l
 can-be-given P a b kind form or_else before Unheld content made l f suits held t m = never-unheld before l
 can-be-given P a b kind form or_else before known content made l f suits held t m = cc
-
--- whether a give of this kind can be refused, where there is no room
-abbrev pub can_be_full : Kind → Bool
-can_be_full Binary = true
-can_be_full (Counting size first) = true
-can_be_full kind = false
 
 -- a full semaphore
 full-shown : (P : Program) (a b : ℕ) (kind : Kind) (before known : Holding) → living before ≡ Some known → KindInLimits kind → HoldingFits P a b kind known → can_be_full kind ≡ true → (content : Content) × CanHave P kind content × IsIn a b known content × IsTrue (is_full kind content)

@@ -7,6 +7,7 @@
 -- | mover_claim, other_claim  | what each of the two can claim of it                                           |
 -- | living                    | what is known of it where it is live                                           |
 -- | taken_by, given_by        | what a take or a give by the mover makes of it                                 |
+-- | can_be_full               | whether a give can be refused                                                  |
 -- | is_given_unheld           | a give of a mutex that the mover isn't known to hold                           |
 use Rattle.std.specs.Prelude.{ℕ, ◌+◌, ◌-◌, Option, None, Some, Bool, true, false, nat_le, if◌then◌else◌}
 use Rattle.fr_program.specs.declared.instr.Action.{Action}
@@ -78,10 +79,11 @@ given_by Binary Living = Some Living
 given_by (Counting size first) Living = Some Living
 given_by kind known = None
 
--- whether the mover holds the object
-abbrev pub is_own : Holding → Bool
-is_own (Own count) = true
-is_own known = false
+-- whether a give to this kind of object can be refused, since there is no room
+abbrev pub can_be_full : Kind → Bool
+can_be_full Binary = true
+can_be_full (Counting size first) = true
+can_be_full kind = false
 
 -- whether the action is a give of a mutex, in the form that suits it, which the mover isn't known to hold
 abbrev pub is_given_unheld : Kind → Action → Holding → Bool
