@@ -18,3 +18,4 @@ pub mod SemaphoreContents
 pub mod Ends
 pub mod SemaphoreRows
 pub mod QueueRows
+pub mod BufferRows
