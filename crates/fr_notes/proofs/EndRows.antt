@@ -116,7 +116,7 @@ follows-taught (Others m) known (Others n) e f =
 
 module _ (P : Program) (S : State) (a b : ℕ) (o : ObjId) where
   -- a mutex that is known to be the mover's isn't given unheld
-  gives-held : (action : Action) (known : Holding) → is_given_unheld (kind_of P o.0) action known ≡ false → IsIn a b known (content_of S o.0) → GivesUnheld P S a (Calls (On o action)) → ⊥
+  pub gives-held : (action : Action) (known : Holding) → is_given_unheld (kind_of P o.0) action known ≡ false → IsIn a b known (content_of S o.0) → GivesUnheld P S a (Calls (On o action)) → ⊥
   gives-held (Give PlainGive e) known f i (mutex, none) =
       own known (subst (λ kind. is_given_unheld kind (Give PlainGive e) known ≡ false) mutex f) i
     where

@@ -29,14 +29,14 @@ use Rattle.fr_notes.proofs.ObjectRows.{same-content}
 use Rattle.fr_notes.proofs.EndRows.{Follows, IsEndRow, end-left, end-never, end-names}
 
 -- where there is no result, any range does
-no_range : Range
+pub no_range : Range
 no_range = record { lo = pos 0; hi = pos 0; ordered = omega (arith, ints) }
 
 no-range-lo : no_range.lo ≡ pos 0
 unfolding no_range
 no-range-lo = refl
 
-no-range-in : (no_range.lo ≤ℤ pos 0) × (pos 0 ≤ℤ no_range.hi)
+pub no-range-in : (no_range.lo ≤ℤ pos 0) × (pos 0 ≤ℤ no_range.hi)
 unfolding no_range
 no-range-in = (omega (arith, ints), omega (arith, ints))
 

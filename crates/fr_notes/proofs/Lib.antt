@@ -19,3 +19,4 @@ pub mod Ends
 pub mod SemaphoreRows
 pub mod QueueRows
 pub mod BufferRows
+pub mod LifeRows
