@@ -127,7 +127,7 @@ fn is_from_isr(call: &Call) -> bool
 }
 
 /// Whether a take or a give doesn't suit the kind of semaphore.
-fn is_unsuited(kind: Kind, action: &Action) -> bool
+pub fn is_unsuited(kind: Kind, action: &Action) -> bool
     ensures { result ≡ is_unsuited kind action.now }
 {
     match (kind, action) {

@@ -6,3 +6,4 @@ pub mod PartsLemmas
 pub mod FitLemmas
 pub mod ImplicationLemmas
 pub mod ChangeLaws
+pub mod KnownUses

@@ -7,6 +7,9 @@ pub mod Compare
 pub mod Implication
 pub mod Comparison
 pub mod Change
+pub mod Known
+pub mod KnownView
+pub mod KnownUses
 pub mod Laws
 pub mod WorkedNotes
 pub mod WorkedParts

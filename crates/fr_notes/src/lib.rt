@@ -10,6 +10,8 @@ mod comparison;
 mod fault;
 mod fits;
 mod implication;
+mod kept;
+mod known;
 mod laws;
 mod note;
 mod notes;
