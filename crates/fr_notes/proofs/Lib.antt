@@ -7,3 +7,8 @@ pub mod FitLemmas
 pub mod ImplicationLemmas
 pub mod ChangeLaws
 pub mod KnownUses
+pub mod Holdings
+pub mod Seen
+pub mod Left
+pub mod Rows
+pub mod PlainRows

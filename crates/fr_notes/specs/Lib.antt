@@ -10,6 +10,8 @@ pub mod Change
 pub mod Known
 pub mod KnownView
 pub mod KnownUses
+pub mod Holding
+pub mod Spot
 pub mod Laws
 pub mod WorkedNotes
 pub mod WorkedParts

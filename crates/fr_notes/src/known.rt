@@ -2,10 +2,12 @@
 ghost use Rattle.std.specs.Prelude.{◌≡◌, ◌≤◌, ◌≤ℤ◌, IfSome, option_copied};
 ghost use Rattle.std.specs.Int.{int_min, int_max};
 ghost use Rattle.fr_notes.specs.Known.{alone, beside, IsPossible, joint_range, joint_claim, joined, meet_of, is_other_critical, is_other_holder, claims_some};
+ghost use Rattle.fr_notes.specs.Holding.{holding};
 ghost use Rattle.fr_notes.specs.Note.{claim_of, range_of};
 ghost use Rattle.fr_notes.specs.View.{ends_of};
 
 use crate::claim::Claim;
+use crate::holding::Holding;
 use crate::note::Alternative;
 use fr_program::Range;
 use std::marker::Model;
@@ -168,6 +170,17 @@ impl<'a> Known<'a> {
         match self.other {
             None => range,
             Some(other) => met(range, range_at(other, variable)),
+        }
+    }
+
+    /// What is known of an object, for both actors.
+    pub fn holding(&self, object: usize) -> Holding
+        ensures { result ≡ holding self.now object }
+    {
+        let claim = claim_at(self.mover, object);
+        match self.other {
+            None => Holding::of(claim, Claim::NotHeld),
+            Some(other) => Holding::of(claim, claim_at(other, object)),
         }
     }
 

@@ -9,6 +9,7 @@ mod claim;
 mod comparison;
 mod fault;
 mod fits;
+mod holding;
 mod implication;
 mod kept;
 mod known;

@@ -1,0 +1,57 @@
+-- For private clauses: what a row of the step table leaves, at whatever point its instruction is.
+--
+-- | word                       | meaning                                                                             |
+-- |----------------------------|-------------------------------------------------------------------------------------|
+-- | IsSpot                     | a point at this side of this instruction, in an application without a fault         |
+-- | Leaves                     | a change is what a row leaves, or there is none and no step                         |
+-- | LeavesAt, LeavesBefore     | so at each point of the instruction, and before it where no rule stops the mover    |
+-- | unchanged, claiming        | the change that changes nothing, the one that says this of one object               |
+use Rattle.std.specs.Prelude.{◌≡◌, Option, None, Some}
+use Rattle.fr_program.specs.declared.ids.ObjId.{ObjId}
+use Rattle.fr_program.specs.declared.ids.VarId.{VarId}
+use Rattle.fr_program.specs.declared.ids.Point.{Point}
+use Rattle.fr_program.specs.declared.ids.Side.{Side}
+use Rattle.fr_program.specs.declared.ids.Side.TheVariants.{Before}
+use Rattle.fr_program.specs.declared.instr.Instr.{Instr}
+use Rattle.fr_program.specs.Program.{Program}
+use Rattle.fr_program.specs.Lookup.{IsPoint, instr_of, actor_at, is_interrupt}
+use Rattle.fr_program.specs.Fault.{IsFaultless}
+use Rattle.fr_calls.specs.declared.way.Way.{Way}
+use Rattle.fr_calls.specs.Rule.{first_forbidden}
+use Rattle.fr_notes.specs.declared.change.Change.{Change}
+use Rattle.fr_notes.specs.Known.{Known, KnownFits, IsLeft, NeverSteps, claims_some}
+use Rattle.fr_notes.specs.Note.{Claim}
+
+-- a point at this side of this instruction, in an application without a fault that what is known fits
+pub record IsSpot (P : Program) (k : Known) (p : Point) (side : Side) (i : Instr) : Type 0 where
+  pub faultless : IsFaultless P
+  pub fits : KnownFits P k
+  pub point : IsPoint P p
+  pub stands : p.side ≡ side
+  pub instr : instr_of P p ≡ Some i
+
+-- the change is what the row leaves; with no change, no state with what is known has a step by the row
+abbrev pub Leaves : Program → Known → Point → Way → Option Change → Type 0
+Leaves P k p way None = NeverSteps P k p way
+Leaves P k p way (Some change) = IsLeft P k p way change
+
+-- so at each point of the instruction
+abbrev pub LeavesAt : Program → Known → Side → Instr → Way → Option Change → Type 0
+LeavesAt P k side i way change = (p : Point) → IsSpot P k p side i → Leaves P k p way change
+
+-- none of the rules that depths, the kind of actor and mutexes decide stops the mover before the instruction
+abbrev pub IsUnforbidden : Program → Known → Point → Instr → Type 0
+IsUnforbidden P k p i =
+    first_forbidden P (is_interrupt (actor_at P p.actor.0).kind) k.mover.critical k.mover.suspended (claims_some k.mover.claims) i ≡ None
+
+-- so before the instruction, at each of its points where none of those rules stops the mover
+abbrev pub LeavesBefore : Program → Known → Instr → Way → Option Change → Type 0
+LeavesBefore P k i way change = (p : Point) → IsSpot P k p Before i → IsUnforbidden P k p i → Leaves P k p way change
+
+-- the change that changes nothing
+abbrev pub unchanged : Known → Change
+unchanged k = record { crit = k.mover.critical; susp = k.mover.suspended; claim = None; first = None; second = None }
+
+-- the change that says this of one object
+abbrev pub claiming : Known → ObjId → Claim → Change
+claiming k o claim = record (unchanged k) { claim = Some (o, claim) }
