@@ -11,10 +11,10 @@ use Rattle.fr_calls.proofs.Built.{HasSizes}
 use Rattle.fr_calls.proofs.Contents.{new-fits}
 use Rattle.fr_notes.specs.Note.{Claim, NotHeld, Alive, Gone, HeldTimes, Meets}
 use Rattle.fr_notes.specs.Fits.{CanClaim}
-use Rattle.fr_notes.specs.Implied.{ClaimImplies}
+use Rattle.fr_notes.specs.Implication.{ClaimImplies}
 use Rattle.fr_notes.specs.Known.{ClaimsMeet, joined}
 use Rattle.fr_notes.specs.Holding.{Holding, Unheld, Living, Lifeless, Own, Others, holding_of, mover_claim, other_claim}
-use Rattle.fr_notes.proofs.Shown.{depth_for-same, depth_for-other, new-live}
+use Rattle.fr_notes.proofs.Shown.{depth_for-same, new-live}
 
 -- the actor holds no mutex there, not even so often as 0
 abbrev pub IsUnheldBy : ℕ → Content → Type 0

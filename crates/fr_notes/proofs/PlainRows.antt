@@ -1,6 +1,6 @@
 -- The rows that touch no variable and no object.
-use Rattle.std.proofs.Common.{◌≡◌, ◌≢◌, ℕ, zero, suc, ◌+◌, ◌-◌, ◌<◌, ◌≤◌, length, get_or, Option, Some, None, Bool, true, false, refl, sym, ap, ◌∙◌, subst, arith, ⊎_elim, get_or-set_other}
-use Rattle.std.specs.Prelude.{ℤ, pos, IfSome, nat_lt, ◌⊎◌}
+use Rattle.std.proofs.Common.{◌≡◌, ◌≢◌, ℕ, zero, suc, ◌+◌, ◌-◌, ◌≤◌, length, get_or, Option, Some, None, true, false, refl, sym, ap, ◌∙◌, subst, arith, ⊎_elim, get_or-set_other}
+use Rattle.std.specs.Prelude.{ℤ, pos, IfSome}
 use Rattle.std.proofs.lemmas.List.{get_or-set_same}
 use Rattle.std.proofs.lemmas.Grind.{common_steps}
 use Rattle.fr_program.specs.declared.ids.Point.{Point}
@@ -13,25 +13,26 @@ use Rattle.fr_program.specs.declared.instr.Call.TheVariants.{EnterCritical, Exit
 use Rattle.fr_program.specs.Program.{Program}
 use Rattle.fr_program.specs.Lookup.{actor_at, is_interrupt}
 use Rattle.fr_calls.specs.declared.way.Way.{Way}
-use Rattle.fr_calls.specs.declared.way.Way.TheVariants.{Works}
-use Rattle.fr_calls.specs.State.{State, Dead, depth_of, depth_in, suspension_of, in_critical, critical_at, suspend_at, held_at}
+use Rattle.fr_calls.specs.declared.way.Way.TheVariants.{Then}
+use Rattle.fr_calls.specs.State.{State, Dead, depth_of, depth_in, suspension_of, in_critical, critical_at, suspend_at}
 use Rattle.fr_calls.specs.Rule.{first_forbidden, holds_some, GivesUnheld, UsesDead, used_object}
-use Rattle.fr_calls.specs.Step.{Row, IsFree}
+use Rattle.fr_calls.specs.Step.{Row, IsFree, transition}
 use Rattle.fr_calls.proofs.Free.{before-free, no-use}
 use Rattle.fr_notes.specs.declared.change.Change.{Change}
 use Rattle.fr_notes.specs.Note.{Alternative}
-use Rattle.fr_notes.specs.Known.{Known, IsLeft, NeverSteps, is_other_critical, claims_some}
+use Rattle.fr_notes.specs.Known.{Known, IsLeft, NeverSteps, is_other_critical}
 use Rattle.fr_notes.specs.Holding.{Unheld}
 use Rattle.fr_notes.specs.Spot.{IsSpot, IsUnforbidden, unchanged}
 use Rattle.fr_notes.proofs.Shown.{depth_for-same, depth_for-other, held_at-same, held_at-other}
 use Rattle.fr_notes.proofs.Seen.{Site, mover, other, second, second_in, IsKnown, Choice, drawn, IsChosen, drawn-known, usual, usual-chosen, apart, mover-there, holds-known, other-depth, critical_for, second-critical}
-use Rattle.fr_notes.proofs.Rows.{IsAfter, IsRow, row-left, row-never, site}
+use Rattle.fr_notes.proofs.Rows.{IsRow, row-left, row-never, site}
 
 -- before an instruction that no rule stops, which gives no mutex that isn't held and uses no dead object, the mover is free
-pub free-before : (s : Site) (i : Instr) → IsUnforbidden s.app s.known s.p i → (S : State) → IsKnown s S → (GivesUnheld s.app S (mover s) i → ⊥) → (UsesDead S i → ⊥) → IsFree s.app S (mover s) Before i
+pub free-before : (s : Site) (i : Instr) → IsUnforbidden s.app s.known s.p i → (S : State) → IsKnown s S → (GivesUnheld s.app S (mover s) i → ⊥) → (UsesDead S i Before → ⊥) → IsFree s.app S (mover s) Before i
 free-before s i none S known gives uses =
-    let forbidden = λ (c d : ℕ) (h : Bool). first_forbidden s.app (is_interrupt (actor_at s.app (mover s)).kind) c d h i in
-    before-free s.app S (mover s) i (ap (λ c. forbidden c (suspension_of S (mover s)) (holds_some S (mover s))) known.mover.holds.critical ∙ ap (λ d. forbidden s.known.mover.critical d (holds_some S (mover s))) known.mover.holds.suspended ∙ ap (λ h. forbidden s.known.mover.critical s.known.mover.suspended h) (holds-known s S known) ∙ none) gives uses
+    let t = is_interrupt (actor_at s.app (mover s)).kind in
+    let e = ap (λ d. record { interrupt = t; critical = d; suspended = suspension_of S (mover s); holds = holds_some S (mover s) }) known.mover.holds.critical ∙ ap (λ d. record { interrupt = t; critical = s.known.mover.critical; suspended = d; holds = holds_some S (mover s) }) known.mover.holds.suspended ∙ ap (λ h. record { interrupt = t; critical = s.known.mover.critical; suspended = s.known.mover.suspended; holds = h }) (holds-known s S known) in
+    before-free s.app S (mover s) i (ap (λ k. first_forbidden s.app k i) e ∙ none) gives uses
 
 -- the change of the depths alone
 abbrev pub to_depths : ℕ → ℕ → Change
@@ -46,7 +47,7 @@ pub record IsPlainAfter (s : Site) (crit susp : ℕ) (S mid : State) : Type 0 wh
   pub others_critical : depth_of mid (other s) ≡ depth_of S (other s)
   pub others_suspended : suspension_of mid (other s) ≡ suspension_of S (other s)
 
-pub plain-row : (s : Site) (side : Side) (i : Instr) (way : Way) (crit susp : ℕ) → ((S : State) (c : ℤ) (mid : State) → IsKnown s S → Row s.app S (mover s) side i way c mid → IsPlainAfter s crit susp S mid) → ((f : Choice) → IsChosen s f → (c : ℤ) × (mid : State) × Row s.app (drawn s f) (mover s) side i way c mid × IsFree s.app (drawn s f) (mover s) side i) → IsRow s side i way (to_depths crit susp) Unheld (λ f. Unit {0})
+pub plain-row : (s : Site) (side : Side) (i : Instr) (way : Way) (crit susp : ℕ) → ((S : State) (c : ℤ) (mid : State) → IsKnown s S → Row s.app (transition S (mover s) c mid) side i way → IsPlainAfter s crit susp S mid) → ((f : Choice) → IsChosen s f → (c : ℤ) × (mid : State) × Row s.app (transition (drawn s f) (mover s) c mid) side i way × IsFree s.app (drawn s f) (mover s) side i) → IsRow s side i way (to_depths crit susp) Unheld (λ f. Unit {0})
 plain-row s side i way crit susp after goes = record {
   after = λ S c mid known free row. let k = after S c mid known row in record {
     objects = ap length k.objects;
@@ -73,7 +74,7 @@ plain-row s side i way crit susp after goes = record {
 }
 
 -- a row that leaves the whole state
-pub still-row : (s : Site) (i : Instr) (way : Way) → IsUnforbidden s.app s.known s.p i → ((S : State) (c : ℤ) (mid : State) → Row s.app S (mover s) Before i way c mid → mid ≡ S) → ((S : State) → Row s.app S (mover s) Before i way (pos 0) S) → ((S : State) → GivesUnheld s.app S (mover s) i → ⊥) → used_object i ≡ None → IsRow s Before i way (unchanged s.known) Unheld (λ f. Unit {0})
+pub still-row : (s : Site) (i : Instr) (way : Way) → IsUnforbidden s.app s.known s.p i → ((S : State) (c : ℤ) (mid : State) → Row s.app (transition S (mover s) c mid) Before i way → mid ≡ S) → ((S : State) → Row s.app (transition S (mover s) (pos 0) S) Before i way) → ((S : State) → GivesUnheld s.app S (mover s) i → ⊥) → used_object i Before ≡ None → IsRow s Before i way (unchanged s.known) Unheld (λ f. Unit {0})
 still-row s i way none after row gives uses = plain-row s Before i way s.known.mover.critical s.known.mover.suspended
     (λ S c mid known r. let e = after S c mid r in record {
       objects = ap (λ U. U.objects) e;
@@ -83,25 +84,25 @@ still-row s i way none after row gives uses = plain-row s Before i way s.known.m
       others_critical = ap (λ U. depth_of U (other s)) e;
       others_suspended = ap (λ U. suspension_of U (other s)) e;
     })
-    (λ f chosen. (pos 0, drawn s f, row (drawn s f), free-before s i none (drawn s f) (drawn-known s f chosen) (gives (drawn s f)) (no-use s.app (drawn s f) (mover s) i uses)))
+    (λ f chosen. (pos 0, drawn s f, row (drawn s f), free-before s i none (drawn s f) (drawn-known s f chosen) (gives (drawn s f)) (no-use s.app (drawn s f) (mover s) i Before uses)))
 
 module _ (P : Program) (k : Known) (p : Point) where
-  still-left : (i : Instr) → IsSpot P k p Before i → IsUnforbidden P k p i → ((S : State) (c : ℤ) (mid : State) → Row P S p.actor.0 Before i Works c mid → mid ≡ S) → ((S : State) → Row P S p.actor.0 Before i Works (pos 0) S) → ((S : State) → GivesUnheld P S p.actor.0 i → ⊥) → used_object i ≡ None → IsLeft P k p Works (unchanged k)
-  still-left i spot none after row gives uses = row-left P k p Before i Works spot (unchanged k) Unheld (λ s f. Unit {0}) (λ q there. still-row (site P k p q Before i spot there) i Works none after row gives uses)
+  still-left : (i : Instr) → IsSpot P k p Before i → IsUnforbidden P k p i → ((S : State) (c : ℤ) (mid : State) → Row P (transition S p.actor.0 c mid) Before i Then → mid ≡ S) → ((S : State) → Row P (transition S p.actor.0 (pos 0) S) Before i Then) → ((S : State) → GivesUnheld P S p.actor.0 i → ⊥) → used_object i Before ≡ None → IsLeft P k p Then (unchanged k)
+  still-left i spot none after row gives uses = row-left P k p Before i Then spot (unchanged k) Unheld (λ s f. Unit {0}) (λ q there. still-row (site P k p q Before i spot there) i Then none after row gives uses)
 
-  pub goto-left : (target : ℕ) → IsSpot P k p Before (Goto target) → IsUnforbidden P k p (Goto target) → IsLeft P k p Works (unchanged k)
+  pub goto-left : (target : ℕ) → IsSpot P k p Before (Goto target) → IsUnforbidden P k p (Goto target) → IsLeft P k p Then (unchanged k)
   goto-left target spot none = still-left (Goto target) spot none (λ S c mid r. r.1) (λ S. (refl, refl)) (λ S b. b) refl
 
-  pub return-left : IsSpot P k p Before Return → IsUnforbidden P k p Return → IsLeft P k p Works (unchanged k)
+  pub return-left : IsSpot P k p Before Return → IsUnforbidden P k p Return → IsLeft P k p Then (unchanged k)
   return-left spot none = still-left Return spot none (λ S c mid r. r.1) (λ S. (refl, refl)) (λ S b. b) refl
 
-  pub yield-left : IsSpot P k p Before (Calls Yield) → IsUnforbidden P k p (Calls Yield) → IsLeft P k p Works (unchanged k)
+  pub yield-left : IsSpot P k p Before (Calls Yield) → IsUnforbidden P k p (Calls Yield) → IsLeft P k p Then (unchanged k)
   yield-left spot none = still-left (Calls Yield) spot none (λ S c mid r. r.1) (λ S. (refl, refl)) (λ S b. b) refl
 
-  pub delay-left : (ticks : ℕ) → IsSpot P k p Before (Calls (Delay ticks)) → IsUnforbidden P k p (Calls (Delay ticks)) → IsLeft P k p Works (unchanged k)
+  pub delay-left : (ticks : ℕ) → IsSpot P k p Before (Calls (Delay ticks)) → IsUnforbidden P k p (Calls (Delay ticks)) → IsLeft P k p Then (unchanged k)
   delay-left ticks spot none = still-left (Calls (Delay ticks)) spot none (λ S c mid r. r.1) (λ S. (refl, refl)) (λ S b. b) refl
 
-  pub end-left : IsSpot P k p Before (Calls DeleteSelf) → IsUnforbidden P k p (Calls DeleteSelf) → IsLeft P k p Works (unchanged k)
+  pub end-left : IsSpot P k p Before (Calls DeleteSelf) → IsUnforbidden P k p (Calls DeleteSelf) → IsLeft P k p Then (unchanged k)
   end-left spot none = still-left (Calls DeleteSelf) spot none (λ S c mid r. r.1) (λ S. (refl, refl)) (λ S b. b) refl
 
 -- whoever is in the critical section where the mover alone can be, it isn't another actor
@@ -124,14 +125,14 @@ is-critical : (n : Alternative) (o : Option Alternative) → is_other_critical (
 is-critical n None e = cc
 is-critical n (Some m) e = grind (arith, common_steps)
 
-depths-row : (s : Site) (i : Instr) (crit susp : ℕ) (made : State → State) → IsUnforbidden s.app s.known s.p i → used_object i ≡ None → ((S : State) → GivesUnheld s.app S (mover s) i → ⊥) → ((S : State) (c : ℤ) (mid : State) → IsKnown s S → Row s.app S (mover s) Before i Works c mid → (mid ≡ made S) × IsPlainAfter s crit susp S (made S)) → ((f : Choice) → IsChosen s f → Row s.app (drawn s f) (mover s) Before i Works (pos 0) (made (drawn s f))) → IsRow s Before i Works (to_depths crit susp) Unheld (λ f. Unit {0})
-depths-row s i crit susp made none uses gives after row = plain-row s Before i Works crit susp
+depths-row : (s : Site) (i : Instr) (crit susp : ℕ) (made : State → State) → IsUnforbidden s.app s.known s.p i → used_object i Before ≡ None → ((S : State) → GivesUnheld s.app S (mover s) i → ⊥) → ((S : State) (c : ℤ) (mid : State) → IsKnown s S → Row s.app (transition S (mover s) c mid) Before i Then → (mid ≡ made S) × IsPlainAfter s crit susp S (made S)) → ((f : Choice) → IsChosen s f → Row s.app (transition (drawn s f) (mover s) (pos 0) (made (drawn s f))) Before i Then) → IsRow s Before i Then (to_depths crit susp) Unheld (λ f. Unit {0})
+depths-row s i crit susp made none uses gives after row = plain-row s Before i Then crit susp
     (λ S c mid known r. let k = after S c mid known r in subst (λ U. IsPlainAfter s crit susp S U) (sym k.0) k.1)
-    (λ f chosen. (pos 0, made (drawn s f), row f chosen, free-before s i none (drawn s f) (drawn-known s f chosen) (gives (drawn s f)) (no-use s.app (drawn s f) (mover s) i uses)))
+    (λ f chosen. (pos 0, made (drawn s f), row f chosen, free-before s i none (drawn s f) (drawn-known s f chosen) (gives (drawn s f)) (no-use s.app (drawn s f) (mover s) i Before uses)))
 
 module _ (P : Program) (k : Known) (p : Point) where
-  pub enter-left : (form : Form) → IsSpot P k p Before (Calls (EnterCritical form)) → IsUnforbidden P k p (Calls (EnterCritical form)) → is_other_critical k ≡ false → IsLeft P k p Works (to_depths (k.mover.critical + 1) k.mover.suspended)
-  enter-left form spot none clear = row-left P k p Before (Calls (EnterCritical form)) Works spot (to_depths (k.mover.critical + 1) k.mover.suspended) Unheld (λ s f. Unit {0}) (λ q there.
+  pub enter-left : (form : Form) → IsSpot P k p Before (Calls (EnterCritical form)) → IsUnforbidden P k p (Calls (EnterCritical form)) → is_other_critical k ≡ false → IsLeft P k p Then (to_depths (k.mover.critical + 1) k.mover.suspended)
+  enter-left form spot none clear = row-left P k p Before (Calls (EnterCritical form)) Then spot (to_depths (k.mover.critical + 1) k.mover.suspended) Unheld (λ s f. Unit {0}) (λ q there.
       let s = site P k p q Before (Calls (EnterCritical form)) spot there in
       let out = not-critical k.mover k.other clear in
       depths-row s (Calls (EnterCritical form)) (k.mover.critical + 1) k.mover.suspended (λ S. in_critical p.actor.0 (depth_of S p.actor.0 + 1) S) none refl (λ S b. b)
@@ -148,16 +149,16 @@ module _ (P : Program) (k : Known) (p : Point) where
       ))
       (λ f chosen. (refl, own-critical k.mover.critical (second s).critical p.actor.0 (other s) out, refl)))
 
-  pub enter-never : (form : Form) → IsSpot P k p Before (Calls (EnterCritical form)) → is_other_critical k ≡ true → NeverSteps P k p Works
-  enter-never form spot inside = row-never P k p Before (Calls (EnterCritical form)) Works spot (λ q there S c mid known free r.
+  pub enter-never : (form : Form) → IsSpot P k p Before (Calls (EnterCritical form)) → is_other_critical k ≡ true → NeverSteps P k p Then
+  enter-never form spot inside = row-never P k p Before (Calls (EnterCritical form)) Then spot (λ q there S c mid known free r.
       let s = site P k p q Before (Calls (EnterCritical form)) spot there in
       let none = others-depth S.critical p.actor.0 (other s) (apart s) r.1 in
       let deep = other-depth s S known in
       let in_it = is-critical k.mover k.other inside in
       absurd (omega (arith, none, deep, in_it)))
 
-  pub exit-left : (form : Form) → IsSpot P k p Before (Calls (ExitCritical form)) → IsUnforbidden P k p (Calls (ExitCritical form)) → 1 ≤ k.mover.critical → IsLeft P k p Works (to_depths (k.mover.critical - 1) k.mover.suspended)
-  exit-left form spot none deep = row-left P k p Before (Calls (ExitCritical form)) Works spot (to_depths (k.mover.critical - 1) k.mover.suspended) Unheld (λ s f. Unit {0}) (λ q there.
+  pub exit-left : (form : Form) → IsSpot P k p Before (Calls (ExitCritical form)) → IsUnforbidden P k p (Calls (ExitCritical form)) → 1 ≤ k.mover.critical → IsLeft P k p Then (to_depths (k.mover.critical - 1) k.mover.suspended)
+  exit-left form spot none deep = row-left P k p Before (Calls (ExitCritical form)) Then spot (to_depths (k.mover.critical - 1) k.mover.suspended) Unheld (λ s f. Unit {0}) (λ q there.
       let s = site P k p q Before (Calls (ExitCritical form)) spot there in
       let out : (second s).critical ≡ 0 = ⊎_elim (λ e. absurd (omega (arith, e, deep))) (λ e. e) (second-critical P k.mover k.other spot.fits) in
       depths-row s (Calls (ExitCritical form)) (k.mover.critical - 1) k.mover.suspended (λ S. critical_at p.actor.0 (depth_of S p.actor.0 - 1) S) none refl (λ S b. b)
@@ -184,15 +185,15 @@ module _ (P : Program) (k : Known) (p : Point) where
     others_suspended = get_or-set_other S.suspended (mover s) (other s) depth 0 (apart s);
   }
 
-  pub suspend-left : IsSpot P k p Before (Calls SuspendAll) → IsUnforbidden P k p (Calls SuspendAll) → IsLeft P k p Works (to_depths k.mover.critical (k.mover.suspended + 1))
-  suspend-left spot none = row-left P k p Before (Calls SuspendAll) Works spot (to_depths k.mover.critical (k.mover.suspended + 1)) Unheld (λ s f. Unit {0}) (λ q there.
+  pub suspend-left : IsSpot P k p Before (Calls SuspendAll) → IsUnforbidden P k p (Calls SuspendAll) → IsLeft P k p Then (to_depths k.mover.critical (k.mover.suspended + 1))
+  suspend-left spot none = row-left P k p Before (Calls SuspendAll) Then spot (to_depths k.mover.critical (k.mover.suspended + 1)) Unheld (λ s f. Unit {0}) (λ q there.
       let s = site P k p q Before (Calls SuspendAll) spot there in
       depths-row s (Calls SuspendAll) k.mover.critical (k.mover.suspended + 1) (λ S. suspend_at p.actor.0 (suspension_of S p.actor.0 + 1) S) none refl (λ S b. b)
       (λ S c mid known r. (r.1, subst (λ d. IsPlainAfter s k.mover.critical (d + 1) S (suspend_at p.actor.0 (suspension_of S p.actor.0 + 1) S)) known.mover.holds.suspended (suspended-row s S (suspension_of S p.actor.0 + 1) known)))
       (λ f chosen. (refl, refl)))
 
-  pub resume-left : IsSpot P k p Before (Calls ResumeAll) → IsUnforbidden P k p (Calls ResumeAll) → IsLeft P k p Works (to_depths k.mover.critical (k.mover.suspended - 1))
-  resume-left spot none = row-left P k p Before (Calls ResumeAll) Works spot (to_depths k.mover.critical (k.mover.suspended - 1)) Unheld (λ s f. Unit {0}) (λ q there.
+  pub resume-left : IsSpot P k p Before (Calls ResumeAll) → IsUnforbidden P k p (Calls ResumeAll) → IsLeft P k p Then (to_depths k.mover.critical (k.mover.suspended - 1))
+  resume-left spot none = row-left P k p Before (Calls ResumeAll) Then spot (to_depths k.mover.critical (k.mover.suspended - 1)) Unheld (λ s f. Unit {0}) (λ q there.
       let s = site P k p q Before (Calls ResumeAll) spot there in
       depths-row s (Calls ResumeAll) k.mover.critical (k.mover.suspended - 1) (λ S. suspend_at p.actor.0 (suspension_of S p.actor.0 - 1) S) none refl (λ S b. b)
       (λ S c mid known r. (r.1, subst (λ d. IsPlainAfter s k.mover.critical (d - 1) S (suspend_at p.actor.0 (suspension_of S p.actor.0 - 1) S)) known.mover.holds.suspended (suspended-row s S (suspension_of S p.actor.0 - 1) known)))

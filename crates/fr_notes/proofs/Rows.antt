@@ -2,8 +2,8 @@
 --
 -- A row says what holds after each of its steps, and from which choices there is one. It gives a choice for each end of a
 -- variable that it writes. The choices for all other variables and objects are made here, since they don't matter to it.
-use Rattle.std.proofs.Common.{◌≡◌, ◌≢◌, ℕ, ◌<◌, length, get_or, Option, Some, None, Bool, true, false, refl, sym, ap, ◌∙◌, subst, eq-eqb, arith}
-use Rattle.std.specs.Prelude.{ℤ, IfSome, nat_eq, if◌then◌else◌, ◌≤ℤ◌}
+use Rattle.std.proofs.Common.{◌≡◌, ◌≢◌, ℕ, ◌<◌, length, Option, Some, None, Bool, true, false, refl, sym, ap, ◌∙◌, subst, eq-eqb, arith}
+use Rattle.std.specs.Prelude.{ℤ, IfSome, nat_eq, if◌then◌else◌}
 use Rattle.std.proofs.lemmas.Bool.{eqb-true}
 use Rattle.std.proofs.lemmas.Option.{same_Some}
 use Rattle.std.proofs.lemmas.Int.{ints}
@@ -14,24 +14,23 @@ use Rattle.fr_program.specs.declared.ids.Side.{Side}
 use Rattle.fr_program.specs.declared.instr.Instr.{Instr}
 use Rattle.fr_program.specs.declared.range.Range.{Range}
 use Rattle.fr_program.specs.Program.{Program}
-use Rattle.fr_program.specs.Lookup.{IsPoint, instr_of, instr_at}
-use Rattle.fr_program.specs.Fault.{IsFaultless}
+use Rattle.fr_program.specs.Lookup.{instr_of, instr_at}
 use Rattle.fr_calls.specs.declared.way.Way.{Way}
 use Rattle.fr_calls.specs.State.{State, At, Content, Dead, CanHave, content_of, value_of, depth_of, suspension_of, goes_to, kind_of, new_content}
-use Rattle.fr_calls.specs.Step.{Row, IsFree, StepBy, landing}
+use Rattle.fr_calls.specs.Step.{Row, IsFree, StepBy, landing, transition}
 use Rattle.fr_calls.proofs.Built.{is-built}
 use Rattle.fr_calls.proofs.Contents.{new-fits}
 use Rattle.fr_notes.specs.declared.change.Change.{Change}
 use Rattle.fr_notes.specs.Note.{Alternative, Claim, NotHeld, Alive, Gone, HeldTimes, Meets, Within, claim_of}
 use Rattle.fr_notes.specs.Change.{range_after, new_range}
-use Rattle.fr_notes.specs.Implied.{ClaimImplies}
+use Rattle.fr_notes.specs.Implication.{ClaimImplies}
 use Rattle.fr_notes.specs.View.{ends_of}
-use Rattle.fr_notes.specs.Known.{Known, KnownFits, IsOther, HasKnown, CanStep, NeverSteps, IsLeft, joint_range, joint_claim, joined, claim_after, other_after, taught}
+use Rattle.fr_notes.specs.Known.{Known, KnownFits, IsOther, HasKnown, NeverSteps, IsLeft, joint_range, joint_claim, joined, claim_after, other_after, taught}
 use Rattle.fr_notes.specs.Spot.{IsSpot}
 use Rattle.fr_notes.specs.Holding.{Holding, Unheld, Living, Lifeless, Own, Others, holding, holding_of, others_claim, mover_claim, other_claim}
-use Rattle.fr_notes.proofs.Shown.{instead, instead-same, new-live}
+use Rattle.fr_notes.proofs.Shown.{instead-same}
 use Rattle.fr_notes.proofs.Holdings.{IsIn, claim-met, other-met, claim-shown, other-shown, implied-either, mover-joined, other-joined, new-unheld}
-use Rattle.fr_notes.proofs.Seen.{Site, mover, other, other_in, second, second_in, IsKnown, Choice, drawn, IsChosen, drawn-known, drawn-value, drawn-content, usual, usual-chosen, valued, valued-chosen, filled, filled-chosen, apart, claims-meet, contents-in, values-within, other-depth, other-suspension}
+use Rattle.fr_notes.proofs.Seen.{Site, mover, other, other_in, second, second_in, IsKnown, Choice, drawn, IsChosen, drawn-known, drawn-value, drawn-content, usual-chosen, valued, valued-chosen, filled, filled-chosen, apart, claims-meet, contents-in, values-within, other-depth, other-suspension}
 use Rattle.fr_notes.proofs.Left.{end_of, Step, IsExactFor, IsExact, left-from}
 
 -- a change says nothing of this variable, of this object
@@ -99,15 +98,15 @@ module _ (s : Site) (side : Side) (i : Instr) (way : Way) where
     pub chosen : IsChosen s from
     pub choice : ℤ
     pub mid : State
-    pub row : Row s.app (drawn s from) (mover s) side i way choice mid
+    pub row : Row s.app (transition (drawn s from) (mover s) choice mid) side i way
     pub free : IsFree s.app (drawn s from) (mover s) side i
     pub fact : Q mid
 
   -- what a row has to give
   pub record IsRow (change : Change) (new : Holding) (CanGo : Choice → Type 0) : Type 0 where
-    pub after : (S : State) (c : ℤ) (mid : State) → IsKnown s S → IsFree s.app S (mover s) side i → Row s.app S (mover s) side i way c mid → IsAfter s change new S mid
+    pub after : (S : State) (c : ℤ) (mid : State) → IsKnown s S → IsFree s.app S (mover s) side i → Row s.app (transition S (mover s) c mid) side i way → IsAfter s change new S mid
     -- from which choices there is a step, of which there is one; what the row doesn't change doesn't matter to that
-    pub goes : (f : Choice) → IsChosen s f → CanGo f → (c : ℤ) × (mid : State) × Row s.app (drawn s f) (mover s) side i way c mid × IsFree s.app (drawn s f) (mover s) side i
+    pub goes : (f : Choice) → IsChosen s f → CanGo f → (c : ℤ) × (mid : State) × Row s.app (transition (drawn s f) (mover s) c mid) side i way × IsFree s.app (drawn s f) (mover s) side i
     pub base : Choice
     pub chosen : IsChosen s base
     pub can : CanGo base
@@ -122,7 +121,7 @@ module _ (s : Site) (side : Side) (i : Instr) (way : Way) where
 -- a step from a state in which the mover stands at the site's point is by a row of the instruction there
 pub record StepHere (s : Site) (side : Side) (i : Instr) (way : Way) (S : State) (c : ℤ) (T : State) : Type 0 where
   pub mid : State
-  pub row : Row s.app S (mover s) side i way c mid
+  pub row : Row s.app (transition S (mover s) c mid) side i way
   pub free : IsFree s.app S (mover s) side i
   pub moved : T ≡ goes_to (mover s) (landing s.p.pc side i way) mid
 
@@ -136,7 +135,7 @@ module _ (s : Site) (side : Side) (i : Instr) (way : Way) (stands : s.p.side ≡
       let one : t.instr ≡ i = same_Some _ _ (sym t.is ∙ ap (λ k. instr_at s.app (mover s) k) pc ∙ is) in
       record {
         mid = t.mid;
-        row = subst (λ d. Row s.app S (mover s) d i way c t.mid) same (subst (λ j. Row s.app S (mover s) t.side j way c t.mid) one t.row);
+        row = subst (λ d. Row s.app (transition S (mover s) c t.mid) d i way) same (subst (λ j. Row s.app (transition S (mover s) c t.mid) t.side j way) one t.row);
         free = subst (λ d. IsFree s.app S (mover s) d i) same (subst (λ j. IsFree s.app S (mover s) t.side j) one t.free);
         moved = t.moved ∙ ap (λ k. goes_to (mover s) (landing k t.side t.instr way) t.mid) pc ∙ ap (λ d. goes_to (mover s) (landing s.p.pc d t.instr way) t.mid) same ∙ ap (λ j. goes_to (mover s) (landing s.p.pc side j way) t.mid) one;
       }
@@ -315,7 +314,7 @@ row-left P k p side i way spot change new CanGo row = left-from P k p way change
     let s = site P k p q side i spot there in row-exact s side i way spot.stands spot.instr change new (CanGo s) (row q there))
 
 -- no row at any site: no step
-pub row-never : (P : Program) (k : Known) (p : Point) (side : Side) (i : Instr) (way : Way) (spot : IsSpot P k p side i) → ((q : Point) (there : IsOther P k p q) (S : State) (c : ℤ) (mid : State) → IsKnown (site P k p q side i spot there) S → IsFree P S p.actor.0 side i → Row P S p.actor.0 side i way c mid → ⊥) → NeverSteps P k p way
-row-never P k p side i way spot none q there (S, c, T, known, step) =
+pub row-never : (P : Program) (k : Known) (p : Point) (side : Side) (i : Instr) (way : Way) (spot : IsSpot P k p side i) → ((q : Point) (there : IsOther P k p q) (S : State) (c : ℤ) (mid : State) → IsKnown (site P k p q side i spot there) S → IsFree P S p.actor.0 side i → Row P (transition S p.actor.0 c mid) side i way → ⊥) → NeverSteps P k p way
+row-never P k p side i way spot none q there (S, c, T, known, step, _) =
     let h = step-here (site P k p q side i spot there) side i way spot.stands spot.instr S c T known step in
     none q there S c h.mid known h.free h.row

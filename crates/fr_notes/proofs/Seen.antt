@@ -8,12 +8,11 @@
 -- | Choice, drawn           | the values and contents of a state to show, and the state                        |
 -- | IsChosen                | the choice is of a state with what is known                                      |
 -- | usual, valued, filled   | a choice; one with another value, one with another content                       |
-use Rattle.std.proofs.Common.{◌≡◌, ◌≢◌, ℕ, zero, suc, ◌<◌, ◌≤◌, length, get_or, Option, Some, None, List, [], ◌∷◌, Bool, true, false, refl, sym, ap, ◌∙◌, subst, arith, ⊎_elim, inl, inr}
-use Rattle.std.specs.Prelude.{ℤ, pos, IfSome, ◌⊎◌, ◌≤ℤ◌, nat_lt, ◌||◌, slice_get}
+use Rattle.std.proofs.Common.{◌≡◌, ◌≢◌, ℕ, zero, suc, ◌<◌, ◌≤◌, length, get_or, Option, Some, None, List, [], ◌∷◌, refl, sym, ap, ◌∙◌, subst, arith, ⊎_elim, inl, inr}
+use Rattle.std.specs.Prelude.{ℤ, pos, IfSome, ◌⊎◌, ◌≤ℤ◌, nat_lt, slice_get}
 use Rattle.std.specs.List.{list_any}
-use Rattle.std.specs.Int.{int_min, int_max}
 use Rattle.std.proofs.lemmas.Int.{ints, clamps}
-use Rattle.std.proofs.lemmas.Bool.{cases_lt, eqb-true}
+use Rattle.std.proofs.lemmas.Bool.{cases_lt}
 use Rattle.std.proofs.lemmas.List.{get_or_past}
 use Rattle.std.proofs.lemmas.List.FromFn.{length-map-range_with_len, get_or-map-range_with_len}
 use Rattle.std.proofs.lemmas.Grind.{common_steps}
@@ -25,16 +24,16 @@ use Rattle.fr_program.specs.declared.parts.Kind.TheVariants.{Queue, Binary, Coun
 use Rattle.fr_program.specs.Program.{Program}
 use Rattle.fr_program.specs.Lookup.{IsPoint, instr_at, no_actor}
 use Rattle.fr_program.specs.Fault.{IsFaultless}
-use Rattle.fr_calls.specs.State.{State, Place, At, Done, Content, Dead, Values, Count, Free, Held, Bytes, Lengths, CanHave, Exists, IsWellFormed, kind_of, place_of, content_of, value_of, count_held, depth_in, depth_of, suspension_of, held_at}
+use Rattle.fr_calls.specs.State.{State, Place, At, Done, Content, Dead, Values, Count, Free, Held, Bytes, Lengths, CanHave, Exists, IsWellFormed, kind_of, content_of, value_of, count_held, depth_in, depth_of, suspension_of, held_at}
 use Rattle.fr_calls.specs.Rule.{holds_some}
-use Rattle.fr_calls.proofs.Built.{HasSizes, is-built}
+use Rattle.fr_calls.proofs.Built.{is-built}
 use Rattle.fr_notes.specs.Note.{Alternative, Claim, NotHeld, Alive, Gone, HeldTimes, Meets, Within, HoldsOne, claim_of, range_of}
 use Rattle.fr_notes.specs.Noted.{NotedBy}
 use Rattle.fr_notes.specs.Fits.{CanClaim, AlternativeFits}
-use Rattle.fr_notes.specs.Known.{Known, KnownFits, AreCompatible, ClaimsMeet, IsOther, HasKnown, joint_range, joint_claim, joined, meet_of, is_held, claims_some}
-use Rattle.fr_notes.specs.Holding.{Holding, holding, holding_of, others_claim, mover_claim, other_claim}
+use Rattle.fr_notes.specs.Known.{Known, KnownFits, ClaimsMeet, IsOther, HasKnown, joint_range, meet_of, is_held, claims_some}
+use Rattle.fr_notes.specs.Holding.{holding, others_claim}
 use Rattle.fr_notes.proofs.Shown.{listed, listed-case, instead, instead-case, instead-same, instead-other, held_at-same, held_at-other, depth_for-same, depth_for-other}
-use Rattle.fr_notes.proofs.Holdings.{IsIn, HoldingFits, held-once, in-from, in-mover, in-other, mover-joined, other-joined, holding-fits, content_in, content-in, content-can}
+use Rattle.fr_notes.proofs.Holdings.{IsIn, HoldingFits, held-once, in-from, in-mover, in-other, holding-fits, content_in, content-in, content-can}
 
 -- an application, what is known before a step in it, and where both actors are
 pub record Site : Type 0 where

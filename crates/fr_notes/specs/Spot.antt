@@ -5,10 +5,10 @@
 -- | IsSpot                     | a point at this side of this instruction, in an application without a fault         |
 -- | Leaves                     | a change is what a row leaves, or there is none and no step                         |
 -- | LeavesAt, LeavesBefore     | so at each point of the instruction, and before it where no rule stops the mover    |
+-- | condition_known            | the condition of the mover                                                          |
 -- | unchanged, claiming        | the change that changes nothing, the one that says this of one object               |
 use Rattle.std.specs.Prelude.{◌≡◌, Option, None, Some}
 use Rattle.fr_program.specs.declared.ids.ObjId.{ObjId}
-use Rattle.fr_program.specs.declared.ids.VarId.{VarId}
 use Rattle.fr_program.specs.declared.ids.Point.{Point}
 use Rattle.fr_program.specs.declared.ids.Side.{Side}
 use Rattle.fr_program.specs.declared.ids.Side.TheVariants.{Before}
@@ -17,6 +17,7 @@ use Rattle.fr_program.specs.Program.{Program}
 use Rattle.fr_program.specs.Lookup.{IsPoint, instr_of, actor_at, is_interrupt}
 use Rattle.fr_program.specs.Fault.{IsFaultless}
 use Rattle.fr_calls.specs.declared.way.Way.{Way}
+use Rattle.fr_calls.specs.declared.rules.Condition.{Condition}
 use Rattle.fr_calls.specs.Rule.{first_forbidden}
 use Rattle.fr_notes.specs.declared.change.Change.{Change}
 use Rattle.fr_notes.specs.Known.{Known, KnownFits, IsLeft, NeverSteps, claims_some}
@@ -39,10 +40,19 @@ Leaves P k p way (Some change) = IsLeft P k p way change
 abbrev pub LeavesAt : Program → Known → Side → Instr → Way → Option Change → Type 0
 LeavesAt P k side i way change = (p : Point) → IsSpot P k p side i → Leaves P k p way change
 
--- none of the rules that depths, the kind of actor and mutexes decide stops the mover before the instruction
+-- the condition of the mover
+abbrev pub condition_known : Program → Known → Point → Condition
+condition_known P k p = record {
+  interrupt = is_interrupt (actor_at P p.actor.0).kind;
+  critical = k.mover.critical;
+  suspended = k.mover.suspended;
+  holds = claims_some k.mover.claims;
+}
+
+-- none of the rules that the mover's condition decides stops it before the instruction
 abbrev pub IsUnforbidden : Program → Known → Point → Instr → Type 0
 IsUnforbidden P k p i =
-    first_forbidden P (is_interrupt (actor_at P p.actor.0).kind) k.mover.critical k.mover.suspended (claims_some k.mover.claims) i ≡ None
+    first_forbidden P (condition_known P k p) i ≡ None
 
 -- so before the instruction, at each of its points where none of those rules stops the mover
 abbrev pub LeavesBefore : Program → Known → Instr → Way → Option Change → Type 0

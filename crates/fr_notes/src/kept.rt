@@ -2,12 +2,13 @@
 ghost use Rattle.std.specs.Prelude.{◌≡◌, ◌↔◌, ◌<◌, ℕ, pos, Some, IsTrue, length, map, slice_index_or};
 ghost use Rattle.fr_notes.specs.Known.{IsPossible, Keeps, Spares, joint_range, joint_claim, joined, claim_after, other_after, taught};
 ghost use Rattle.fr_notes.specs.Note.{NotHeld, claim_of};
-ghost use Rattle.fr_notes.specs.Implied.{ClaimImplies};
-ghost use Rattle.fr_notes.specs.Change.{range_after, new_range, IsCovered};
+ghost use Rattle.fr_notes.specs.Implication.{ClaimImplies, IsPart};
+ghost use Rattle.fr_notes.specs.Change.{range_after, new_range};
 ghost use Rattle.fr_notes.specs.View.{ends_of};
 
 use crate::change::Change;
 use crate::claim::Claim;
+use crate::implication::is_part;
 use crate::known::Known;
 use crate::note::Alternative;
 use fr_program::{Range, VarId};
@@ -65,17 +66,11 @@ fn other_after(change: &Change, object: usize, claim: Claim) -> Claim
     }
 }
 
-fn is_covered(range: Range, other: Range) -> bool
-    ensures { IsTrue result ↔ IsCovered (ends_of range) (ends_of other) }
-{
-    other.lo <= range.lo && range.hi <= other.hi
-}
-
 fn says_range(known: &Known, change: &Change, variable: usize, range: Range) -> bool
     requires { IsPossible known.now }
-    ensures { IsTrue result ↔ IsCovered (new_range change.now variable (joint_range known.now variable)) (ends_of range) }
+    ensures { IsTrue result ↔ IsPart (new_range change.now variable (joint_range known.now variable)) (ends_of range) }
 {
-    is_covered(new_range(change, variable, known.range(variable)), range)
+    is_part(new_range(change, variable, known.range(variable)), range)
 }
 
 fn says_claim(known: &Known, change: &Change, object: usize, claim: Claim) -> bool
@@ -100,7 +95,7 @@ fn spares_claim(
 fn says_ranges(known: &Known, change: &Change, ranges: &[Range]) -> bool
     requires { IsPossible known.now }
     ensures { IsTrue result ↔ ((x : ℕ) → x < length ranges.now →
-        IsCovered (new_range change.now x (joint_range known.now x)) (slice_index_or (map ends_of ranges.now) x (pos 0, pos 0))) }
+        IsPart (new_range change.now x (joint_range known.now x)) (slice_index_or (map ends_of ranges.now) x (pos 0, pos 0))) }
 {
     for (variable, range) in ranges.iter().enumerate() {
         if !says_range(known, change, variable, *range) {
