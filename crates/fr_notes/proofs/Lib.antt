@@ -12,3 +12,4 @@ pub mod Seen
 pub mod Left
 pub mod Rows
 pub mod PlainRows
+pub mod VariableRows
