@@ -13,3 +13,4 @@ pub mod Left
 pub mod Rows
 pub mod PlainRows
 pub mod VariableRows
+pub mod ReckoningLaws

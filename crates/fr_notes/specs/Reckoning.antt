@@ -4,6 +4,7 @@
 -- |--------------------------|-------------------------------------------------------------------------------------|
 -- | operand_in, CanBeIn      | the numbers that an operand can be                                                  |
 -- | IsNamed                  | the application has the operand's variable, if it is one                            |
+-- | HasNumbersIn             | every range has ends of 64 bits                                                     |
 -- | IsSpanIn                 | the exact span of what a `set` computes                                             |
 -- | IsBranchIn, NoBranchIn   | the least ranges of an `if`'s operands on one of its ways; it never goes that way   |
 use Rattle.std.specs.Prelude.{◌≡◌, ◌<◌, ℕ, ℤ, length}
@@ -12,6 +13,7 @@ use Rattle.fr_program.specs.declared.instr.Operand.TheVariants.{Number, Variable
 use Rattle.fr_program.specs.declared.instr.Operator.{Operator}
 use Rattle.fr_program.specs.declared.range.Range.{Range}
 use Rattle.fr_program.specs.Program.{Program}
+use Rattle.fr_program.specs.Limits.{IsNumber}
 use Rattle.fr_program.specs.Spans.{IsIn}
 use Rattle.fr_calls.specs.Rule.{result_of}
 use Rattle.fr_notes.specs.Note.{Within}
@@ -47,3 +49,7 @@ pub record IsBranchIn (R : ℤ → ℤ → Type 0) (range : ℕ → ℤ × ℤ) 
 -- no two numbers that the operands can be are related
 abbrev pub NoBranchIn : (ℤ → ℤ → Type 0) → (ℕ → ℤ × ℤ) → Operand → Operand → Type 0
 NoBranchIn R range l r = (u v : ℤ) → CanBeIn range l u → CanBeIn range r v → R u v → ⊥
+
+-- every range has ends of 64 bits
+abbrev pub HasNumbersIn : (ℕ → ℤ × ℤ) → Type 0
+HasNumbersIn range = (x : ℕ) → IsNumber (range x).0 × IsNumber (range x).1
