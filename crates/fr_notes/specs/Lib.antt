@@ -15,3 +15,4 @@ pub mod Spot
 pub mod Laws
 pub mod WorkedNotes
 pub mod WorkedParts
+pub mod Reckoning

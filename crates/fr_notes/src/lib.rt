@@ -17,6 +17,7 @@ mod laws;
 mod note;
 mod notes;
 mod parts;
+mod reckoning;
 mod worked;
 
 pub use change::{Change, change_by, keeps};
