@@ -20,3 +20,5 @@ pub mod SemaphoreRows
 pub mod QueueRows
 pub mod BufferRows
 pub mod LifeRows
+pub mod VariableRows
+pub mod ReckoningLaws
