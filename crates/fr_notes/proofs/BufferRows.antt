@@ -32,6 +32,7 @@ use Rattle.fr_notes.specs.Note.{Within}
 use Rattle.fr_notes.specs.View.{ends_of}
 use Rattle.fr_notes.specs.Known.{Known, IsOther, IsLeft, NeverSteps}
 use Rattle.fr_notes.specs.Holding.{Holding, Living, holding, living, mover_claim}
+use Rattle.fr_notes.specs.Results.{IsSpan}
 use Rattle.fr_notes.specs.Spot.{IsEnd, claiming, resulting}
 use Rattle.fr_notes.proofs.Shown.{new-live}
 use Rattle.fr_notes.proofs.Holdings.{IsIn, HoldingFits, new-unheld}
@@ -86,11 +87,6 @@ module _ (P : Program) (k : Known) (p : Point) (o : ObjId) (known : Holding) (ac
   moves-never none = end-never P k p o known action e Then (λ q other S c mid is inside ends.
       let t = to S c mid ends in
       none t.0 (content_of S o.0) t.3.1.0 (is.mover.formed.contents o.0) t.2 t.3.1.1)
-
--- the results that a range has
-pub record IsSpan (span : Range) (lo hi : ℤ) : Type 0 where
-  pub lo_is : span.lo ≡ lo
-  pub hi_is : span.hi ≡ hi
 
 -- the size of a buffer of this kind
 abbrev pub HasSize : Kind → ℤ → Type 0

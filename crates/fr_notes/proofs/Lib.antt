@@ -22,3 +22,5 @@ pub mod BufferRows
 pub mod LifeRows
 pub mod VariableRows
 pub mod ReckoningLaws
+pub mod Never
+pub mod EndLaws

@@ -15,24 +15,30 @@ use Rattle.fr_program.specs.Lookup.{actor_at, is_interrupt}
 use Rattle.fr_calls.specs.declared.way.Way.{Way}
 use Rattle.fr_calls.specs.declared.way.Way.TheVariants.{Then}
 use Rattle.fr_calls.specs.State.{State, Dead, depth_of, depth_in, suspension_of, in_critical, critical_at, suspend_at}
-use Rattle.fr_calls.specs.Rule.{first_forbidden, holds_some, GivesUnheld, UsesDead, used_object}
+use Rattle.fr_calls.specs.Rule.{condition_of, first_forbidden, holds_some, GivesUnheld, UsesDead, used_object}
 use Rattle.fr_calls.specs.Step.{Row, IsFree, transition}
 use Rattle.fr_calls.proofs.Free.{before-free, no-use}
 use Rattle.fr_notes.specs.declared.change.Change.{Change}
 use Rattle.fr_notes.specs.Note.{Alternative}
 use Rattle.fr_notes.specs.Known.{Known, IsLeft, NeverSteps, is_other_critical}
 use Rattle.fr_notes.specs.Holding.{Unheld}
-use Rattle.fr_notes.specs.Spot.{IsSpot, IsUnforbidden, unchanged}
+use Rattle.fr_notes.specs.Spot.{IsSpot, IsUnforbidden, condition_known, unchanged}
 use Rattle.fr_notes.proofs.Shown.{depth_for-same, depth_for-other, held_at-same, held_at-other}
 use Rattle.fr_notes.proofs.Seen.{Site, mover, other, second, second_in, IsKnown, Choice, drawn, IsChosen, drawn-known, usual, usual-chosen, apart, mover-there, holds-known, other-depth, critical_for, second-critical}
 use Rattle.fr_notes.proofs.Rows.{IsRow, row-left, row-never, site}
 
+-- the mover's condition is known
+pub condition-known : (s : Site) (S : State) → IsKnown s S → condition_of s.app S (mover s) ≡ condition_known s.app s.known s.p
+condition-known s S known =
+    let t = is_interrupt (actor_at s.app (mover s)).kind in
+    ap (λ d. record { interrupt = t; critical = d; suspended = suspension_of S (mover s); holds = holds_some S (mover s) }) known.mover.holds.critical
+    ∙ ap (λ d. record { interrupt = t; critical = s.known.mover.critical; suspended = d; holds = holds_some S (mover s) }) known.mover.holds.suspended
+    ∙ ap (λ h. record { interrupt = t; critical = s.known.mover.critical; suspended = s.known.mover.suspended; holds = h }) (holds-known s S known)
+
 -- before an instruction that no rule stops, which gives no mutex that isn't held and uses no dead object, the mover is free
 pub free-before : (s : Site) (i : Instr) → IsUnforbidden s.app s.known s.p i → (S : State) → IsKnown s S → (GivesUnheld s.app S (mover s) i → ⊥) → (UsesDead S i Before → ⊥) → IsFree s.app S (mover s) Before i
 free-before s i none S known gives uses =
-    let t = is_interrupt (actor_at s.app (mover s)).kind in
-    let e = ap (λ d. record { interrupt = t; critical = d; suspended = suspension_of S (mover s); holds = holds_some S (mover s) }) known.mover.holds.critical ∙ ap (λ d. record { interrupt = t; critical = s.known.mover.critical; suspended = d; holds = holds_some S (mover s) }) known.mover.holds.suspended ∙ ap (λ h. record { interrupt = t; critical = s.known.mover.critical; suspended = s.known.mover.suspended; holds = h }) (holds-known s S known) in
-    before-free s.app S (mover s) i (ap (λ k. first_forbidden s.app k i) e ∙ none) gives uses
+    before-free s.app S (mover s) i (ap (λ k. first_forbidden s.app k i) (condition-known s S known) ∙ none) gives uses
 
 -- the change of the depths alone
 abbrev pub to_depths : ℕ → ℕ → Change

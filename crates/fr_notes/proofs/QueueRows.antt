@@ -28,6 +28,7 @@ use Rattle.fr_notes.specs.Note.{Within}
 use Rattle.fr_notes.specs.View.{ends_of}
 use Rattle.fr_notes.specs.Known.{Known, IsLeft, NeverSteps}
 use Rattle.fr_notes.specs.Holding.{Holding, Unheld, Living, Lifeless, Own, Others, holding, living, mover_claim}
+use Rattle.fr_notes.specs.Results.{HasValues}
 use Rattle.fr_notes.specs.Spot.{IsEnd, claiming, resulting}
 use Rattle.fr_notes.proofs.Holdings.{IsIn, HoldingFits}
 use Rattle.fr_notes.proofs.Left.{end_of}
@@ -113,11 +114,6 @@ module _ (P : Program) (k : Known) (p : Point) (o : ObjId) (known : Holding) (va
 receive-kind : (into : VarId) (timing : Timing) (or_else : Option ℕ) (kind : Kind) → IsTrue (acts_on (QueueReceive into timing or_else) kind) → can_be_held kind ≡ false
 receive-kind into timing or_else (Queue size lo hi) t = refl
 receive-kind into timing or_else kind t = cc
-
--- which values a queue of this kind can have
-abbrev pub HasValues : Kind → Range → Type 0
-HasValues (Queue size lo hi) span = (span.lo ≡ lo) × (span.hi ≡ hi)
-HasValues kind span = ⊥
 
 value-within : (P : Program) (kind : Kind) (span : Range) (v : ℤ) (rest : List ℤ) → HasValues kind span → CanHave P kind (Values (v ∷ rest)) → Within (ends_of span) v
 value-within P (Queue size lo hi) span v rest h can =

@@ -16,3 +16,4 @@ pub mod Laws
 pub mod WorkedNotes
 pub mod WorkedParts
 pub mod Reckoning
+pub mod Results

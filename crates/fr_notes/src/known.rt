@@ -4,12 +4,14 @@ ghost use Rattle.std.specs.Int.{int_min, int_max};
 ghost use Rattle.fr_notes.specs.Known.{alone, beside, IsPossible, joint_range, joint_claim, joined, meet_of, is_other_critical, is_other_holder, claims_some};
 ghost use Rattle.fr_notes.specs.Holding.{holding};
 ghost use Rattle.fr_notes.specs.Note.{claim_of, range_of};
+ghost use Rattle.fr_notes.specs.Spot.{unchanged, claiming, resulting};
 ghost use Rattle.fr_notes.specs.View.{ends_of};
 
+use crate::change::Change;
 use crate::claim::Claim;
 use crate::holding::Holding;
 use crate::note::Alternative;
-use fr_program::Range;
+use fr_program::{ObjId, Range, VarId};
 use std::marker::Model;
 
 /// What is known before a step of an actor, the mover: one alternative of its note, and, where
@@ -196,6 +198,47 @@ impl<'a> Known<'a> {
         ensures { result.now ≡ self.now.mover }
     {
         self.mover
+    }
+
+    /// The change that leaves all as it is.
+    pub fn unchanged(&self) -> Change
+        ensures same { result ≡ unchanged self.now }
+        ensures critical { result.crit ≤ 255 }
+        ensures suspended { result.susp ≤ 255 }
+    {
+        Change {
+            crit: self.crit(),
+            susp: self.susp(),
+            claim: None,
+            first: None,
+            second: None,
+        }
+    }
+
+    /// The change that says this of one object, and leaves the rest as it is.
+    pub fn claiming(&self, object: ObjId, claim: Claim) -> Change
+        ensures { result ≡ claiming self.now object claim }
+    {
+        Change {
+            claim: Some((object, claim)),
+            ..self.unchanged()
+        }
+    }
+
+    /// The same, where the variable, if there is one, takes a number of this range.
+    pub fn resulting(
+        &self,
+        object: ObjId,
+        claim: Claim,
+        into: Option<VarId>,
+        range: Range,
+    ) -> Change
+        ensures { result ≡ resulting self.now object claim into range }
+    {
+        Change {
+            first: into.map(|variable| (variable, range)),
+            ..self.claiming(object, claim)
+        }
     }
 }
 

@@ -11,6 +11,7 @@ mod fault;
 mod fits;
 mod holding;
 mod implication;
+mod inside;
 mod kept;
 mod known;
 mod laws;
