@@ -12,6 +12,6 @@ mod worked;
 
 pub use buffer_end::End;
 pub use laws::{steps_stay_well_formed, the_start_is_well_formed};
-pub use rules::{Condition, Rule, first_forbidden, rule_of};
+pub use rules::{Condition, Rule, first_forbidden, is_unsuited, rule_of};
 pub use way::{Landing, Way, lands_at};
 pub use worked::{breaches_as_worked, states_as_worked, steps_as_worked};

@@ -101,7 +101,7 @@ fn allowed_suspended(call: &Call) -> bool
 }
 
 /// Whether a take or a give doesn't suit the kind of semaphore.
-fn is_unsuited(kind: Kind, action: &Action) -> bool
+pub fn is_unsuited(kind: Kind, action: &Action) -> bool
     ensures { result ≡ is_unsuited kind action.now }
 {
     match (kind, action) {

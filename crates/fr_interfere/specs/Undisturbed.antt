@@ -5,17 +5,13 @@ use Rattle.fr_program.specs.Program.{Program}
 use Rattle.fr_program.specs.Lookup.{IsPoint}
 use Rattle.fr_calls.specs.State.{State}
 use Rattle.fr_calls.specs.declared.way.Way.{Way}
-use Rattle.fr_calls.specs.Step.{CanStep, AlwaysLeaves}
+use Rattle.fr_calls.specs.Step.{CanStep, AlwaysLeaves, Anywhere}
 use Rattle.fr_notes.specs.Note.{Alternative, Note, HoldsOne}
 use Rattle.fr_notes.specs.Noted.{note_at, NotedBy}
 
 -- p's actor stands at p with this alternative, and q's at q with that one
 abbrev pub AreNotedBy : Program → Point → Alternative → Point → Alternative → State → Type 0
 AreNotedBy P p n q m S = NotedBy P p n S × NotedBy P q m S
-
--- whatever state a step leads to
-abbrev pub Anywhere : State → Type 0
-Anywhere S = Unit {0}
 
 -- For each alternative of p's note and of q's, and each row by which some state with both steps from q, one
 -- alternative of p's note is left by every such step. Points of one actor don't disturb each other.

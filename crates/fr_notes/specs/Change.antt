@@ -12,7 +12,7 @@
 -- | HasChange, HasNone       | the row makes this change; no state with the alternative has the row                |
 -- | new_range                | a variable's range after a change                                                   |
 -- | Keeps                    | another alternative says no more than what a change leaves                          |
-use Rattle.std.specs.Prelude.{◌≡◌, ◌≤◌, ◌<◌, ◌≤ℤ◌, ◌+◌, ◌-◌, ℕ, ℤ, Option, None, Some, length, nat_eq, if◌then◌else◌, IsTrue, IsFalse}
+use Rattle.std.specs.Prelude.{◌≡◌, ◌≤◌, ◌<◌, ◌+◌, ◌-◌, ℕ, ℤ, Option, None, Some, length, nat_eq, if◌then◌else◌, IsTrue, IsFalse}
 use Rattle.fr_program.specs.declared.ids.VarId.{VarId}
 use Rattle.fr_program.specs.declared.instr.Instr.{Instr}
 use Rattle.fr_program.specs.declared.instr.Instr.TheVariants.{Set, If, Goto, Call as Calls, Return}

@@ -7,6 +7,13 @@ pub mod Compare
 pub mod Implication
 pub mod Comparison
 pub mod Change
+pub mod Known
+pub mod KnownView
+pub mod KnownUses
+pub mod Holding
+pub mod Spot
 pub mod Laws
 pub mod WorkedNotes
 pub mod WorkedParts
+pub mod Reckoning
+pub mod Results

@@ -93,7 +93,7 @@ fn narrowed_to(operand: Operand, range: Range) -> Option<(VarId, Range)>
 }
 
 /// The comparison that is true where an `if` goes this way.
-fn comparison_for(comparison: Comparison, way: Way) -> Comparison
+pub fn comparison_for(comparison: Comparison, way: Way) -> Comparison
     ensures { (u v : ℤ) → (IsTrue (compare result u v) ↔ Turns way comparison u v) }
 {
     match way {

@@ -9,11 +9,16 @@ mod claim;
 mod comparison;
 mod fault;
 mod fits;
+mod holding;
 mod implication;
+mod inside;
+mod kept;
+mod known;
 mod laws;
 mod note;
 mod notes;
 mod parts;
+mod reckoning;
 mod worked;
 
 pub use change::{Change, change_by, keeps};

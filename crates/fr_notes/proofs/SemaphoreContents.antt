@@ -1,0 +1,130 @@
+-- What takes and gives make of a content, beside what is known of it.
+use Rattle.std.proofs.Common.{◌≡◌, ◌≢◌, ℕ, zero, suc, ◌+◌, ◌-◌, ◌<◌, ◌≤◌, length, Option, Some, None, Bool, true, false, refl, sym, ap, ◌∙◌, subst, arith, eq-eqb}
+use Rattle.std.specs.Prelude.{◌≤ℤ◌, ℤ, pos, negsuc, IsTrue, nat_eq, nat_le, nat_lt, int_lt, nat_abs, if◌then◌else◌}
+use Rattle.std.specs.Ordering.{int_eq}
+use Rattle.std.proofs.lemmas.Bool.{eqb-true}
+use Rattle.std.proofs.lemmas.Bool.Decides.{Decides-int_eq}
+use Rattle.std.proofs.lemmas.Int.{ints}
+use Rattle.std.proofs.lemmas.Option.{same_Some, cond_some}
+use Rattle.std.proofs.lemmas.Grind.{common_steps}
+use Rattle.fr_program.specs.declared.parts.Kind.{Kind}
+use Rattle.fr_program.specs.declared.parts.Kind.TheVariants.{Queue, Binary, Counting, Mutex, Recursive, Stream, Message}
+use Rattle.fr_program.specs.Program.{Program}
+use Rattle.fr_program.specs.Limits.{KindInLimits}
+use Rattle.fr_calls.specs.State.{Content, Dead, Values, Count, Free, Held, Bytes, Lengths, CanHave}
+use Rattle.fr_calls.specs.Step.{taken, given, is_full}
+use Rattle.fr_notes.specs.Holding.{Holding, Unheld, Living, Lifeless, Own, Others, living, taken_by, given_by}
+use Rattle.fr_notes.proofs.Holdings.{IsIn, HoldingFits, held-once, content-can}
+
+same-test : (k : ℕ) → nat_eq k k ≡ true
+same-test k = eq-eqb k k refl
+
+-- a live object whose content is of no mutex is in nobody's hands
+pub count-in : (a b n : ℕ) → IsIn a b Living (Count n)
+count-in a b n = (λ e. cc, λ k e. cc, λ k e. cc)
+
+pub free-in : (a b : ℕ) → IsIn a b Living Free
+free-in a b = (λ e. cc, λ k e. cc, λ k e. cc)
+
+-- what is known of a live object isn't that nothing is known, or that it is dead
+pub never-unheld : (before : Holding) → living before ≡ Some Unheld → ⊥
+never-unheld Unheld e = cc
+never-unheld Living e = cc
+never-unheld Lifeless e = cc
+never-unheld (Own n) e = cc
+never-unheld (Others n) e = cc
+
+pub never-lifeless : (before : Holding) → living before ≡ Some Lifeless → ⊥
+never-lifeless Unheld e = cc
+never-lifeless Living e = cc
+never-lifeless Lifeless e = cc
+never-lifeless (Own n) e = cc
+never-lifeless (Others n) e = cc
+
+module _ (P : Program) (a b : ℕ) where
+  -- after a take that works
+  pub taken-in : (kind : Kind) (known new : Holding) (content made : Content) → taken_by kind known ≡ Some new → IsIn a b known content → taken kind a content ≡ Some made → IsIn a b new made
+  taken-in Mutex Living new Free made t i m = subst (λ h. IsIn a b h made) (same_Some _ _ t) (sym (same_Some _ _ m), omega arith)
+  taken-in Mutex Living new content made t i m = cc
+  taken-in Recursive Living new Free made t i m = subst (λ h. IsIn a b h made) (same_Some _ _ t) (sym (same_Some _ _ m), omega arith)
+  taken-in Recursive Living new (Held holder n) made t i m =
+      let e = cond_some (nat_eq holder a) (Held a (n + 1)) made m in
+      absurd (i.1 n (ap (λ k. Held k n) (eqb-true holder a e.0)))
+  taken-in Recursive Living new content made t i m = cc
+  taken-in Recursive (Own n) new content made t i m =
+      let k : taken Recursive a (Held a n) ≡ Some made = subst (λ c. taken Recursive a c ≡ Some made) i.0 m in
+      let e = cond_some (nat_eq a a) (Held a (n + 1)) made k in
+      subst (λ h. IsIn a b h made) (same_Some _ _ t) (sym e.1, omega arith)
+  taken-in Binary Living new (Count (suc n)) made t i m =
+      subst (λ h. IsIn a b h made) (same_Some _ _ t) (subst (λ c. IsIn a b Living c) (same_Some _ _ m) (count-in a b n))
+  taken-in Binary Living new content made t i m = cc
+  taken-in (Counting size first) Living new (Count (suc n)) made t i m =
+      subst (λ h. IsIn a b h made) (same_Some _ _ t) (subst (λ c. IsIn a b Living c) (same_Some _ _ m) (count-in a b n))
+  taken-in (Counting size first) Living new content made t i m = cc
+  taken-in kind known new content made t i m = cc
+
+  -- a content before such a take
+  pub take-shown : (kind : Kind) (known new : Holding) → KindInLimits kind → HoldingFits P a b kind known → taken_by kind known ≡ Some new → (before : Content) × CanHave P kind before × IsIn a b known before × (made : Content) × (taken kind a before ≡ Some made)
+  take-shown Mutex Living new h f t = (Free, tt, free-in a b, Held a 1, refl)
+  take-shown Recursive Living new h f t = (Free, tt, free-in a b, Held a 1, refl)
+  take-shown Recursive (Own n) new h f t = (Held a n, content-can P a b Recursive (Own n) tt f, (refl, held-once Recursive n f.0), Held a (n + 1), rw same-test)
+  take-shown Binary Living new h f t = (Count 1, omega arith, count-in a b 1, Count 0, refl)
+  take-shown (Counting size first) Living new h f t = (Count 1, h.0.0, count-in a b 1, Count 0, refl)
+  take-shown kind known new h f t = cc
+
+  -- no take works on what the mover or the other actor holds, but for a recursive take of the mover's own
+  pub taken-none : (kind : Kind) (before known : Holding) (content made : Content) → b ≢ a → living before ≡ Some known → HoldingFits P a b kind known → taken_by kind known ≡ None → IsIn a b known content → taken kind a content ≡ Some made → ⊥
+  taken-none Mutex before (Own n) content made ne l f t i m =
+      let k : taken Mutex a (Held a n) ≡ Some made = subst (λ c. taken Mutex a c ≡ Some made) i.0 m in cc
+  taken-none Mutex before (Others n) content made ne l f t i m =
+      let k : taken Mutex a (Held b n) ≡ Some made = subst (λ c. taken Mutex a c ≡ Some made) i.0 m in cc
+  taken-none Recursive before (Others n) content made ne l f t i m =
+      let k : taken Recursive a (Held b n) ≡ Some made = subst (λ c. taken Recursive a c ≡ Some made) i.0 m in
+      let e = cond_some (nat_eq b a) (Held a (n + 1)) made k in
+      ne (eqb-true b a e.0)
+  taken-none Binary before (Own n) content made ne l f t i m = f.0
+  taken-none Binary before (Others n) content made ne l f t i m = f.0
+  taken-none (Counting size first) before (Own n) content made ne l f t i m = f.0
+  taken-none (Counting size first) before (Others n) content made ne l f t i m = f.0
+  taken-none (Queue size lo hi) before known content made ne l f t i m = cc
+  taken-none (Stream size) before known content made ne l f t i m = cc
+  taken-none (Message size) before known content made ne l f t i m = cc
+  taken-none kind before Lifeless content made ne l f t i m = never-lifeless before l
+  taken-none kind before Unheld content made ne l f t i m = never-unheld before l
+  taken-none kind before known content made ne l f t i m = cc
+
+  -- after a give that works
+  back-in : (n : ℕ) (c d : Bool) → 1 ≤ n → nat_eq n 1 ≡ c → nat_le n 1 ≡ d → IsIn a b (if d then Living else Own (n - 1)) (if c then Free else Held a (n - 1))
+  back-in n true true once e f = free-in a b
+  back-in n false false once e f = (refl, grind (arith, common_steps))
+  back-in n true false once e f = absurd (grind (arith, common_steps))
+  back-in n false true once e f = absurd (grind (arith, common_steps))
+
+  pub given-in : (kind : Kind) (known new : Holding) (content made : Content) → given_by kind known ≡ Some new → IsIn a b known content → given kind content ≡ Some made → IsIn a b new made
+  given-in Mutex (Own n) new content made t i m =
+      let k : given Mutex (Held a n) ≡ Some made = subst (λ c. given Mutex c ≡ Some made) i.0 m in
+      subst (λ h. IsIn a b h made) (same_Some _ _ t) (subst (λ c. IsIn a b Living c) (same_Some _ _ k) (free-in a b))
+  given-in Recursive (Own n) new content made t i m =
+      let k : given Recursive (Held a n) ≡ Some made = subst (λ c. given Recursive c ≡ Some made) i.0 m in
+      subst (λ h. IsIn a b h made) (same_Some _ _ t) (subst (λ c. IsIn a b (if nat_le n 1 then Living else Own (n - 1)) c) (same_Some _ _ k) (back-in n (nat_eq n 1) (nat_le n 1) i.1 refl refl))
+  given-in Binary Living new (Count n) made t i m =
+      let e = cond_some (nat_lt n 1) (Count (n + 1)) made m in
+      subst (λ h. IsIn a b h made) (same_Some _ _ t) (subst (λ c. IsIn a b Living c) e.1 (count-in a b (n + 1)))
+  given-in Binary Living new content made t i m = cc
+  given-in (Counting size first) Living new (Count n) made t i m =
+      let e = cond_some (int_lt (pos n) size) (Count (n + 1)) made m in
+      subst (λ h. IsIn a b h made) (same_Some _ _ t) (subst (λ c. IsIn a b Living c) e.1 (count-in a b (n + 1)))
+  given-in (Counting size first) Living new content made t i m = cc
+  given-in kind known new content made t i m = cc
+
+  room : (size : ℤ) → pos 1 ≤ℤ size → int_lt (pos 0) size ≡ true
+  room size h = grind (arith, ints)
+
+  pub give-shown : (kind : Kind) (known new : Holding) → KindInLimits kind → HoldingFits P a b kind known → given_by kind known ≡ Some new → (before : Content) × CanHave P kind before × IsIn a b known before × (made : Content) × (given kind before ≡ Some made)
+  give-shown Mutex (Own n) new h f t = (Held a n, content-can P a b Mutex (Own n) tt f, (refl, held-once Mutex n f.0), Free, refl)
+  give-shown Recursive (Own n) new h f t =
+      (Held a n, content-can P a b Recursive (Own n) tt f, (refl, held-once Recursive n f.0), if nat_eq n 1 then Free else Held a (n - 1), refl)
+  give-shown Binary Living new h f t = (Count 0, omega arith, count-in a b 0, Count 1, refl)
+  give-shown (Counting size first) Living new h f t =
+      let r = room size h.0.0 in (Count 0, omega (arith, ints, h.0.0), count-in a b 0, Count 1, rw r)
+  give-shown kind known new h f t = cc

@@ -1,0 +1,24 @@
+use Rattle.std.proofs.Common.{refl, sym, ap, ◌∙◌, subst}
+use Rattle.fr_program.specs.declared.ids.Side.TheVariants.{Inside}
+use Rattle.fr_program.specs.declared.instr.Instr.TheVariants.{Call as Calls}
+use Rattle.fr_program.specs.declared.instr.Call.TheVariants.{On}
+use Rattle.fr_calls.specs.Rule.{is_unsuited}
+use Rattle.fr_notes.specs.Holding.{living, is_given_unheld}
+use Rattle.fr_notes.specs.Spot.{Leaves}
+use Rattle.fr_notes.proofs.EndLaws.{living-small}
+use Rattle.fr_notes.proofs.Never.{dead-never, unheld-never, unsuited-never}
+use Rattle.fr_notes.proofs.inside.change_inside.Goals as goal
+
+pub returns-in_err-holding : goal.returns-in_err-holding
+returns-in_err-holding c = λ p spot.
+    let P = c.args.app.now in
+    let k = c.args.known.now in
+    subst (λ x. Leaves P k p c.args.way x) (sym c.from_residual.ensures) (dead-never P k p c.args.way Inside (Calls (On c.args.object c.args.action.now)) c.args.object refl spot (ap living (sym c.holding.ensures) ∙ sym c.living.ensures ∙ c.in_err-holding.was))
+
+pub returns-then-is_unsuited : goal.returns-then-is_unsuited
+returns-then-is_unsuited c = λ p spot.
+    unsuited-never c.args.app.now c.args.known.now p c.args.way c.args.object c.args.action.now spot (ap (λ x. is_unsuited x c.args.action.now) (sym c.kind-kind.ensures) ∙ sym c.is_unsuited.ensures ∙ c.if-is_unsuited.true)
+
+pub returns-then-is_given_unheld : goal.returns-then-is_given_unheld
+returns-then-is_given_unheld c = λ p spot.
+    unheld-never c.args.app.now c.args.known.now p c.args.way Inside c.args.object c.args.action.now c.in_ok-holding.holding refl spot (ap living (sym c.holding.ensures) ∙ sym c.living.ensures ∙ c.in_ok-holding.was) (ap (λ x. is_given_unheld x c.args.action.now c.in_ok-holding.holding) (sym c.kind-kind.ensures) ∙ sym c.is_given_unheld.ensures ∙ c.if-is_given_unheld.true)

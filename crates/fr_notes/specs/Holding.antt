@@ -1,0 +1,94 @@
+-- For private clauses: what is known of one object, for the actor that moves and for another actor at once.
+--
+-- | word                      | meaning                                                                        |
+-- |---------------------------|--------------------------------------------------------------------------------|
+-- | holding_of                | two claims, of the mover and of the other actor, put together                  |
+-- | others_claim, holding     | the other actor's claim of an object; what is known of the object              |
+-- | mover_claim, other_claim  | what each of the two can claim of it                                           |
+-- | living                    | what is known of it where it is live                                           |
+-- | taken_by, given_by        | what a take or a give by the mover makes of it                                 |
+-- | can_be_full               | whether a give can be refused                                                  |
+-- | is_given_unheld           | a give of a mutex that the mover isn't known to hold                           |
+use Rattle.std.specs.Prelude.{ℕ, ◌+◌, ◌-◌, Option, None, Some, Bool, true, false, nat_le, if◌then◌else◌}
+use Rattle.fr_program.specs.declared.instr.Action.{Action}
+use Rattle.fr_program.specs.declared.instr.Action.TheVariants.{Give}
+use Rattle.fr_program.specs.declared.instr.GiveForm.TheVariants.{Plain as PlainGive, Recursive as RecursiveGive}
+use Rattle.fr_program.specs.declared.parts.Kind.{Kind}
+use Rattle.fr_program.specs.declared.parts.Kind.TheVariants.{Binary, Counting, Mutex, Recursive}
+pub use Rattle.fr_notes.specs.declared.holding.Holding.{Holding}
+pub use Rattle.fr_notes.specs.declared.holding.Holding.TheVariants.{Unheld, Living, Lifeless, Own, Others}
+use Rattle.fr_notes.specs.Note.{Claim, NotHeld, Alive, Gone, HeldTimes, claim_of}
+use Rattle.fr_notes.specs.Known.{Known}
+
+-- the mover's claim and the other actor's, put together
+abbrev pub holding_of : Claim → Claim → Holding
+holding_of (HeldTimes count) other = Own count
+holding_of claim (HeldTimes count) = Others count
+holding_of Gone other = Lifeless
+holding_of claim Gone = Lifeless
+holding_of Alive other = Living
+holding_of NotHeld Alive = Living
+holding_of NotHeld NotHeld = Unheld
+
+-- the other actor's claim of an object; where none is looked at, nothing is known of another one
+abbrev pub others_claim : Known → ℕ → Claim
+others_claim k o = elim k.other [ None ↦ NotHeld | Some n ↦ claim_of n o ]
+
+-- what is known of an object
+abbrev pub holding : Known → ℕ → Holding
+holding k o = holding_of (claim_of k.mover o) (others_claim k o)
+
+-- what the mover can claim
+abbrev pub mover_claim : Holding → Claim
+mover_claim Unheld = NotHeld
+mover_claim Living = Alive
+mover_claim Lifeless = Gone
+mover_claim (Own count) = HeldTimes count
+mover_claim (Others count) = Alive
+
+-- what the other actor can claim
+abbrev pub other_claim : Holding → Claim
+other_claim Unheld = NotHeld
+other_claim Living = Alive
+other_claim Lifeless = Gone
+other_claim (Own count) = Alive
+other_claim (Others count) = HeldTimes count
+
+-- what is known of the object where it is live
+abbrev pub living : Holding → Option Holding
+living Unheld = Some Living
+living Living = Some Living
+living Lifeless = None
+living (Own count) = Some (Own count)
+living (Others count) = Some (Others count)
+
+-- what a take that works makes of a live object
+abbrev pub taken_by : Kind → Holding → Option Holding
+taken_by Mutex Living = Some (Own 1)
+taken_by Recursive Living = Some (Own 1)
+taken_by Recursive (Own count) = Some (Own (count + 1))
+taken_by Binary Living = Some Living
+taken_by (Counting size first) Living = Some Living
+taken_by kind known = None
+
+-- what a give that works makes of a live object
+abbrev pub given_by : Kind → Holding → Option Holding
+given_by Mutex (Own count) = Some Living
+given_by Recursive (Own count) = Some (if nat_le count 1 then Living else Own (count - 1))
+given_by Binary Living = Some Living
+given_by (Counting size first) Living = Some Living
+given_by kind known = None
+
+-- whether a give to this kind of object can be refused, since there is no room
+abbrev pub can_be_full : Kind → Bool
+can_be_full Binary = true
+can_be_full (Counting size first) = true
+can_be_full kind = false
+
+-- whether the action is a give of a mutex, in the form that suits it, which the mover isn't known to hold
+abbrev pub is_given_unheld : Kind → Action → Holding → Bool
+is_given_unheld Mutex (Give PlainGive e) (Own count) = false
+is_given_unheld Mutex (Give PlainGive e) known = true
+is_given_unheld Recursive (Give RecursiveGive e) (Own count) = false
+is_given_unheld Recursive (Give RecursiveGive e) known = true
+is_given_unheld kind action known = false
