@@ -22,3 +22,4 @@ pub mod BufferRows
 pub mod LifeRows
 pub mod VariableRows
 pub mod ReckoningLaws
+pub mod PairLaws
