@@ -3,9 +3,9 @@ ghost use Rattle.std.specs.Prelude.{◌≡◌, ◌++◌, Some, true, IfOk, IfErr
 ghost use Rattle.std.specs.List.{AllZip};
 ghost use Rattle.fr_instr.specs.Lines.{IsLine};
 ghost use Rattle.fr_program.specs.View as program;
-ghost use Rattle.fr_reader.specs.Meaning.{AreNames, IsOwner, IsOwned, IsCoded, Says, names_in};
+ghost use Rattle.fr_reader.specs.Meaning.{AreNames, IsOwner, IsOwned, IsCoded, Says, names_in, lists_in};
 ghost use Rattle.fr_reader.specs.Faults.{is_memory, Standing};
-ghost use Rattle.fr_reader.specs.Stands.{IsNoOwner, InOwner, InOwners, InLine, InLines, InCode, InTexts};
+ghost use Rattle.fr_reader.specs.Stands.{IsNoOwner, InOwner, InOwners, InLine, InLines, InCode, InSaid, InTexts};
 ghost use Rattle.fr_reader.specs.Views.{variable_text, object_text, actor_text, line_text, texts_view};
 
 use crate::actor::ActorText;
@@ -150,6 +150,20 @@ fn actors_of(alloc: Global, names: &Names, texts: &[ActorText]) -> Result<Vec<Ac
     Ok(actors)
 }
 
+// The parts that the texts say, where these are the names in them. Owners are asked for first, then
+// lines.
+fn parts_with(alloc: Global, names: &Names, texts: &Texts) -> Result<Parts, ReadFault>
+    requires { names.now ≡ lists_in (texts_view texts.now) }
+    ensures ok { IfOk result (λ parts. Says (texts_view texts.now) (program.program_of parts)) }
+    ensures err { IfErr result (Standing (InSaid (texts_view texts.now))) }
+{
+    Ok(Parts {
+        variables: variables_of(alloc, names, &texts.variables)?,
+        objects: objects_of(alloc, &texts.objects)?,
+        actors: actors_of(alloc, names, &texts.actors)?,
+    })
+}
+
 /// The parts that the texts say. Names are asked for first, then owners, then lines.
 pub(crate) fn parts_of(alloc: Global, texts: &Texts) -> Result<Parts, ReadFault>
     ensures names { IfOk result (λ _. AreNames (names_in (texts_view texts.now))) }
@@ -159,9 +173,5 @@ pub(crate) fn parts_of(alloc: Global, texts: &Texts) -> Result<Parts, ReadFault>
     let lists = names::names_of(alloc, texts)?;
     names::check_names(alloc, &lists)?;
     let names = Names::build(alloc, &lists.variables, &lists.objects, &lists.actors)?;
-    Ok(Parts {
-        variables: variables_of(alloc, &names, &texts.variables)?,
-        objects: objects_of(alloc, &texts.objects)?,
-        actors: actors_of(alloc, &names, &texts.actors)?,
-    })
+    parts_with(alloc, &names, texts)
 }
