@@ -24,3 +24,4 @@ pub mod VariableRows
 pub mod ReckoningLaws
 pub mod Never
 pub mod EndLaws
+pub mod BeforeLaws
