@@ -25,3 +25,4 @@ pub mod ReckoningLaws
 pub mod Never
 pub mod EndLaws
 pub mod PairLaws
+pub mod BeforeLaws

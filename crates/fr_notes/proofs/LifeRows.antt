@@ -23,7 +23,7 @@ use Rattle.fr_calls.proofs.Built.{is-built}
 use Rattle.fr_calls.proofs.Free.{no-use, live-use}
 use Rattle.fr_notes.specs.Note.{Alive, Gone}
 use Rattle.fr_notes.specs.Known.{Known, IsOther, IsLeft, NeverSteps, taught}
-use Rattle.fr_notes.specs.Holding.{Holding, Unheld, Living, Lifeless, Own, Others, holding, living, mover_claim, other_claim, is_given_unheld}
+use Rattle.fr_notes.specs.Holding.{Holding, Unheld, Living, Lifeless, Own, Others, holding, can_be_dead, living, mover_claim, other_claim, is_given_unheld}
 use Rattle.fr_notes.specs.Spot.{IsSpot, IsUnforbidden, claiming}
 use Rattle.fr_notes.proofs.Shown.{new-live}
 use Rattle.fr_notes.proofs.Holdings.{IsIn, HoldingFits, content_in, content-in, content-can, new-unheld, live-count}
@@ -39,6 +39,16 @@ abbrev pub IsCreatable : Holding → Type 0
 IsCreatable Unheld = Unit {0}
 IsCreatable Lifeless = Unit {0}
 IsCreatable known = ⊥
+
+pub creatable : (known : Holding) → can_be_dead known ≡ true → IsCreatable known
+creatable Unheld t = tt
+creatable Lifeless t = tt
+creatable known t = cc
+
+pub not-creatable : (known : Holding) → can_be_dead known ≡ false → IsCreatable known → ⊥
+not-creatable Unheld f c = cc
+not-creatable Lifeless f c = cc
+not-creatable known f c = c
 
 dead-in : (a b : ℕ) (known : Holding) → IsCreatable known → IsIn a b known Dead
 dead-in a b Unheld c = (λ k e. cc, λ k e. cc)

@@ -1,6 +1,6 @@
 -- Where there is no step at all, whatever the row: a rule stops the mover.
 use Rattle.std.proofs.Common.{◌≡◌, ◌≢◌, ℕ, ◌<◌, List, [], ◌∷◌, length, Option, Some, None, Bool, true, false, refl, sym, ap, ◌∙◌, subst, arith}
-use Rattle.std.specs.Prelude.{ℤ, ◌≤ℤ◌, IsTrue, IfSome, All, find, if◌then◌else◌}
+use Rattle.std.specs.Prelude.{ℤ, ◌≤ℤ◌, IsTrue, IfSome, All, find, nat_eq, if◌then◌else◌}
 use Rattle.std.proofs.lemmas.Int.{ints}
 use Rattle.std.proofs.lemmas.Option.{same_Some}
 use Rattle.std.proofs.lemmas.Bool.{false≢true}
@@ -11,7 +11,8 @@ use Rattle.fr_program.specs.declared.ids.Side.{Side}
 use Rattle.fr_program.specs.declared.ids.Side.TheVariants.{Before, Inside}
 use Rattle.fr_program.specs.declared.instr.Instr.{Instr}
 use Rattle.fr_program.specs.declared.instr.Instr.TheVariants.{Call as Calls}
-use Rattle.fr_program.specs.declared.instr.Call.TheVariants.{On}
+use Rattle.fr_program.specs.declared.instr.Form.{Form}
+use Rattle.fr_program.specs.declared.instr.Call.TheVariants.{ExitCritical, ResumeAll, On}
 use Rattle.fr_program.specs.declared.instr.Action.{Action}
 use Rattle.fr_program.specs.Program.{Program}
 use Rattle.fr_calls.specs.declared.way.Way.{Way}
@@ -96,3 +97,12 @@ module _ (P : Program) (k : Known) (p : Point) (way : Way) where
   -- the table has no such row
   pub rowless-never : (side : Side) (i : Instr) → IsSpot P k p side i → ((S : State) (c : ℤ) (mid : State) → Row P (transition S p.actor.0 c mid) side i way → ⊥) → NeverSteps P k p way
   rowless-never side i spot none = row-never P k p side i way spot (λ q there S c mid is free row. none S c mid row)
+
+  -- no critical section is left, and no suspension ends, at depth 0
+  pub exit-never : (form : Form) → IsSpot P k p Before (Calls (ExitCritical form)) → k.mover.critical ≡ 0 → NeverSteps P k p way
+  exit-never form spot none = row-never P k p Before (Calls (ExitCritical form)) way spot (λ q there S c mid is free row.
+      free.0 DepthAboveZero refl (ap (λ d. nat_eq d 0) (is.mover.holds.critical ∙ none)))
+
+  pub resume-never : IsSpot P k p Before (Calls ResumeAll) → k.mover.suspended ≡ 0 → NeverSteps P k p way
+  resume-never spot none = row-never P k p Before (Calls ResumeAll) way spot (λ q there S c mid is free row.
+      free.0 DepthAboveZero refl (ap (λ d. nat_eq d 0) (is.mover.holds.suspended ∙ none)))

@@ -5,6 +5,7 @@
 -- | holding_of                | two claims, of the mover and of the other actor, put together                  |
 -- | others_claim, holding     | the other actor's claim of an object; what is known of the object              |
 -- | mover_claim, other_claim  | what each of the two can claim of it                                           |
+-- | can_be_dead               | whether it can be dead                                                         |
 -- | living                    | what is known of it where it is live                                           |
 -- | taken_by, given_by        | what a take or a give by the mover makes of it                                 |
 -- | can_be_full               | whether a give can be refused                                                  |
@@ -53,6 +54,12 @@ other_claim Living = Alive
 other_claim Lifeless = Gone
 other_claim (Own count) = Alive
 other_claim (Others count) = HeldTimes count
+
+-- whether the object can be dead
+abbrev pub can_be_dead : Holding → Bool
+can_be_dead Unheld = true
+can_be_dead Lifeless = true
+can_be_dead known = false
 
 -- what is known of the object where it is live
 abbrev pub living : Holding → Option Holding

@@ -83,7 +83,7 @@ ghost use Rattle.fr_notes.specs.Change.{HasOperand, HasOperands, HasNumbers, Tur
 ghost use Rattle.fr_notes.specs.Implication.{IsPart};
 
 /// The variable's new range, where the operand is one.
-fn narrowed_to(operand: Operand, range: Range) -> Option<(VarId, Range)>
+pub fn narrowed_to(operand: Operand, range: Range) -> Option<(VarId, Range)>
     ensures { result ≡ narrowed_to operand range }
 {
     match operand {

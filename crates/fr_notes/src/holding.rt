@@ -1,6 +1,6 @@
 // What is known of one object, for both actors that are looked at.
 ghost use Rattle.std.specs.Prelude.{◌≡◌};
-ghost use Rattle.fr_notes.specs.Holding.{holding_of, mover_claim, living};
+ghost use Rattle.fr_notes.specs.Holding.{holding_of, mover_claim, can_be_dead, living};
 
 use crate::claim::Claim;
 
@@ -46,6 +46,13 @@ impl Holding {
             Holding::Lifeless => Claim::Gone,
             Holding::Own(count) => Claim::HeldTimes(count),
         }
+    }
+
+    /// Whether the object can be dead.
+    pub fn can_be_dead(self) -> bool
+        ensures { result ≡ can_be_dead self }
+    {
+        matches!(self, Holding::Unheld | Holding::Lifeless)
     }
 
     /// What is known of the object where it is live: None where it is known to be dead.

@@ -3,6 +3,7 @@
 // step makes of an alternative.
 #![tactic(auto)]
 
+mod before;
 mod change;
 mod checks;
 mod claim;
