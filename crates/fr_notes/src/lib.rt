@@ -20,6 +20,7 @@ mod note;
 mod notes;
 mod parts;
 mod reckoning;
+mod steps;
 mod worked;
 
 pub use change::{Change, change_by, keeps};
