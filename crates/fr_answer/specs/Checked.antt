@@ -19,6 +19,8 @@ use Rattle.fr_calls.specs.Run.{IsSafe}
 use Rattle.fr_reader.specs.FaultText.{fault_text}
 use Rattle.fr_reader.specs.Meaning.{Means}
 use Rattle.fr_reader.specs.Faults.{is_memory as app_is_memory}
+-- how many bytes the text of a certificate has at the most, which no file that is read may exceed
+pub use Rattle.fr_cert.specs.Meaning.{most_bytes}
 use Rattle.fr_cert.specs.FaultText.{text_of}
 use Rattle.fr_cert.specs.Faults.{is_memory as cert_is_memory}
 use Rattle.fr_judge.specs.Texts.{IsJudged}

@@ -1,17 +1,11 @@
 // Reading a file's bytes.
 ghost use Rattle.std.specs.Prelude.{◌≡◌, ◌≤◌, ◌+◌, IfOk, vec_len};
 ghost use Rattle.std.specs.Io.KnownBytes.{Consumes, IsAtEnd};
-ghost use Rattle.fr_answer.specs.Checked.{load_fault};
+ghost use Rattle.fr_answer.specs.Checked.{load_fault, most_bytes};
 
 use crate::fault::CheckFault;
 use std::alloc::Global;
 use std::io::Read;
-
-/// The most bytes of an application.
-pub const MOST_APP_BYTES: usize = 1_048_576;
-
-/// The most bytes of a certificate.
-pub const MOST_CERTIFICATE_BYTES: usize = 16_777_216;
 
 /// Why a file's bytes couldn't be had.
 #[derive(Clone, Copy, Debug, PartialEq, Eq)]
@@ -35,9 +29,10 @@ impl LoadFault {
 }
 
 /// Reads to the end, or to `limit` plus 1 bytes, so that a text that is too long shows as such. Ok
-/// is what was read. A read that fails is `Device`, with no second try.
+/// is what was read. A read that fails is `Device`, with no second try. The limit is at most the
+/// greatest length of a certificate.
 pub fn load<R: Read>(alloc: Global, reader: &mut R, limit: usize) -> Result<Vec<u8>, LoadFault>
-    requires { limit ≤ 16777216 }
+    requires { limit ≤ most_bytes }
     ensures read { IfOk result
         (λ bytes. Consumes (R.remaining reader.old) (R.remaining reader.new) bytes.items) }
     ensures most { IfOk result (λ bytes. vec_len bytes ≤ limit + 1) }

@@ -11,4 +11,6 @@ mod file;
 pub use answer::{answer_check, answer_fault};
 pub use check::{check_to, check_with};
 pub use fault::{CheckFault, fault_line, status};
-pub use file::{LoadFault, MOST_APP_BYTES, MOST_CERTIFICATE_BYTES, load};
+pub use file::{LoadFault, load};
+pub use fr_cert::MOST_BYTES as MOST_CERTIFICATE_BYTES;
+pub use fr_reader::MOST_BYTES as MOST_APP_BYTES;

@@ -1,4 +1,4 @@
--- The rule of the board: what is true of its three words and of all passes between any two steps.
+-- For private clauses: the rule of the board: what is true of its three words and of all passes between any two steps.
 use Rattle.std.specs.Prelude.{◌≡◌, ℕ, ◌+◌, ◌<◌, ◌≤◌, ◌^◌, nat_lt, min, List, [], length, slice_index, if◌then◌else◌}
 use mathlib.Core.Option.{some}
 use lib.ListN.{get_elem?}

@@ -36,7 +36,7 @@ IsSeatCount seats = (0 < seats) × (seats ≤ 64)
 abbrev pub IsBoardSize : ℕ → ℕ → Type 0
 IsBoardSize jobs seats = IsSeatCount seats × (jobs ≤ 2 ^ 32)
 
--- where each fault stands: the number of seats is tested first, then the number of jobs, and only then memory is asked for
+-- when each fault is answered: the number of seats is tested first, then the number of jobs, and only then memory is asked for
 abbrev pub FaultStands : BoardFault → ℕ → ℕ → Type 0
 FaultStands Memory jobs seats = IsBoardSize jobs seats
 FaultStands Seats jobs seats = (seats ≡ 0) ⊎ (64 < seats)

@@ -1,4 +1,4 @@
--- What each of the four steps tells its caller: of the step, the seat before it, the number found in the word, and the seat after it.
+-- For private clauses: what each of the four steps tells its caller: of the step, the seat before it, the number found in the word, and the seat after it.
 use Rattle.std.specs.Prelude.{◌≡◌, ℕ, ◌<◌, ◌≤◌}
 use Rattle.atomic_table.specs.Table.{Me, Step}
 use Rattle.fr_board.specs.declared.progress.Outcome.{Outcome}

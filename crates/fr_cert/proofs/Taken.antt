@@ -15,14 +15,14 @@ use Rattle.fr_notes.specs.Note.{Alternative, Note}
 use Rattle.fr_ends.specs.Certificate.{Certificate}
 use Rattle.fr_ends.specs.Guard.{EndGuard}
 use Rattle.fr_ends.specs.Fits.{EndFits, AreOfOneEnd, EndsFit}
-use Rattle.fr_cert.specs.Path.{key as step, at}
+use Rattle.fr_cert.specs.Path.{PathStep, key as step, at}
 use Rattle.fr_cert.specs.Keys.{AreKnown, is_key_of, spells, key_text, field, integer_of}
 use Rattle.fr_cert.specs.Shapes.{At, OrDefault, IsObject, IsList, EachEntry, IsDepth}
 use Rattle.fr_cert.specs.Meaning as whole
 use Rattle.fr_cert.specs.Meaning.{NoteText, IsNoteText, NoteTextFits, IsInside, range_at, claim_at, note_said, IsHeldCount, AreNamed, IsVersion, IsEnd, IsTreeText, Means}
 use Rattle.fr_cert.specs.Faults.{Standing, Within, deeper, InNeeded, InList, InEntries}
 use Rattle.fr_cert.specs.Present as present
-use Rattle.fr_cert.specs.NotYet.{IsRefused, HasGuards, HasMoreKeys, HasMoreNotes, IsPlain as IsPlainToday}
+use Rattle.fr_cert.specs.NotYet.{IsRefused, IsNotYetBy, HasGuards, HasMoreKeys, HasMoreNotes, IsPlain as IsPlainToday}
 use Rattle.fr_cert.specs.PlainMeaning as plain
 use Rattle.fr_cert.specs.PlainMeaning.{PlainText, IsPlainText, plain_said}
 use Rattle.fr_cert.specs.PlainStands as refused
@@ -34,6 +34,7 @@ use Rattle.fr_cert.specs.declared.key.Key.TheVariants as key
 use Rattle.fr_cert.specs.declared.key.Place.{Place}
 use Rattle.fr_cert.specs.declared.key.Place.TheVariants as place
 use Rattle.fr_cert.specs.declared.fault.CertFault.{CertFault}
+use Rattle.fr_cert.specs.declared.fault.CertFault.TheVariants as fault
 use Rattle.fr_cert.proofs.Laws.{both, never}
 use Rattle.fr_cert.proofs.NoteLemmas.{claims_along}
 
@@ -169,10 +170,22 @@ bool_or : (b : Bool) → (b ≡ true) ⊎ (b ≡ false)
 bool_or true = inl refl
 bool_or false = inr refl
 
-refused_alternative : (P : Program) (ms : Members) (f : CertFault) → refused.InPlain P ms f → present.InAlternative P ms f ⊎ HasMoreKeys ms
+-- a departure is a fault by which a text that isn't taken yet is refused; so it is as seen from further out
+by_shape : (f : CertFault) (path : List PathStep) → f ≡ fault.Shape path → IsNotYetBy f
+by_shape f path e = subst IsNotYetBy (sym e) tt
+
+by_deeper : (s : PathStep) (f : CertFault) → IsNotYetBy f → IsNotYetBy (deeper s f)
+by_deeper s (fault.Shape path) h = tt
+by_deeper s fault.Version h = tt
+by_deeper s f h = absurd h
+
+by_outer : (s : PathStep) (f inner : CertFault) → IsNotYetBy inner → f ≡ deeper s inner → IsNotYetBy f
+by_outer s f inner h e = subst IsNotYetBy (sym e) (by_deeper s inner h)
+
+refused_alternative : (P : Program) (ms : Members) (f : CertFault) → refused.InPlain P ms f → present.InAlternative P ms f ⊎ (HasMoreKeys ms × IsNotYetBy f)
 refused_alternative P ms f (inl (inl s)) =
     elim (bool_or (is_key_of place.Note s.0)) [
-      | inl known ↦ inr (s.0, s.1, s.2, known, s.3)
+      | inl known ↦ inr ((s.0, s.1, s.2, known, s.3), by_shape f _ s.4)
       | inr no_ ↦ inl (inl (inl (s.0, s.1, s.2, no_, s.4)))
     ]
 refused_alternative P ms f (inl (inr (inl s))) = inl (inl (inr (inr (inl s))))
@@ -184,65 +197,65 @@ refused_alternative P ms f (inr s) =
     not_all : {A : Type 0} (Q : A → Type 0) (xs : List A) → All Q xs → Any (λ x. Q x → ⊥) xs → ⊥
     not_all Q xs all any = any.4 (subst Q any.3 (all any.0 any.1 any.2))
 
-refused_note : (P : Program) (d : Data) (f : CertFault) → refused.InNote P d f → present.InNote P 1 d f ⊎ ((os : Members) × (as_object d ≡ Some os) × HasMoreKeys os)
+refused_note : (P : Program) (d : Data) (f : CertFault) → refused.InNote P d f → present.InNote P 1 d f ⊎ (((os : Members) × (as_object d ≡ Some os) × HasMoreKeys os) × IsNotYetBy f)
 refused_note P d f (inl s) = inl (inl (s.0, s.1, (λ two. absurd (omega (arith, two))), s.2))
 refused_note P d f (inr s) =
     elim (refused_alternative P s.0 f s.2) [
       | inl is ↦ inl (inr (inl (s.0, s.1, is)))
-      | inr more ↦ inr (s.0, s.1, more)
+      | inr more ↦ inr ((s.0, s.1, more.0), more.1)
     ]
 
-refused_notes : (P : Program) (ms : Members) (f : CertFault) → InNeeded key.Notes (refused.InNotes P) ms f → InNeeded key.Notes (InList (present.InNotes P 1)) ms f ⊎ HasMoreNotes ms
+refused_notes : (P : Program) (ms : Members) (f : CertFault) → InNeeded key.Notes (refused.InNotes P) ms f → InNeeded key.Notes (InList (present.InNotes P 1)) ms f ⊎ (HasMoreNotes ms × IsNotYetBy f)
 refused_notes P ms f (inl s) = inl (inl s)
 refused_notes P ms f (inr (d, is, (g, inl s, e))) = inl (inr (d, is, (g, inl s, e)))
 refused_notes P ms f (inr (d, is, (g, inr (ds, list, inl s), e))) = inl (inr (d, is, (g, inr (ds, list, inl s), e)))
 refused_notes P ms f (inr (d, is, (g, inr (ds, list, inr (i, n, there, (inner, s, within))), e))) =
     elim (refused_note P n inner s) [
       | inl found ↦ inl (inr (d, is, (g, inr (ds, list, inr (i, n, there, (inner, found, within))), e)))
-      | inr more ↦ inr (d, ds, i, n, more.0, is, list, there, more.1, more.2)
+      | inr more ↦ inr ((d, ds, i, n, more.0.0, is, list, there, more.0.1, more.0.2), by_outer _ f g (by_outer _ g inner more.1 within) e)
     ]
 
-refused_version : (ms : Members) (f : CertFault) → InNeeded key.Version refused.InVersion ms f → InNeeded key.Version present.InVersion ms f ⊎ At key.Version IsVersion ms 2
+refused_version : (ms : Members) (f : CertFault) → InNeeded key.Version refused.InVersion ms f → InNeeded key.Version present.InVersion ms f ⊎ (At key.Version IsVersion ms 2 × IsNotYetBy f)
 refused_version ms f (inl s) = inl (inl s)
 refused_version ms f (inr (d, is, (g, inl s, e))) = inl (inr (d, is, (g, inl s, e)))
 refused_version ms f (inr (d, is, (g, inr (z, number_, one, s), e))) =
     elim (bool_or (int_eq z (pos 2))) [
-      | inl two ↦ inr (d, is, (number_ ∙ ap Some ((Decides-int_eq z (pos 2)).0 two), inr refl))
+      | inl two ↦ inr ((d, is, (number_ ∙ ap Some ((Decides-int_eq z (pos 2)).0 two), inr refl)), by_outer _ f g (subst IsNotYetBy (sym s) tt) e)
       | inr other ↦ inl (inr (d, is, (g, inr (z, number_, one, (λ two. false≢true (sym other ∙ (Decides-int_eq z (pos 2)).1 two)), s), e)))
     ]
 
-refused_ends : (P : Program) (ms : Members) (f : CertFault) → InNeeded key.Ends refused.InGuards ms f → InNeeded key.Ends (InList (present.InAllEnds P)) ms f ⊎ HasGuards ms
+refused_ends : (P : Program) (ms : Members) (f : CertFault) → InNeeded key.Ends refused.InGuards ms f → InNeeded key.Ends (InList (present.InAllEnds P)) ms f ⊎ (HasGuards ms × IsNotYetBy f)
 refused_ends P ms f (inl s) = inl (inl s)
 refused_ends P ms f (inr (d, is, (g, inl s, e))) = inl (inr (d, is, (g, inl s, e)))
-refused_ends P ms f (inr (d, is, (g, inr (ds, first, list, there, s), e))) = inr (d, ds, first, is, list, there)
+refused_ends P ms f (inr (d, is, (g, inr (ds, first, list, there, s), e))) = inr ((d, ds, first, is, list, there), by_outer _ f g (by_shape g _ s) e)
 
 abbrev More : Members → Type 0
 More ms = At key.Version IsVersion ms 2 ⊎ (HasGuards ms ⊎ HasMoreNotes ms)
 
-refused_certificate : (P : Program) (ms : Members) (f : CertFault) → refused.InCertificate P ms f → present.InCertificate P ms f ⊎ More ms
+refused_certificate : (P : Program) (ms : Members) (f : CertFault) → refused.InCertificate P ms f → present.InCertificate P ms f ⊎ (More ms × IsNotYetBy f)
 refused_certificate P ms f (inl s) = inl (inl s)
 refused_certificate P ms f (inr (inl s)) =
     elim (refused_version ms f s) [
       | inl is ↦ inl (inr (inl is))
-      | inr two ↦ inr (inl two)
+      | inr two ↦ inr (inl two.0, two.1)
     ]
 refused_certificate P ms f (inr (inr (inl s))) =
     elim (refused_ends P ms f s) [
       | inl is ↦ inl (inr (inr (inl is)))
-      | inr guards ↦ inr (inr (inl guards))
+      | inr guards ↦ inr (inr (inl guards.0), guards.1)
     ]
 refused_certificate P ms f (inr (inr (inr s))) =
     elim (refused_notes P ms f s.1) [
       | inl is ↦ inl (inr (inr (inr (1, version_one ms s.0, is))))
-      | inr more ↦ inr (inr (inr more))
+      | inr more ↦ inr (inr (inr more.0), more.1)
     ]
 
-pub refused_tree : (P : Program) (d : Data) (f : CertFault) → refused.InTree P d f → present.InTree P d f ⊎ ((ms : Members) × (as_object d ≡ Some ms) × More ms)
+pub refused_tree : (P : Program) (d : Data) (f : CertFault) → refused.InTree P d f → present.InTree P d f ⊎ (((ms : Members) × (as_object d ≡ Some ms) × More ms) × IsNotYetBy f)
 refused_tree P d f (inl s) = inl (inl s)
 refused_tree P d f (inr s) =
     elim (refused_certificate P s.0 f s.2) [
       | inl is ↦ inl (inr (s.0, s.1, is))
-      | inr more ↦ inr (s.0, s.1, more)
+      | inr more ↦ inr ((s.0, s.1, more.0), more.1)
     ]
 
 -- ---- what is written
@@ -328,5 +341,5 @@ pub refused_bytes : (P : Program) (bytes : List ℕ) (d : Data) (f : CertFault) 
 refused_bytes P bytes d f text h named =
     elim (refused_tree P d f (h named)) [
       | inl is ↦ inl (inr (d, text, is))
-      | inr more ↦ inr (d, more.0, text, more.1, more.2)
+      | inr more ↦ inr ((d, more.0.0, text, more.0.1, more.0.2), more.1)
     ]

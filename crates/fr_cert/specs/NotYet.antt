@@ -3,8 +3,10 @@
 --
 -- | word                  | meaning                                                                           |
 -- |-----------------------|-----------------------------------------------------------------------------------|
--- | HasGuards, HasObjects | the list of ends has an entry; some note has a key that says more than depths in the critical section and ranges |
+-- | HasGuards             | the list of ends has an entry                                                     |
+-- | HasMoreNotes          | some note has a key that says more than a depth in the critical section and ranges |
 -- | NotReadYet            | `read_cert` doesn't take the text yet                                             |
+-- | IsNotYetBy            | the fault is one by which such a text is refused                                  |
 -- | IsRefused             | a fault is present in the text, or it isn't taken yet                             |
 -- | IsWrittenToday        | `write_cert` takes the certificate                                                |
 use Rattle.std.specs.Prelude.{◌≡◌, ◌⊎◌, ℕ, List, [], ◌∷◌, IsTrue, Some, false, All}
@@ -20,6 +22,7 @@ use Rattle.fr_cert.specs.Present.{IsPresent}
 use Rattle.fr_cert.specs.declared.key.Key.TheVariants as key
 use Rattle.fr_cert.specs.declared.key.Place.TheVariants as place
 use Rattle.fr_cert.specs.declared.fault.CertFault.{CertFault}
+use Rattle.fr_cert.specs.declared.fault.CertFault.TheVariants as fault
 
 -- the list of ends has an entry
 abbrev pub HasGuards : Members → Type 0
@@ -41,9 +44,15 @@ NotReadYet bytes =
     (d : Data) × (ms : Members) × IsTreeText bytes d × (as_object d ≡ Some ms)
     × (At key.Version IsVersion ms 2 ⊎ (HasGuards ms ⊎ HasMoreNotes ms))
 
--- the fault is present in the bytes, or they aren't taken yet
+-- a text that isn't taken yet is refused by its version, or as a departure in keys or kinds
+abbrev pub IsNotYetBy : CertFault → Type 0
+IsNotYetBy fault.Version = Unit {0}
+IsNotYetBy (fault.Shape path) = Unit {0}
+IsNotYetBy f = ⊥
+
+-- the fault is present in the bytes, or they aren't taken yet and it is one by which such a text is refused
 abbrev pub IsRefused : Program → List ℕ → CertFault → Type 0
-IsRefused P bytes f = IsPresent P bytes f ⊎ NotReadYet bytes
+IsRefused P bytes f = IsPresent P bytes f ⊎ (NotReadYet bytes × IsNotYetBy f)
 
 -- the note says no more than a depth in the critical section and ranges
 abbrev pub IsPlain : Program → Note → Type 0

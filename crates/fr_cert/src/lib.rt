@@ -17,5 +17,5 @@ mod writing;
 
 pub use fault::CertFault;
 pub use path::{Path, Step};
-pub use reading::{no_meaning, one_meaning, read_cert};
+pub use reading::{MOST_BYTES, no_meaning, one_meaning, read_cert};
 pub use writing::write_cert;

@@ -2,6 +2,7 @@
 #![tactic(auto)]
 
 ghost use Rattle.std.specs.Prelude.{◌≤◌};
+ghost use Rattle.fr_answer.specs.Checked.{most_bytes};
 
 #[cfg(test)]
 mod tests;
@@ -28,7 +29,7 @@ fn is_memory(error: &io::Error) -> bool {
 
 /// The file's bytes, at most one more than the limit.
 fn file_bytes(rt: &HostRuntime, path: &str, limit: usize) -> Result<Vec<u8>, CheckFault>
-    requires { limit ≤ 16777216 }
+    requires { limit ≤ most_bytes }
 {
     let mut file = match File::open(rt, path) {
         Ok(file) => file,

@@ -2,3 +2,4 @@ pub mod Guard
 pub mod Certificate
 pub mod Fits
 pub mod Guarded
+pub mod Nearness

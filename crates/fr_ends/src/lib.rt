@@ -3,6 +3,8 @@
 
 mod certificate;
 mod ends;
+mod nearness;
 
 pub use certificate::Certificate;
 pub use ends::{EndName, Ends};
+pub use nearness::near;

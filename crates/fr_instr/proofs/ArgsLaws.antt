@@ -1,4 +1,4 @@
--- The loop over arguments: what was found stands in front of what is left.
+-- The loop over arguments: what was found is in front of what is left.
 use Rattle.std.proofs.Common.{◌≡◌, ℕ, ◌+◌, List, [], ◌∷◌, ◌++◌, drop, Bool, cond, true, false, Some, None, Option, option_map, refl, sym, ap, ◌∙◌, inl, inr, append_assoc}
 use Rattle.std.proofs.lemmas.List.{map-append, drop-drop, drop-map}
 use Rattle.std.proofs.lemmas.Option.{same_Some}

@@ -1,5 +1,5 @@
--- A text is one line at the most, and no line where a fault stands in it: each word and each number stands for one
--- thing of its kind, a call's name for one call, and a fault in a place says that nothing stands there.
+-- A text is one line at the most, and no line where a fault is present in it: each word and each number means one
+-- thing of its kind, a call's name for one call, and a fault in a place says that nothing is there.
 use Rattle.std.proofs.Common.{◌≡◌, ◌<◌, ◌^◌, ℕ, ℤ, pos, List, [], ◌∷◌, map, length, Option, Some, None, Result, Ok, Err, refl, sym, ap, ◌∙◌, subst, inl, inr, arith, lit<}
 use Rattle.std.proofs.lemmas.Option.{same_Some}
 use Rattle.std.proofs.lemmas.List.Quantifiers.{position-Some}
@@ -52,7 +52,7 @@ no_shape_spells text ts h e s k = apart (shape_at ts) s (sym e) (ap shape_at (sp
 one_shape : (text : List ℕ) (s t : Shape) → Spells text (shape_toks s) → Spells text (shape_toks t) → s ≡ t
 one_shape text s t h k = same_Some s t (sym (shape_again s) ∙ ap shape_at (spells_once text (shape_toks s) (shape_toks t) h k) ∙ shape_again t)
 
--- ---- each word and number stands for one thing
+-- ---- each word and number means one thing
 
 one_place : (names : List (List ℕ)) (w : List ℕ) (i j : ℕ) → place_of names w ≡ Some i → place_of names w ≡ Some j → i ≡ j
 one_place names w i j h k = same_Some i j (sym h ∙ k)

@@ -1,4 +1,4 @@
--- A call is the one that has its parts: its arguments stand in the places of its row, `else` and `v =` only where the
+-- A call is the one that has its parts: its arguments are in the places of its row, `else` and `v =` only where the
 -- row allows them, and its name, its arguments, its target and its variable give it back.
 use Rattle.std.proofs.Common.{◌≡◌, ℕ, List, map, false, Option, Some, None, option_and_then, slice_get, refl, sym, ◌∙◌}
 use Rattle.std.proofs.lemmas.Bool.{false≢true}

@@ -1,4 +1,4 @@
--- What is written for a line is read again as the line: each piece stands for its part, and each token is one.
+-- What is written for a line is read again as the line: each piece means its part, and each token is one.
 use Rattle.std.proofs.Common.{◌≡◌, ◌≢◌, ◌<◌, ◌≤◌, ◌^◌, ◌+◌, ◌%◌, ◌++◌, ◌||◌, ℕ, suc, ℤ, pos, negsuc, List, [], ◌∷◌, map, length, get_or, Bool, true, false, Option, Some, None, option_map, cond, ltb, refl, sym, ap, ◌∙◌, inl, inr, All, AllPairs, arith}
 use Rattle.std.proofs.lemmas.Bool.{false≢true, false_from_ne_true, ltb-false}
 use Rattle.std.proofs.lemmas.Bool.Decides.{nat_tests}
@@ -38,9 +38,9 @@ use Rattle.fr_program.specs.declared.instr.Instr.TheVariants as line
 use Rattle.fr_instr.proofs.NameLaws.{all_left, all_right, apart_left, apart_right}
 use Rattle.fr_instr.proofs.WrittenLaws.{spells_written}
 
--- ---- each piece stands for its part
+-- ---- each piece means its part
 
--- where names are distinct, the name at a place stands at that place
+-- where names are distinct, the name at a place is at that place
 place_again : (names : List (List ℕ)) (i : ℕ) → AllPairs (λ x y. x ≢ y) names → i < length names → place_of names (name_at names i) ≡ Some i
 place_again names i once within =
     let p : List ℕ → Bool = λ v. bytes_eq (get_or names i []) v in

@@ -20,7 +20,7 @@ not_reserved w none (k, within, same) =
 pub tested_name : (w : List ℕ) → 1 ≤ length w → length w ≤ 32 → list_all (λ c. is_letter c || is_digit c) w ≡ true → is_digit (get_or w 0 0) ≡ false → list_any (λ r. bytes_eq r w) reserved ≡ false → IsName w
 tested_name w some short letters first free = record { some = some; short = short; letters = all_pass (λ c. is_letter c || is_digit c) w letters; first = first; free = not_reserved w free }
 
--- whether no text stands twice
+-- whether no text is given twice
 abbrev pub no_twice : List (List ℕ) → Bool
 no_twice [] = true
 no_twice (x ∷ xs) = not (list_any (λ y. bytes_eq x y) xs) && no_twice xs

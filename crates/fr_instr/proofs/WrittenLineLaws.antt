@@ -1,4 +1,4 @@
--- What is written for a line is the text in the code's pieces, and is read again as the line: each piece stands for
+-- What is written for a line is the text in the code's pieces, and is read again as the line: each piece means
 -- its part, and each token is one.
 use Rattle.std.proofs.Common.{◌≡◌, ◌<◌, ◌++◌, ℕ, List, [], ◌∷◌, map, length, get_or, Option, Some, None, option_map, refl, sym, ap, ◌∙◌, append_assoc, append-nil, take, ◌+◌}
 use Rattle.fr_instr.specs.Tokens.{word, sign}

@@ -1,14 +1,14 @@
--- The calls: one table of their names, their arguments, and where `else` and `v =` may stand.
+-- The calls: one table of their names, their arguments, and where `else` and `v =` may be.
 --
 -- | word                     | meaning                                                                |
 -- |--------------------------|------------------------------------------------------------------------|
--- | Place                    | what kind of thing stands in an argument's place                       |
+-- | Place                    | what kind of thing is in an argument's place                           |
 -- | Row                      | a call's name, places, and whether it may fail and answers a number    |
 -- | plain, failing, counting | a call with neither; one that `else` may follow; one with `v =`        |
 -- | row_of                   | the table                                                              |
 -- | Parts                    | what a call is made of: its row, its arguments, its target, variable   |
 -- | parts_of                 | the parts of each call                                                 |
--- | place_of_arg             | the kind of place in which an argument stands                          |
+-- | place_of_arg             | the kind of place in which an argument is                              |
 use Rattle.std.specs.Prelude.{ℕ, List, [], ◌∷◌, Bool, true, false, Option, None, codes}
 use Rattle.fr_instr.specs.declared.call.CallName.{CallName}
 use Rattle.fr_instr.specs.declared.call.CallName.TheVariants.{Enter, Exit, SuspendAll, ResumeAll, Yield, Delay, DeleteSelf, Create, Delete, QueueSend, QueueReceive, Take, Give, Send, Receive, Reset}
@@ -45,7 +45,7 @@ pub data Place : Type 0 where
   ticks : Place
   null : Place
 
--- a call's name, the places of its arguments, whether `else` may follow it, and whether `v =` may stand before it
+-- a call's name, the places of its arguments, whether `else` may follow it, and whether `v =` may be before it
 pub record Row : Type 0 where
   pub name : List ℕ
   pub places : List Place
@@ -60,7 +60,7 @@ plain name places = record { name = name; places = places; may_fail = false; may
 abbrev pub failing : List ℕ → List Place → Row
 failing name places = record { name = name; places = places; may_fail = true; may_answer = false }
 
--- a call before which `v =` may stand
+-- a call before which `v =` may be
 abbrev pub counting : List ℕ → List Place → Row
 counting name places = record { name = name; places = places; may_fail = false; may_answer = true }
 
@@ -200,7 +200,7 @@ parts_of (call.Create k o e) = or_else (Create k) (arg.Object o ∷ []) e
 parts_of (call.Delete k o) = only (Delete k) (arg.Object o ∷ [])
 parts_of (call.On o a) = action_parts o a
 
--- the kind of place in which the argument stands
+-- the kind of place in which the argument is
 abbrev pub place_of_arg : Arg → Place
 place_of_arg (arg.Object o) = object
 place_of_arg (arg.Operand a) = operand

@@ -1,17 +1,17 @@
--- The faults of a text that is no line: for each of the five, what stands in the text.
+-- The faults of a text that is no line: for each of the five, what is in the text.
 --
 -- | word          | meaning                                                                              |
 -- |---------------|--------------------------------------------------------------------------------------|
--- | IsWrongKind   | Syntax: a number stands where a word must, a word where a number must, another word  |
+-- | IsWrongKind   | Syntax: a number in place of a word, a word in place of a number, another word       |
 -- | NamesNothing  | UnknownName: the word names no such thing                                            |
 -- | IsBadNumber   | BadNumber: no number within the limits of this place has this text                   |
--- | InNaming, InPlain | the fault stands in a place for names, or in another one                            |
--- | InPlace       | the fault stands in this place                                                       |
--- | InArgs        | the fault stands in one of the arguments                                             |
+-- | InNaming, InPlain | the fault is present in a place for names, or in another one                        |
+-- | InPlace       | the fault is present in this place                                                   |
+-- | InArgs        | the fault is present in one of the arguments                                         |
 -- | InVariable, InTarget, InInto, InElse | the same, of the other places of a line                       |
--- | InCall        | the fault stands in a call                                                           |
--- | InShape       | the fault stands in the shape                                                        |
--- | Stands        | the fault stands in the text                                                         |
+-- | InCall        | the fault is present in a call                                                       |
+-- | InShape       | the fault is present in the shape                                                    |
+-- | Stands        | the fault is present in the text                                                     |
 use Rattle.std.specs.Prelude.{◌≡◌, ◌≢◌, ◌⊎◌, ℕ, ℤ, List, ◌∷◌, Option, Some, None, false, codes, length as list_length}
 use Rattle.fr_instr.specs.declared.call.CallName.{CallName}
 use Rattle.fr_instr.specs.declared.fault.LineFault.{LineFault}
@@ -22,7 +22,7 @@ use Rattle.fr_instr.specs.Names.{NamesOf, place_of}
 use Rattle.fr_instr.specs.Numbers.{IsInteger, IsTarget, IsTicks, IsLength}
 use Rattle.fr_instr.specs.Calls.{Place, object, operand, variable, length, time, ticks, null, row_of}
 
--- a number where only a word may stand, a word where only a number may, or another word than the one that may
+-- a number where only a word may be, a word where only a number may be, or another word than the one that may be there
 abbrev pub IsWrongKind : Place → Word → Type 0
 IsWrongKind object (numeral d) = Unit {0}
 IsWrongKind variable (numeral d) = Unit {0}
@@ -48,20 +48,20 @@ IsBadNumber time (numeral d) = (n : ℕ) → ¬ IsTicks d n
 IsBadNumber ticks (numeral d) = (n : ℕ) → ¬ IsTicks d n
 IsBadNumber p w = ⊥
 
--- the fault stands in the place of an object, an operand or a variable
+-- the fault is present in the place of an object, an operand or a variable
 abbrev pub InNaming : NamesOf → Place → Word → LineFault → Type 0
 InNaming N p w Syntax = IsWrongKind p w
 InNaming N p w UnknownName = NamesNothing N p w
 InNaming N p w BadNumber = IsBadNumber p w
 InNaming N p w f = ⊥
 
--- the fault stands in the place of a length, a block time, ticks or NULL
+-- the fault is present in the place of a length, a block time, ticks or NULL
 abbrev pub InPlain : Place → Word → LineFault → Type 0
 InPlain p w Syntax = IsWrongKind p w
 InPlain p w BadNumber = IsBadNumber p w
 InPlain p w f = ⊥
 
--- the fault stands in what is written in a place of this kind
+-- the fault is present in what is written in a place of this kind
 abbrev pub InPlace : NamesOf → Place → Word → LineFault → Type 0
 InPlace N object w f = InNaming N object w f
 InPlace N operand w f = InNaming N operand w f
@@ -71,7 +71,7 @@ InPlace N time w f = InPlain time w f
 InPlace N ticks w f = InPlain ticks w f
 InPlace N null w f = InPlain null w f
 
--- the fault stands in one of the arguments, each in its place
+-- the fault is present in one of the arguments, each in its place
 abbrev pub InArgs : NamesOf → List Place → List Word → LineFault → Type 0
 InArgs N (p ∷ ps) (w ∷ ws) f = InPlace N p w f ⊎ InArgs N ps ws f
 InArgs N ps ws f = ⊥
@@ -102,15 +102,15 @@ abbrev pub InInto : NamesOf → CallName → Option (List ℕ) → LineFault →
 InInto N c None f = ⊥
 InInto N c (Some w) f = ((f ≡ Syntax) × ((row_of c).may_answer ≡ false)) ⊎ InVariable N w f
 
--- the fault stands in a call of this name
+-- the fault is present in a call of this name
 abbrev pub InNamed : NamesOf → CallName → Option (List ℕ) → List Word → Option (List ℕ) → LineFault → Type 0
 InNamed N c v ws e f = InElse c e f ⊎ (InInto N c v f ⊎ InPlaces N (row_of c).places ws f)
 
--- no call has the name, or the fault stands in the call of the name
+-- no call has the name, or the fault is present in the call of the name
 abbrev pub InCall : NamesOf → Option (List ℕ) → List ℕ → List Word → Option (List ℕ) → LineFault → Type 0
 InCall N v k ws e f = ((f ≡ UnknownCall) × ((c : CallName) → k ≢ (row_of c).name)) ⊎ ((c : CallName) × (k ≡ (row_of c).name) × InNamed N c v ws e f)
 
--- the fault stands in the shape: in one of its words or numbers, or in its call
+-- the fault is present in the shape: in one of its words or numbers, or in its call
 abbrev pub InShape : NamesOf → Shape → LineFault → Type 0
 InShape N (set x a) f = InVariable N x f ⊎ InPlace N operand a f
 InShape N (set_to x a op b) f = InVariable N x f ⊎ (InPlace N operand a f ⊎ InPlace N operand b f)
@@ -120,6 +120,6 @@ InShape N (pick x d e) f = InVariable N x f ⊎ (InInteger d f ⊎ InInteger e f
 InShape N leave f = ⊥
 InShape N (call v k ws e) f = InCall N v k ws e f
 
--- the tokens have no shape, or they have one in which the fault stands
+-- the tokens have no shape, or they have one in which the fault is present
 abbrev pub Stands : NamesOf → List ℕ → LineFault → Type 0
 Stands N text f = ((f ≡ Syntax) × ((s : Shape) → ¬ Spells text (shape_toks s))) ⊎ ((s : Shape) × Spells text (shape_toks s) × InShape N s f)

@@ -1,4 +1,4 @@
--- The line that a text is: its tokens have a shape, and what stands in the shape stands for the parts of the line.
+-- The line that a text is: its tokens have a shape, and what is in the shape means the parts of the line.
 --
 -- | word              | meaning                                                            |
 -- |-------------------|--------------------------------------------------------------------|
@@ -7,8 +7,8 @@
 -- | Says..            | the same of an object, a variable, a length, ticks, NULL           |
 -- | IsArg, AreArgs    | a word or number is the argument, and so each of two lists         |
 -- | IsElse, IsInto    | the target behind a call, and the variable before it, if there     |
--- | IsCall            | what stands in a call's shape is the call                          |
--- | IsLineOf          | what stands in a shape is the line                                 |
+-- | IsCall            | what is in a call's shape is the call                              |
+-- | IsLineOf          | what is in a shape is the line                                     |
 -- | IsLine            | the text is the line                                               |
 -- | IsLineIn          | the line's names exist, and its numbers are within their limits    |
 use Rattle.std.specs.Prelude.{◌≡◌, ◌<◌, ◌≤◌, ℕ, ℤ, pos, List, [], ◌∷◌, Option, Some, None, codes, length}

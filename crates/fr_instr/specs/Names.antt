@@ -9,7 +9,7 @@ pub record NamesOf : Type 0 where
   pub objects : List (List ℕ)
   pub actors : List (List ℕ)
 
--- the place at which the name stands
+-- the place at which the name is
 abbrev pub place_of : List (List ℕ) → List ℕ → Option ℕ
 place_of names w = position (λ v. bytes_eq w v) names
 
@@ -21,7 +21,7 @@ name_at names i = slice_index_or names i []
 abbrev pub all_names : NamesOf → List (List ℕ)
 all_names N = N.variables ++ (N.objects ++ N.actors)
 
--- each is a name, and stands once among all of them
+-- each is a name, and is given once among all of them
 pub record AreNames (N : NamesOf) : Type 0 where
   pub names : All IsName (all_names N)
   pub once : AllPairs (λ x y. x ≢ y) (all_names N)

@@ -6,14 +6,14 @@
 -- | operator_of, comparison_of                    | the operator, the comparison that a sign is, if it is one        |
 -- | is_open, is_close, is_comma, is_assign        | whether a sign is `(`, `)`, `,`, `=`                             |
 -- | take_word, take_number, take_value, take_sign | a token of this sort at the front, and what follows it           |
--- | at_end, target_end                            | a shape, a target, behind which nothing stands                   |
+-- | at_end, target_end                            | a shape, a target, behind which nothing is                       |
 -- | set_tail, set_at, branch_at, jump_at, pick_at | a line behind its keyword                                        |
 -- | keyword_at                                    | the same by the keyword                                          |
 -- | behind_open, behind_close                     | what follows a bracket                                           |
 -- | arg_before_comma, arg_before_close            | an argument and the sign behind it                               |
 -- | with_arg, arg_then, some_args                 | one argument or more, up to the closing bracket                  |
 -- | args_or, args_at                              | the same, or none                                                |
--- | else_tail, else_at                            | what stands behind a call                                        |
+-- | else_tail, else_at                            | what is behind a call                                            |
 -- | head_at, call_at, counted_at                  | a call's name and bracket; a call behind these, behind its `v =` |
 -- | shape_behind, shape_at                        | a line behind its first word, and a whole one                    |
 use Rattle.std.specs.Prelude.{ℕ, List, [], ◌∷◌, Bool, true, false, if◌then◌else◌, Option, Some, None, option_and_then, option_map, codes}
@@ -69,28 +69,28 @@ abbrev pub is_assign : Sign → Bool
 is_assign Assign = true
 is_assign _ = false
 
--- the text of the word at the front, if a word stands there, and what follows it
+-- the text of the word at the front, if a word is there, and what follows it
 abbrev pub take_word : List Tok → Option (List ℕ × List Tok)
 take_word [] = None
 take_word (word w ∷ ts) = Some (w, ts)
 take_word (number d ∷ ts) = None
 take_word (sign s ∷ ts) = None
 
--- the text of the number at the front, if a number stands there, and what follows it
+-- the text of the number at the front, if a number is there, and what follows it
 abbrev pub take_number : List Tok → Option (List ℕ × List Tok)
 take_number [] = None
 take_number (word w ∷ ts) = None
 take_number (number d ∷ ts) = Some (d, ts)
 take_number (sign s ∷ ts) = None
 
--- the word or number at the front, if one stands there, and what follows it
+-- the word or number at the front, if one is there, and what follows it
 abbrev pub take_value : List Tok → Option (Word × List Tok)
 take_value [] = None
 take_value (word w ∷ ts) = Some (name w, ts)
 take_value (number d ∷ ts) = Some (numeral d, ts)
 take_value (sign s ∷ ts) = None
 
--- the sign at the front, if a sign stands there, and what follows it
+-- the sign at the front, if a sign is there, and what follows it
 abbrev pub take_sign : List Tok → Option (Sign × List Tok)
 take_sign [] = None
 take_sign (word w ∷ ts) = None
@@ -192,7 +192,7 @@ some_args (word w ∷ sign s ∷ ts) = arg_then (name w) s ts (some_args ts)
 some_args (number d ∷ sign s ∷ ts) = arg_then (numeral d) s ts (some_args ts)
 some_args ts = None
 
--- no argument where the closing bracket stands at the front already, else one or more, and what follows the bracket
+-- no argument where the closing bracket is at the front already, else one or more, and what follows the bracket
 abbrev pub args_or : List Tok → Option (List Tok) → Option (List Word × List Tok)
 args_or ts (Some rest) = Some ([], rest)
 args_or ts None = some_args ts
@@ -213,7 +213,7 @@ else_tail ts = do
   l ← take_number w.1
   if bytes_eq w.0 (codes "else") then target_end l.0 l.1 else None
 
--- what stands behind a call: nothing, or `else` with its target
+-- what is behind a call: nothing, or `else` with its target
 abbrev pub else_at : List Tok → Option (Option (List ℕ))
 else_at [] = Some None
 else_at (t ∷ ts) = option_map Some (else_tail (t ∷ ts))

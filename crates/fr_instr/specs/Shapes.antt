@@ -2,7 +2,7 @@
 --
 -- | word        | meaning                                                                          |
 -- |-------------|----------------------------------------------------------------------------------|
--- | Word        | what stands in the place of an operand or an argument: a word or a number's text |
+-- | Word        | what is in the place of an operand or an argument: a word or a number's text     |
 -- | Shape       | a line whose words and numbers are still their texts                             |
 -- | word_tok    | the token of such a word                                                         |
 -- | args_toks   | arguments with commas between them, up to the closing bracket                    |
@@ -18,7 +18,7 @@ use Rattle.fr_program.specs.declared.instr.Operator.TheVariants as operator
 use Rattle.fr_program.specs.declared.instr.Comparison.{Comparison}
 use Rattle.fr_program.specs.declared.instr.Comparison.TheVariants as comparison
 
--- what stands in the place of an operand or an argument: a word or a number, as its text
+-- what is in the place of an operand or an argument: a word or a number, as its text
 pub data Word : Type 0 where
   name : List ℕ → Word
   numeral : List ℕ → Word

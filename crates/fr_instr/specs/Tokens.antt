@@ -38,7 +38,7 @@ sign_bytes GreaterEqual = codes ">="
 sign_bytes Equal = codes "=="
 sign_bytes NotEqual = codes "!="
 
--- a space, which is all that may stand between tokens
+-- a space, which is all that may be between tokens
 abbrev pub is_space : ℕ → Bool
 is_space b = b == 32
 

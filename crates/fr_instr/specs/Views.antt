@@ -25,7 +25,7 @@ use Rattle.fr_instr.specs.declared.token.Token.TheVariants as token
 use Rattle.fr_instr.specs.declared.token.Class.{Class}
 use Rattle.fr_instr.specs.declared.token.Class.TheVariants as class
 
--- the token that one in code stands for
+-- the token that one in code means
 abbrev pub tok : Token → Tok
 tok (token.Word w) = word w.now
 tok (token.Number d) = number d.now
@@ -37,7 +37,7 @@ is_of class.Space b = is_space b
 is_of class.Word b = is_word_byte b
 is_of class.Digit b = is_ascii_digit b
 
--- the tokens that those in code stand for
+-- the tokens that those in code mean
 abbrev pub toks : List Token → List Tok
 toks ts = map tok ts
 
@@ -49,20 +49,20 @@ texts ts = map (λ t. t.now) ts
 abbrev pub text_in : Option (Bor (List ℕ)) → Option (List ℕ)
 text_in t = option_map (λ w. w.now) t
 
--- the word or number that one in code stands for
+-- the word or number that one in code means
 abbrev pub word_of : Value → meaning.Word
 word_of (value.Name w) = meaning.name w.now
 word_of (value.Number d) = meaning.numeral d.now
 
--- the words and numbers that those in code stand for
+-- the words and numbers that those in code mean
 abbrev pub words : List Value → List meaning.Word
 words vs = map word_of vs
 
--- the shape that a call's shape in code stands for
+-- the shape that a call's shape in code means
 abbrev pub call_view : CallShape → meaning.Shape
 call_view c = meaning.call (text_in c.into) c.name.now (words c.args.items) (text_in c.or_else)
 
--- the shape that one in code stands for
+-- the shape that one in code means
 abbrev pub shape_view : Shape → meaning.Shape
 shape_view (shape.Set x a) = meaning.set x.now (word_of a)
 shape_view (shape.SetTo x a op b) = meaning.set_to x.now (word_of a) op (word_of b)

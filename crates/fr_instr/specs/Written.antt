@@ -4,12 +4,12 @@ use Rattle.std.specs.List.{AllByRecursion}
 use Rattle.fr_instr.specs.Tokens.{Tok, sign, tok_bytes, IsTok, Spells}
 use Rattle.fr_instr.specs.declared.token.Sign.TheVariants.{Open, Close, Comma}
 
--- an opening bracket: no space stands behind it
+-- an opening bracket: no space is behind it
 abbrev pub is_open : Tok → Bool
 is_open (sign Open) = true
 is_open _ = false
 
--- no space stands before it
+-- no space is before it
 abbrev pub leans : Tok → Bool
 leans (sign Open) = true
 leans (sign Close) = true

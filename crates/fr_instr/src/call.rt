@@ -98,7 +98,7 @@ pub(crate) fn call_named(name: &[u8]) -> Option<CallName>
 }
 
 impl CallName {
-    /// The name, as it stands in a line.
+    /// The name, as a line writes it.
     pub(crate) fn text(self) -> &'static str
         ensures { result.now ≡ (row_of self).name }
     {
@@ -137,7 +137,7 @@ impl CallName {
         )
     }
 
-    /// Whether a `v =` may stand before the call.
+    /// Whether a `v =` may be before the call.
     pub(crate) fn may_answer(self) -> bool
         ensures { result ≡ (row_of self).may_answer }
     {

@@ -189,7 +189,7 @@ fn delete(names: &Names, kind: DeletedKind, args: Args<'_, '_>) -> Result<Call, 
 }
 
 /// The call with this name, these arguments, this target and this variable. The target is none
-/// where no `else` may follow the call, and the variable where no `v =` may stand before it.
+/// where no `else` may follow the call, and the variable where no `v =` may be before it.
 pub(crate) fn call_of(
     names: &Names,
     name: CallName,

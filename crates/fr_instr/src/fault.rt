@@ -11,8 +11,8 @@ use std::fmt;
 pub enum LineFault {
     /// An allocation was refused.
     Memory,
-    /// The tokens have no line's shape, a number stands where a word must or a word where a number
-    /// must, or an `else` or a `v =` stands at a call that has none.
+    /// The tokens have no line's shape, a number is written in place of a word or a word in place
+    /// of a number, or an `else` or a `v =` is written at a call that has none.
     Syntax,
     /// A word in an operand's, an object's or a variable's place that names no such thing.
     UnknownName,

@@ -1,4 +1,4 @@
-// What words, numbers and arguments stand for.
+// What words, numbers and arguments mean.
 ghost use Rattle.std.specs.Prelude.{◌≡◌, ◌≢◌, [], ◌∷◌, IfOk, IfErr, MatchResult, length as list_length};
 ghost use Rattle.fr_instr.specs.Views.{args_words, word_of, words};
 ghost use Rattle.fr_instr.specs.Calls.{object, operand, variable, length, time, ticks, null, wait_of, take_wait_of, form_of, time_of, take_form_of, take_time_of};
@@ -77,7 +77,7 @@ fn object_at(names: &Names, value: Value<'_>) -> Result<ObjId, LineFault>
     }
 }
 
-/// The operand that stands here.
+/// The operand that this word or number is.
 pub(crate) fn operand_at(names: &Names, value: Value<'_>) -> Result<Operand, LineFault>
     ensures { MatchResult result (IsOperand names.now (word_of value.entry)) (InPlace names.now operand (word_of value.entry)) }
 {

@@ -38,7 +38,7 @@ impl Model for Names {
 }
 
 impl Names {
-    /// The names in these three lists. Each is a name, and stands once among all of them.
+    /// The names in these three lists. Each is a name, and is given once among all of them.
     ///
     /// Its error is that an allocation was refused.
     pub fn build(
@@ -121,7 +121,7 @@ impl Names {
         }
     }
 
-    // Each is a name, and stands once among all of them.
+    // Each is a name, and is given once among all of them.
     pub(crate) fn are_names(&self)
         ensures { AreNames self.now }
     {

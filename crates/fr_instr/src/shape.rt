@@ -1,4 +1,4 @@
-// Shapes of lines: what stands in a line, with its words and numbers still as their bytes.
+// Shapes of lines: what is in a line, with its words and numbers still as their bytes.
 ghost use Rattle.std.specs.Prelude.{◌≡◌, ◌+◌, ◌++◌, ◌≤◌, drop, length, option_map, IfSome, IfOk, None, map};
 ghost use Rattle.fr_instr.specs.Views.{toks, word_of, words, text_in, shape_view};
 ghost use Rattle.fr_instr.specs.ShapeReading.{operator_of, comparison_of, take_word, take_number, take_value, take_sign, at_end, set_tail, set_at, branch_at, jump_at, pick_at, keyword_at, behind_open, behind_close, arg_before_comma, arg_before_close, some_args, args_at, else_tail, else_at, target_end, call_at, head_at, counted_at, shape_at};
@@ -237,7 +237,7 @@ fn behind_open<'a, 't>(tokens: &'t [Token<'a>]) -> Option<&'t [Token<'a>]>
     }
 }
 
-// The arguments that stand before a comma, and where what follows the last comma begins.
+// The arguments that are before a comma, and where what follows the last comma begins.
 fn args_before_last<'a>(
     alloc: Global,
     tokens: &[Token<'a>],

@@ -15,7 +15,7 @@ use fr_program::{
 use itoa::Buffer;
 use std::alloc::{AllocError, Global};
 
-/// What stands in an argument's place.
+/// What an argument is.
 #[derive(Clone, Copy)]
 pub(crate) enum Arg {
     Object(ObjId),

@@ -9,14 +9,12 @@ use Rattle.fr_program.specs.declared.instr.Instr.{Instr}
 use Rattle.fr_program.specs.declared.instr.Instr.TheVariants.{Call as Calls}
 use Rattle.fr_program.specs.declared.instr.Call.TheVariants.{Create, Delete}
 use Rattle.fr_program.specs.declared.instr.Action.{Action}
-use Rattle.fr_program.specs.declared.instr.DeletedKind.{DeletedKind}
 use Rattle.fr_program.specs.declared.ids.ActorId.{ActorId}
-use Rattle.fr_program.specs.declared.ids.ObjId.{ObjId}
 use Rattle.fr_program.specs.declared.ids.Point.{Point}
 use Rattle.fr_program.specs.declared.ids.Side.{Side}
 use Rattle.fr_program.specs.declared.ids.Side.TheVariants.{Before, Inside}
 use Rattle.fr_program.specs.Program.{Program}
-use Rattle.fr_program.specs.Lookup.{instr_at, no_actor, IsPlace, IsPoint, HasSide}
+use Rattle.fr_program.specs.Lookup.{no_actor, IsPoint}
 use Rattle.fr_calls.specs.State.{State, At, Done, Exists, start}
 use Rattle.fr_calls.specs.declared.buffer_end.End.{End}
 use Rattle.fr_calls.specs.declared.buffer_end.End.TheVariants.{Writer, Reader}

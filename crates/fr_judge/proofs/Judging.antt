@@ -1,10 +1,11 @@
 -- How the verdict comes of the points in their order: those before the first that fails keep every part.
-use Rattle.std.proofs.Common.{◌≡◌, ℕ, ◌+◌, length, Some, ap, subst, ⊎_elim, arith}
+use Rattle.std.proofs.Common.{◌≡◌, ℕ, ◌<◌, ◌+◌, length, Some, ap, subst, ⊎_elim, arith}
 use Rattle.std.specs.Prelude.{slice_get}
 use Rattle.std.proofs.lemmas.Option.{slice_get_within}
 use Rattle.std.proofs.lemmas.Bool.{cases_lt}
 use Rattle.fr_program.specs.declared.ids.Point.{Point}
 use Rattle.fr_program.specs.Program.{Program}
+use Rattle.fr_program.specs.Lookup.{IsPoint}
 use Rattle.fr_program.specs.Points.{points_of, point_number}
 use Rattle.fr_program.specs.PointNumbers.{PointsAreNumbered}
 use Rattle.fr_program.specs.Fault.{IsFaultless}
@@ -14,9 +15,13 @@ use Rattle.fr_ends.specs.Fits.{CertificateFits}
 use Rattle.fr_judge.specs.declared.part.Part.{Part as Told}
 use Rattle.fr_judge.specs.declared.part.Verdict.TheVariants.{Yes as TellsYes, No as TellsNo}
 use Rattle.fr_judge.specs.Verdict.{Yes, No, KeepsAll, IsCertified}
-use Rattle.fr_judge.specs.Told.{TellsFirst, TellsVerdict, KeepsBelow}
+use Rattle.fr_judge.specs.Told.{TellsFirst, TellsVerdict}
 use Rattle.fr_judge.proofs.Induction.{certified-safe}
 use Rattle.fr_judge.proofs.Telling.{fitting-distinct}
+
+-- every part is kept at each point with a number below this one
+abbrev pub KeepsBelow : Program → Certificate → ℕ → Type 0
+KeepsBelow P C n = (p : Point) → IsPoint P p → point_number P p < n → KeepsAll P C p
 
 module _ (P : Program) (C : Certificate) (numbered : PointsAreNumbered P) where
   pub one-more : (n : ℕ) → KeepsBelow P C n → ((p : Point) → slice_get (points_of P) n ≡ Some p → KeepsAll P C p) → KeepsBelow P C (n + 1)

@@ -1,5 +1,5 @@
 -- The first own obligation that fails is the first part that does: today no other part can fail.
-use Rattle.std.proofs.Common.{ℕ, Option, Some, None, refl, sym, ap, subst, ⊎_elim, arith}
+use Rattle.std.proofs.Common.{Option, Some, None, refl, sym, subst, ⊎_elim, arith}
 use Rattle.std.specs.Option.{option_map}
 use Rattle.fr_program.specs.declared.ids.Point.{Point}
 use Rattle.fr_program.specs.Program.{Program}

@@ -1,15 +1,15 @@
 -- The application has no fault, since its bytes mean it, and the turns of the certificate are distinct, since its bytes
 -- mean it; so the two are certified.
-use Rattle.std.proofs.Common.{ℕ, List, sym, subst}
-use Rattle.std.proofs.lemmas.List.Elements.{All-nil}
+use Rattle.std.proofs.Common.{ℕ, List}
 use Rattle.fr_program.specs.Program.{Program}
-use Rattle.fr_ends.specs.Certificate.{Certificate, HasDistinctTurns, AllHaveDistinctTurns}
+use Rattle.fr_ends.specs.Certificate.{Certificate, AllHaveDistinctTurns}
 use Rattle.fr_cert.specs.Meaning.{Means}
 use Rattle.fr_judge.specs.Theorem.{YesIsSafe}
 use Rattle.fr_judge.proofs.Induction.{certified-safe}
+use Rattle.fr_judge.proofs.Telling.{fitting-distinct}
 
 meant-distinct : (P : Program) (bytes : List ℕ) (C : Certificate) → Means P bytes C → AllHaveDistinctTurns C.ends
-meant-distinct P bytes C h = subst (λ ends. AllHaveDistinctTurns ends) (sym h.stands.2.unguarded) (All-nil (λ e. HasDistinctTurns e.guard))
+meant-distinct P bytes C h = fitting-distinct P C.ends h.means.2.fit.0
 
 pub yes-is-safe : YesIsSafe
 yes-is-safe app certificate P C h k kept =

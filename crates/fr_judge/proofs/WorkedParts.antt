@@ -15,7 +15,9 @@ use Rattle.fr_program.specs.declared.parts.ActorKind.TheVariants.{Task}
 use Rattle.fr_program.specs.Program.{Program}
 use Rattle.fr_program.specs.Lookup.{instr_of}
 use Rattle.fr_calls.specs.State.{State, Place, At, Bytes, CanHave, Exists, IsWellFormed, kind_of, place_of, value_of, content_of, suspension_of, write, goes_to}
-use Rattle.fr_calls.specs.Rule.{End, Writer, Reader, is_at_end, used_object, GivesUnheld}
+use Rattle.fr_calls.specs.declared.buffer_end.End.{End}
+use Rattle.fr_calls.specs.declared.buffer_end.End.TheVariants.{Writer, Reader}
+use Rattle.fr_calls.specs.Rule.{is_at_end, used_object, GivesUnheld}
 use Rattle.fr_calls.specs.declared.way.Way.{Way}
 use Rattle.fr_calls.specs.declared.way.Way.TheVariants.{Then, Else}
 use Rattle.fr_calls.specs.Step.{StepBy, Row, landing, transition}

@@ -24,7 +24,9 @@ use Rattle.fr_calls.specs.State.{State, Place, At, Content, Dead, Bytes, start, 
 use Rattle.fr_calls.specs.declared.rules.Rule.{Rule}
 use Rattle.fr_calls.specs.declared.rules.Rule.TheVariants.{OneWriter, OneReader, GivenByHolder, IsLive, LifeInOrder, InRange}
 use Rattle.fr_calls.specs.declared.rules.Condition.{Condition}
-use Rattle.fr_calls.specs.Rule.{End, Writer, Reader, Breaches, GivesUnheld, UsesDead, LifeOutOfOrder, PutsOut, IsForbidden, forbids, condition_of, holds_some, is_at_end}
+use Rattle.fr_calls.specs.declared.buffer_end.End.{End}
+use Rattle.fr_calls.specs.declared.buffer_end.End.TheVariants.{Writer, Reader}
+use Rattle.fr_calls.specs.Rule.{Breaches, GivesUnheld, UsesDead, LifeOutOfOrder, PutsOut, IsForbidden, forbids, holds_some, is_at_end}
 use Rattle.fr_calls.specs.declared.way.Way.{Way}
 use Rattle.fr_calls.specs.declared.way.Way.TheVariants.{Then, Else}
 use Rattle.fr_calls.specs.Step.{StepBy, Row, landing, sent_bytes, transition}

@@ -2,9 +2,9 @@
 --
 -- | word             | meaning                                                                              |
 -- |------------------|--------------------------------------------------------------------------------------|
--- | IsJudged         | the bytes stand for this application and a certificate on which this is the verdict  |
+-- | IsJudged         | the bytes mean this application and a certificate on which this is the verdict        |
 -- | IsAnswerOne      | the bytes have one such answer at the most                                           |
--- | FaultStands      | the fault stands in the bytes; the application's faults come before the certificate's |
+-- | FaultStands      | the fault is present in the bytes; the application's come before the certificate's    |
 use Rattle.std.specs.Prelude.{◌≡◌, ℕ, List}
 use Rattle.fr_program.specs.Program.{Program}
 use Rattle.fr_reader.specs.Meaning.{Means as AppMeans}
@@ -19,7 +19,7 @@ use Rattle.fr_judge.specs.declared.text.TextFault.{TextFault}
 use Rattle.fr_judge.specs.declared.text.TextFault.TheVariants.{Memory, App, Cert}
 use Rattle.fr_judge.specs.Told.{TellsVerdict}
 
--- the first bytes stand for the application, the second ones for a certificate for it, and this is the verdict on both
+-- the first bytes mean the application, the second ones a certificate for it, and this is the verdict on both
 abbrev pub IsJudged : List ℕ → List ℕ → Program → ToldVerdict → Type 0
 IsJudged app certificate P told = AppMeans app P × (C : Certificate) × CertMeans P certificate C × TellsVerdict P C told
 

@@ -5,14 +5,13 @@
 -- | told_part, told_verdict | the part, the verdict as the code has it                                      |
 -- | part_of_own             | the part that an own obligation is                                            |
 -- | TellsFirst              | what is told is the first part that isn't kept at a point, or that all are    |
--- | KeepsBelow              | every part is kept at the points with lesser numbers                          |
 -- | TellsVerdict            | what is told is the verdict                                                   |
 -- | IsOf, Speaks            | a part names only what the application has, and so does a verdict             |
-use Rattle.std.specs.Prelude.{◌≡◌, ◌≤◌, ◌<◌, ℕ, Option, None, Some, length}
+use Rattle.std.specs.Prelude.{◌≡◌, ◌≤◌, ◌<◌, Option, None, Some, length}
 use Rattle.fr_program.specs.declared.ids.Point.{Point}
 use Rattle.fr_program.specs.Program.{Program}
 use Rattle.fr_program.specs.Lookup.{IsPoint}
-use Rattle.fr_program.specs.Points.{point_number}
+use Rattle.fr_calls.specs.Rule.{number_of}
 use Rattle.fr_edge.specs.declared.failure.Own.{Own}
 use Rattle.fr_edge.specs.declared.failure.Own.TheVariants.{Entry as OwnEntry, Rule as OwnRule, Goes as OwnGoes}
 use Rattle.fr_ends.specs.Certificate.{Certificate}
@@ -47,10 +46,6 @@ told_verdict (No p part) = TellsNo p (told_part part)
 abbrev pub TellsFirst : Program → Certificate → Point → Option Told → Type 0
 TellsFirst P C p None = KeepsAll P C p
 TellsFirst P C p (Some told) = (part : Part) × (told ≡ told_part part) × IsFirstPart P C p part
-
--- every part is kept at each point with a number below this one
-abbrev pub KeepsBelow : Program → Certificate → ℕ → Type 0
-KeepsBelow P C n = (p : Point) → IsPoint P p → point_number P p < n → KeepsAll P C p
 
 -- what is told is the verdict
 abbrev pub TellsVerdict : Program → Certificate → ToldVerdict → Type 0

@@ -21,7 +21,7 @@ use Rattle.fr_program.specs.declared.ids.Side.TheVariants.{Before, Inside}
 use Rattle.fr_program.specs.declared.parts.ActorKind.TheVariants.{Task}
 use Rattle.fr_program.specs.Program.{Program}
 use Rattle.fr_calls.specs.State.{State, At, Held}
-use Rattle.fr_calls.specs.Rule.{Writer, Reader}
+use Rattle.fr_calls.specs.declared.buffer_end.End.TheVariants.{Writer, Reader}
 use Rattle.fr_calls.specs.WorkedSteps.{x, beside, stream, add_one, reset, delete, stream_send}
 use Rattle.fr_notes.specs.declared.claim.Claim.TheVariants.{NotHeld, Alive}
 use Rattle.fr_notes.specs.Note.{Alternative, Note}

@@ -28,7 +28,7 @@ use Rattle.fr_program.specs.declared.instr.Timing.TheVariants.{Waits}
 use Rattle.fr_program.specs.declared.instr.BlockTime.TheVariants.{Ticks}
 use Rattle.fr_program.specs.declared.parts.Kind.TheVariants.{Stream}
 use Rattle.fr_program.specs.Program.{Program, ObjectOf}
-use Rattle.fr_calls.specs.Rule.{Writer}
+use Rattle.fr_calls.specs.declared.buffer_end.End.TheVariants.{Writer}
 use Rattle.fr_notes.specs.declared.claim.Claim.TheVariants.{Alive}
 use Rattle.fr_notes.specs.Note.{Alternative, Note}
 use Rattle.fr_ends.specs.Guard.{InCritical}

@@ -31,10 +31,10 @@ pub enum TextFault {
 
 /// Reads the application, then the certificate for it, and judges it.
 ///
-/// Ok is the application that the first bytes stand for, and the verdict on it and on the
-/// certificate that the second ones stand for: one function of the bytes. Where the verdict is
+/// Ok is the application that the first bytes mean, and the verdict on it and on the certificate
+/// that the second ones mean: one function of the bytes. Where the verdict is
 /// `Yes`, no state of any run of the application breaches any of the twelve rules. A refusal names
-/// a fault that stands in the bytes, the application's before the certificate's; `is_memory` of
+/// a fault that is present in the bytes, the application's before the certificate's; `is_memory` of
 /// both tells the refusal of an allocation.
 pub fn judge_text(alloc: Global, app: &[u8], certificate: &[u8]) -> Result<Judged, TextFault>
     ensures judged { IfOk result (λ judged. IsJudged app.now certificate.now judged.app judged.verdict) }

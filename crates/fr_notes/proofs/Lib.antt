@@ -24,4 +24,5 @@ pub mod VariableRows
 pub mod ReckoningLaws
 pub mod Never
 pub mod EndLaws
+pub mod PairLaws
 pub mod BeforeLaws

@@ -12,6 +12,7 @@ pub mod KnownView
 pub mod KnownUses
 pub mod Holding
 pub mod Spot
+pub mod Pairs
 pub mod Laws
 pub mod WorkedNotes
 pub mod WorkedParts

@@ -1,5 +1,6 @@
 // The notes of an application: one for each point.
-ghost use Rattle.std.specs.Prelude.{◌≡◌, ◌≢◌, ◌↔◌, IsTrue, IfOk, IfErr, OnOk, OnErr, All, length, slice_get};
+ghost use Rattle.std.specs.Prelude.{◌≡◌, ◌≢◌, ◌<◌, ◌↔◌, IsTrue, IfOk, IfErr, OnOk, OnErr, Some, All, length, slice_get};
+ghost use Rattle.fr_program.specs.declared.ids.Point.{Point};
 ghost use Rattle.fr_program.specs.Points.{points_of};
 ghost use Rattle.std.specs.Option.{option_copied};
 
@@ -27,6 +28,7 @@ impl Model for Notes {
 
 impl Notes {
     ghost use Rattle.fr_notes.specs.Fits.{NoteFits, NotesFit};
+    ghost use Rattle.fr_notes.specs.Noted.{note_at};
 
     /// The notes of an application, one for each point, each `Never` or built for that application.
     /// `PointCount`: there are more or fewer notes than points. On a refusal the notes come back.
@@ -56,6 +58,18 @@ impl Notes {
         ensures { option_copied result ≡ slice_get self.now number }
     {
         self.notes.get(number)
+    }
+
+    /// The note of the point with this number, in notes that fit the application.
+    pub fn at(&self, app: &App, number: usize) -> &Note
+        requires number { number < length (points_of app.now) }
+        requires fit { NotesFit app.now self.now }
+        ensures is { (p : Point) → slice_get (points_of app.now) number ≡ Some p →
+            result.now ≡ note_at app.now self.now p }
+        ensures fits { NoteFits app.now result.now }
+    {
+        app.recall_numbered();
+        &self.notes[number]
     }
 
     /// Whether there is one note for each point, each of which could have been built for the

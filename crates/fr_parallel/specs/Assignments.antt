@@ -1,4 +1,4 @@
--- What the workers of one assignment owe and hand back.
+-- For private clauses: what the workers of one assignment owe and hand back.
 use Rattle.std.specs.Prelude.{ℕ}
 use Rattle.fr_board.specs.Values.{PassValue}
 use Rattle.fr_ends.specs.Fits.{CertificateFits}

@@ -36,14 +36,14 @@ pub enum BytesFault {
 
 /// Reads the application, then the certificate for it, and judges it by this many workers, each in a thread of its own.
 ///
-/// Ok is the application that the first bytes stand for, and the verdict on it and on the certificate that the second ones stand
-/// for: one function of the bytes, whatever the workers do. Where the verdict is `Yes`, no state of any run of the application
+/// Ok is the application that the first bytes mean, and the verdict on it and on the certificate that the second ones mean: one
+/// function of the bytes, whatever the workers do. Where the verdict is `Yes`, no state of any run of the application
 /// breaches any of the twelve rules.
 ///
 /// # Errors
 ///
-/// `Par(Workers)` exactly where `workers` isn't 1 to 64, before anything is read; then a fault that stands in the application's
-/// bytes; then one that stands in the certificate's; then `Memory` or `Threads` of `judge_with`. `is_memory` of both other faults
+/// `Par(Workers)` exactly where `workers` isn't 1 to 64, before anything is read; then a fault that is present in the application's
+/// bytes; then one that is present in the certificate's; then `Memory` or `Threads` of `judge_with`. `is_memory` of both other faults
 /// tells the refusal of an allocation.
 pub fn judge_bytes<R: Threads + Wait + Sync, G: Gate>(
     rt: &R,

@@ -1,7 +1,7 @@
 //! Workers that judge the points of an application between them: each draws numbers of points from one board, and judges what it
 //! draws.
 //!
-//! It stands on `fr_judge`, which judges one point (`job`), and on `fr_board`, which hands out each number once and keeps the least
+//! It uses `fr_judge`, which judges one point (`job`), and `fr_board`, which hands out each number once and keeps the least
 //! that failed. The judging takes no lock and no memory; only `judge_with` and `judge_bytes` wait, for the threads that they start.
 #![tactic(auto)]
 

@@ -47,7 +47,7 @@ fn settle<G: Gate>(assignment: Assignment, pass: &mut Pass, claim: Claim, worker
 /// A worker's whole turn: it draws numbers of points until none is left, and says of each what it is.
 ///
 /// After each draw it looks. Where a lower number has failed it leaves the point, and otherwise it arrives at the gate and judges
-/// the point. It takes no memory, and no lock stands round the judging.
+/// the point. It takes no memory, and no lock is held while it judges.
 ///
 /// The pass comes back with weight 1 and a dry mark, each passed number without a failing part, each failed one with one, and none
 /// open.

@@ -67,9 +67,9 @@ is_shared P x = elim (slice_get P.variables x.0) [ None ↦ false | Some v ↦ i
 abbrev pub SharesAtMostOne : Program → Instr → Type 0
 SharesAtMostOne P i = count_by (is_shared P) (variables_of i) ≤ 1
 
--- the variable, where it is owned, is this actor's
+-- the variable, where one of the actors owns it, is this actor's; an owner that is no actor is a fault of names alone
 abbrev pub MayUse : Program → ℕ → VarId → Type 0
-MayUse P a x = IfSome (variable_at P x.0).owner (λ owner. owner.0 ≡ a)
+MayUse P a x = IfSome (variable_at P x.0).owner (λ owner. owner.0 < length P.actors → owner.0 ≡ a)
 
 -- the actor with this number may use each variable of the instruction
 abbrev pub MayUseAll : Program → ℕ → Instr → Type 0

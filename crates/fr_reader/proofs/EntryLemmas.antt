@@ -1,4 +1,4 @@
--- One more entry of an array, and one more thing that it stands for.
+-- One more entry of an array, and one more thing that it means.
 use Rattle.std.proofs.Common.{◌≡◌, ℕ, ◌+◌, ◌<◌, ◌≤◌, List, [], ◌∷◌, ◌++◌, length, get_or, take, refl, ap, ◌∙◌, subst, map}
 use Rattle.std.proofs.lemmas.List.{take_more, take_all}
 use Rattle.toml.specs.Data.{Data}

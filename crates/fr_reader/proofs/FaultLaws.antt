@@ -1,6 +1,6 @@
--- Bytes in which a fault stands stand for no application.
--- A table that stands for something has a value that suits at each of its keys, so no fault of keys stands in it; and
--- what the texts say has each name, owner and line, so no fault of those stands either.
+-- Bytes in which a fault is present mean no application.
+-- A table that means something has a value that suits at each of its keys, so no fault of keys is present in it; and
+-- what the texts say has each name, owner and line, so no fault of those is present either.
 use Rattle.std.proofs.Common.{◌≡◌, ◌≢◌, ℕ, zero, suc, ◌<◌, List, [], ◌∷◌, ◌++◌, true, false, Option, Some, None, option_map, length, slice_get, AllPairs, Contains, refl, sym, ap, ◌∙◌, subst, arith, inl, inr, string_bytes, IsTrue, length-append}
 use Rattle.std.specs.List.{AllZip}
 use Rattle.std.proofs.lemmas.Option.{same_Some}
@@ -29,11 +29,13 @@ use Rattle.fr_reader.specs.declared.key.Key.{Key}
 use Rattle.fr_reader.specs.declared.key.Key.TheVariants as key
 use Rattle.fr_reader.specs.declared.key.TableKind.{TableKind}
 use Rattle.fr_reader.specs.declared.key.TableKind.TheVariants as table_kind
+use Rattle.fr_reader.specs.declared.key.TableName.{TableName}
+use Rattle.fr_reader.specs.declared.key.TableName.TheVariants as name
 use Rattle.fr_reader.specs.declared.fault.ReadFault.{ReadFault}
 use Rattle.fr_reader.specs.declared.fault.ReadFault.TheVariants as fault
 use Rattle.fr_reader.proofs.Laws.{both, never, same_array, same_table, same_kind, text_at, at_get, one_texts, one_program}
 
--- what stands at a key suits it, and only a key that is not required may be missing
+-- what is at a key suits it, and only a key that is not required may be missing
 abbrev Fits : Key → Option Data → Type 0
 Fits k None = IsRequired k → ⊥
 Fits k (Some d) = suits k d ≡ true
@@ -46,13 +48,13 @@ record IsShaped (table_kind : TableKind) (ms : Members) : Type 0 where
 fits_some : (k : Key) (o : Option Data) (d : Data) → o ≡ Some d → suits k d ≡ true → Fits k o
 fits_some k o d e suit = subst (Fits k) (sym e) suit
 
-in_no_table : (table_kind : TableKind) (ms : Members) (f : ReadFault) → IsShaped table_kind ms → InTable table_kind ms f → ⊥
-in_no_table table_kind ms (fault.Missing k) h s = let fits : IsRequired k → ⊥ = subst (Fits k) s.2 (h.fits k s.0) in fits s.1
-in_no_table table_kind ms (fault.WrongType k) h s =
-    let fits : suits k s.0 ≡ true = subst (Fits k) s.1 (h.fits k s.3) in
-    false≢true (sym s.2 ∙ fits)
-in_no_table table_kind ms (fault.UnknownKey t) h s = false≢true (sym s.2 ∙ h.only (string_bytes t) s.0 s.1)
-in_no_table table_kind ms f h s = absurd s
+in_no_table : (table_kind : TableKind) (n : TableName) (ms : Members) (f : ReadFault) → IsShaped table_kind ms → InTable table_kind n ms f → ⊥
+in_no_table table_kind n ms (fault.Missing t k) h (at, known, required, none) = let fits : IsRequired k → ⊥ = subst (Fits k) none (h.fits k known) in fits required
+in_no_table table_kind n ms (fault.WrongType t k) h (at, d, is, wrong, known) =
+    let fits : suits k d ≡ true = subst (Fits k) is (h.fits k known) in
+    false≢true (sym wrong ∙ fits)
+in_no_table table_kind n ms (fault.UnknownKey t s) h (at, d, is, unknown) = false≢true (sym unknown ∙ h.only (string_bytes s) d is)
+in_no_table table_kind n ms f h s = absurd s
 
 owner_fits : (o : Option (List ℕ)) → Fits key.Owner (option_map string o)
 owner_fits None = λ r. r
@@ -66,8 +68,8 @@ variable_fits ms v h key.Init known = fits_some key.Init (field key.Init ms) (in
 variable_fits ms v h key.Owner known = subst (Fits key.Owner) (sym h.owner) (owner_fits v.owner)
 variable_fits ms v h k known = absurd (false≢true known)
 
-in_no_variable : (ms : Members) (v : VariableText) (f : ReadFault) → IsVariable ms v → InVariable ms f → ⊥
-in_no_variable ms v f h s = in_no_table table_kind.Variable ms f (record { fits = variable_fits ms v h; only = h.only }) s
+in_no_variable : (n : TableName) (ms : Members) (v : VariableText) (f : ReadFault) → IsVariable ms v → InVariable n ms f → ⊥
+in_no_variable n ms v f h s = in_no_table table_kind.Variable n ms f (record { fits = variable_fits ms v h; only = h.only }) s
 
 own_fits : (j : Kind) (ms : Members) → HasKind ms j → (k : Key) → IsTrue (is_own_key (kind_named j) (key_text k)) → Fits k (field k ms)
 own_fits (kind.Queue s l h) ms own key.Size known = fits_some key.Size (field key.Size ms) (integer s) own.0 refl
@@ -86,41 +88,41 @@ object_fits ms o h key.Live known = fits_some key.Live (field key.Live ms) (bool
 object_fits ms o h k known = own_fits o.kind ms h.own k known
 
 -- a table whose `kind` is a known word has no fault there
-in_no_kind : {K : Type 0} (word : K → List ℕ) (ms : Members) (j : K) (f : ReadFault) → field key.Kind ms ≡ Some (string (word j)) → InKind word ms f → ⊥
-in_no_kind word ms j (fault.Missing key.Kind) e s = never (field key.Kind ms) (string (word j)) s e
-in_no_kind word ms j (fault.WrongType key.Kind) e s = s.2 j (ap as_str (both (field key.Kind ms) s.0 (string (word j)) s.1 e))
-in_no_kind word ms j f e s = absurd s
+in_no_kind : {K : Type 0} (word : K → List ℕ) (n : TableName) (ms : Members) (j : K) (f : ReadFault) → field key.Kind ms ≡ Some (string (word j)) → InKind word n ms f → ⊥
+in_no_kind word n ms j (fault.Missing t key.Kind) e (at, none) = never (field key.Kind ms) (string (word j)) none e
+in_no_kind word n ms j (fault.WrongType t key.Kind) e (at, d, is, other) = other j (ap as_str (both (field key.Kind ms) d (string (word j)) is e))
+in_no_kind word n ms j f e s = absurd s
 
-in_no_object : (ms : Members) (o : ObjectOf) (f : ReadFault) → IsObject ms o → InObject ms f → ⊥
-in_no_object ms o f h (inl s) = in_no_kind kind_word ms (kind_named o.kind) f h.kind s
-in_no_object ms o f h (inr s) =
+in_no_object : (n : TableName) (ms : Members) (o : ObjectOf) (f : ReadFault) → IsObject ms o → InObject n ms f → ⊥
+in_no_object n ms o f h (inl s) = in_no_kind kind_word n ms (kind_named o.kind) f h.kind s
+in_no_object n ms o f h (inr s) =
     let same = same_kind s.0 (kind_named o.kind) (text_at (field key.Kind ms) (kind_word s.0) (kind_word (kind_named o.kind)) s.1 h.kind) in
-    in_no_table (table_kind.Object (kind_named o.kind)) ms f (record { fits = object_fits ms o h; only = h.only }) (subst (λ k. InTable (table_kind.Object k) ms f) same s.2)
+    in_no_table (table_kind.Object (kind_named o.kind)) n ms f (record { fits = object_fits ms o h; only = h.only }) (subst (λ k. InTable (table_kind.Object k) n ms f) same s.2)
 
--- an entry that has a fault stands for nothing, so neither does its list
+-- an entry that has a fault means nothing, so neither does its list
 thing_at : {A : Type 0} (R : Data → A → Type 0) (ds : Items) (xs : List A) (i : ℕ) (d : Data) → Each R ds xs → get_item i ds ≡ Some d → (x : A) × R d x
 thing_at R no_items xs i d h e = absurd (never None d refl e)
 thing_at R (item y ds) [] i d h e = absurd h
 thing_at R (item y ds) (x ∷ xs) zero d h e = (x, subst (λ z. R z x) (same_Some y d e) h.0)
 thing_at R (item y ds) (x ∷ xs) (suc i) d h e = thing_at R ds xs i d h.1 e
 
-in_no_each : {A : Type 0} (R : Data → A → Type 0) (F : Data → ReadFault → Type 0) (f : ReadFault) → ((d : Data) (x : A) → R d x → F d f → ⊥)
+in_no_each : {A : Type 0} (R : Data → A → Type 0) (F : ℕ → Data → ReadFault → Type 0) (f : ReadFault) → ((i : ℕ) (d : Data) (x : A) → R d x → F i d f → ⊥)
     → (ds : Items) (xs : List A) → Each R ds xs → InEach F ds f → ⊥
-in_no_each R F f none ds xs h s = let there = thing_at R ds xs s.0 s.1 h s.2 in none s.1 there.0 there.1 s.3
+in_no_each R F f none ds xs h s = let there = thing_at R ds xs s.0 s.1 h s.2 in none s.0 s.1 there.0 there.1 s.3
 
-in_no_at : {A : Type 0} (R : Data → A → Type 0) (F : Data → ReadFault → Type 0) (f : ReadFault) → ((d : Data) (x : A) → R d x → F d f → ⊥)
+in_no_at : {A : Type 0} (R : Data → A → Type 0) (F : ℕ → Data → ReadFault → Type 0) (f : ReadFault) → ((i : ℕ) (d : Data) (x : A) → R d x → F i d f → ⊥)
     → (o : Option Data) (xs : List A) → EachAt R o xs → InEachAt F o f → ⊥
 in_no_at R F f none None xs h s = s
 in_no_at R F f none (Some (array ds)) xs h s = in_no_each R F f none ds xs h s
 in_no_at R F f none (Some d) xs h s = absurd h
 
-in_no_entry : {A : Type 0} (list : Key) (R : Members → A → Type 0) (F : Members → ReadFault → Type 0) (f : ReadFault) → ((ms : Members) (x : A) → R ms x → F ms f → ⊥)
-    → (d : Data) (x : A) → IsTableOf R d x → InEntry list F d f → ⊥
-in_no_entry list R F f none (table ms) x h s = none h.0 x h.2 (subst (λ m. F m f) (same_table ms h.0 h.1) s)
-in_no_entry list R F f none d x h s = let e = h.1 in cc
+in_no_entry : {A : Type 0} (list : Key) (n : TableName) (R : Members → A → Type 0) (F : Members → ReadFault → Type 0) (f : ReadFault) → ((ms : Members) (x : A) → R ms x → F ms f → ⊥)
+    → (d : Data) (x : A) → IsTableOf R d x → InEntry list n F d f → ⊥
+in_no_entry list n R F f none (table ms) x h s = none h.0 x h.2 (subst (λ m. F m f) (same_table ms h.0 h.1) s)
+in_no_entry list n R F f none d x h s = let e = h.1 in cc
 
-in_no_line : (f : ReadFault) (d : Data) (t : List ℕ) → IsText d t → InLineOf d f → ⊥
-in_no_line f d t h s = never (as_str d) t s.1 (ap as_str h)
+in_no_line : (n : TableName) (f : ReadFault) (d : Data) (t : List ℕ) → IsText d t → InLineOf n d f → ⊥
+in_no_line n f d t h s = never (as_str d) t s.1 (ap as_str h)
 
 actor_fits : (ms : Members) (a : ActorText) → IsActor ms a → (k : Key) → IsKeyOf table_kind.Actor k → Fits k (field k ms)
 actor_fits ms a h key.Name known = fits_some key.Name (field key.Name ms) (string a.name) h.name refl
@@ -128,12 +130,12 @@ actor_fits ms a h key.Kind known = fits_some key.Kind (field key.Kind ms) (strin
 actor_fits ms a h key.Code known = fits_some key.Code (field key.Code ms) (array h.code.0) h.code.1 refl
 actor_fits ms a h k known = absurd (false≢true known)
 
-in_no_actor : (ms : Members) (a : ActorText) (f : ReadFault) → IsActor ms a → InActor ms f → ⊥
-in_no_actor ms a f h (inl s) = in_no_kind actor_word ms a.kind f h.kind s
-in_no_actor ms a f h (inr (inl s)) = in_no_table table_kind.Actor ms f (record { fits = actor_fits ms a h; only = h.only }) s
-in_no_actor ms a f h (inr (inr s)) =
+in_no_actor : (n : TableName) (ms : Members) (a : ActorText) (f : ReadFault) → IsActor ms a → InActor n ms f → ⊥
+in_no_actor n ms a f h (inl s) = in_no_kind actor_word n ms a.kind f h.kind s
+in_no_actor n ms a f h (inr (inl s)) = in_no_table table_kind.Actor n ms f (record { fits = actor_fits ms a h; only = h.only }) s
+in_no_actor n ms a f h (inr (inr s)) =
     let same = same_array s.0 h.code.0 (both (field key.Code ms) (array s.0) (array h.code.0) s.1 h.code.1) in
-    in_no_each IsText InLineOf f (in_no_line f) h.code.0 a.lines h.code.2 (subst (λ ds. InEach InLineOf ds f) same s.2)
+    in_no_each IsText (λ i. InLineOf n) f (λ i. in_no_line n f) h.code.0 a.lines h.code.2 (subst (λ ds. InEach (λ i. InLineOf n) ds f) same s.2)
 
 list_fits : {A : Type 0} (R : Data → A → Type 0) (k : Key) → IsListKey k → (o : Option Data) (xs : List A) → EachAt R o xs → Fits k o
 list_fits R key.Variable l None xs h = λ r. r
@@ -153,13 +155,16 @@ root_fits root t h key.Actor known = list_fits (IsTableOf IsActor) key.Actor tt 
 root_fits root t h k known = absurd (false≢true known)
 
 in_no_application : (root : Members) (t : Texts) (f : ReadFault) → AreTexts root t → InApplication root f → ⊥
-in_no_application root t f h (inl s) = in_no_table table_kind.Application root f (record { fits = root_fits root t h; only = h.only }) s
+in_no_application root t f h (inl s) = in_no_table table_kind.Application name.Whole root f (record { fits = root_fits root t h; only = h.only }) s
 in_no_application root t f h (inr (inl s)) =
-    in_no_at (IsTableOf IsVariable) (InEntry key.Variable InVariable) f (in_no_entry key.Variable IsVariable InVariable f (λ ms v. in_no_variable ms v f)) (field key.Variable root) t.variables h.variables s
+    in_no_at (IsTableOf IsVariable) (λ i. InEntry key.Variable (name.Variable i) (InVariable (name.Variable i))) f
+    (λ i. in_no_entry key.Variable (name.Variable i) IsVariable (InVariable (name.Variable i)) f (λ ms v. in_no_variable (name.Variable i) ms v f)) (field key.Variable root) t.variables h.variables s
 in_no_application root t f h (inr (inr (inl s))) =
-    in_no_at (IsTableOf IsObject) (InEntry key.Object InObject) f (in_no_entry key.Object IsObject InObject f (λ ms o. in_no_object ms o f)) (field key.Object root) t.objects h.objects s
+    in_no_at (IsTableOf IsObject) (λ i. InEntry key.Object (name.Object i) (InObject (name.Object i))) f
+    (λ i. in_no_entry key.Object (name.Object i) IsObject (InObject (name.Object i)) f (λ ms o. in_no_object (name.Object i) ms o f)) (field key.Object root) t.objects h.objects s
 in_no_application root t f h (inr (inr (inr s))) =
-    in_no_at (IsTableOf IsActor) (InEntry key.Actor InActor) f (in_no_entry key.Actor IsActor InActor f (λ ms a. in_no_actor ms a f)) (field key.Actor root) t.actors h.actors s
+    in_no_at (IsTableOf IsActor) (λ i. InEntry key.Actor (name.Actor i) (InActor (name.Actor i))) f
+    (λ i. in_no_entry key.Actor (name.Actor i) IsActor (InActor (name.Actor i)) f (λ ms a. in_no_actor (name.Actor i) ms a f)) (field key.Actor root) t.actors h.actors s
 
 -- ---- faults of texts
 
@@ -170,7 +175,7 @@ not_twice names name once (before, after, is, there) =
     pairs there.0 (length before) name there.1 inside (get_or_append_left before (name ∷ after) name there.0 there.1 ∙ there.2 ∙ sym (get_or-append_seam before name after name))
 
 in_no_names : (names : List (List ℕ)) (f : ReadFault) → AreNames names → InNames names f → ⊥
-in_no_names names fault.BadName h s = s.2 (All-contains IsName names s.0 h.each s.1)
+in_no_names names (fault.BadName t) h s = s.1 (All-contains IsName names (string_bytes t) h.each s.0)
 in_no_names names (fault.Twice t) h s = not_twice names (string_bytes t) h.once s
 in_no_names names f h s = absurd s
 
@@ -183,18 +188,18 @@ pair_at R (z ∷ xs) (y ∷ ys) (suc i) x h e = pair_at R xs ys i x h.1 e
 owner_there : (actors : List (List ℕ)) (i : ℕ) (name : List ℕ) → slice_get actors i ≡ Some name → Contains actors name
 owner_there actors i name e = let at = at_get actors i name e in (i, at.0, at.1)
 
-has_owner : (actors : List (List ℕ)) (o : Option (List ℕ)) (v : VariableOf) (f : ReadFault) → IsOwner actors o v.owner → IsNoOwner actors o f → ⊥
-has_owner actors None v f h s = s
-has_owner actors (Some name) v f h s = owned v.owner h
+has_owner : (actors : List (List ℕ)) (t : TableName) (o : Option (List ℕ)) (v : VariableOf) (f : ReadFault) → IsOwner actors o v.owner → IsNoOwner actors t o f → ⊥
+has_owner actors t None v f h s = s
+has_owner actors t (Some owner) v f h s = owned v.owner h
   where
-    owned : (a : _) → IsOwner actors (Some name) a → ⊥
+    owned : (a : _) → IsOwner actors (Some owner) a → ⊥
     owned None k = k
-    owned (Some a) k = s.1 (owner_there actors a.0 name k)
+    owned (Some a) k = s.1 (owner_there actors a.0 owner k)
 
 in_no_owners : (actors : List (List ℕ)) (texts : List VariableText) (vs : List VariableOf) (f : ReadFault) → AllZip (IsOwned actors) texts vs → InOwners actors texts f → ⊥
 in_no_owners actors texts vs f h s =
     let there = pair_at (IsOwned actors) texts vs s.0 s.1 h s.2 in
-    has_owner actors s.1.owner there.0 f there.1.owner s.3
+    has_owner actors (name.Variable s.0) s.1.owner there.0 f there.1.owner s.3
 
 in_no_lines : (names : NamesOf) (actor : List ℕ) (lines : List (List ℕ)) (code : List _) (f : ReadFault) → AllZip (IsLine names) lines code → InLines names actor lines f → ⊥
 in_no_lines names actor lines code (fault.Line a i e) h s =

@@ -1,4 +1,4 @@
--- What bytes stand for is one application at the most, and none where a fault stands.
+-- What bytes mean is one application at the most, and none where a fault is present.
 -- A table determines what it says key by key, a list place by place, a program by its names and lines; and each fault
 -- denies what a key, a place, a name or a line has.
 use Rattle.std.proofs.Common.{◌≡◌, ◌≢◌, ℕ, ℤ, codes, zero, suc, ◌+◌, ◌<◌, List, [], ◌∷◌, ◌++◌, Bool, Option, Some, None, option_map, length, map, get_or, slice_get, AllPairs, refl, sym, ap, ◌∙◌, subst, arith, if◌then◌else◌, length-append}

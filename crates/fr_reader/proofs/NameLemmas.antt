@@ -1,10 +1,10 @@
--- Names, one after another: each is apart from those before it, or stands a second time.
+-- Names, one after another: each is apart from those before it, or is given a second time.
 use Rattle.std.proofs.Common.{◌≡◌, ◌≢◌, ℕ, ◌+◌, ◌<◌, List, [], ◌∷◌, ◌++◌, Bool, true, false, Bor, ◌||◌, length, get_or, take, drop, map, Contains, refl, sym, ap, ◌∙◌, subst, true≢false, drop-cons, add-one, not, if◌then◌else◌}
 use Rattle.std.specs.List.{list_any}
 use Rattle.std.specs.Str.{bytes_eq}
 use Rattle.std.specs.Cmp.Lexicographic.{bytes_decides, nat_list_eq_equiv}
 use Rattle.std.proofs.lemmas.Map.Views.{list_any-from_Contains, Contains-from_any}
-use Rattle.std.proofs.lemmas.List.{take-append-drop, take_more, map-append}
+use Rattle.std.proofs.lemmas.List.{take-append-drop, take_more, map-append, get_or-map, length-map}
 use Rattle.std.proofs.lemmas.List.Elements.{All-push, Contains-get_or}
 use Rattle.std.proofs.lemmas.List.Quantifiers.{all_pairs_push}
 use Rattle.fr_program.specs.Limits.{IsName}
@@ -84,7 +84,12 @@ names_more names keys i d below is new name h =
     let here : is_seen (get_or names i d).now (take i names) ≡ false = ap (is_seen (get_or names i d).now) (sym is) ∙ was_false (is_seen (get_or names i d).now keys) new in
     subst (λ ks. AreNames (map line_text ks)) (sym (take_more names i d below)) (names_push (take i names) (get_or names i d) here name h)
 
--- what a list of references stands for, field by field
+-- a name that was read is one of the names
+pub name_there : (names : List (Bor (List ℕ))) (i : ℕ) (d : Bor (List ℕ)) → i < length names → Contains (map line_text names) (get_or names i d).now
+name_there names i d below =
+    subst (Contains (map line_text names)) (get_or-map line_text names i d d.now below) (Contains-get_or (map line_text names) i d.now (rw length-map below))
+
+-- what a list of references means, field by field
 pub map-square : {A B C D : Type 0} (f : B → D) (g : A → B) (h : C → D) (k : A → C) → ((x : A) → f (g x) ≡ h (k x)) → (xs : List A) → map f (map g xs) ≡ map h (map k xs)
 map-square f g h k e [] = refl
 map-square f g h k e (x ∷ xs) = rw (e x, map-square f g h k e xs) refl

@@ -1,4 +1,4 @@
--- The number at which an actor's name stands.
+-- The number at which an actor's name is.
 use Rattle.std.proofs.Common.{◌≡◌, ◌≤◌, arith, ℕ, List, [], Bool, Option, Some, None, Bor, length, get_or, slice_get, option_copied, Contains, refl, sym, ap, ◌∙◌, subst}
 use Rattle.std.specs.Str.{bytes_eq}
 use Rattle.std.specs.Cmp.Lexicographic.{bytes_decides}
@@ -13,6 +13,7 @@ use Rattle.fr_instr.specs.Names.{place_of}
 use Rattle.fr_reader.specs.Meaning.{IsOwner}
 use Rattle.fr_reader.specs.Stands.{IsNoOwner}
 use Rattle.fr_reader.specs.declared.key.Key.TheVariants as key
+use Rattle.fr_reader.specs.declared.key.TableName.{TableName}
 use Rattle.fr_reader.specs.declared.fault.ReadFault.TheVariants as fault
 
 place_named : (actors : List (List ℕ)) (name : List ℕ) (i : ℕ) → place_of actors name ≡ Some i → slice_get actors i ≡ Some name
@@ -32,7 +33,7 @@ pub owner_found : (actors : List (List ℕ)) (owner : Option (Bor (List ℕ))) (
 owner_found actors owner name a is e =
     subst (λ o. IsOwner actors (option_copied o) (Some a)) (sym is) (place_named actors name.now a.0 (sym e))
 
-pub owner_missing : (actors : List (List ℕ)) (owner : Option (Bor (List ℕ))) (name : Bor (List ℕ)) → owner ≡ Some name
-    → None ≡ place_of actors name.now → IsNoOwner actors (option_copied owner) (fault.WrongType key.Owner)
-owner_missing actors owner name is e =
-    subst (λ o. IsNoOwner actors (option_copied o) (fault.WrongType key.Owner)) (sym is) (refl, no_place actors name.now (sym e))
+pub owner_missing : (actors : List (List ℕ)) (t : TableName) (owner : Option (Bor (List ℕ))) (name : Bor (List ℕ)) → owner ≡ Some name
+    → None ≡ place_of actors name.now → IsNoOwner actors t (option_copied owner) (fault.WrongType t key.Owner)
+owner_missing actors t owner name is e =
+    subst (λ o. IsNoOwner actors t (option_copied o) (fault.WrongType t key.Owner)) (sym is) (refl, no_place actors name.now (sym e))

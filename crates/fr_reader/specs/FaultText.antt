@@ -1,5 +1,5 @@
--- The texts of the faults of an application's text: what a refusal's line shows. The keys and names of faults 3 to 6
--- are not shown.
+-- The texts of the faults of an application's text: what a refusal's line shows. The tables, keys and names of
+-- faults 3 to 7 are not shown.
 use Rattle.std.specs.Prelude.{ℕ, List, ◌++◌, codes, decimal, string_bytes}
 use Rattle.fr_program.specs.FaultText as build
 use Rattle.fr_instr.specs.FaultText as line
@@ -11,10 +11,10 @@ abbrev pub fault_text : ReadFault → List ℕ
 fault_text Memory = codes "0 Memory"
 fault_text TooLong = codes "1 TooLong"
 fault_text Toml = codes "2 Toml"
-fault_text (Missing key) = codes "3 Missing"
-fault_text (WrongType key) = codes "4 WrongType"
-fault_text (UnknownKey key) = codes "5 UnknownKey"
+fault_text (Missing table key) = codes "3 Missing"
+fault_text (WrongType table key) = codes "4 WrongType"
+fault_text (UnknownKey table key) = codes "5 UnknownKey"
 fault_text (Twice name) = codes "6 Twice"
-fault_text BadName = codes "7 BadName"
+fault_text (BadName name) = codes "7 BadName"
 fault_text (Line actor index fault) = codes "8 Line: " ++ (string_bytes actor ++ (codes " " ++ (decimal index ++ (codes ": " ++ line.text_of fault))))
 fault_text (Build fault) = codes "9 Build: " ++ build.text_of fault

@@ -8,7 +8,7 @@
 -- | spells                  | a text is that of a key                                              |
 -- | is_own_key              | a key that objects of a kind have beside those of every object       |
 -- | is_key_of, IsKeyOf      | a key that tables of a kind may have                                 |
--- | IsRequired              | a key that stands in each table that may have it                     |
+-- | IsRequired              | a key that is in each table that may have it                         |
 -- | IsNumberKey, IsTextKey, IsListKey | keys that ask for a number, a text, a list of tables       |
 -- | suits                   | a value is of the type that the key asks for                         |
 -- | field                   | what a table holds at a key                                          |
@@ -57,7 +57,7 @@ abbrev pub actor_word : ActorKind → List ℕ
 actor_word actor.Task = codes "task"
 actor_word actor.Interrupt = codes "interrupt"
 
--- the kind whose word stands at `kind`
+-- the kind whose word is at `kind`
 abbrev pub kind_named : Kind → ObjectKind
 kind_named (kind.Queue size lo hi) = Queue
 kind_named kind.Binary = Binary
@@ -92,7 +92,7 @@ is_key_of table_kind.Actor t = spells t key.Name || spells t key.Kind || spells 
 abbrev pub IsKeyOf : TableKind → Key → Type 0
 IsKeyOf table_kind k = IsTrue (is_key_of table_kind (key_text k))
 
--- a key that stands in each table that may have it: all but `owner` and the three lists
+-- a key that is in each table that may have it: all but `owner` and the three lists
 abbrev pub IsRequired : Key → Type 0
 IsRequired key.Variable = ⊥
 IsRequired key.Object = ⊥

@@ -4,12 +4,12 @@
 -- |-------------------------|---------------------------------------------------------------------------|
 -- | names_in                | the names of variables, objects and actors together                       |
 -- | lists_in                | the same as three lists, with which lines are read                        |
--- | AreNamed                | each of them is a name and stands once                                    |
+-- | AreNamed                | each of them is a name and is given once                                  |
 -- | IsOwner                 | the number is that of the actor of this name                              |
 -- | IsOwned, IsCoded        | a variable with its owner by number, an actor with its code               |
 -- | Says                    | the texts say this application                                            |
 -- | IsTableText             | the bytes are the text of this table                                      |
--- | Means                   | the bytes stand for this application                                      |
+-- | Means                   | the bytes mean this application                                           |
 use Rattle.std.specs.Prelude.{◌≡◌, ◌≢◌, ◌≤◌, ◌++◌, ℕ, List, Option, Some, None, All, AllPairs, IsUtf8, length, map, slice_get}
 use Rattle.std.specs.List.{AllZip}
 use Rattle.toml.specs.Data.{Members}
@@ -34,7 +34,7 @@ names_in texts = map (λ v. v.name) texts.variables ++ (map (λ o. o.name) texts
 abbrev pub lists_in : Texts → NamesOf
 lists_in texts = record { variables = map (λ v. v.name) texts.variables; objects = map (λ o. o.name) texts.objects; actors = actors_in texts }
 
--- each of these is a name, and stands once
+-- each of these is a name, and is given once
 pub record AreNames (names : List (List ℕ)) : Type 0 where
   pub each : All IsName names
   pub once : AllPairs (λ x y. x ≢ y) names
@@ -76,7 +76,7 @@ pub record IsTableText (bytes : List ℕ) (root : Members) : Type 0 where
   pub utf8 : IsUtf8 bytes
   pub parsed : parse_document bytes ≡ Some root
 
--- the bytes stand for this application: key by key and line by line, and no build fault stands
+-- the bytes mean this application: key by key and line by line, and no build fault is present
 pub record Means (bytes : List ℕ) (P : Program) : Type 0 where
   pub root : Members
   pub texts : Texts

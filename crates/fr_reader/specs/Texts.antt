@@ -1,13 +1,13 @@
--- What the tables of an application's text stand for, before names are asked for and lines are read.
+-- What the tables of an application's text mean, before names are asked for and lines are read.
 --
 -- | word                                   | meaning                                                              |
 -- |----------------------------------------|----------------------------------------------------------------------|
 -- | VariableText, ActorText, Texts         | a variable whose owner is a text, an actor whose code is texts, all  |
 -- | AreKnown                               | each key of the table is one that tables of its kind may have        |
--- | IsVariable, IsObject, IsActor, HasKind | a table stands for one of these, key by key                          |
--- | IsTableOf                              | a value is a table that stands for something                         |
--- | Each, EachAt                           | the entries of an array stand for these things, one for each         |
--- | AreTexts                               | the whole table stands for these texts                               |
+-- | IsVariable, IsObject, IsActor, HasKind | a table means one of these, key by key                               |
+-- | IsTableOf                              | a value is a table that means something                              |
+-- | Each, EachAt                           | the entries of an array mean these things, one for each              |
+-- | AreTexts                               | the whole table means these texts                                    |
 use Rattle.std.specs.Prelude.{◌≡◌, ℕ, ℤ, List, [], ◌∷◌, IsTrue, Option, Some, None, option_map}
 use Rattle.toml.specs.Data.{Data, string, integer, boolean, array, table, Items, no_items, item, Members, get_member}
 use Rattle.fr_program.specs.declared.parts.Kind.{Kind}
@@ -43,7 +43,7 @@ pub record Texts : Type 0 where
 abbrev pub AreKnown : TableKind → Members → Type 0
 AreKnown table_kind ms = (k : List ℕ) (d : Data) → get_member k ms ≡ Some d → IsTrue (is_key_of table_kind k)
 
--- the table stands for the variable, key by key
+-- the table means the variable, key by key
 pub record IsVariable (ms : Members) (v : VariableText) : Type 0 where
   pub name : field key.Name ms ≡ Some (string v.name)
   pub lo : field key.Lo ms ≡ Some (integer v.lo)
@@ -60,7 +60,7 @@ HasKind ms (kind.Stream size) = field key.Size ms ≡ Some (integer size)
 HasKind ms (kind.Message size) = field key.Size ms ≡ Some (integer size)
 HasKind ms k = Unit {0}
 
--- the table stands for the object, key by key
+-- the table means the object, key by key
 pub record IsObject (ms : Members) (o : ObjectOf) : Type 0 where
   pub name : field key.Name ms ≡ Some (string o.name)
   pub kind : field key.Kind ms ≡ Some (string (kind_word (kind_named o.kind)))
@@ -68,7 +68,7 @@ pub record IsObject (ms : Members) (o : ObjectOf) : Type 0 where
   pub live : field key.Live ms ≡ Some (boolean o.live)
   pub only : AreKnown (table_kind.Object (kind_named o.kind)) ms
 
--- the entries stand for these things, one for each, in order
+-- the entries mean these things, one for each, in order
 abbrev pub Each : {A : Type 0} → (Data → A → Type 0) → Items → List A → Type 0
 Each R no_items [] = Unit {0}
 Each R no_items (x ∷ xs) = ⊥
@@ -79,24 +79,24 @@ Each R (item d ds) (x ∷ xs) = R d x × Each R ds xs
 abbrev pub IsText : Data → List ℕ → Type 0
 IsText d text = d ≡ string text
 
--- the table stands for the actor, key by key
+-- the table means the actor, key by key
 pub record IsActor (ms : Members) (a : ActorText) : Type 0 where
   pub name : field key.Name ms ≡ Some (string a.name)
   pub kind : field key.Kind ms ≡ Some (string (actor_word a.kind))
   pub code : (ds : Items) × (field key.Code ms ≡ Some (array ds)) × Each IsText ds a.lines
   pub only : AreKnown table_kind.Actor ms
 
--- the value is a table that stands for this
+-- the value is a table that means this
 abbrev pub IsTableOf : {A : Type 0} → (Members → A → Type 0) → Data → A → Type 0
 IsTableOf R d x = (ms : Members) × (d ≡ table ms) × R ms x
 
--- what stands at the key of a list stands for these things; with no such key there are none
+-- what is at the key of a list means these things; with no such key there are none
 abbrev pub EachAt : {A : Type 0} → (Data → A → Type 0) → Option Data → List A → Type 0
 EachAt R None xs = xs ≡ []
 EachAt R (Some (array ds)) xs = Each R ds xs
 EachAt R (Some d) xs = ⊥
 
--- the table of the whole text stands for these texts
+-- the table of the whole text means these texts
 pub record AreTexts (root : Members) (texts : Texts) : Type 0 where
   pub variables : EachAt (IsTableOf IsVariable) (field key.Variable root) texts.variables
   pub objects : EachAt (IsTableOf IsObject) (field key.Object root) texts.objects

@@ -34,15 +34,15 @@ fn table_of(alloc: Global, bytes: &[u8]) -> Result<Table, ReadFault>
     }
 }
 
-/// The application that the bytes stand for.
+/// The application that the bytes mean.
 ///
 /// The bytes are a TOML text, as the crate `toml` reads it, of at most 1,048,576 bytes, with the
 /// keys `variable`, `object` and `actor`, each an array of tables; this is this project's profile.
 /// Each line of an actor's code is read by `fr_instr::read_line`, and the parts are an application
 /// where `App::build` says so.
 ///
-/// Its errors are those of `ReadFault`: one that stands in the bytes, where they stand for no
-/// application. `Line` comes only where no fault before it stands, and `Build` only where no fault
+/// Its errors are those of `ReadFault`: one that is present in the bytes, where they mean no
+/// application. `Line` comes only where no fault before it is present, and `Build` only where no fault
 /// before it does. `is_memory` tells the refusal of an allocation from all others.
 pub fn read_app(alloc: Global, bytes: &[u8]) -> Result<App, ReadFault>
     ensures ok { IfOk result (Means bytes.now) }
@@ -57,12 +57,12 @@ pub fn read_app(alloc: Global, bytes: &[u8]) -> Result<App, ReadFault>
     }
 }
 
-/// Bytes stand for one application at the most.
+/// Bytes mean one application at the most.
 pub fn one_meaning()
     ensures { (bytes : List ℕ) (P Q : Program) → Means bytes P → Means bytes Q → P ≡ Q }
 {}
 
-/// Bytes in which a fault stands stand for no application, but for a refused allocation and for
+/// Bytes in which a fault is present mean no application, but for a refused allocation and for
 /// what isn't judged yet.
 pub fn no_meaning()
     ensures { (bytes : List ℕ) (f : Refusal) (P : Program) → is_memory f ≡ false → is_not_yet f ≡ false → Stands bytes f → Means bytes P → ⊥ }

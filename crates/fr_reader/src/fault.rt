@@ -2,7 +2,7 @@
 ghost use Rattle.std.specs.Prelude.{◌≡◌, Some};
 ghost use Rattle.fr_reader.specs.declared.fault.ReadFault.TheVariants.{Memory};
 
-use crate::key::Key;
+use crate::key::{Key, TableName};
 use fr_instr::LineFault;
 use fr_program::BuildFault;
 use std::alloc::{AllocError, AllocFailed};
@@ -10,7 +10,7 @@ use std::error::Error;
 use std::fmt;
 
 /// Why a text is no application. Its text is the number and the name that a refusal's line shows, and for a line and
-/// for the parts what that fault's line shows; the keys and the names of faults 3 to 6 are not shown.
+/// for the parts what that fault's line shows; the tables, keys and names of faults 3 to 7 are not shown.
 #[derive(Debug, Drop)]
 pub enum ReadFault {
     /// An allocation was refused.
@@ -19,26 +19,26 @@ pub enum ReadFault {
     TooLong,
     /// The bytes are not UTF-8, or no TOML text.
     Toml,
-    /// A table lacks a key that it has to have.
-    Missing(Key),
-    /// What stands at the key is of another type, is an unknown word at `kind`, or is no actor's
-    /// name at `owner`.
-    WrongType(Key),
-    /// A table has a key that is none of its keys.
-    UnknownKey(String),
-    /// A name stands more than once among variables, objects and actors.
+    /// This table lacks a key that it has to have.
+    Missing(TableName, Key),
+    /// What this table has at the key is of another type, is an unknown word at `kind`, or is no
+    /// actor's name at `owner`. Where the entry of a list is no table, the key is that of the list.
+    WrongType(TableName, Key),
+    /// This table has a key that is none of its keys.
+    UnknownKey(TableName, String),
+    /// A name is given more than once among variables, objects and actors.
     Twice(String),
     /// A name is none: it has 1 to 32 ASCII letters, digits and underscores, with no digit first,
     /// and is not `set`, `if`, `goto`, `pick`, `return`, `else`, `NULL` or `portMAX_DELAY`.
-    BadName,
+    BadName(String),
     /// A line of an actor's code has a fault: the actor's name, the line's place from 0, and the
-    /// fault. Lines are read where none of the faults above stands.
+    /// fault. Lines are read where none of the faults above is present.
     Line {
         actor: String,
         index: usize,
         fault: LineFault,
     },
-    /// What the text says is no application; this is asked where none of the faults above stands.
+    /// What the text says is no application; this is asked where none of the faults above is present.
     Build(BuildFault),
 }
 
@@ -68,11 +68,11 @@ impl fmt::Display for ReadFault {
             ReadFault::Memory => f.write_str("0 Memory"),
             ReadFault::TooLong => f.write_str("1 TooLong"),
             ReadFault::Toml => f.write_str("2 Toml"),
-            ReadFault::Missing(_) => f.write_str("3 Missing"),
-            ReadFault::WrongType(_) => f.write_str("4 WrongType"),
-            ReadFault::UnknownKey(_) => f.write_str("5 UnknownKey"),
+            ReadFault::Missing(..) => f.write_str("3 Missing"),
+            ReadFault::WrongType(..) => f.write_str("4 WrongType"),
+            ReadFault::UnknownKey(..) => f.write_str("5 UnknownKey"),
             ReadFault::Twice(_) => f.write_str("6 Twice"),
-            ReadFault::BadName => f.write_str("7 BadName"),
+            ReadFault::BadName(_) => f.write_str("7 BadName"),
             ReadFault::Line {
                 actor,
                 index,

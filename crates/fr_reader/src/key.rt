@@ -3,7 +3,7 @@ ghost use Rattle.std.specs.Prelude.{◌≡◌};
 ghost use Rattle.fr_reader.specs.Keys.{key_text, is_key_of, is_own_key};
 
 /// A key that a table of an application may have.
-#[derive(Clone, Copy, Debug, PartialEq, Eq)]
+#[derive(Clone, Copy, Debug)]
 pub enum Key {
     Variable,
     Object,
@@ -21,7 +21,7 @@ pub enum Key {
 }
 
 impl Key {
-    /// The key as it stands in the text.
+    /// The key as the text writes it.
     pub fn text(self) -> &'static str
         ensures { result.now ≡ key_text self }
     {
@@ -43,8 +43,18 @@ impl Key {
     }
 }
 
-/// What the key `kind` of an object says.
+/// Which table of an application's text: the whole text, or an entry of one of its three lists, by
+/// its place from 0.
 #[derive(Clone, Copy, Debug)]
+pub enum TableName {
+    Whole,
+    Variable(usize),
+    Object(usize),
+    Actor(usize),
+}
+
+/// What the key `kind` of an object says.
+#[derive(Clone, Copy)]
 pub(crate) enum ObjectKind {
     Queue,
     Binary,
@@ -56,7 +66,7 @@ pub(crate) enum ObjectKind {
 }
 
 /// A kind of table.
-#[derive(Clone, Copy, Debug)]
+#[derive(Clone, Copy)]
 pub(crate) enum TableKind {
     Application,
     Variable,

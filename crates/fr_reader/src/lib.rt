@@ -1,7 +1,7 @@
-// Applications as files: `read_app` gives the application that the bytes of a TOML text stand for, or a fault that
-// stands in them. The text is read by the crate `toml`, its tables key by key here, its lines by `fr_instr`, and its
-// parts are checked by `fr_program`. `specs/Meaning.antt` says what bytes stand for, and `specs/Stands.antt` which fault
-// stands in them; `one_meaning` and `no_meaning` are the laws of both. The crates above rely on `read_app`'s contract.
+// Applications as files: `read_app` gives the application that the bytes of a TOML text mean, or a fault that is
+// present in them. The text is read by the crate `toml`, its tables key by key here, its lines by `fr_instr`, and its
+// parts are checked by `fr_program`. `specs/Meaning.antt` says what bytes mean, and `specs/Stands.antt` which fault is
+// present in them; `one_meaning` and `no_meaning` are the laws of both. The crates above rely on `read_app`'s contract.
 #![tactic(auto)]
 
 mod actor;
@@ -17,4 +17,4 @@ mod variable;
 
 pub use app::{MOST_BYTES, no_meaning, one_meaning, read_app};
 pub use fault::ReadFault;
-pub use key::Key;
+pub use key::{Key, TableName};

@@ -1,4 +1,4 @@
-// Names: what a name is, and that each one stands once among variables, objects and actors.
+// Names: what a name is, and that each one is given once among variables, objects and actors.
 ghost use Rattle.std.specs.Prelude.{◌≡◌, ◌++◌, OnOk, IfOk, IfErr, map};
 ghost use Rattle.fr_reader.specs.Meaning.{AreNames, lists_in};
 ghost use Rattle.fr_reader.specs.Faults.{Standing};
@@ -15,7 +15,7 @@ use indexmap::IndexSet;
 use std::alloc::{AllocError, Global};
 
 /// The names of an application's three lists.
-#[derive(Debug, Drop)]
+#[derive(Drop)]
 pub(crate) struct NameLists<'a> {
     pub variables: Vec<&'a str>,
     pub objects: Vec<&'a str>,
@@ -64,7 +64,7 @@ fn all_names<'a>(alloc: Global, lists: &NameLists<'a>) -> Result<Vec<&'a str>, A
     Ok(all)
 }
 
-// Finds a text that is no name, or a name that stands twice.
+// Finds a text that is no name, or a name that is given twice.
 fn check_each(alloc: Global, names: &[&str]) -> Result<(), ReadFault>
     ensures ok { OnOk result (AreNames (map line_text names.now)) }
     ensures err { IfErr result (Standing (InNames (map line_text names.now))) }
@@ -72,7 +72,7 @@ fn check_each(alloc: Global, names: &[&str]) -> Result<(), ReadFault>
     let mut seen = IndexSet::new(alloc);
     for name in names {
         if !is_name(name) {
-            return Err(ReadFault::BadName);
+            return Err(ReadFault::BadName(String::from_str(alloc, name)?));
         }
         let (_, is_new) = seen.insert_full(*name)?;
         if !is_new {
@@ -82,7 +82,7 @@ fn check_each(alloc: Global, names: &[&str]) -> Result<(), ReadFault>
     Ok(())
 }
 
-/// Finds a text in a name's place that is none, or a name that stands twice among the three lists.
+/// Finds a text in a name's place that is none, or a name that is given twice among the three lists.
 pub(crate) fn check_names(alloc: Global, lists: &NameLists) -> Result<(), ReadFault>
     ensures ok { OnOk result (AreNames (map line_text lists.now.variables.items ++ (map line_text lists.now.objects.items ++ map line_text lists.now.actors.items))) }
     ensures err { IfErr result (Standing (InNames (map line_text lists.now.variables.items ++ (map line_text lists.now.objects.items ++ map line_text lists.now.actors.items)))) }

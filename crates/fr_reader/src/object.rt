@@ -8,7 +8,7 @@ ghost use Rattle.fr_reader.specs.Faults.{InTable, InKind, InObject, InEntry, InE
 ghost use Rattle.fr_reader.specs.Views.{object_text};
 
 use crate::fault::ReadFault;
-use crate::key::{Key, ObjectKind, TableKind};
+use crate::key::{Key, ObjectKind, TableKind, TableName};
 use crate::table::{found_at, integer_at, known_keys, live_at, text_at};
 use fr_program::Kind;
 use std::alloc::Global;
@@ -16,7 +16,7 @@ use toml::value::Array;
 use toml::{Table, Value};
 
 /// An object as its table has it.
-#[derive(Debug, Drop)]
+#[derive(Drop)]
 pub(crate) struct ObjectText<'a> {
     pub name: &'a str,
     pub kind: Kind,
@@ -39,84 +39,89 @@ fn kind_of_word(word: &str) -> Option<ObjectKind>
     }
 }
 
-fn kind_at(table: &Table) -> Result<ObjectKind, ReadFault>
+fn kind_at(table: &Table, name: TableName) -> Result<ObjectKind, ReadFault>
     ensures ok { IfOk result (λ kind. field Key.Kind (table_view table.now) ≡ Some (string (kind_word kind))) }
-    ensures err { IfErr result (Standing (InKind kind_word (table_view table.now))) }
+    ensures err { IfErr result (Standing (InKind kind_word name (table_view table.now))) }
 {
     let Some(value) = found_at(table, Key::Kind) else {
-        return Err(ReadFault::Missing(Key::Kind));
+        return Err(ReadFault::Missing(name, Key::Kind));
     };
     let Some(word) = value.as_str() else {
-        return Err(ReadFault::WrongType(Key::Kind));
+        return Err(ReadFault::WrongType(name, Key::Kind));
     };
     match kind_of_word(word) {
         Some(kind) => Ok(kind),
-        None => Err(ReadFault::WrongType(Key::Kind)),
+        None => Err(ReadFault::WrongType(name, Key::Kind)),
     }
 }
 
 // The kind with the keys that only it has.
-fn kind_of(table: &Table, kind: ObjectKind) -> Result<Kind, ReadFault>
+fn kind_of(table: &Table, kind: ObjectKind, name: TableName) -> Result<Kind, ReadFault>
     ensures named { IfOk result (λ k. kind_named k ≡ kind) }
     ensures ok { IfOk result (HasKind (table_view table.now)) }
-    ensures err { IfErr result (Standing (InTable (TableKind.Object kind) (table_view table.now))) }
+    ensures err { IfErr result (Standing (InTable (TableKind.Object kind) name (table_view table.now))) }
 {
     let table_kind = TableKind::Object(kind);
     match kind {
         ObjectKind::Queue => Ok(Kind::Queue {
-            size: integer_at(table, table_kind, Key::Size)?,
-            lo: integer_at(table, table_kind, Key::Lo)?,
-            hi: integer_at(table, table_kind, Key::Hi)?,
+            size: integer_at(table, table_kind, name, Key::Size)?,
+            lo: integer_at(table, table_kind, name, Key::Lo)?,
+            hi: integer_at(table, table_kind, name, Key::Hi)?,
         }),
         ObjectKind::Binary => Ok(Kind::Binary),
         ObjectKind::Counting => Ok(Kind::Counting {
-            size: integer_at(table, table_kind, Key::Size)?,
-            first: integer_at(table, table_kind, Key::First)?,
+            size: integer_at(table, table_kind, name, Key::Size)?,
+            first: integer_at(table, table_kind, name, Key::First)?,
         }),
         ObjectKind::Mutex => Ok(Kind::Mutex),
         ObjectKind::Recursive => Ok(Kind::Recursive),
         ObjectKind::Stream => Ok(Kind::Stream {
-            size: integer_at(table, table_kind, Key::Size)?,
+            size: integer_at(table, table_kind, name, Key::Size)?,
         }),
         ObjectKind::Message => Ok(Kind::Message {
-            size: integer_at(table, table_kind, Key::Size)?,
+            size: integer_at(table, table_kind, name, Key::Size)?,
         }),
     }
 }
 
-// The object that the table stands for, where its kind is this one.
-fn object_of(alloc: Global, table: &Table, kind: ObjectKind) -> Result<ObjectText<'_>, ReadFault>
+// The object that the table means, where its kind is this one.
+fn object_of(
+    alloc: Global,
+    table: &Table,
+    kind: ObjectKind,
+    name: TableName,
+) -> Result<ObjectText<'_>, ReadFault>
     requires { field Key.Kind (table_view table.now) ≡ Some (string (kind_word kind)) }
     ensures ok { IfOk result (λ o. IsObject (table_view table.now) (object_text o)) }
-    ensures err { IfErr result (Standing (InTable (TableKind.Object kind) (table_view table.now))) }
+    ensures err { IfErr result (Standing (InTable (TableKind.Object kind) name (table_view table.now))) }
 {
     let table_kind = TableKind::Object(kind);
-    known_keys(alloc, table, table_kind)?;
+    known_keys(alloc, table, table_kind, name)?;
     Ok(ObjectText {
-        name: text_at(table, table_kind, Key::Name)?,
-        kind: kind_of(table, kind)?,
-        live: live_at(table, table_kind)?,
+        name: text_at(table, table_kind, name, Key::Name)?,
+        kind: kind_of(table, kind, name)?,
+        live: live_at(table, table_kind, name)?,
     })
 }
 
-fn entry_of(alloc: Global, value: &Value) -> Result<ObjectText<'_>, ReadFault>
+fn entry_of(alloc: Global, value: &Value, name: TableName) -> Result<ObjectText<'_>, ReadFault>
     ensures ok { IfOk result (λ o. IsTableOf IsObject (view value.now) (object_text o)) }
-    ensures err { IfErr result (Standing (InEntry Key.Object InObject (view value.now))) }
+    ensures err { IfErr result (Standing (InEntry Key.Object name (InObject name) (view value.now))) }
 {
     match value.as_table() {
-        Some(table) => object_of(alloc, table, kind_at(table)?),
-        None => Err(ReadFault::WrongType(Key::Object)),
+        Some(table) => object_of(alloc, table, kind_at(table, name)?, name),
+        None => Err(ReadFault::WrongType(name, Key::Object)),
     }
 }
 
-// The objects that an array stands for, in its order.
+// The objects that an array means, in its order.
 pub(crate) fn objects_of(alloc: Global, array: &Array) -> Result<Vec<ObjectText<'_>>, ReadFault>
     ensures ok { IfOk result (λ os. Each (IsTableOf IsObject) (array_view array.now) (map object_text os.items)) }
-    ensures err { IfErr result (Standing (InEach (InEntry Key.Object InObject) (array_view array.now))) }
+    ensures err { IfErr result (Standing (InEach (λ i. InEntry Key.Object (TableName.Object i) (InObject (TableName.Object i))) (array_view array.now))) }
 {
     let mut objects = Vec::new(alloc);
-    for value in array {
-        objects.push(entry_of(alloc, value)?)?;
+    for (index, value) in array.iter().enumerate() {
+        objects.push(entry_of(alloc, value, TableName::Object(index))?)?;
     }
     Ok(objects)
 }

@@ -3,14 +3,14 @@ ghost use Rattle.std.specs.Prelude.{◌≡◌, ◌++◌, Some, true, IfOk, IfErr
 ghost use Rattle.std.specs.List.{AllZip};
 ghost use Rattle.fr_instr.specs.Lines.{IsLine};
 ghost use Rattle.fr_program.specs.View as program;
-ghost use Rattle.fr_reader.specs.Meaning.{AreNames, IsOwner, IsOwned, IsCoded, Says, names_in};
+ghost use Rattle.fr_reader.specs.Meaning.{AreNames, IsOwner, IsOwned, IsCoded, Says, names_in, lists_in};
 ghost use Rattle.fr_reader.specs.Faults.{is_memory, Standing};
-ghost use Rattle.fr_reader.specs.Stands.{IsNoOwner, InOwner, InOwners, InLine, InLines, InCode, InTexts};
+ghost use Rattle.fr_reader.specs.Stands.{IsNoOwner, InOwner, InOwners, InLine, InLines, InCode, InSaid, InTexts};
 ghost use Rattle.fr_reader.specs.Views.{variable_text, object_text, actor_text, line_text, texts_view};
 
 use crate::actor::ActorText;
 use crate::fault::ReadFault;
-use crate::key::Key;
+use crate::key::{Key, TableName};
 use crate::names;
 use crate::object::ObjectText;
 use crate::texts::Texts;
@@ -19,29 +19,38 @@ use fr_instr::Names;
 use fr_program::{Actor, ActorId, Instr, Object, Parts, Variable};
 use std::alloc::Global;
 
-fn owner_of(names: &Names, owner: Option<&str>) -> Result<Option<ActorId>, ReadFault>
+fn owner_of(
+    names: &Names,
+    table: TableName,
+    owner: Option<&str>,
+) -> Result<Option<ActorId>, ReadFault>
     ensures ok { IfOk result (IsOwner names.now.actors (option_copied owner.entry)) }
-    ensures err { IfErr result (Standing (IsNoOwner names.now.actors (option_copied owner.entry))) }
+    ensures err { IfErr result (Standing (IsNoOwner names.now.actors table (option_copied owner.entry))) }
 {
     let Some(name) = owner else {
         return Ok(None);
     };
     match names.actor(name) {
         Some(actor) => Ok(Some(actor)),
-        None => Err(ReadFault::WrongType(Key::Owner)),
+        None => Err(ReadFault::WrongType(table, Key::Owner)),
     }
 }
 
-fn variable_of(alloc: Global, names: &Names, text: &VariableText) -> Result<Variable, ReadFault>
+fn variable_of(
+    alloc: Global,
+    names: &Names,
+    table: TableName,
+    text: &VariableText,
+) -> Result<Variable, ReadFault>
     ensures ok { IfOk result (λ v. IsOwned names.now.actors (variable_text text.now) (program.variable_of v)) }
-    ensures err { IfErr result (Standing (InOwner names.now.actors (variable_text text.now))) }
+    ensures err { IfErr result (Standing (InOwner names.now.actors table (variable_text text.now))) }
 {
     Ok(Variable {
         name: String::from_str(alloc, text.name)?,
         lo: text.lo,
         hi: text.hi,
         init: text.init,
-        owner: owner_of(names, text.owner)?,
+        owner: owner_of(names, table, text.owner)?,
     })
 }
 
@@ -54,8 +63,8 @@ fn variables_of(
     ensures err { IfErr result (Standing (InOwners names.now.actors (map variable_text texts.now))) }
 {
     let mut variables = Vec::new(alloc);
-    for text in texts {
-        variables.push(variable_of(alloc, names, text)?)?;
+    for (index, text) in texts.iter().enumerate() {
+        variables.push(variable_of(alloc, names, TableName::Variable(index), text)?)?;
     }
     Ok(variables)
 }
@@ -141,6 +150,20 @@ fn actors_of(alloc: Global, names: &Names, texts: &[ActorText]) -> Result<Vec<Ac
     Ok(actors)
 }
 
+// The parts that the texts say, where these are the names in them. Owners are asked for first, then
+// lines.
+fn parts_with(alloc: Global, names: &Names, texts: &Texts) -> Result<Parts, ReadFault>
+    requires { names.now ≡ lists_in (texts_view texts.now) }
+    ensures ok { IfOk result (λ parts. Says (texts_view texts.now) (program.program_of parts)) }
+    ensures err { IfErr result (Standing (InSaid (texts_view texts.now))) }
+{
+    Ok(Parts {
+        variables: variables_of(alloc, names, &texts.variables)?,
+        objects: objects_of(alloc, &texts.objects)?,
+        actors: actors_of(alloc, names, &texts.actors)?,
+    })
+}
+
 /// The parts that the texts say. Names are asked for first, then owners, then lines.
 pub(crate) fn parts_of(alloc: Global, texts: &Texts) -> Result<Parts, ReadFault>
     ensures names { IfOk result (λ _. AreNames (names_in (texts_view texts.now))) }
@@ -150,9 +173,5 @@ pub(crate) fn parts_of(alloc: Global, texts: &Texts) -> Result<Parts, ReadFault>
     let lists = names::names_of(alloc, texts)?;
     names::check_names(alloc, &lists)?;
     let names = Names::build(alloc, &lists.variables, &lists.objects, &lists.actors)?;
-    Ok(Parts {
-        variables: variables_of(alloc, &names, &texts.variables)?,
-        objects: objects_of(alloc, &texts.objects)?,
-        actors: actors_of(alloc, &names, &texts.actors)?,
-    })
+    parts_with(alloc, &names, texts)
 }

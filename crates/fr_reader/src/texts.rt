@@ -9,7 +9,7 @@ ghost use Rattle.fr_reader.specs.Views.{variable_text, object_text, actor_text, 
 
 use crate::actor::{self, ActorText};
 use crate::fault::ReadFault;
-use crate::key::{Key, TableKind};
+use crate::key::{Key, TableKind, TableName};
 use crate::object::{self, ObjectText};
 use crate::table::{found_at, known_keys};
 use crate::variable::{self, VariableText};
@@ -18,7 +18,7 @@ use toml::Table;
 use toml::value::Array;
 
 /// What the tables of an application say, before names are asked for and lines are read.
-#[derive(Debug, Drop)]
+#[derive(Drop)]
 pub(crate) struct Texts<'a> {
     pub variables: Vec<VariableText<'a>>,
     pub objects: Vec<ObjectText<'a>>,
@@ -30,14 +30,14 @@ fn array_at(table: &Table, key: Key) -> Result<Option<&Array>, ReadFault>
     requires known { IsKeyOf TableKind.Application key }
     requires list { IsListKey key }
     ensures ok { IfOk result (λ o. option_map (λ a. array (array_view a.now)) o ≡ field key (table_view table.now)) }
-    ensures err { IfErr result (Standing (InTable TableKind.Application (table_view table.now))) }
+    ensures err { IfErr result (Standing (InTable TableKind.Application TableName.Whole (table_view table.now))) }
 {
     let Some(value) = found_at(table, key) else {
         return Ok(None);
     };
     match value.as_array() {
         Some(array) => Ok(Some(array)),
-        None => Err(ReadFault::WrongType(key)),
+        None => Err(ReadFault::WrongType(TableName::Whole, key)),
     }
 }
 
@@ -71,12 +71,12 @@ fn actors_at(alloc: Global, table: &Table) -> Result<Vec<ActorText<'_>>, ReadFau
     }
 }
 
-// The texts that the table of the whole text stands for.
+// The texts that the table of the whole text means.
 pub(crate) fn texts_of(alloc: Global, table: &Table) -> Result<Texts<'_>, ReadFault>
     ensures ok { IfOk result (λ texts. AreTexts (table_view table.now) (texts_view texts)) }
     ensures err { IfErr result (Standing (InApplication (table_view table.now))) }
 {
-    known_keys(alloc, table, TableKind::Application)?;
+    known_keys(alloc, table, TableKind::Application, TableName::Whole)?;
     Ok(Texts {
         variables: variables_at(alloc, table)?,
         objects: objects_at(alloc, table)?,

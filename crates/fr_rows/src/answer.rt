@@ -1,5 +1,6 @@
 // What a command answers to files, by the call that the program makes.
 ghost use Rattle.std.specs.Prelude.{◌≤◌};
+ghost use Rattle.fr_answer.specs.Checked.{most_bytes};
 
 use fr_answer::{
     CheckFault, MOST_APP_BYTES, MOST_CERTIFICATE_BYTES, answer_check, answer_fault, load,
@@ -19,7 +20,7 @@ pub struct Answer {
 
 /// The file's bytes, at most one more than the limit; None is a file that is missing.
 fn file_bytes(alloc: Global, file: Option<&[u8]>, limit: usize) -> Result<Vec<u8>, CheckFault>
-    requires { limit ≤ 16777216 }
+    requires { limit ≤ most_bytes }
 {
     let Some(mut file) = file else {
         return Err(CheckFault::Read);

@@ -22,7 +22,7 @@ fn own_at(alloc: Global, app: &str, notes: &str, number: usize) -> Option<Option
     let text = format!(in alloc; "{{\"version\":1,\"ends\":[],\"notes\":[{notes}]}}").ok()?;
     let app = read_app(alloc, app.as_bytes()).ok()?;
     let certificate = read_cert(alloc, &app, text.as_bytes()).ok()?;
-    if number < app.points() {
+    if certificate.notes.fits(&app) && number < app.points() {
         Some(own(&app, &certificate.notes, number))
     } else {
         None

@@ -51,7 +51,7 @@ fn verdicts(rt: HostRuntime) {
 #[test]
 fn refusals(rt: HostRuntime) {
     let app = match &judge_text(rt.alloc(), b"alarm = 1", FIRST_NOTES) {
-        Err(TextFault::App(ReadFault::UnknownKey(_))) => true,
+        Err(TextFault::App(ReadFault::UnknownKey(..))) => true,
         Err(fault) => is_memory(fault),
         Ok(_) => false,
     };

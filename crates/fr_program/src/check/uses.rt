@@ -122,7 +122,7 @@ fn may_use(parts: &Parts, actor: ActorId, x: Option<VarId>) -> bool
     match x {
         Some(x) => match parts.variables.get(x.0) {
             Some(variable) => match variable.owner {
-                Some(owner) => owner.0 == actor.0,
+                Some(owner) => owner.0 == actor.0 || parts.actors.len() <= owner.0,
                 None => true,
             },
             None => true,

@@ -1,4 +1,4 @@
-use Rattle.fr_judge.specs.Told.{KeepsBelow}
+use Rattle.fr_judge.proofs.Judging.{KeepsBelow}
 use Rattle.fr_judge.proofs.verdict.judge.Given as goal
 
 -- the points so far keep every part

@@ -4,5 +4,5 @@ use Rattle.fr_reader.specs.Texts.{Each, IsTableOf, IsActor}
 use Rattle.fr_reader.specs.Views.{actor_text}
 use Rattle.fr_reader.proofs.actor.actors_of.Given as goal
 
-abbrev pub invariant-loop-value : goal.invariant-loop-value
-invariant-loop-value l = Each (IsTableOf IsActor) (items_view (take l.value-index l.array.items)) (map (actor_text) l.actors.items)
+abbrev pub invariant-loop-index : goal.invariant-loop-index
+invariant-loop-index l = Each (IsTableOf IsActor) (items_view (take l.index l.array.items)) (map (actor_text) l.actors.items)

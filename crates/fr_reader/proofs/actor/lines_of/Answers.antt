@@ -14,7 +14,7 @@ returns-in_err-line_of-clause-err c =
     let p = err_from_is_err_and c.from_residual.result c.from_residual.ensures.1 in
     let xs = c.args.array.now.items in
     let same = c.deref-value-items.ensures.value in
-    let P : Value → Type 0 = λ x. InLine (view x) c.in_err-line_of.field-0.0 in
+    let P : Value → Type 0 = λ x. InLine c.args.name (view x) c.in_err-line_of.field-0.0 in
     let here : c.value-item.result ≡ get_or xs c.loop-value.value-index c.value-item.result =
     c.value-item.is ∙ ap (λ ys. get_or ys c.loop-value.value-index c.value-item.result) same in
     let within : c.loop-value.value-index < length xs = subst (λ ys. c.loop-value.value-index < length ys) same c.loop-value-test.true in

@@ -21,7 +21,7 @@ returns-in_err-parts-clause-err c =
 pub returns-clause-err : goal.returns-clause-err
 returns-clause-err c named =
     let P : BuildFault → Type 0 = λ f. is_memory (fault.Build f) ≡ false in
-    let stands = c.in-Err.ensures.stands (λ e. false≢true (sym (subst P e named))) in
+    let stands = c.in-Err.ensures.present (λ e. false≢true (sym (subst P e named))) in
     inr (
       table_view c.in_ok-table.table,
       c.in_ok-table.ensures.ok,
