@@ -1,10 +1,10 @@
 // What a step by a row of the step table leaves of what is known before it.
-ghost use Rattle.std.specs.Prelude.{◌≡◌, Some, IfSome, IfNone};
+ghost use Rattle.std.specs.Prelude.{◌≡◌, ◌<◌, Some, IfSome, IfNone, length};
 ghost use Rattle.fr_program.specs.Fault.{IsFaultless, NamesThings, OperandsFit};
 ghost use Rattle.fr_program.specs.Program.{Program};
 ghost use Rattle.fr_program.specs.Lookup.{IsPoint, instr_of};
 ghost use Rattle.fr_notes.specs.Known.{KnownFits, IsLeft, NeverSteps};
-ghost use Rattle.fr_notes.specs.Spot.{LeavesBefore};
+ghost use Rattle.fr_notes.specs.Spot.{LeavesBefore, condition_known};
 
 use crate::before::{
     begun, branched, created, deleted, entered, left, picked, resumed, set, suspended,
@@ -14,6 +14,26 @@ use crate::inside::change_inside;
 use crate::known::Known;
 use fr_calls::{Condition, Way, first_forbidden};
 use fr_program::{App, Call, Instr, Point, Side};
+
+/// The condition of the mover, which is at this point.
+pub fn condition_at(app: &App, known: &Known, point: Point) -> Condition
+    requires { point.actor.0 < length app.now.actors }
+    ensures { result ≡ condition_known app.now known.now point }
+{
+    Condition {
+        interrupt: app.is_interrupt(point.actor),
+        critical: known.crit(),
+        suspended: known.susp(),
+        holds: known.holds_some(),
+    }
+}
+
+/// Recalls that an application has no build fault, whatever is judged today.
+pub fn recall_faultless(app: &App)
+    ensures { IsFaultless app.now }
+{
+    app.recall_faultless();
+}
 
 /// The rows of a call that works: its only step, or its begin.
 fn called(app: &App, known: &Known, call: &Call) -> Option<Change>
@@ -89,15 +109,10 @@ pub fn change_by(app: &App, known: &Known, point: Point, instr: &Instr, way: Way
     ensures some { IfSome result (λ change. IsLeft app.now known.now point way change) }
     ensures none { IfNone result (NeverSteps app.now known.now point way) }
 {
-    app.recall_faultless();
+    recall_faultless(app);
     match point.side {
         Side::Before => {
-            let condition = Condition {
-                interrupt: app.is_interrupt(point.actor),
-                critical: known.crit(),
-                suspended: known.susp(),
-                holds: known.holds_some(),
-            };
+            let condition = condition_at(app, known, point);
             match first_forbidden(app, condition, instr) {
                 Some(_) => None,
                 None => change_before(app, known, instr, way),
