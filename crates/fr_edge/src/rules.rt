@@ -1,7 +1,7 @@
 // The rules that a point keeps by itself.
 ghost use Rattle.std.specs.Prelude.{◌≡◌, ◌<◌, ◌↔◌, ◌≤ℤ◌, Some, length, All, IsTrue, IsFalse};
 ghost use Rattle.std.specs.Option.{option_map};
-ghost use Rattle.fr_program.specs.Lookup.{instr_of, IsPoint};
+ghost use Rattle.fr_program.specs.Lookup.{instr_of, variable_at, IsPoint};
 ghost use Rattle.fr_program.specs.Fault.{NamesThings, OperandsFit};
 ghost use Rattle.fr_calls.specs.Rule.{used_object};
 ghost use Rattle.fr_notes.specs.Fits.{AlternativeFits};
@@ -13,7 +13,7 @@ ghost use Rattle.fr_edge.specs.Alternatives.{RuleOutcome, NoteOutcome, AnyRule, 
 
 use fr_calls::{Condition, Rule, first_forbidden};
 use fr_notes::{Alternative, Holding, Known, Note};
-use fr_program::{Action, App, Call, GiveForm, Instr, Kind, ObjId, Point, Range, Side};
+use fr_program::{Action, App, Call, GiveForm, Instr, Kind, ObjId, Point, Range, Side, VarId};
 
 /// The condition of the point's actor, where the alternative holds of it.
 fn condition_at(app: &App, known: &Known, point: Point) -> Condition
@@ -121,11 +121,18 @@ fn creates_live(known: &Known, instr: &Instr, side: Side) -> bool
     }
 }
 
+fn is_in_declared(app: &App, variable: VarId, range: Range) -> bool
+    requires { variable.0 < length app.now.variables }
+    ensures { IsTrue result ↔ (((variable_at app.now variable.0).lo ≤ℤ range.lo) × (range.hi ≤ℤ (variable_at app.now variable.0).hi)) }
+{
+    range.within(app.range(variable))
+}
+
 /// Whether each number of the range lies from `lo` to `hi`.
-fn is_inside(range: Range, lo: i128, hi: i128) -> bool
+fn is_inside(range: Range, lo: i64, hi: i64) -> bool
     ensures { IsTrue result ↔ ((lo ≤ℤ range.lo) × (range.hi ≤ℤ hi)) }
 {
-    lo <= range.lo && range.hi <= hi
+    i128::from(lo) <= range.lo && range.hi <= i128::from(hi)
 }
 
 /// Rule 12: whether each number that a `set` or a send to a queue can put is in its declared range.
@@ -147,9 +154,8 @@ fn stays_in_range(app: &App, known: &Known, instr: &Instr, side: Side) -> bool
             },
             Side::Before,
         ) => {
-            let declared = app.range(*target);
             let result = known.result(*operator, *left, *right);
-            is_inside(result, declared.lo, declared.hi)
+            is_in_declared(app, *target, result)
         }
         (
             Instr::Call(Call::On {
@@ -158,9 +164,7 @@ fn stays_in_range(app: &App, known: &Known, instr: &Instr, side: Side) -> bool
             }),
             Side::Inside,
         ) => match app.kind(*object) {
-            Kind::Queue { lo, hi, .. } => {
-                is_inside(known.operand(*value), i128::from(lo), i128::from(hi))
-            }
+            Kind::Queue { lo, hi, .. } => is_inside(known.operand(*value), lo, hi),
             _ => true,
         },
         _ => true,

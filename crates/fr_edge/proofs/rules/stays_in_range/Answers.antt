@@ -1,21 +1,21 @@
-use Rattle.std.proofs.Common.{sym, subst}
-use Rattle.std.specs.Prelude.{◌≤ℤ◌}
+use Rattle.std.proofs.Common.{subst, arith}
+use Rattle.fr_program.specs.declared.instr.Instr.TheVariants.{Set}
+use Rattle.fr_program.specs.Fault.{NamesThings}
 use Rattle.fr_edge.proofs.Spans.{stays-made, leaves-made}
 use Rattle.fr_edge.proofs.rules.stays_in_range.Goals as goal
 
 pub returns-in-Set-Before-clause-stays : goal.returns-in-Set-Before-clause-stays
 returns-in-Set-Before-clause-stays c =
     let s = c.in-Set-Before in
-    let span = c.result-result.result in
-    let declared = c.range-declared.ensures in
-    rw (s.is-0, s.is-1) (λ t.
-    let h = c.is_inside.ensures.0 t in
-    stays-made c.args.app.now c.args.known.now s.target s.left s.operator s.right span c.result-result.ensures (subst (λ z. z ≤ℤ span.lo) declared.lo h.0, subst (λ z. span.hi ≤ℤ z) declared.hi h.1))
+    rw (s.is-0, s.is-1) (λ t. stays-made c.args.app.now c.args.known.now s.target s.left s.operator s.right c.result-result.result c.result-result.ensures (c.is_in_declared.ensures.0 t))
 
 pub returns-in-Set-Before-clause-leaves : goal.returns-in-Set-Before-clause-leaves
 returns-in-Set-Before-clause-leaves c =
     let s = c.in-Set-Before in
-    let span = c.result-result.result in
-    let declared = c.range-declared.ensures in
-    rw (s.is-0, s.is-1) (λ f. leaves-made c.args.app.now c.args.known.now s.target s.left s.operator s.right span c.result-result.ensures (λ h.
-    let t = c.is_inside.ensures.1 (subst (λ z. z ≤ℤ span.lo) (sym declared.lo) h.0, subst (λ z. span.hi ≤ℤ z) (sym declared.hi) h.1) in cc))
+    rw (s.is-0, s.is-1) (λ f. leaves-made c.args.app.now c.args.known.now s.target s.left s.operator s.right c.result-result.result c.result-result.ensures (λ h. let t = c.is_in_declared.ensures.1 h in cc))
+
+pub is_in_declared-requires : goal.is_in_declared-requires
+is_in_declared-requires c =
+    let s = c.in-Set-Before in
+    let named : NamesThings c.args.app.now (Set s.target s.left s.operator s.right) = subst (λ i. NamesThings c.args.app.now i) s.is-0 c.requires.names in
+    named.0 0 s.target (omega arith)
