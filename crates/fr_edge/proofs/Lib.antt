@@ -2,6 +2,7 @@ pub mod Standing
 pub mod Spans
 pub mod RuleLaws
 pub mod Lists
+pub mod StartLaws
 pub mod Landings
 pub mod Targets
 pub mod Firsts
