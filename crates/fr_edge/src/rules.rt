@@ -29,12 +29,7 @@ fn condition_at(app: &App, known: &Known, point: Point) -> Condition
 }
 
 /// The least of the rules that the actor's condition decides, before an instruction.
-fn decided_rule(
-    app: &App,
-    alternative: &Alternative,
-    point: Point,
-    instr: &Instr,
-) -> Option<Rule>
+fn decided_rule(app: &App, alternative: &Alternative, point: Point, instr: &Instr) -> Option<Rule>
     requires point { IsPoint app.now point }
     requires instr { instr_of app.now point ≡ Some instr.now }
     requires fits { AlternativeFits app.now alternative.now }
@@ -101,10 +96,7 @@ fn uses_dead(known: &Known, instr: &Instr, side: Side) -> bool
     ensures { result ≡ uses_dead known.now instr.now side }
 {
     match used_object(instr, side) {
-        Some(object) => matches!(
-            known.holding(object.0),
-            Holding::Unheld | Holding::Lifeless
-        ),
+        Some(object) => matches!(known.holding(object.0), Holding::Unheld | Holding::Lifeless),
         None => false,
     }
 }
@@ -158,10 +150,12 @@ fn stays_in_range(app: &App, known: &Known, instr: &Instr, side: Side) -> bool
             is_in_declared(app, *target, result)
         }
         (
-            Instr::Call(Call::On {
-                object,
-                action: Action::QueueSend { value, .. },
-            }),
+            Instr::Call(
+                Call::On {
+                    object,
+                    action: Action::QueueSend { value, .. },
+                },
+            ),
             Side::Inside,
         ) => match app.kind(*object) {
             Kind::Queue { lo, hi, .. } => is_inside(known.operand(*value), lo, hi),
@@ -172,12 +166,7 @@ fn stays_in_range(app: &App, known: &Known, instr: &Instr, side: Side) -> bool
 }
 
 /// The least of the other rules that is breached in some state in which the alternative holds.
-fn undecided_rule(
-    app: &App,
-    alternative: &Alternative,
-    point: Point,
-    instr: &Instr,
-) -> Option<Rule>
+fn undecided_rule(app: &App, alternative: &Alternative, point: Point, instr: &Instr) -> Option<Rule>
     requires point { IsPoint app.now point }
     requires instr { instr_of app.now point ≡ Some instr.now }
     requires fits { AlternativeFits app.now alternative.now }

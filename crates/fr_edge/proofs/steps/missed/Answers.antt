@@ -51,8 +51,8 @@ returns-else-all_go_well c =
       d.0,
       sym n.1,
       missing P c.args.notes.now c.args.point c.args.instr.now c.args.way c.requires.point c.requires.instr c.in-At.target d.0 d.1 c.in-Some-get.next.now (sym q) (λ all.
-      let t = c.all_go_well.ensures.1 (λ m k. all m (subst (λ note. Contains note m) c.requires.note k)) in
-      let f = c.if-all_go_well.false in cc),
+          let t = c.all_go_well.ensures.1 (λ m k. all m (subst (λ note. Contains note m) c.requires.note k)) in
+          let f = c.if-all_go_well.false in cc),
       λ other at lt.
           others P c.args.notes.now c.args.point c.args.instr.now c.args.way c.requires.point c.requires.instr c.in-At.target d.0 d.1 other (λ e. let s = ap (λ t. point_number P t) e in omega (arith, n.1, lt)),
     )
