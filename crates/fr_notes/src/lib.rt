@@ -24,12 +24,17 @@ mod reckoning;
 mod steps;
 mod worked;
 
-pub use change::{Change, change_by, keeps};
+pub use change::Change;
 pub use claim::Claim;
 pub use fault::{NoteFault, NotesFault};
+pub use holding::Holding;
 pub use implication::implies;
+pub use inside::is_given_unheld;
+pub use kept::{keeps, spares};
+pub use known::Known;
 pub use laws::fitting_can_hold;
 pub use note::{Alternative, Note, NoteParts};
 pub use notes::Notes;
 pub use pairs::{can_meet, together};
+pub use steps::{change_by, condition_at, recall_faultless};
 pub use worked::{notes_as_worked, parts_as_worked};
