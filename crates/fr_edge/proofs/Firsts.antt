@@ -20,7 +20,7 @@ use Rattle.fr_notes.specs.Fits.{AlternativeFits, NotesFit}
 use Rattle.fr_edge.specs.Own.{KeepsRule, Goes}
 use Rattle.fr_edge.specs.Alternatives.{KeepsRuleBy, BreaksRuleBy, IsAmong, NoteOutcome, GoesOutcome}
 use Rattle.fr_edge.specs.FirstOwn.{KeepsRules, IsLeastRule}
-use Rattle.fr_edge.proofs.Standing.{actor-there}
+use Rattle.fr_notes.proofs.Seen.{actor-there}
 
 below-get : {A : Type 0} (xs : List A) (k : ℕ) (x : A) → slice_get xs k ≡ Some x → k < length xs
 below-get [] k x e = cc

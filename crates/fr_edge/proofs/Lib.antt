@@ -1,9 +1,8 @@
 pub mod Standing
+pub mod Spans
 pub mod RuleLaws
 pub mod Lists
 pub mod StartLaws
-pub mod StepLaws
+pub mod Landings
 pub mod Targets
-pub mod Attained
-pub mod Missing
 pub mod Firsts

@@ -8,7 +8,7 @@ use Rattle.fr_calls.specs.Rule.{number_of}
 use Rattle.std.specs.Prelude.{All, Contains, nat_le, if◌then◌else◌}
 use Rattle.fr_notes.specs.Fits.{AlternativeFits}
 use Rattle.fr_notes.specs.Note.{Alternative, Note}
-use Rattle.fr_edge.specs.Alternatives.{KeepsRuleBy, RuleOutcome, IsAmong, NoteOutcome, lesser_of}
+use Rattle.fr_edge.specs.Alternatives.{KeepsRuleBy, RuleOutcome, AnyRule, IsAmong, NoteOutcome, lesser_of}
 
 -- an element of a list doesn't depend on what stands for one past its end
 pub same-element : {A : Type 0} (xs : List A) (k : ℕ) (d e : A) → k < length xs → get_or xs k d ≡ get_or xs k e
@@ -30,22 +30,22 @@ module _ (P : Program) (p : Point) (note : Note) (k : ℕ) (x : Alternative) (l 
   keeps-more rule before now n m =
       among-case (KeepsRuleBy P p n rule) note k x n l is m (λ old. before n old) (λ e. subst (λ q. KeepsRuleBy P p q rule) e now)
 
-  now-least : (j : Rule) → RuleOutcome P p x (Some j) → ((other : Rule) → number_of other < number_of j → (n : Alternative) → IsAmong note k n → KeepsRuleBy P p n other) → NoteOutcome P p note (k + 1) (Some j)
+  now-least : (j : Rule) → RuleOutcome P p x AnyRule (Some j) → ((other : Rule) → number_of other < number_of j → (n : Alternative) → IsAmong note k n → KeepsRuleBy P p n other) → NoteOutcome P p note (k + 1) (Some j)
   now-least j now before =
-      ((x, (k, omega arith, sym is), now.0), λ other lt n m. keeps-more other (before other lt) (now.1 other lt) n m)
+      ((x, (k, omega arith, sym is), now.0), λ other lt n m. keeps-more other (before other lt) (now.1 other tt lt) n m)
 
   still-least : (j : Rule) → NoteOutcome P p note k (Some j) → ((other : Rule) → number_of other < number_of j → KeepsRuleBy P p x other) → NoteOutcome P p note (k + 1) (Some j)
   still-least j before now =
       ((before.0.0, among-more note k before.0.0 before.0.1, before.0.2), λ other lt n m. keeps-more other (before.1 other lt) (now other lt) n m)
 
-  pub note-step : (least now : Option Rule) → NoteOutcome P p note k least → RuleOutcome P p x now → NoteOutcome P p note (k + 1) (lesser_of least now)
-  note-step None None before now = λ n m rule. keeps-more rule (λ q o. before q o rule) (now rule) n m
+  pub note-step : (least now : Option Rule) → NoteOutcome P p note k least → RuleOutcome P p x AnyRule now → NoteOutcome P p note (k + 1) (lesser_of least now)
+  note-step None None before now = λ n m rule. keeps-more rule (λ q o. before q o rule) (now rule tt) n m
   note-step None (Some j) before now = now-least j now (λ other lt n m. before n m other)
-  note-step (Some i) None before now = still-least i before (λ other lt. now other)
+  note-step (Some i) None before now = still-least i before (λ other lt. now other tt)
   note-step (Some i) (Some j) before now = go (nat_le (number_of i) (number_of j)) refl
     where
       go : (b : Bool) → nat_le (number_of i) (number_of j) ≡ b → NoteOutcome P p note (k + 1) (if b then Some i else Some j)
-      go true e = let le = leb-true (number_of i) (number_of j) e in still-least i before (λ other less. now.1 other (omega (arith, le, less)))
+      go true e = let le = leb-true (number_of i) (number_of j) e in still-least i before (λ other less. now.1 other tt (omega (arith, le, less)))
       go false e = let lt = leb-false (number_of i) (number_of j) e in now-least j now (λ other less n m. before.1 other (omega (arith, lt, less)) n m)
 
 -- an alternative that the code meets in a note fits

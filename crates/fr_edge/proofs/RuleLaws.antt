@@ -1,62 +1,75 @@
--- The rules that an alternative keeps, and the least one that it breaks.
-use Rattle.std.proofs.Common.{◌≡◌, ℕ, ◌<◌, ◌≤◌, List, [], ◌∷◌, length, Option, Some, None, Bool, true, false, refl, sym, ap, ◌∙◌, subst, arith, ⊎_elim, inl, inr, lit<}
+-- The rules that an alternative keeps, and the least one that it breaks. A rule is broken in the usual state with the
+-- alternative, or in one with another content or other numbers in it; a rule that is kept is so by what every state with
+-- the alternative has.
+use Rattle.std.proofs.Common.{◌≡◌, ◌≢◌, ℕ, ◌<◌, ◌≤◌, List, [], ◌∷◌, length, Option, Some, None, Bool, true, false, refl, sym, ap, ◌∙◌, subst, arith, ⊎_elim, inl, inr, lit<}
+use Rattle.std.specs.Prelude.{ℤ, pos, ◌≤ℤ◌, ◌<ℤ◌, ◌⊎◌, IsTrue, IsFalse, find, nat_le, if◌then◌else◌}
+use Rattle.std.proofs.lemmas.Bool.{false≢true, cases_lt, leb-true, leb-false}
 use Rattle.std.proofs.lemmas.List.{get_or_past}
-use Rattle.std.proofs.lemmas.Bool.{cases_lt}
-use Rattle.std.specs.Prelude.{ℤ, pos, ◌≤ℤ◌, ◌⊎◌, IsTrue, find, if◌then◌else◌}
-use Rattle.std.proofs.lemmas.Int.{ints, by_lt_z}
+use Rattle.std.proofs.lemmas.Int.{ints}
 use Rattle.std.proofs.lemmas.Option.{same_Some}
 use Rattle.fr_program.specs.declared.instr.Instr.{Instr}
-use Rattle.fr_program.specs.declared.instr.Instr.TheVariants.{Set, If, Call as Calls}
+use Rattle.fr_program.specs.declared.instr.Instr.TheVariants.{Set, Call as Calls}
 use Rattle.fr_program.specs.declared.instr.Call.TheVariants.{On, Delete, Create}
-use Rattle.fr_program.specs.declared.instr.Comparison.{Comparison}
+use Rattle.fr_program.specs.declared.instr.Action.{Action}
+use Rattle.fr_program.specs.declared.instr.Action.TheVariants.{QueueSend}
 use Rattle.fr_program.specs.declared.instr.Operand.{Operand}
 use Rattle.fr_program.specs.declared.instr.Operand.TheVariants.{Number, Variable}
 use Rattle.fr_program.specs.declared.instr.Operator.{Operator}
 use Rattle.fr_program.specs.declared.instr.Operator.TheVariants.{Plus, Minus, Times}
 use Rattle.fr_program.specs.declared.ids.VarId.{VarId}
 use Rattle.fr_program.specs.declared.ids.Point.{Point}
-use Rattle.fr_program.specs.declared.ids.Side.TheVariants.{Before}
+use Rattle.fr_program.specs.declared.ids.Side.{Side}
+use Rattle.fr_program.specs.declared.ids.Side.TheVariants.{Before, Inside}
+use Rattle.fr_program.specs.declared.parts.Kind.{Kind}
+use Rattle.fr_program.specs.declared.parts.Kind.TheVariants.{Queue}
 use Rattle.fr_program.specs.Program.{Program}
-use Rattle.fr_program.specs.Lookup.{actor_at, instr_at, instr_of, is_interrupt, variable_at, no_variable, IsPoint}
-use Rattle.fr_program.specs.Fault.{IsFaultless, IsJudgedYet, IsInstrJudgedYet, NamesThings, OperandsFit, AreApart, IsConstant}
-use Rattle.fr_calls.specs.State.{State, IsWellFormed, suspension_of}
+use Rattle.fr_program.specs.Limits.{IsNumber}
+use Rattle.fr_program.specs.Lookup.{actor_at, instr_of, is_interrupt, variable_at, no_variable, IsPoint}
+use Rattle.fr_program.specs.Fault.{IsFaultless, NamesThings, OperandsFit, AreApart, IsConstant}
+use Rattle.fr_calls.specs.State.{State, Content, Dead, CanHave, content_of, suspension_of, kind_of}
 use Rattle.fr_calls.specs.declared.rules.Rule.{Rule}
 use Rattle.fr_calls.specs.declared.rules.Rule.TheVariants.{OneWriter, OneReader, GivenByHolder, AllowedInCritical, AllowedSuspended, AllowedInInterrupt, IsLive, LifeInOrder, SuitsSemaphore, DepthAboveZero, EndsInOrder, InRange}
-use Rattle.fr_calls.specs.Rule.{number_of, decided_rules, condition_of, first_forbidden, forbids, holds_some, GivesUnheld, UsesDead, LifeOutOfOrder, PutsOut, IsForbidden, Breaches, IsOutside, result_of, operand_of}
-use Rattle.fr_notes.specs.Note.{Alternative, HoldsOne, range_of}
+use Rattle.fr_calls.specs.Rule.{number_of, decided_rules, condition_of, first_forbidden, forbids, holds_some, used_object, GivesUnheld, LifeOutOfOrder, PutsOut, IsOutOfQueue, IsForbidden, Breaches, IsOutside, result_of, operand_of}
+use Rattle.fr_calls.proofs.Built.{HasSizes, is-built}
+use Rattle.fr_calls.proofs.Contents.{new-fits}
+use Rattle.fr_notes.specs.Note.{Alternative, Within, range_of}
 use Rattle.fr_notes.specs.Noted.{NotedBy}
 use Rattle.fr_notes.specs.Fits.{AlternativeFits}
-use Rattle.fr_notes.specs.Change.{CanBe, HasOperand, HasOperands, HasNumbers, IsResult}
-use Rattle.fr_program.specs.declared.range.Range.{Range}
-use Rattle.fr_program.specs.Limits.{IsNumber}
-use Rattle.fr_notes.proofs.Shown.{least, least-within}
+use Rattle.fr_notes.specs.Known.{alone, joint_range}
+use Rattle.fr_notes.specs.declared.holding.Holding.{Holding}
+use Rattle.fr_notes.specs.declared.holding.Holding.TheVariants.{Unheld, Living, Lifeless, Own, Others}
+use Rattle.fr_notes.specs.Holding.{holding}
+use Rattle.fr_notes.specs.Reckoning.{operand_in, CanBeIn, IsNamed, HasNumbersIn}
+use Rattle.fr_notes.specs.Spot.{condition_known}
+use Rattle.fr_notes.proofs.Shown.{listed-case, instead-same}
+use Rattle.fr_notes.proofs.Holdings.{IsIn, HoldingFits, live-count, content_in, content-in, content-can}
+use Rattle.fr_notes.proofs.Seen.{Site, other, IsKnown, Choice, drawn, IsChosen, drawn-known, drawn-content, usual, usual-chosen, filled, filled-chosen, contents-in, holds-known, known-fits, apart}
+use Rattle.fr_notes.proofs.EndRows.{gives-held, unheld-gives}
+use Rattle.fr_notes.proofs.VariableRows.{chosen_for, can-be-known, for-chosen, number-drawn, first-number, second-number}
 use Rattle.fr_edge.specs.Own.{is_own}
-use Rattle.fr_edge.specs.Alternatives.{KeepsRuleBy, BreaksRuleBy, RuleOutcome, StaysIn, IsOutBy, condition_by}
-use Rattle.fr_edge.proofs.Standing.{breach-here, operand-can, choose, choose-within, side-before, state-of, noted-here, left-here, right-here}
+use Rattle.fr_edge.specs.Alternatives.{KeepsRuleBy, BreaksRuleBy, Decides, RuleOutcome, is_decided, AnyRule, IsDecided, IsUndecided, lesser_of, may_be_dead, may_be_live, gives_unheld, dead_by, uses_dead, creates_live, StaysInQueue, LeavesQueue, StaysIn, IsOutBy}
+use Rattle.fr_edge.proofs.Standing.{breach-here}
 
 -- a rule of a list, and a fact about each
-abbrev pub Among : List Rule → Rule → Type 0
+abbrev Among : List Rule → Rule → Type 0
 Among [] other = ⊥
 Among (r ∷ l) other = (r ≡ other) ⊎ Among l other
 
-abbrev pub AllOf : (Rule → Type 0) → List Rule → Type 0
+abbrev AllOf : (Rule → Type 0) → List Rule → Type 0
 AllOf Q [] = Unit {0}
 AllOf Q (r ∷ l) = Q r × AllOf Q l
 
-pub among-all : (Q : Rule → Type 0) (l : List Rule) (r : Rule) → AllOf Q l → Among l r → Q r
+among-all : (Q : Rule → Type 0) (l : List Rule) (r : Rule) → AllOf Q l → Among l r → Q r
 among-all Q [] r all m = absurd m
 among-all Q (s ∷ l) r all m = ⊎_elim (λ e. subst Q e all.0) (λ k. among-all Q l r all.1 k) m
 
 -- rules in the order of their numbers
-abbrev pub Sorted : List Rule → Type 0
+abbrev Sorted : List Rule → Type 0
 Sorted [] = Unit {0}
 Sorted (r ∷ l) = AllOf (λ other. number_of r < number_of other) l × Sorted l
 
 decided-sorted : Sorted decided_rules
 decided-sorted = ((lit< tt, (lit< tt, (lit< tt, (lit< tt, (lit< tt, tt))))), ((lit< tt, (lit< tt, (lit< tt, (lit< tt, tt)))), ((lit< tt, (lit< tt, (lit< tt, tt))), ((lit< tt, (lit< tt, tt)), ((lit< tt, tt), (tt, tt))))))
-
-decided-small : (r : Rule) → Among decided_rules r → number_of r < 12
-decided-small r m = among-all (λ s. number_of s < 12) decided_rules r (lit< tt, (lit< tt, (lit< tt, (lit< tt, (lit< tt, (lit< tt, tt)))))) m
 
 find-none : (q : Rule → Bool) (l : List Rule) (r : Rule) → find q l ≡ None → Among l r → IsTrue (q r) → ⊥
 find-none q [] r e m t = m
@@ -94,181 +107,342 @@ find-earlier q (s ∷ l) r other sorted e m lt t = go (q s) refl (λ f k. find-e
         let f : find q l ≡ Some r = rw h at e in
         ⊎_elim (λ k. let g : q other ≡ false = ap q (sym k) ∙ h in cc) (λ k. next f k) m
 
--- a list without elements
-pub empty : {A : Type 0} (xs : List A) → length xs ≡ 0 → xs ≡ []
-empty [] e = refl
-empty (x ∷ xs) e = absurd (omega (arith, e))
+-- the rules that a condition decides
+among-decided : (rule : Rule) → IsDecided rule → Among decided_rules rule
+among-decided AllowedInCritical d = inl refl
+among-decided AllowedSuspended d = inr (inl refl)
+among-decided AllowedInInterrupt d = inr (inr (inl refl))
+among-decided SuitsSemaphore d = inr (inr (inr (inl refl)))
+among-decided DepthAboveZero d = inr (inr (inr (inr (inl refl))))
+among-decided EndsInOrder d = inr (inr (inr (inr (inr (inl refl)))))
+among-decided rule d = absurd (false≢true d)
 
-pub no-objects : (P : Program) (S : State) → P.objects ≡ [] → IsWellFormed P S → S.objects ≡ []
-no-objects P S none w = empty S.objects (w.objects ∙ ap length none)
+decided-among : (rule : Rule) → Among decided_rules rule → IsDecided rule
+decided-among rule m = among-all IsDecided decided_rules rule (refl, (refl, (refl, (refl, (refl, (refl, tt)))))) m
 
-holds-none : (S : State) (a : ℕ) → S.objects ≡ [] → holds_some S a ≡ false
-holds-none S a none = rw none
+module _ (P : Program) (S : State) (a : ℕ) (side : Side) (i : Instr) where
+  as-breach : (rule : Rule) → IsDecided rule → Breaches P S a side i rule → IsForbidden P S a side i rule
+  as-breach OneWriter d b = absurd (false≢true d)
+  as-breach OneReader d b = absurd (false≢true d)
+  as-breach GivenByHolder d b = absurd (false≢true d)
+  as-breach IsLive d b = absurd (false≢true d)
+  as-breach LifeInOrder d b = absurd (false≢true d)
+  as-breach InRange d b = absurd (false≢true d)
+  as-breach rule d b = b
 
--- of the instructions that are judged today none gives, none uses an object, none makes or drops one
-no-give : (P : Program) (S : State) (a : ℕ) (i : Instr) → IsInstrJudgedYet i → GivesUnheld P S a i → ⊥
-no-give P S a (Calls (On o action)) j h = absurd j
-no-give P S a i j h = absurd h
+  from-breach : (rule : Rule) → IsDecided rule → IsForbidden P S a side i rule → Breaches P S a side i rule
+  from-breach OneWriter d b = absurd (false≢true d)
+  from-breach OneReader d b = absurd (false≢true d)
+  from-breach GivenByHolder d b = absurd (false≢true d)
+  from-breach IsLive d b = absurd (false≢true d)
+  from-breach LifeInOrder d b = absurd (false≢true d)
+  from-breach InRange d b = absurd (false≢true d)
+  from-breach rule d b = b
 
-no-use : (S : State) (i : Instr) → IsInstrJudgedYet i → UsesDead S i Before → ⊥
-no-use S (Calls (On o action)) j h = absurd j
-no-use S (Calls (Delete kind o)) j h = absurd j
-no-use S i j h = let e = h.1 in cc
+own-decided : (i : Instr) (rule : Rule) → IsDecided rule → IsTrue (is_own i rule)
+own-decided i OneWriter d = absurd (false≢true d)
+own-decided i OneReader d = absurd (false≢true d)
+own-decided i GivenByHolder d = absurd (false≢true d)
+own-decided i IsLive d = absurd (false≢true d)
+own-decided i LifeInOrder d = absurd (false≢true d)
+own-decided i InRange d = absurd (false≢true d)
+own-decided i rule d = refl
 
-no-life : (P : Program) (S : State) (a : ℕ) (i : Instr) → IsInstrJudgedYet i → LifeOutOfOrder P S a i Before → ⊥
-no-life P S a (Calls (Delete kind o)) j h = absurd j
-no-life P S a (Calls (Create kind o e)) j h = absurd j
-no-life P S a i j h = absurd h
+-- what is known of an object decides whether it can be dead, and whether it can be live
+dead-in : (a b : ℕ) (kind : Kind) (known : Holding) → may_be_dead known ≡ true → content_in a b kind known ≡ Dead
+dead-in a b kind Unheld t = refl
+dead-in a b kind Lifeless t = refl
+dead-in a b kind Living t = absurd (false≢true t)
+dead-in a b kind (Own n) t = absurd (false≢true t)
+dead-in a b kind (Others n) t = absurd (false≢true t)
 
--- a `set` whose results stay in their range puts nothing out of it
-no-out : (P : Program) (n : Alternative) (S : State) (a : ℕ) (i : Instr) → StaysIn P n i → HoldsOne n a S → PutsOut P S Before i → ⊥
-no-out P n S a (Set x l op r) stays h b =
-    let s = stays (operand_of S l) (operand_of S r) (operand-can n a S l h) (operand-can n a S r h) in
-    ⊎_elim (λ lt. omega (arith, ints)) (λ lt. omega (arith, ints)) b
-no-out P n S a i stays h b = absurd b
+never-dead : (a b : ℕ) (content : Content) (known : Holding) → may_be_dead known ≡ false → IsIn a b known content → content ≢ Dead
+never-dead a b content Unheld f i = absurd (false≢true (sym f))
+never-dead a b content Lifeless f i = absurd (false≢true (sym f))
+never-dead a b content Living f i = i.0
+never-dead a b content (Own n) f i = live-count a n content i.0
+never-dead a b content (Others n) f i = live-count b n content i.0
 
--- the alternative has a range for each variable of an instruction of the application
-module _ (P : Program) (n : Alternative) (fits : AlternativeFits P n) where
-  there : (x : ℕ) → x < length P.variables → x < length n.ranges
-  there x l = omega (arith, fits.ranges.0)
+never-live : (a b : ℕ) (content : Content) (known : Holding) → may_be_live known ≡ false → IsIn a b known content → content ≡ Dead
+never-live a b content Lifeless f i = i
+never-live a b content Unheld f i = absurd (false≢true (sym f))
+never-live a b content Living f i = absurd (false≢true (sym f))
+never-live a b content (Own n) f i = absurd (false≢true (sym f))
+never-live a b content (Others n) f i = absurd (false≢true (sym f))
 
-  pub set-operands : (x : VarId) (l r : Operand) (op : Operator) → NamesThings P (Set x l op r) → HasOperands n (Set x l op r)
-  set-operands x (Number y) (Number z) op h = (there x.0 (h.0 0 x (omega arith)), tt, tt)
-  set-operands x (Number y) (Variable z) op h = (there x.0 (h.0 0 x (omega arith)), tt, there z.0 (h.0 1 x (omega arith)))
-  set-operands x (Variable y) (Number z) op h = (there x.0 (h.0 0 x (omega arith)), there y.0 (h.0 1 x (omega arith)), tt)
-  set-operands x (Variable y) (Variable z) op h = (there x.0 (h.0 0 x (omega arith)), there y.0 (h.0 1 x (omega arith)), there z.0 (h.0 2 x (omega arith)))
+live-in : (P : Program) (a b : ℕ) (kind : Kind) (known : Holding) → HasSizes kind → HoldingFits P a b kind known → may_be_live known ≡ true → (content : Content) × CanHave P kind content × IsIn a b known content × (content ≢ Dead)
+live-in P a b kind Unheld h f t =
+    let i = content-in P a b kind Living tt in (content_in a b kind Living, new-fits P kind h, (i.1, i.2), i.0)
+live-in P a b kind Living h f t =
+    let i = content-in P a b kind Living f in (content_in a b kind Living, new-fits P kind h, i, i.0)
+live-in P a b kind Lifeless h f t = absurd (false≢true t)
+live-in P a b kind (Own n) h f t =
+    let i = content-in P a b kind (Own n) f in
+    (content_in a b kind (Own n), content-can P a b kind (Own n) h f, i, live-count a n (content_in a b kind (Own n)) i.0)
+live-in P a b kind (Others n) h f t =
+    let i = content-in P a b kind (Others n) f in
+    (content_in a b kind (Others n), content-can P a b kind (Others n) h f, i, live-count b n (content_in a b kind (Others n)) i.0)
 
-  if-operands : (l r : Operand) (comparison : Comparison) (target : ℕ) → NamesThings P (If l comparison r target) → HasOperand n l × HasOperand n r
-  if-operands (Number y) (Number z) comparison target h = (tt, tt)
-  if-operands (Number y) (Variable z) comparison target h = (tt, there z.0 (h.0 0 z (omega arith)))
-  if-operands (Variable y) (Number z) comparison target h = (there y.0 (h.0 0 y (omega arith)), tt)
-  if-operands (Variable y) (Variable z) comparison target h = (there y.0 (h.0 0 y (omega arith)), there z.0 (h.0 1 y (omega arith)))
+-- numbers in the range of a queue, and one out of it
+queue-stays : (kind : Kind) (range : ℤ × ℤ) (v : ℤ) → StaysInQueue kind range → Within range v → IsOutOfQueue kind v → ⊥
+queue-stays (Queue size lo hi) range v s w out =
+    ⊎_elim (λ lt. omega (arith, ints, s.0, w.0, lt)) (λ lt. omega (arith, ints, s.1, w.1, lt)) out
+queue-stays kind range v s w out = absurd out
 
-  pub has-operands : (i : Instr) → NamesThings P i → HasOperands n i
-  has-operands (Set x l op r) h = set-operands x l r op h
-  has-operands (If l comparison r target) h = if-operands l r comparison target h
-  has-operands i h = tt
+queue-leaves : (kind : Kind) (range : ℤ × ℤ) → range.0 ≤ℤ range.1 → LeavesQueue kind range → (v : ℤ) × Within range v × IsOutOfQueue kind v
+queue-leaves (Queue size lo hi) range order out =
+    ⊎_elim (λ lt. (range.0, (omega (arith, ints), order), inl lt)) (λ lt. (range.1, (order, omega (arith, ints)), inr lt)) out
+queue-leaves kind range order out = absurd out
 
--- the two operands of an instruction are apart
+-- the operands of an instruction are variables of the application, and apart
+set-named : (P : Program) (x : VarId) (l r : Operand) (op : Operator) → NamesThings P (Set x l op r) → IsNamed P l × IsNamed P r
+set-named P x (Number y) (Number z) op h = (tt, tt)
+set-named P x (Number y) (Variable z) op h = (tt, h.0 1 z (omega arith))
+set-named P x (Variable y) (Number z) op h = (h.0 1 y (omega arith), tt)
+set-named P x (Variable y) (Variable z) op h = (h.0 1 y (omega arith), h.0 2 z (omega arith))
+
 constant-apart : (l r : Operand) → IsConstant l ⊎ IsConstant r → AreApart l r
 constant-apart (Number y) r h = tt
 constant-apart (Variable y) (Number z) h = tt
 constant-apart (Variable y) (Variable z) h = ⊎_elim (λ k. absurd k) (λ k. absurd k) h
 
-pub set-apart : (x : VarId) (l r : Operand) (op : Operator) → OperandsFit (Set x l op r) → AreApart l r
+set-apart : (x : VarId) (l r : Operand) (op : Operator) → OperandsFit (Set x l op r) → AreApart l r
 set-apart x l r Plus h = h
 set-apart x l r Minus h = h
 set-apart x l r Times h = constant-apart l r h
 
-module _ (P : Program) (p : Point) (i : Instr) (n : Alternative) (free : IsFaultless P) (judged : IsJudgedYet P) (point : IsPoint P p) (is : instr_of P p ≡ Some i) (fits : AlternativeFits P n) where
-  judged-here : IsInstrJudgedYet i
-  judged-here = judged.code p.actor.0 p.pc i is
+decide : (P : Program) (p : Point) (n : Alternative) (rule : Rule) (t : Bool) → (t ≡ true → BreaksRuleBy P p n rule) → (t ≡ false → KeepsRuleBy P p n rule) → Decides P p n rule t
+decide P p n rule true breaks keeps = breaks refl
+decide P p n rule false breaks keeps = keeps refl
 
-  abbrev forbidden : Rule → Bool
-  forbidden = forbids P (condition_by P p n) i
+module _ (P : Program) (p : Point) (i : Instr) (n : Alternative) (free : IsFaultless P) (point : IsPoint P p) (is : instr_of P p ≡ Some i) (fits : AlternativeFits P n) where
+  abbrev s : Site
+  s = record { app = P; known = alone n; p = p; q = p; faultless = free; point = point; fits = record { mover = fits; other = tt }; there = tt }
 
-  abbrev pub first-here : Option Rule
-  first-here = first_forbidden P (condition_by P p n) i
+  here : (S : State) → NotedBy P p n S → IsKnown s S
+  here S noted = record { mover = noted; other = tt }
+
+  in-here : (S : State) → NotedBy P p n S → (o : ℕ) → IsIn p.actor.0 (other s) (holding (alone n) o) (content_of S o)
+  in-here S noted o = contents-in s S (here S noted) o
+
+  keeps-here : (rule : Rule) → (IsTrue (is_own i rule) → (S : State) → NotedBy P p n S → Breaches P S p.actor.0 p.side i rule → ⊥) → KeepsRuleBy P p n rule
+  keeps-here rule none = λ j e own S noted b.
+      let same : j ≡ i = same_Some _ _ (sym e ∙ is) in
+      none (subst (λ k. IsTrue (is_own k rule)) same own) S noted (breach-here P p i n S rule is noted b)
+
+  breaks-drawn : (rule : Rule) → IsTrue (is_own i rule) → (f : Choice) → IsChosen s f → Breaches P (drawn s f) p.actor.0 p.side i rule → BreaksRuleBy P p n rule
+  breaks-drawn rule own f chosen b =
+      let noted = (drawn-known s f chosen).mover in
+      record {
+        instr = i;
+        is = is;
+        own = own;
+        state = drawn s f;
+        noted = noted;
+        breach = record { side = p.side; instr = i; stands = record { pc = p.pc; at = noted.at; is = is }; breaches = b };
+      }
+
+  usual-noted : NotedBy P p n (drawn s (usual s))
+  usual-noted = (drawn-known s (usual s) (usual-chosen s)).mover
 
   -- the condition of the actor in a state with the alternative
-  as-condition : (S : State) → NotedBy P p n S → condition_of P S p.actor.0 ≡ condition_by P p n
+  as-condition : (S : State) → NotedBy P p n S → condition_of P S p.actor.0 ≡ condition_known P (alone n) p
   as-condition S noted =
-      let g = holds-none S p.actor.0 (no-objects P S judged.objects noted.formed) in
       let t = is_interrupt (actor_at P p.actor.0).kind in
-      ap (λ d. record { interrupt = t; critical = d; suspended = suspension_of S p.actor.0; holds = holds_some S p.actor.0 }) noted.holds.critical ∙ ap (λ d. record { interrupt = t; critical = n.critical; suspended = d; holds = holds_some S p.actor.0 }) noted.holds.suspended ∙ ap (λ d. record { interrupt = t; critical = n.critical; suspended = n.suspended; holds = d }) g
+      ap (λ d. record { interrupt = t; critical = d; suspended = suspension_of S p.actor.0; holds = holds_some S p.actor.0 }) noted.holds.critical ∙ ap (λ d. record { interrupt = t; critical = n.critical; suspended = d; holds = holds_some S p.actor.0 }) noted.holds.suspended ∙ ap (λ d. record { interrupt = t; critical = n.critical; suspended = n.suspended; holds = d }) (holds-known s S (here S noted))
 
-  -- what is forbidden in a state is what the alternative's depths forbid
+  abbrev forbidden : Rule → Bool
+  forbidden = forbids P (condition_known P (alone n) p) i
+
   as-forbidden : (S : State) (rule : Rule) → NotedBy P p n S → IsForbidden P S p.actor.0 Before i rule → IsTrue (forbidden rule)
   as-forbidden S rule noted h = subst (λ k. IsTrue (forbids P k i rule)) (as-condition S noted) h
 
   from-forbidden : (S : State) (rule : Rule) → NotedBy P p n S → IsTrue (forbidden rule) → IsForbidden P S p.actor.0 Before i rule
   from-forbidden S rule noted h = subst (λ k. IsTrue (forbids P k i rule)) (sym (as-condition S noted)) h
 
-  kept-at : (rule : Rule) → IsTrue (is_own i rule) → (Among decided_rules rule → IsTrue (forbidden rule) → ⊥) → (rule ≡ InRange → StaysIn P n i) → (S : State) → NotedBy P p n S → Breaches P S p.actor.0 Before i rule → ⊥
-  kept-at OneWriter own none stays S noted b = cc
-  kept-at OneReader own none stays S noted b = cc
-  kept-at GivenByHolder own none stays S noted b = no-give P S p.actor.0 i judged-here b
-  kept-at AllowedInCritical own none stays S noted b = none (inl refl) (as-forbidden S AllowedInCritical noted b)
-  kept-at AllowedSuspended own none stays S noted b = none (inr (inl refl)) (as-forbidden S AllowedSuspended noted b)
-  kept-at AllowedInInterrupt own none stays S noted b = none (inr (inr (inl refl))) (as-forbidden S AllowedInInterrupt noted b)
-  kept-at IsLive own none stays S noted b = no-use S i judged-here b
-  kept-at LifeInOrder own none stays S noted b = no-life P S p.actor.0 i judged-here b
-  kept-at SuitsSemaphore own none stays S noted b = none (inr (inr (inr (inl refl)))) (as-forbidden S SuitsSemaphore noted b)
-  kept-at DepthAboveZero own none stays S noted b = none (inr (inr (inr (inr (inl refl))))) (as-forbidden S DepthAboveZero noted b)
-  kept-at EndsInOrder own none stays S noted b = none (inr (inr (inr (inr (inr (inl refl)))))) (as-forbidden S EndsInOrder noted b)
-  kept-at InRange own none stays S noted b = no-out P n S p.actor.0 i (stays refl) noted.holds b
+  forbidden-here : p.side ≡ Before → (S : State) (rule : Rule) → NotedBy P p n S → IsDecided rule → Breaches P S p.actor.0 p.side i rule → IsTrue (forbidden rule)
+  forbidden-here at S rule noted d b =
+      as-forbidden S rule noted (as-breach P S p.actor.0 Before i rule d (subst (λ t. Breaches P S p.actor.0 t i rule) at b))
 
-  kept-rule : (rule : Rule) → (Among decided_rules rule → IsTrue (forbidden rule) → ⊥) → (rule ≡ InRange → StaysIn P n i) → KeepsRuleBy P p n rule
-  kept-rule rule none stays = λ j e own S noted b.
-      let same : j ≡ i = same_Some _ _ (sym e ∙ is) in
-      let here = breach-here P p i n S rule is noted b in
-      kept-at rule (subst (λ k. IsTrue (is_own k rule)) same own) none stays S noted (subst (λ s. Breaches P S p.actor.0 s i rule) (side-before P p judged point) here)
-
-  -- a state to show for a rule
-  breaks : (rule : Rule) → IsTrue (is_own i rule) → (S : State) → NotedBy P p n S → Breaches P S p.actor.0 Before i rule → BreaksRuleBy P p n rule
-  breaks rule own S noted b = record {
-    instr = i;
-    is = is;
-    own = own;
-    state = S;
-    noted = noted;
-    breach = record {
-      side = p.side;
-      instr = i;
-      stands = record { pc = p.pc; at = noted.at; is = is };
-      breaches = subst (λ s. Breaches P S p.actor.0 s i rule) (sym (side-before P p judged point)) b;
-    };
-  }
-
-  breaks-decided : (rule : Rule) → Among decided_rules rule → IsTrue (forbidden rule) → BreaksRuleBy P p n rule
-  breaks-decided rule m t =
-      let S = state-of P p n free point fits (least n) in
-      let noted = noted-here P p n free point fits (least n) (least-within P n fits) in
-      let own = among-all (λ r. IsTrue (is_own i r)) decided_rules rule (refl, (refl, (refl, (refl, (refl, (refl, tt)))))) m in
-      let here = among-all (λ r. IsForbidden P S p.actor.0 Before i r → Breaches P S p.actor.0 Before i r) decided_rules rule (λ h. h, (λ h. h, (λ h. h, (λ h. h, (λ h. h, (λ h. h, tt)))))) m in
-      breaks rule own S noted (here (from-forbidden S rule noted t))
-
-  shown-out : (x : VarId) (l : Operand) (op : Operator) (r : Operand) → i ≡ Set x l op r → (u v : ℤ) → CanBe n l u → CanBe n r v → IsOutside (variable_at P x.0).lo (variable_at P x.0).hi (result_of op u v) → BreaksRuleBy P p n InRange
-  shown-out x l op r e u v can_u can_v out =
-      let f = choose l u (choose r v (least n)) in
-      let within = choose-within n l u (choose r v (least n)) can_u (choose-within n r v (least n) can_v (least-within P n fits)) in
-      let named = subst (λ j. NamesThings P j) e (free.names.things p.actor.0 p.pc i is) in
-      let has = set-operands P n fits x l r op named in
-      let apart = set-apart x l r op (subst (λ j. OperandsFit j) e (free.operands p.actor.0 p.pc i is)) in
-      let S = state-of P p n free point fits f in
-      let left = left-here P p n free point fits l r u v (least n) has.1 can_u in
-      let right = right-here P p n free point fits l r u v (least n) apart has.2 can_v in
-      let puts : PutsOut P S Before (Set x l op r) = rw (left, right) out in
-      breaks InRange refl S (noted-here P p n free point fits f within) (subst (λ j. PutsOut P S Before j) (sym e) puts)
-
-  breaks-range : IsOutBy P n i → BreaksRuleBy P p n InRange
-  breaks-range out = go i refl out
-    where
-      go : (j : Instr) → i ≡ j → IsOutBy P n j → BreaksRuleBy P p n InRange
-      go (Set x l op r) e h = shown-out x l op r e h.0 h.1 h.2 h.3 h.4
-      go j e h = absurd h
-
-  pub outcome-none : first-here ≡ None → StaysIn P n i → RuleOutcome P p n None
-  outcome-none e stays = λ rule. kept-rule rule (λ m t. find-none forbidden decided_rules rule e m t) (λ q. stays)
-
-  pub outcome-decided : (rule : Rule) → first-here ≡ Some rule → RuleOutcome P p n (Some rule)
-  outcome-decided rule e =
+  -- what the condition decides
+  pub decided-before : p.side ≡ Before → (least : Option Rule) → first_forbidden P (condition_known P (alone n) p) i ≡ least → RuleOutcome P p n IsDecided least
+  decided-before at None e = λ rule d. keeps-here rule (λ own S noted b. find-none forbidden decided_rules rule e (among-decided rule d) (forbidden-here at S rule noted d b))
+  decided-before at (Some rule) e =
       let f = find-some forbidden decided_rules rule e in
-      let small = decided-small rule f.0 in (
-        breaks-decided rule f.0 f.1,
-        λ other lt.
-            kept-rule other (λ m t. find-earlier forbidden decided_rules rule other decided-sorted e m lt t) (λ q. let s = ap number_of q in absurd (omega (arith, lt, small))),
+      let d = decided-among rule f.0 in
+      let S = drawn s (usual s) in (
+        breaks-drawn rule (own-decided i rule d) (usual s) (usual-chosen s) (subst (λ t. Breaches P S p.actor.0 t i rule) (sym at) (from-breach P S p.actor.0 Before i rule d (from-forbidden S rule usual-noted f.1))),
+        λ other k lt. keeps-here other (λ own S noted b. find-earlier forbidden decided_rules rule other decided-sorted e (among-decided other k) lt (forbidden-here at S other noted k b)),
       )
 
-  pub outcome-out : first-here ≡ None → IsOutBy P n i → RuleOutcome P p n (Some InRange)
-  outcome-out e out = (
-    breaks-range out,
-    λ other lt.
-        kept-rule other (λ m t. find-none forbidden decided_rules other e m t) (λ q. let s = ap number_of q in absurd (omega (arith, lt))),
-  )
+  pub decided-inside : p.side ≡ Inside → RuleOutcome P p n IsDecided None
+  decided-inside at = λ rule d. keeps-here rule (λ own S noted b. inside-none rule d S (subst (λ t. Breaches P S p.actor.0 t i rule) at b))
+    where
+      inside-none : (rule : Rule) → IsDecided rule → (S : State) → Breaches P S p.actor.0 Inside i rule → ⊥
+      inside-none rule d S b = as-breach P S p.actor.0 Inside i rule d b
+
+  -- rule 3
+  given-kept : (j : Instr) → gives_unheld P (alone n) j ≡ false → (S : State) → NotedBy P p n S → GivesUnheld P S p.actor.0 j → ⊥
+  given-kept (Calls (On o action)) f S noted b =
+      gives-held P S p.actor.0 (other s) o action (holding (alone n) o.0) f (in-here S noted o.0) b
+  given-kept j f S noted b = absurd b
+
+  given-broken : (j : Instr) → gives_unheld P (alone n) j ≡ true → GivesUnheld P (drawn s (usual s)) p.actor.0 j
+  given-broken (Calls (On o action)) t =
+      unheld-gives P (drawn s (usual s)) p.actor.0 (other s) o (apart s) (kind_of P o.0) action (holding (alone n) o.0) refl t (in-here (drawn s (usual s)) usual-noted o.0)
+  given-broken j t = absurd (false≢true t)
+
+  pub given-decides : Decides P p n GivenByHolder (gives_unheld P (alone n) i)
+  given-decides = decide P p n GivenByHolder (gives_unheld P (alone n) i) (λ t. breaks-drawn GivenByHolder refl (usual s) (usual-chosen s) (given-broken i t)) (λ f. keeps-here GivenByHolder (λ own S noted b. given-kept i f S noted b))
+
+  -- rule 7
+  dead-drawn : (o : ℕ) → may_be_dead (holding (alone n) o) ≡ true → content_of (drawn s (usual s)) o ≡ Dead
+  dead-drawn o t =
+      listed-case (length P.objects) (usual s).content o Dead (λ c. c ≡ Dead) (λ l. dead-in p.actor.0 (other s) (kind_of P o) (holding (alone n) o) t) (λ l. refl)
+
+  uses-broken : (u : Option ℕ) → used_object i p.side ≡ u → dead_by (alone n) u ≡ true → BreaksRuleBy P p n IsLive
+  uses-broken None e t = absurd (false≢true t)
+  uses-broken (Some o) e t = breaks-drawn IsLive refl (usual s) (usual-chosen s) (o, e, dead-drawn o t)
+
+  uses-kept : (u : Option ℕ) → used_object i p.side ≡ u → dead_by (alone n) u ≡ false → KeepsRuleBy P p n IsLive
+  uses-kept None e f = keeps-here IsLive (λ own S noted b. let g = sym e ∙ b.1 in cc)
+  uses-kept (Some o) e f = keeps-here IsLive (λ own S noted b.
+      let same : b.0 ≡ o = same_Some _ _ (sym b.1 ∙ e) in
+      never-dead p.actor.0 (other s) (content_of S o) (holding (alone n) o) f (in-here S noted o) (subst (λ j. content_of S j ≡ Dead) same b.2))
+
+  pub uses-decides : Decides P p n IsLive (uses_dead (alone n) i p.side)
+  uses-decides = decide P p n IsLive (uses_dead (alone n) i p.side) (λ t. uses-broken (used_object i p.side) refl t) (λ f. uses-kept (used_object i p.side) refl f)
+
+  -- rule 8
+  life-kept : (j : Instr) (side : Side) → creates_live (alone n) j side ≡ false → IsTrue (is_own j LifeInOrder) → (S : State) → NotedBy P p n S → LifeOutOfOrder P S p.actor.0 j side → ⊥
+  life-kept (Calls (Create kind o e)) Before f own S noted b =
+      b (never-live p.actor.0 (other s) (content_of S o.0) (holding (alone n) o.0) f (in-here S noted o.0))
+  life-kept (Calls (Delete kind o)) Before f own S noted b = absurd (false≢true own)
+  life-kept j side f own S noted b = absurd b
+
+  life-broken : (j : Instr) (side : Side) → creates_live (alone n) j side ≡ true → i ≡ j → p.side ≡ side → BreaksRuleBy P p n LifeInOrder
+  life-broken (Calls (Create kind o e)) Before t same at =
+      let k = live-in P p.actor.0 (other s) (kind_of P o.0) (holding (alone n) o.0) ((is-built P free).sizes o.0) (known-fits s o.0) t in
+      let f = filled o.0 k.0 (usual s) in
+      let chosen = filled-chosen s (usual s) (usual-chosen s) o.0 k.0 k.1 k.2 in
+      let named = subst (λ j. NamesThings P j) same (free.names.things p.actor.0 p.pc i is) in
+      let content : content_of (drawn s f) o.0 ≡ k.0 = drawn-content s f o.0 named.1 ∙ instead-same o.0 k.0 (usual s).content in
+      breaks-drawn LifeInOrder (subst (λ j. IsTrue (is_own j LifeInOrder)) (sym same) refl) f chosen (subst (λ j. LifeOutOfOrder P (drawn s f) p.actor.0 j p.side) (sym same) (subst (λ t. LifeOutOfOrder P (drawn s f) p.actor.0 (Calls (Create kind o e)) t) (sym at) (λ dead. k.3 (sym content ∙ dead))))
+  life-broken j side t same at = absurd (false≢true t)
+
+  pub creates-decides : Decides P p n LifeInOrder (creates_live (alone n) i p.side)
+  creates-decides = decide P p n LifeInOrder (creates_live (alone n) i p.side) (λ t. life-broken i p.side t refl refl) (λ f. keeps-here LifeInOrder (λ own S noted b. life-kept i p.side f own S noted b))
+
+  -- rule 12
+  no-out : (side : Side) (j : Instr) → StaysIn P (alone n) side j → (S : State) → NotedBy P p n S → PutsOut P S side j → ⊥
+  no-out Before (Set x l op r) stays S noted b =
+      let k = stays (operand_of S l) (operand_of S r) (can-be-known s l S (here S noted)) (can-be-known s r S (here S noted)) in
+      ⊎_elim (λ lt. omega (arith, ints, k.0, lt)) (λ lt. omega (arith, ints, k.1, lt)) b
+  no-out Inside (Calls (On o (QueueSend value timing e))) stays S noted b =
+      queue-stays (kind_of P o.0) (operand_in (joint_range (alone n)) value) (operand_of S value) stays (can-be-known s value S (here S noted)) b
+  no-out side j stays S noted b = absurd b
+
+  pub stays-kept : StaysIn P (alone n) p.side i → KeepsRuleBy P p n InRange
+  stays-kept stays = keeps-here InRange (λ own S noted b. no-out p.side i stays S noted b)
+
+  operand-order : (o : Operand) → (operand_in (joint_range (alone n)) o).0 ≤ℤ (operand_in (joint_range (alone n)) o).1
+  operand-order (Number z) = omega (arith, ints)
+  operand-order (Variable x) = fits.order x.0
+
+  shown-set : (x : VarId) (l : Operand) (op : Operator) (r : Operand) → i ≡ Set x l op r → p.side ≡ Before → (u v : ℤ) → CanBeIn (joint_range (alone n)) l u → CanBeIn (joint_range (alone n)) r v → IsOutside (variable_at P x.0).lo (variable_at P x.0).hi (result_of op u v) → BreaksRuleBy P p n InRange
+  shown-set x l op r e at u v can_u can_v out =
+      let g = chosen_for r v (usual s) in
+      let f = chosen_for l u g in
+      let chosen = for-chosen s l u g can_u (for-chosen s r v (usual s) can_v (usual-chosen s)) in
+      let named = set-named P x l r op (subst (λ j. NamesThings P j) e (free.names.things p.actor.0 p.pc i is)) in
+      let apart_lr = set-apart x l r op (subst (λ j. OperandsFit j) e (free.operands p.actor.0 p.pc i is)) in
+      let S = drawn s f in
+      let left : operand_of S l ≡ u = number-drawn s l f named.0 ∙ first-number s l u g can_u in
+      let right : operand_of S r ≡ v = number-drawn s r f named.1 ∙ second-number s l r u v (usual s) apart_lr can_v in
+      let puts : PutsOut P S Before (Set x l op r) = rw (left, right) out in
+      breaks-drawn InRange refl f chosen (subst (λ t. PutsOut P S t i) (sym at) (subst (λ j. PutsOut P S Before j) (sym e) puts))
+
+  out-broken : (side : Side) (j : Instr) → p.side ≡ side → i ≡ j → IsOutBy P (alone n) side j → BreaksRuleBy P p n InRange
+  out-broken Before (Set x l op r) at e h = shown-set x l op r e at h.0 h.1 h.2 h.3 h.4
+  out-broken Inside (Calls (On o (QueueSend value timing to))) at e h =
+      let k = queue-leaves (kind_of P o.0) (operand_in (joint_range (alone n)) value) (operand-order value) h in
+      let f = chosen_for value k.0 (usual s) in
+      let chosen = for-chosen s value k.0 (usual s) k.1 (usual-chosen s) in
+      let S = drawn s f in
+      let is_k : operand_of S value ≡ k.0 = number-drawn s value f (sent-named value (subst (λ j. NamesThings P j) e (free.names.things p.actor.0 p.pc i is))) ∙ first-number s value k.0 (usual s) k.1 in
+      let puts : PutsOut P S Inside (Calls (On o (QueueSend value timing to))) = subst (λ z. IsOutOfQueue (kind_of P o.0) z) (sym is_k) k.2 in
+      breaks-drawn InRange refl f chosen (subst (λ t. PutsOut P S t i) (sym at) (subst (λ j. PutsOut P S Inside j) (sym e) puts))
+    where
+      sent-named : (value : Operand) → NamesThings P (Calls (On o (QueueSend value timing to))) → IsNamed P value
+      sent-named (Number z) h = tt
+      sent-named (Variable x) h = h.0 0 x (omega arith)
+  out-broken side j at e h = absurd h
+
+  pub out-breaks : IsOutBy P (alone n) p.side i → BreaksRuleBy P p n InRange
+  out-breaks h = out-broken p.side i refl refl h
+
+  -- all of the rules that no condition decides
+  kept-each : (C : Rule → Type 0) → (C GivenByHolder → KeepsRuleBy P p n GivenByHolder) → (C IsLive → KeepsRuleBy P p n IsLive) → (C LifeInOrder → KeepsRuleBy P p n LifeInOrder) → (C InRange → KeepsRuleBy P p n InRange) → (other : Rule) → IsUndecided other → C other → KeepsRuleBy P p n other
+  kept-each C given live life range OneWriter d c = keeps-here OneWriter (λ own S noted b. absurd (false≢true own))
+  kept-each C given live life range OneReader d c = keeps-here OneReader (λ own S noted b. absurd (false≢true own))
+  kept-each C given live life range GivenByHolder d c = given c
+  kept-each C given live life range IsLive d c = live c
+  kept-each C given live life range LifeInOrder d c = life c
+  kept-each C given live life range InRange d c = range c
+  kept-each C given live life range other d c = absurd (false≢true (sym d))
+
+  module _ (given : gives_unheld P (alone n) i ≡ false) where
+    keeps-given : KeepsRuleBy P p n GivenByHolder
+    keeps-given = subst (λ t. Decides P p n GivenByHolder t) given given-decides
+
+    pub uses-first : uses_dead (alone n) i p.side ≡ true → RuleOutcome P p n IsUndecided (Some IsLive)
+    uses-first t = (subst (λ b. Decides P p n IsLive b) t uses-decides, λ other d lt. kept-each (λ r. number_of r < 7) (λ l. keeps-given) (λ l. absurd (omega (arith, l))) (λ l. absurd (omega (arith, l))) (λ l. absurd (omega (arith, l))) other d lt)
+
+    module _ (uses : uses_dead (alone n) i p.side ≡ false) where
+      keeps-live : KeepsRuleBy P p n IsLive
+      keeps-live = subst (λ t. Decides P p n IsLive t) uses uses-decides
+
+      pub creates-first : creates_live (alone n) i p.side ≡ true → RuleOutcome P p n IsUndecided (Some LifeInOrder)
+      creates-first t = (subst (λ b. Decides P p n LifeInOrder b) t creates-decides, λ other d lt. kept-each (λ r. number_of r < 8) (λ l. keeps-given) (λ l. keeps-live) (λ l. absurd (omega (arith, l))) (λ l. absurd (omega (arith, l))) other d lt)
+
+      module _ (creates : creates_live (alone n) i p.side ≡ false) where
+        keeps-life : KeepsRuleBy P p n LifeInOrder
+        keeps-life = subst (λ t. Decides P p n LifeInOrder t) creates creates-decides
+
+        pub out-first : IsOutBy P (alone n) p.side i → RuleOutcome P p n IsUndecided (Some InRange)
+        out-first out = (out-breaks out, λ other d lt. kept-each (λ r. number_of r < 12) (λ l. keeps-given) (λ l. keeps-live) (λ l. keeps-life) (λ l. absurd (omega (arith, l))) other d lt)
+
+        pub none-broken : StaysIn P (alone n) p.side i → RuleOutcome P p n IsUndecided None
+        none-broken stays = λ other d. kept-each (λ r. Unit {0}) (λ l. keeps-given) (λ l. keeps-live) (λ l. keeps-life) (λ l. stays-kept stays) other d tt
+
+  pub given-first : gives_unheld P (alone n) i ≡ true → RuleOutcome P p n IsUndecided (Some GivenByHolder)
+  given-first t = (subst (λ b. Decides P p n GivenByHolder b) t given-decides, λ other d lt. kept-each (λ r. number_of r < 3) (λ l. absurd (omega (arith, l))) (λ l. absurd (omega (arith, l))) (λ l. absurd (omega (arith, l))) (λ l. absurd (omega (arith, l))) other d lt)
+
+-- the least of the rules that the condition decides, and the least of the others
+module _ (P : Program) (p : Point) (n : Alternative) where
+  either : (rule : Rule) → (IsDecided rule → KeepsRuleBy P p n rule) → (IsUndecided rule → KeepsRuleBy P p n rule) → KeepsRuleBy P p n rule
+  either rule decided undecided = go (is_decided rule) refl
+    where
+      go : (t : Bool) → is_decided rule ≡ t → KeepsRuleBy P p n rule
+      go true e = decided e
+      go false e = undecided e
+
+  pub both-outcomes : (one other : Option Rule) → RuleOutcome P p n IsDecided one → RuleOutcome P p n IsUndecided other → RuleOutcome P p n AnyRule (lesser_of one other)
+  both-outcomes None None a b = λ rule any. either rule (a rule) (b rule)
+  both-outcomes None (Some j) a b = (b.0, λ o any lt. either o (a o) (λ k. b.1 o k lt))
+  both-outcomes (Some i) None a b = (a.0, λ o any lt. either o (λ k. a.1 o k lt) (b o))
+  both-outcomes (Some i) (Some j) a b = go (nat_le (number_of i) (number_of j)) refl
+    where
+      go : (t : Bool) → nat_le (number_of i) (number_of j) ≡ t → RuleOutcome P p n AnyRule (if t then Some i else Some j)
+      go true e =
+          let le = leb-true (number_of i) (number_of j) e in
+          (a.0, λ o any lt. either o (λ k. a.1 o k lt) (λ k. b.1 o k (omega (arith, le, lt))))
+      go false e =
+          let gt = leb-false (number_of i) (number_of j) e in
+          (b.0, λ o any lt. either o (λ k. a.1 o k (omega (arith, gt, lt))) (λ k. b.1 o k lt))
 
 -- every range lies in a declared one, whose ends have 64 bits
-pub has-numbers : (P : Program) (n : Alternative) → IsFaultless P → AlternativeFits P n → HasNumbers n
+pub has-numbers : (P : Program) (n : Alternative) → IsFaultless P → AlternativeFits P n → HasNumbersIn (joint_range (alone n))
 has-numbers P n free fits x = ⊎_elim (λ l. inside l) (λ l. past l) (cases_lt x (length P.variables))
   where
     inside : x < length P.variables → IsNumber (range_of n x).0 × IsNumber (range_of n x).1
@@ -281,30 +455,3 @@ has-numbers P n free fits x = ⊎_elim (λ l. inside l) (λ l. past l) (cases_lt
 
     past : length P.variables ≤ x → IsNumber (range_of n x).0 × IsNumber (range_of n x).1
     past l = subst (λ r. IsNumber r.0 × IsNumber r.1) (sym (get_or_past n.ranges x (pos 0, pos 0) (omega (arith, fits.ranges.0)))) (omega (arith, ints), omega (arith, ints))
-
-pub product-constant : (x : VarId) (l r : Operand) (op : Operator) → op ≡ Times → OperandsFit (Set x l op r) → IsConstant l ⊎ IsConstant r
-product-constant x l r Times e h = h
-product-constant x l r Plus e h = cc
-product-constant x l r Minus e h = cc
-
-module _ (P : Program) (n : Alternative) (x : VarId) (l : Operand) (op : Operator) (r : Operand) (span : Range) (is : IsResult n op l r span) where
-  pub stays-made : ((variable_at P x.0).lo ≤ℤ span.lo) × (span.hi ≤ℤ (variable_at P x.0).hi) → StaysIn P n (Set x l op r)
-  stays-made h = λ u v p q. let k = is.inside u v p q in (omega (arith, ints), omega (arith, ints))
-
-  pub leaves-made : (((variable_at P x.0).lo ≤ℤ span.lo) × (span.hi ≤ℤ (variable_at P x.0).hi) → ⊥) → IsOutBy P n (Set x l op r)
-  leaves-made h = by_lt_z span.lo (variable_at P x.0).lo (λ lt. (is.lo.0, is.lo.1, is.lo.2, is.lo.3, inl (rw is.lo.4 lt))) (λ le.
-      by_lt_z (variable_at P x.0).hi span.hi (λ lt. (is.hi.0, is.hi.1, is.hi.2, is.hi.3, inr (rw is.hi.4 lt))) (λ ge. absurd (h (le, ge))))
-
--- what is known of a `set` of the application
-pub record SetFacts (P : Program) (n : Alternative) (x : VarId) (l : Operand) (op : Operator) (r : Operand) : Type 0 where
-  pub variable : x.0 < length P.variables
-  pub left : HasOperand n l
-  pub right : HasOperand n r
-  pub product : op ≡ Times → IsConstant l ⊎ IsConstant r
-
-pub set-facts : (P : Program) (n : Alternative) (a pc : ℕ) (i : Instr) (x : VarId) (l : Operand) (op : Operator) (r : Operand) → IsFaultless P → AlternativeFits P n → instr_at P a pc ≡ Some i → i ≡ Set x l op r → SetFacts P n x l op r
-set-facts P n a pc i x l op r free fits is e =
-    let named : NamesThings P (Set x l op r) = subst (λ j. NamesThings P j) e (free.names.things a pc i is) in
-    let fitting : OperandsFit (Set x l op r) = subst (λ j. OperandsFit j) e (free.operands a pc i is) in
-    let has = set-operands P n fits x l r op named in
-    record { variable = named.0 0 x (omega arith); left = has.1; right = has.2; product = λ t. product-constant x l r op t fitting }

@@ -1,21 +1,26 @@
--- The start of an application without objects, and what an alternative says of it.
-use Rattle.std.proofs.Common.{◌≡◌, ℕ, zero, suc, ◌<◌, ◌≤◌, List, [], ◌∷◌, length, get_or, map, refl, sym, ap, ◌∙◌, subst, arith, ⊎_elim}
-use Rattle.std.specs.Prelude.{pos, slice_index_or}
+-- The start of an application, and what an alternative says of it.
+use Rattle.std.proofs.Common.{◌≡◌, ℕ, zero, suc, ◌<◌, ◌≤◌, List, [], ◌∷◌, length, get_or, map, Bool, true, false, refl, sym, ap, ◌∙◌, subst, arith, ⊎_elim}
+use Rattle.std.specs.Prelude.{pos, slice_index_or, IsTrue, if◌then◌else◌}
 use Rattle.std.proofs.lemmas.Int.{ints}
 use Rattle.std.proofs.lemmas.List.{get_or-map, get_or_past, length-map}
-use Rattle.std.proofs.lemmas.Bool.{cases_lt}
+use Rattle.std.proofs.lemmas.Bool.{cases_lt, false≢true}
 use Rattle.fr_program.specs.declared.parts.Variable.{Variable}
 use Rattle.fr_program.specs.declared.range.Range.{Range}
-use Rattle.fr_program.specs.Program.{Program, VariableOf}
-use Rattle.fr_program.specs.Lookup.{variable_at, no_variable}
-use Rattle.fr_program.specs.View.{variable_of}
-use Rattle.fr_calls.specs.State.{Dead, start, first_content, content_of, value_of}
-use Rattle.fr_notes.specs.declared.claim.Claim.TheVariants.{NotHeld}
+use Rattle.fr_program.specs.Program.{Program, VariableOf, ObjectOf}
+use Rattle.fr_program.specs.declared.parts.Kind.{Kind}
+use Rattle.fr_program.specs.declared.parts.Object.{Object}
+use Rattle.fr_program.specs.Lookup.{variable_at, object_at, no_variable, no_object}
+use Rattle.fr_program.specs.View.{variable_of, object_of}
+use Rattle.fr_calls.specs.State.{Dead, start, first_content, new_content, content_of, value_of}
 use Rattle.fr_notes.specs.Note.{Alternative, Meets, Within, HoldsOne, claim_of, range_of}
 use Rattle.fr_notes.specs.View.{ends_of}
 use Rattle.fr_notes.specs.Fits.{AlternativeFits}
-use Rattle.fr_edge.specs.Starts.{BeginsWithin}
-use Rattle.fr_edge.proofs.RuleLaws.{empty}
+use Rattle.fr_notes.specs.declared.claim.Claim.{Claim}
+use Rattle.fr_notes.specs.declared.claim.Claim.TheVariants.{NotHeld, Alive, Gone, HeldTimes}
+use Rattle.fr_notes.proofs.Shown.{new-live, new-not_held}
+use Rattle.fr_notes.proofs.Holdings.{new-unheld}
+use Rattle.fr_edge.specs.Starts.{BeginsWithin, BeginsAs, begins_as}
+use Rattle.fr_edge.proofs.Lists.{same-element}
 
 module _ (rs : List Range) (vs : List Variable) (x : ℕ) (r : Range) (v : Variable) (l : x < length vs) (same : length rs ≡ length vs) (is : r ≡ get_or rs x r) (be : v ≡ get_or vs x v) where
   range-is : slice_index_or (map ends_of rs) x (pos 0, pos 0) ≡ ends_of r
@@ -30,6 +35,19 @@ module _ (rs : List Range) (vs : List Variable) (x : ℕ) (r : Range) (v : Varia
   pub begins-tells : BeginsWithin rs vs x → Within (ends_of r) v.init
   begins-tells h = subst (λ w. Within (ends_of r) w.init) variable-is (subst (λ q. Within q (slice_index_or (map variable_of vs) x no_variable).init) range-is h)
 
+module _ (cs : List Claim) (os : List Object) (o : ℕ) (d : Claim) (object : Object) (l : o < length os) (same : length cs ≡ length os) (be : object ≡ get_or os o object) where
+  object-is : slice_index_or (map object_of os) o no_object ≡ object_of object
+  object-is = get_or-map object_of os o object no_object l ∙ ap (λ z. object_of z) (sym be)
+
+  as-is : begins_as (slice_index_or cs o NotHeld) (slice_index_or (map object_of os) o no_object).live ≡ begins_as (get_or cs o d) object.live
+  as-is = ap (λ c. begins_as c (slice_index_or (map object_of os) o no_object).live) (same-element cs o NotHeld d (omega arith)) ∙ ap (λ z. begins_as (get_or cs o d) z.live) object-is
+
+  pub claim-made : IsTrue (begins_as (get_or cs o d) object.live) → BeginsAs cs os o
+  claim-made h = as-is ∙ h
+
+  pub claim-tells : BeginsAs cs os o → IsTrue (begins_as (get_or cs o d) object.live)
+  claim-tells h = sym as-is ∙ h
+
 zeros : {A : Type 0} (xs : List A) (a : ℕ) → get_or (map (λ x. zero) xs) a zero ≡ zero
 zeros [] a = refl
 zeros (x ∷ xs) zero = refl
@@ -39,19 +57,40 @@ zeros (x ∷ xs) (suc a) = zeros xs a
 abbrev pub BeginsIn : Program → Alternative → Type 0
 BeginsIn P n = (x : ℕ) → x < length P.variables → Within (range_of n x) (variable_at P x).init
 
-pub no-claim : (n : Alternative) (o : ℕ) → n.claims ≡ [] → claim_of n o ≡ NotHeld
-no-claim n o e = rw e
+-- each claim is true of its object at the start
+abbrev pub ClaimsBegin : Program → Alternative → Type 0
+ClaimsBegin P n = (o : ℕ) → o < length P.objects → IsTrue (begins_as (claim_of n o) (object_at P o).live)
 
-pub nothing-claimed : (P : Program) (n : Alternative) → P.objects ≡ [] → AlternativeFits P n → n.claims ≡ []
-nothing-claimed P n none fits = empty n.claims (fits.claims.0 ∙ ap length none)
+new-met : (a : ℕ) (claim : Claim) (kind : Kind) (live : Bool) → IsTrue (begins_as claim live) → Meets a claim (if live then new_content kind else Dead)
+new-met a NotHeld kind true h = new-not_held a kind
+new-met a NotHeld kind false h = refl
+new-met a Alive kind true h = (new-live kind, new-not_held a kind)
+new-met a Alive kind false h = absurd (false≢true h)
+new-met a Gone kind true h = absurd (false≢true h)
+new-met a Gone kind false h = refl
+new-met a (HeldTimes count) kind live h = absurd (false≢true h)
 
-start-content : (P : Program) (o : ℕ) → P.objects ≡ [] → content_of (start P) o ≡ Dead
-start-content P o none = subst (λ os. get_or (map first_content os) o Dead ≡ Dead) (sym none) refl
+met-new : (a : ℕ) (claim : Claim) (kind : Kind) (live : Bool) → Meets a claim (if live then new_content kind else Dead) → IsTrue (begins_as claim live)
+met-new a NotHeld kind live m = refl
+met-new a Alive kind true m = refl
+met-new a Alive kind false m = absurd (m.0 refl)
+met-new a Gone kind true m = absurd (new-live kind m)
+met-new a Gone kind false m = refl
+met-new a (HeldTimes count) kind true m = absurd (new-unheld a count kind m)
+met-new a (HeldTimes count) kind false m = cc
+
+start-content : (P : Program) (o : ℕ) → o < length P.objects → content_of (start P) o ≡ first_content (object_at P o)
+start-content P o l = get_or-map first_content P.objects o no_object Dead l
+
+past-content : (os : List ObjectOf) (o : ℕ) → length os ≤ o → get_or (map first_content os) o Dead ≡ Dead
+past-content [] o l = refl
+past-content (x ∷ os) zero l = absurd (omega arith)
+past-content (x ∷ os) (suc o) l = past-content os o (omega arith)
 
 start-value : (P : Program) (x : ℕ) → x < length P.variables → value_of (start P) x ≡ (variable_at P x).init
 start-value P x l = get_or-map (λ v. v.init) P.variables x no_variable (pos 0) l
 
-module _ (P : Program) (n : Alternative) (none : P.objects ≡ []) (fits : AlternativeFits P n) where
+module _ (P : Program) (n : Alternative) (fits : AlternativeFits P n) where
   past : (x : ℕ) → length P.variables ≤ x → Within (range_of n x) (value_of (start P) x)
   past x l =
       subst (λ r. Within r (value_of (start P) x)) (sym (get_or_past n.ranges x (pos 0, pos 0) (omega (arith, fits.ranges.0)))) (subst (λ v. Within (pos 0, pos 0) v) (sym (value-past P.variables x l)) (omega (arith, ints), omega (arith, ints)))
@@ -61,18 +100,23 @@ module _ (P : Program) (n : Alternative) (none : P.objects ≡ []) (fits : Alter
       value-past (v ∷ vs) zero l = absurd (omega arith)
       value-past (v ∷ vs) (suc x) l = value-past vs x (omega arith)
 
-  pub start-holds : n.critical ≡ 0 → n.suspended ≡ 0 → BeginsIn P n → (a : ℕ) → HoldsOne n a (start P)
-  start-holds crit susp begins a = record {
+  pub start-holds : n.critical ≡ 0 → n.suspended ≡ 0 → ClaimsBegin P n → BeginsIn P n → (a : ℕ) → HoldsOne n a (start P)
+  start-holds crit susp claims begins a = record {
     critical = sym crit;
     suspended = zeros P.actors a ∙ sym susp;
     objects = λ o.
-        subst (λ c. Meets a c (content_of (start P) o)) (sym (no-claim n o (nothing-claimed P n none fits))) (subst (λ c. Meets a NotHeld c) (sym (start-content P o none)) refl);
+        ⊎_elim (λ l. subst (λ c. Meets a (claim_of n o) c) (sym (start-content P o l)) (new-met a (claim_of n o) (object_at P o).kind (object_at P o).live (claims o l))) (λ l.
+        subst (λ c. Meets a (claim_of n o) c) (sym (past-content P.objects o l)) (subst (λ d. Meets a d Dead) (sym (get_or_past n.claims o NotHeld (omega (arith, fits.claims.0, l)))) refl)) (cases_lt o (length P.objects));
     variables = λ x. ⊎_elim (λ l. subst (λ v. Within (range_of n x) v) (sym (start-value P x l)) (begins x l)) (λ l. past x l) (cases_lt x (length P.variables));
   }
 
-  pub start-tells : (a : ℕ) → HoldsOne n a (start P) → (n.critical ≡ 0) × (n.suspended ≡ 0) × BeginsIn P n
-  start-tells a h =
-      (sym h.critical, sym h.suspended ∙ zeros P.actors a, λ x l. subst (λ v. Within (range_of n x) v) (start-value P x l) (h.variables x))
+  pub start-tells : (a : ℕ) → HoldsOne n a (start P) → (n.critical ≡ 0) × (n.suspended ≡ 0) × ClaimsBegin P n × BeginsIn P n
+  start-tells a h = (
+    sym h.critical,
+    sym h.suspended ∙ zeros P.actors a,
+    λ o l. met-new a (claim_of n o) (object_at P o).kind (object_at P o).live (subst (λ c. Meets a (claim_of n o) c) (start-content P o l) (h.objects o)),
+    λ x l. subst (λ v. Within (range_of n x) v) (start-value P x l) (h.variables x),
+  )
 
 -- the alternative's ranges and the application's variables, as the code has them
 pub begins-in : (P : Program) (n : Alternative) (rs : List Range) (vs : List Variable) → n.ranges ≡ map ends_of rs → map variable_of vs ≡ P.variables → ((x : ℕ) → x < length vs → BeginsWithin rs vs x) → BeginsIn P n
@@ -84,3 +128,14 @@ pub in-begins : (P : Program) (n : Alternative) (rs : List Range) (vs : List Var
 in-begins P n rs vs is be h x l =
     let k : x < length P.variables = omega (arith, length-map vs variable_of, ap length be) in
     subst (λ q. Within (slice_index_or (map ends_of rs) x (pos 0, pos 0)) (slice_index_or q x no_variable).init) (sym be) (subst (λ q. Within (slice_index_or q x (pos 0, pos 0)) (variable_at P x).init) is (h x k))
+
+-- the alternative's claims and the application's objects, as the code has them
+pub claims-begin : (P : Program) (n : Alternative) (cs : List Claim) (os : List Object) → n.claims ≡ cs → map object_of os ≡ P.objects → ((o : ℕ) → o < length os → BeginsAs cs os o) → ClaimsBegin P n
+claims-begin P n cs os is be h o l =
+    let k : o < length os = omega (arith, length-map os object_of, ap length be, l) in
+    subst (λ q. IsTrue (begins_as (slice_index_or q o NotHeld) (object_at P o).live)) (sym is) (subst (λ q. IsTrue (begins_as (slice_index_or cs o NotHeld) (slice_index_or q o no_object).live)) be (h o k))
+
+pub begin-claims : (P : Program) (n : Alternative) (cs : List Claim) (os : List Object) → n.claims ≡ cs → map object_of os ≡ P.objects → ClaimsBegin P n → (o : ℕ) → o < length os → BeginsAs cs os o
+begin-claims P n cs os is be h o l =
+    let k : o < length P.objects = omega (arith, length-map os object_of, ap length be, l) in
+    subst (λ q. IsTrue (begins_as (slice_index_or cs o NotHeld) (slice_index_or q o no_object).live)) (sym be) (subst (λ q. IsTrue (begins_as (slice_index_or q o NotHeld) (object_at P o).live)) is (h o k))

@@ -3,34 +3,47 @@
 -- | word                             | meaning                                                                     |
 -- |----------------------------------|-----------------------------------------------------------------------------|
 -- | KeepsRuleBy, BreaksRuleBy        | no state with the alternative breaches the rule; some state does            |
--- | condition_by                     | the condition of an actor of which an alternative holds                     |
--- | RuleOutcome                      | the least rule that an alternative breaks, or none                          |
+-- | Decides                          | a truth value says which of the two                                         |
+-- | is_decided                       | whether an actor's condition decides the rule                               |
+-- | AnyRule, IsDecided, IsUndecided  | every rule; the rules that a condition decides; the others                  |
+-- | RuleOutcome                      | the least of some rules that an alternative breaks, or none                 |
+-- | may_be_dead, may_be_live         | whether an object can be dead, live, by what is known of it                 |
+-- | gives_unheld, uses_dead,         | whether rule 3, 7, 8 is breached in some state, by what is known            |
+-- |   creates_live                   |                                                                             |
+-- | StaysIn, IsOutBy                 | numbers are put into their declared ranges; some number out of it           |
 -- | IsAmong                          | an alternative is one of the first of a note                                |
 -- | NoteOutcome                      | the least rule that one of these alternatives breaks, or none               |
--- | StaysIn                          | a `set` gives only numbers of its target's declared range                   |
+-- | lesser_of                        | the rule with the lesser number, where there are two                        |
 -- | GoesBy                           | the part `Goes`, for steps by one row                                       |
 -- | WayOutcome                       | the point to which steps by one row lead without keeping its note, or none  |
 -- | GoesOutcome                      | the least such point of both rows, or none                                  |
--- | GoesWell, Misses                 | an alternative of the next note says no more than what a row leaves; none   |
--- | IsOutBy                          | a `set` gives some number out of its target's declared range                |
--- | lesser_of                        | the rule with the lesser number, where there are two                        |
-use Rattle.std.specs.Prelude.{◌≡◌, ◌<◌, ◌≤ℤ◌, ◌⊎◌, ℕ, ℤ, List, Option, None, Some, Bool, false, slice_index_or, IsTrue, Contains, nat_le, if◌then◌else◌}
+-- | GoesWell                         | where an alternative has a step by a row, one of the next note is left      |
+use Rattle.std.specs.Prelude.{◌≡◌, ◌<◌, ◌≤ℤ◌, ◌<ℤ◌, ◌⊎◌, ℕ, ℤ, List, Option, None, Some, Bool, true, false, slice_index_or, IsTrue, IsFalse, Contains, nat_le, if◌then◌else◌}
 use Rattle.fr_program.specs.declared.instr.Instr.{Instr}
-use Rattle.fr_program.specs.declared.instr.Instr.TheVariants.{Set}
+use Rattle.fr_program.specs.declared.instr.Instr.TheVariants.{Set, Call as Calls}
+use Rattle.fr_program.specs.declared.instr.Call.TheVariants.{Create, On}
+use Rattle.fr_program.specs.declared.instr.Action.TheVariants.{QueueSend}
+use Rattle.fr_program.specs.declared.ids.Side.{Side}
+use Rattle.fr_program.specs.declared.ids.Side.TheVariants.{Before, Inside}
+use Rattle.fr_program.specs.declared.parts.Kind.{Kind}
+use Rattle.fr_program.specs.declared.parts.Kind.TheVariants.{Queue}
 use Rattle.fr_program.specs.declared.ids.Point.{Point}
 use Rattle.fr_program.specs.Program.{Program}
-use Rattle.fr_program.specs.Lookup.{IsPoint, instr_of, variable_at, actor_at, is_interrupt}
+use Rattle.fr_program.specs.Lookup.{IsPoint, instr_of, variable_at}
 use Rattle.fr_program.specs.Points.{point_number}
 use Rattle.fr_calls.specs.declared.way.Way.{Way}
-use Rattle.fr_calls.specs.State.{State}
+use Rattle.fr_calls.specs.State.{State, kind_of}
 use Rattle.fr_calls.specs.declared.rules.Rule.{Rule}
-use Rattle.fr_calls.specs.declared.rules.Condition.{Condition}
-use Rattle.fr_calls.specs.Rule.{number_of, Breach, result_of, IsOutside}
+use Rattle.fr_calls.specs.declared.rules.Rule.TheVariants.{AllowedInCritical, AllowedSuspended, AllowedInInterrupt, SuitsSemaphore, DepthAboveZero, EndsInOrder}
+use Rattle.fr_calls.specs.Rule.{number_of, Breach, used_object, result_of, IsOutside}
 use Rattle.fr_calls.specs.Step.{CanStep, AlwaysLeaves}
 use Rattle.fr_notes.specs.Note.{Alternative, Note, HoldsOne}
 use Rattle.fr_notes.specs.Noted.{note_at, IsAt, NotedBy}
-use Rattle.fr_notes.specs.declared.change.Change.{Change}
-use Rattle.fr_notes.specs.Change.{CanBe, HasChange, HasNone, Keeps}
+use Rattle.fr_notes.specs.Known.{Known, alone, joint_range, LeavesSome}
+use Rattle.fr_notes.specs.Holding.{holding, is_given_unheld}
+use Rattle.fr_notes.specs.Reckoning.{CanBeIn, operand_in}
+use Rattle.fr_notes.specs.declared.holding.Holding.{Holding}
+use Rattle.fr_notes.specs.declared.holding.Holding.TheVariants.{Unheld, Lifeless}
 use Rattle.fr_edge.specs.Own.{is_own, Goes}
 
 -- no state with the alternative breaches the rule, if that is one for the point to keep by itself
@@ -47,21 +60,89 @@ pub record BreaksRuleBy (P : Program) (p : Point) (n : Alternative) (rule : Rule
   pub noted : NotedBy P p n state
   pub breach : Breach P state rule p.actor.0
 
--- the condition of the point's actor, where the alternative holds of it: today no actor holds a mutex, since there are
--- no objects
-abbrev pub condition_by : Program → Point → Alternative → Condition
-condition_by P p n = record {
-  interrupt = is_interrupt (actor_at P p.actor.0).kind;
-  critical = n.critical;
-  suspended = n.suspended;
-  holds = false;
-}
+-- whether some state with the alternative breaches the rule, if that is one for the point to keep by itself
+abbrev pub Decides : Program → Point → Alternative → Rule → Bool → Type 0
+Decides P p n rule true = BreaksRuleBy P p n rule
+Decides P p n rule false = KeepsRuleBy P p n rule
 
--- the alternative keeps every rule, or breaks this one and keeps all with lesser numbers
-abbrev pub RuleOutcome : Program → Point → Alternative → Option Rule → Type 0
-RuleOutcome P p n None = (rule : Rule) → KeepsRuleBy P p n rule
-RuleOutcome P p n (Some rule) =
-    BreaksRuleBy P p n rule × ((other : Rule) → number_of other < number_of rule → KeepsRuleBy P p n other)
+-- whether the rule is one that an actor's kind, its depths and its mutexes decide
+abbrev pub is_decided : Rule → Bool
+is_decided AllowedInCritical = true
+is_decided AllowedSuspended = true
+is_decided AllowedInInterrupt = true
+is_decided SuitsSemaphore = true
+is_decided DepthAboveZero = true
+is_decided EndsInOrder = true
+is_decided rule = false
+
+-- the alternative keeps each of these rules, or breaks this one and keeps those of them with lesser numbers
+abbrev pub RuleOutcome : Program → Point → Alternative → (Rule → Type 0) → Option Rule → Type 0
+RuleOutcome P p n Of None = (rule : Rule) → Of rule → KeepsRuleBy P p n rule
+RuleOutcome P p n Of (Some rule) =
+    BreaksRuleBy P p n rule × ((other : Rule) → Of other → number_of other < number_of rule → KeepsRuleBy P p n other)
+
+-- every rule; the rules that the condition decides; the others
+abbrev pub AnyRule : Rule → Type 0
+AnyRule rule = Unit {0}
+
+abbrev pub IsDecided : Rule → Type 0
+IsDecided rule = IsTrue (is_decided rule)
+
+abbrev pub IsUndecided : Rule → Type 0
+IsUndecided rule = IsFalse (is_decided rule)
+
+-- whether an object can be dead, by what is known of it
+abbrev pub may_be_dead : Holding → Bool
+may_be_dead Unheld = true
+may_be_dead Lifeless = true
+may_be_dead known = false
+
+-- whether it can be live
+abbrev pub may_be_live : Holding → Bool
+may_be_live Lifeless = false
+may_be_live known = true
+
+-- whether a mutex is given that the mover isn't known to hold
+abbrev pub gives_unheld : Program → Known → Instr → Bool
+gives_unheld P k (Calls (On o action)) = is_given_unheld (kind_of P o.0) action (holding k o.0)
+gives_unheld P k i = false
+
+-- whether an object, if there is one, can be dead
+abbrev pub dead_by : Known → Option ℕ → Bool
+dead_by k None = false
+dead_by k (Some o) = may_be_dead (holding k o)
+
+-- whether an object is used that can be dead
+abbrev pub uses_dead : Known → Instr → Side → Bool
+uses_dead k i side = dead_by k (used_object i side)
+
+-- whether an object is created that can be live
+abbrev pub creates_live : Known → Instr → Side → Bool
+creates_live k (Calls (Create kind o e)) Before = may_be_live (holding k o.0)
+creates_live k i side = false
+
+-- a range inside the range of a queue, and one that isn't
+abbrev pub StaysInQueue : Kind → ℤ × ℤ → Type 0
+StaysInQueue (Queue size lo hi) range = (lo ≤ℤ range.0) × (range.1 ≤ℤ hi)
+StaysInQueue kind range = Unit {0}
+
+abbrev pub LeavesQueue : Kind → ℤ × ℤ → Type 0
+LeavesQueue (Queue size lo hi) range = (range.0 <ℤ lo) ⊎ (hi <ℤ range.1)
+LeavesQueue kind range = ⊥
+
+-- whatever numbers the operands can be, the number that is put is in its declared range
+abbrev pub StaysIn : Program → Known → Side → Instr → Type 0
+StaysIn P k Before (Set x l op r) =
+    (u v : ℤ) → CanBeIn (joint_range k) l u → CanBeIn (joint_range k) r v → ((variable_at P x.0).lo ≤ℤ result_of op u v) × (result_of op u v ≤ℤ (variable_at P x.0).hi)
+StaysIn P k Inside (Calls (On o (QueueSend value timing e))) = StaysInQueue (kind_of P o.0) (operand_in (joint_range k) value)
+StaysIn P k side i = Unit {0}
+
+-- for some of these numbers it isn't
+abbrev pub IsOutBy : Program → Known → Side → Instr → Type 0
+IsOutBy P k Before (Set x l op r) =
+    (u : ℤ) × (v : ℤ) × CanBeIn (joint_range k) l u × CanBeIn (joint_range k) r v × IsOutside (variable_at P x.0).lo (variable_at P x.0).hi (result_of op u v)
+IsOutBy P k Inside (Calls (On o (QueueSend value timing e))) = LeavesQueue (kind_of P o.0) (operand_in (joint_range k) value)
+IsOutBy P k side i = ⊥
 
 -- the alternative is one of so many first ones
 abbrev pub IsAmong : Note → ℕ → Alternative → Type 0
@@ -74,12 +155,6 @@ NoteOutcome P p note bound None = (n : Alternative) → IsAmong note bound n →
 NoteOutcome P p note bound (Some rule) =
     ((n : Alternative) × IsAmong note bound n × BreaksRuleBy P p n rule)
     × ((other : Rule) → number_of other < number_of rule → (n : Alternative) → IsAmong note bound n → KeepsRuleBy P p n other)
-
--- whatever numbers the operands of a `set` can be, its result lies in the target's declared range
-abbrev pub StaysIn : Program → Alternative → Instr → Type 0
-StaysIn P n (Set x l op r) =
-    (u v : ℤ) → CanBe n l u → CanBe n r v → ((variable_at P x.0).lo ≤ℤ result_of op u v) × (result_of op u v ≤ℤ (variable_at P x.0).hi)
-StaysIn P n i = Unit {0}
 
 -- for each alternative of the point's note with which some state steps to t by this row, one alternative of t's note is
 -- left by every such step
@@ -103,19 +178,9 @@ GoesOutcome P notes p (Some k) =
     (t : Point) × IsPoint P t × (point_number P t ≡ k) × (Goes P notes p t → ⊥)
     × ((other : Point) → IsPoint P other → point_number P other < k → Goes P notes p other)
 
--- the row has no state with the alternative, or one alternative of the next note says no more than what the row leaves
-abbrev pub GoesWell : Alternative → Instr → Way → Note → Type 0
-GoesWell n i way next = HasNone n i way ⊎ ((change : Change) × HasChange n i way change × (m : Alternative) × Contains next m × Keeps n change m)
-
--- the row leaves something, and every alternative of the next note says more
-abbrev pub Misses : Alternative → Instr → Way → Note → Type 0
-Misses n i way next = (change : Change) × HasChange n i way change × ((m : Alternative) → Contains next m → Keeps n change m → ⊥)
-
--- a `set` gives some number out of its target's declared range
-abbrev pub IsOutBy : Program → Alternative → Instr → Type 0
-IsOutBy P n (Set x l op r) =
-    (u : ℤ) × (v : ℤ) × CanBe n l u × CanBe n r v × IsOutside (variable_at P x.0).lo (variable_at P x.0).hi (result_of op u v)
-IsOutBy P n i = ⊥
+-- where some state with the alternative has a step by the row, one alternative of the next note is left by all of them
+abbrev pub GoesWell : Program → Point → Alternative → Way → Note → Type 0
+GoesWell P p n way next = LeavesSome P (alone n) p p way p.actor.0 next
 
 -- the rule with the lesser number, where there are two
 abbrev pub lesser_of : Option Rule → Option Rule → Option Rule

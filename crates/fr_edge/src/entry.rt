@@ -1,17 +1,19 @@
 // Whether a point's note holds when the scheduler starts.
-ghost use Rattle.std.specs.Prelude.{◌≡◌, ◌<◌, ◌↔◌, ℕ, [], length, All, IsTrue};
+ghost use Rattle.std.specs.Prelude.{◌≡◌, ◌<◌, ◌↔◌, ℕ, length, All, IsTrue};
 ghost use Rattle.fr_calls.specs.State.{start};
 ghost use Rattle.fr_notes.specs.Fits.{AlternativeFits};
 ghost use Rattle.fr_notes.specs.Note.{HoldsOne, Holds, Within};
 ghost use Rattle.fr_notes.specs.Noted.{note_at};
 ghost use Rattle.fr_notes.specs.View.{ends_of};
 ghost use Rattle.fr_edge.specs.Own.{Entry};
-ghost use Rattle.fr_edge.specs.Starts.{BeginsWithin};
+ghost use Rattle.fr_edge.specs.Starts.{begins_as, BeginsAs, BeginsWithin};
 
 use fr_notes::{Alternative, Claim, Note, Notes};
 use fr_program::{App, Object, Point, Range, Side, Variable};
 
-fn is_declared_claim(claim: Claim, object: &Object) -> bool {
+fn begins_as(claim: Claim, object: &Object) -> bool
+    ensures { result ≡ begins_as claim object.now.live }
+{
     match claim {
         Claim::NotHeld => true,
         Claim::Alive => object.live,
@@ -27,14 +29,16 @@ fn begins_in(range: Range, variable: &Variable) -> bool
     range.lo <= number && number <= range.hi
 }
 
-/// Today no application has objects, so that there are no claims.
 fn begins_with_claims(objects: &[Object], claims: &[Claim]) -> bool
-    ensures { claims.now ≡ [] → IsTrue result }
+    requires { length claims.now ≡ length objects.now }
+    ensures { IsTrue result ↔ ((o : ℕ) → o < length objects.now → BeginsAs claims.now objects.now o) }
 {
-    objects
-        .iter()
-        .zip(claims)
-        .all(|(object, claim)| is_declared_claim(*claim, object))
+    for (o, object) in objects.iter().enumerate() {
+        if !begins_as(claims[o], object) {
+            return false;
+        }
+    }
+    true
 }
 
 fn begins_with_ranges(variables: &[Variable], ranges: &[Range]) -> bool
@@ -54,7 +58,6 @@ fn holds_at_start(app: &App, alternative: &Alternative) -> bool
     requires { AlternativeFits app.now alternative.now }
     ensures { (a : ℕ) → (IsTrue result ↔ HoldsOne alternative.now a (start app.now)) }
 {
-    app.recall_faultless();
     if alternative.crit != 0 {
         return false;
     }

@@ -1,47 +1,79 @@
 // The rules that a point keeps by itself.
-ghost use Rattle.std.specs.Prelude.{◌≡◌, ◌<◌, ◌↔◌, ◌≤ℤ◌, ℤ, [], false, None, Some, length, All, IsTrue, IsFalse};
-ghost use Rattle.fr_program.specs.Lookup.{instr_of, IsPoint, actor_at, variable_at, is_interrupt};
-ghost use Rattle.fr_calls.specs.Rule.{first_forbidden};
-ghost use Rattle.fr_notes.specs.Change.{IsResult};
+ghost use Rattle.std.specs.Prelude.{◌≡◌, ◌<◌, ◌↔◌, ◌≤ℤ◌, Some, length, All, IsTrue, IsFalse};
+ghost use Rattle.std.specs.Option.{option_map};
+ghost use Rattle.fr_program.specs.Lookup.{instr_of, variable_at, IsPoint};
+ghost use Rattle.fr_program.specs.Fault.{NamesThings, OperandsFit};
+ghost use Rattle.fr_calls.specs.Rule.{used_object};
 ghost use Rattle.fr_notes.specs.Fits.{AlternativeFits};
-ghost use Rattle.fr_edge.specs.Alternatives.{RuleOutcome, NoteOutcome, StaysIn, IsOutBy, condition_by, lesser_of};
+ghost use Rattle.fr_notes.specs.Known.{IsPossible, joint_range};
+ghost use Rattle.fr_notes.specs.Reckoning.{HasNumbersIn};
+ghost use Rattle.fr_edge.specs.Alternatives.{RuleOutcome, NoteOutcome, AnyRule, IsDecided, IsUndecided, gives_unheld, uses_dead, creates_live, StaysIn, IsOutBy, lesser_of};
 
-use fr_calls::{Condition, Rule, first_forbidden};
-use fr_notes::{Alternative, Claim, Note};
-use fr_program::{App, Instr, Point, Range, VarId};
-
-fn holds_some(alternative: &Alternative) -> bool
-    ensures { alternative.now.claims ≡ [] → result ≡ false }
-{
-    alternative
-        .claims
-        .iter()
-        .any(|claim| matches!(claim, Claim::HeldTimes(_)))
-}
-
-/// The condition of the point's actor, where the alternative holds of it.
-fn condition_at(app: &App, alternative: &Alternative, point: Point) -> Condition
-    requires point { point.actor.0 < length app.now.actors }
-    requires claims { alternative.now.claims ≡ [] }
-    ensures { result ≡ condition_by app.now point alternative.now }
-{
-    Condition {
-        interrupt: app.is_interrupt(point.actor),
-        critical: u32::from(alternative.crit),
-        suspended: u32::from(alternative.susp),
-        holds: holds_some(alternative),
-    }
-}
+use fr_calls::{Rule, first_forbidden};
+use fr_notes::{
+    Alternative, Holding, Known, Note, condition_at, is_given_unheld, recall_faultless,
+};
+use fr_program::{Action, App, Call, Instr, Kind, ObjId, Point, Range, Side, VarId};
 
 /// The least of the rules that the actor's condition decides, before an instruction.
 fn decided_rule(app: &App, alternative: &Alternative, point: Point, instr: &Instr) -> Option<Rule>
     requires point { IsPoint app.now point }
     requires instr { instr_of app.now point ≡ Some instr.now }
-    requires claims { alternative.now.claims ≡ [] }
-    ensures { result ≡ first_forbidden app.now (condition_by app.now point alternative.now) instr.now }
+    requires fits { AlternativeFits app.now alternative.now }
+    ensures { RuleOutcome app.now point alternative.now IsDecided result }
 {
-    app.recall_faultless();
-    first_forbidden(app, condition_at(app, alternative, point), instr)
+    recall_faultless(app);
+    let known = Known::alone(alternative);
+    match point.side {
+        Side::Before => first_forbidden(app, condition_at(app, &known, point), instr),
+        Side::Inside => None,
+    }
+}
+
+/// Rule 3: whether a mutex is given that the mover isn't known to hold.
+fn gives_unheld(app: &App, known: &Known, instr: &Instr) -> bool
+    requires { NamesThings app.now instr.now }
+    ensures { result ≡ gives_unheld app.now known.now instr.now }
+{
+    match instr {
+        Instr::Call(Call::On { object, action }) => {
+            is_given_unheld(app.kind(*object), action, known.holding(object.0))
+        }
+        _ => false,
+    }
+}
+
+/// The object that is used: by a delete before it, by an object call before it and inside it.
+fn used_object(instr: &Instr, side: Side) -> Option<ObjId>
+    ensures { option_map (λ o. o.0) result ≡ used_object instr.now side }
+{
+    match (instr, side) {
+        (Instr::Call(Call::Delete { object, .. }), Side::Before) => Some(*object),
+        (Instr::Call(Call::On { object, .. }), _) => Some(*object),
+        _ => None,
+    }
+}
+
+/// Rule 7: whether an object is used that can be dead.
+fn uses_dead(known: &Known, instr: &Instr, side: Side) -> bool
+    ensures { result ≡ uses_dead known.now instr.now side }
+{
+    match used_object(instr, side) {
+        Some(object) => matches!(known.holding(object.0), Holding::Unheld | Holding::Lifeless),
+        None => false,
+    }
+}
+
+/// Rule 8, of creates alone: whether an object is created that can be live.
+fn creates_live(known: &Known, instr: &Instr, side: Side) -> bool
+    ensures { result ≡ creates_live known.now instr.now side }
+{
+    match (instr, side) {
+        (Instr::Call(Call::Create { object, .. }), Side::Before) => {
+            !matches!(known.holding(object.0), Holding::Lifeless)
+        }
+        _ => false,
+    }
 }
 
 fn is_in_declared(app: &App, variable: VarId, range: Range) -> bool
@@ -51,41 +83,73 @@ fn is_in_declared(app: &App, variable: VarId, range: Range) -> bool
     range.within(app.range(variable))
 }
 
-/// Whether each value that a `set` can give its target is in the target's declared range.
-fn stays_in_range(app: &App, alternative: &Alternative, point: Point, instr: &Instr) -> bool
-    requires instr { instr_of app.now point ≡ Some instr.now }
-    requires fits { AlternativeFits app.now alternative.now }
-    ensures stays { IsTrue result → StaysIn app.now alternative.now instr.now }
-    ensures leaves { IsFalse result → IsOutBy app.now alternative.now instr.now }
+/// Whether each number of the range lies from `lo` to `hi`.
+fn is_inside(range: Range, lo: i64, hi: i64) -> bool
+    ensures { IsTrue result ↔ ((lo ≤ℤ range.lo) × (range.hi ≤ℤ hi)) }
 {
-    app.recall_faultless();
-    match instr {
-        Instr::Set {
-            target,
-            left,
-            operator,
-            right,
-        } => {
-            let result = alternative.result(*operator, *left, *right);
+    i128::from(lo) <= range.lo && range.hi <= i128::from(hi)
+}
+
+/// Rule 12: whether each number that a `set` or a send to a queue can put is in its declared range.
+fn stays_in_range(app: &App, known: &Known, instr: &Instr, side: Side) -> bool
+    requires possible { IsPossible known.now }
+    requires numbers { HasNumbersIn (joint_range known.now) }
+    requires names { NamesThings app.now instr.now }
+    requires operands { OperandsFit instr.now }
+    ensures stays { IsTrue result → StaysIn app.now known.now side instr.now }
+    ensures leaves { IsFalse result → IsOutBy app.now known.now side instr.now }
+{
+    match (instr, side) {
+        (
+            Instr::Set {
+                target,
+                left,
+                operator,
+                right,
+            },
+            Side::Before,
+        ) => {
+            let result = known.result(*operator, *left, *right);
             is_in_declared(app, *target, result)
         }
+        (
+            Instr::Call(
+                Call::On {
+                    object,
+                    action: Action::QueueSend { value, .. },
+                },
+            ),
+            Side::Inside,
+        ) => match app.kind(*object) {
+            Kind::Queue { lo, hi, .. } => is_inside(known.operand(*value), lo, hi),
+            _ => true,
+        },
         _ => true,
     }
 }
 
-/// The least rule that is breached in some state in which the alternative holds.
-fn rule_breached(app: &App, alternative: &Alternative, point: Point, instr: &Instr) -> Option<Rule>
+/// The least of the other rules that is breached in some state in which the alternative holds.
+fn undecided_rule(app: &App, alternative: &Alternative, point: Point, instr: &Instr) -> Option<Rule>
     requires point { IsPoint app.now point }
     requires instr { instr_of app.now point ≡ Some instr.now }
     requires fits { AlternativeFits app.now alternative.now }
-    ensures { RuleOutcome app.now point alternative.now result }
+    ensures { RuleOutcome app.now point alternative.now IsUndecided result }
 {
-    app.recall_faultless();
-    let decided = decided_rule(app, alternative, point, instr);
-    let stays = stays_in_range(app, alternative, point, instr);
-    match decided {
-        Some(rule) => Some(rule),
-        None => if stays { None } else { Some(Rule::InRange) },
+    recall_faultless(app);
+    let known = Known::alone(alternative);
+    if gives_unheld(app, &known, instr) {
+        return Some(Rule::GivenByHolder);
+    }
+    if uses_dead(&known, instr, point.side) {
+        return Some(Rule::IsLive);
+    }
+    if creates_live(&known, instr, point.side) {
+        return Some(Rule::LifeInOrder);
+    }
+    if stays_in_range(app, &known, instr, point.side) {
+        None
+    } else {
+        Some(Rule::InRange)
     }
 }
 
@@ -104,6 +168,18 @@ fn lesser(one: Option<Rule>, other: Option<Rule>) -> Option<Rule>
         (None, other) => other,
         (one, None) => one,
     }
+}
+
+/// The least rule that is breached in some state in which the alternative holds.
+fn rule_breached(app: &App, alternative: &Alternative, point: Point, instr: &Instr) -> Option<Rule>
+    requires point { IsPoint app.now point }
+    requires instr { instr_of app.now point ≡ Some instr.now }
+    requires fits { AlternativeFits app.now alternative.now }
+    ensures { RuleOutcome app.now point alternative.now AnyRule result }
+{
+    let decided = decided_rule(app, alternative, point, instr);
+    let undecided = undecided_rule(app, alternative, point, instr);
+    lesser(decided, undecided)
 }
 
 /// The least rule that is breached in some state in which the note holds.

@@ -1,36 +1,32 @@
 // Where a point's steps go.
-ghost use Rattle.std.specs.Prelude.{◌≡◌, ◌<◌, ◌+◌, Some, length, All, IsTrue, IsFalse, Contains, slice_get};
+ghost use Rattle.std.specs.Prelude.{◌≡◌, ◌<◌, ◌+◌, ◌↔◌, Some, length, All, IsTrue, Contains, slice_get};
 ghost use Rattle.fr_program.specs.Lookup.{instr_of, IsPoint};
 ghost use Rattle.fr_program.specs.Points.{points_of, point_number};
-ghost use Rattle.fr_notes.specs.Change.{HasChange, HasNone, Keeps};
 ghost use Rattle.fr_notes.specs.Fits.{AlternativeFits, NotesFit};
+ghost use Rattle.fr_notes.specs.Known.{IsPossible, Keeps};
 ghost use Rattle.fr_notes.specs.Noted.{note_at};
-ghost use Rattle.fr_edge.specs.Alternatives.{IsAmong, KeepsRuleBy, GoesWell, Misses, WayOutcome, GoesOutcome};
-ghost use Rattle.fr_edge.specs.FirstOwn.{KeepsRules};
+ghost use Rattle.fr_edge.specs.Alternatives.{GoesWell, WayOutcome, GoesOutcome};
 ghost use Rattle.fr_notes.specs.Note.{Alternative as AlternativeOf};
 
 use fr_calls::{Landing, Way, lands_at};
-use fr_notes::{Alternative, Change, Note, Notes, change_by, keeps};
+use fr_notes::{Alternative, Change, Known, Note, Notes, change_by, keeps, recall_faultless};
 use fr_program::{App, Instr, Point};
 
-/// Whether some alternative of a note holds after each step that makes this change.
-fn is_kept(app: &App, alternative: &Alternative, change: &Change, next: &Note) -> bool
-    requires fits { AlternativeFits app.now alternative.now }
-    requires next { All (λ m. AlternativeFits app.now m) next.now }
-    ensures kept { IsTrue result →
-        ((m : AlternativeOf) × Contains next.now m × Keeps alternative.now change.now m) }
-    ensures missed { IsFalse result →
-        ((m : AlternativeOf) → Contains next.now m → Keeps alternative.now change.now m → ⊥) }
+/// Whether some alternative of a note holds of the mover after each step that makes this change.
+fn is_kept(known: &Known, change: &Change, next: &Note) -> bool
+    requires { IsPossible known.now }
+    ensures { IsTrue result ↔
+        ((m : AlternativeOf) × Contains next.now m × Keeps known.now change.now m) }
 {
-    app.recall_faultless();
     for other in next.alternatives() {
-        if keeps(alternative, change, other) {
+        if keeps(known, change, other) {
             return true;
         }
     }
     false
 }
 
+/// Whether steps by this row, from a state in which the alternative holds, keep the next note.
 fn goes_well(
     app: &App,
     alternative: &Alternative,
@@ -39,28 +35,27 @@ fn goes_well(
     way: Way,
     next: &Note,
 ) -> bool
+    requires point { IsPoint app.now point }
     requires instr { instr_of app.now point ≡ Some instr.now }
     requires fits { AlternativeFits app.now alternative.now }
     requires next { All (λ m. AlternativeFits app.now m) next.now }
-    ensures well { IsTrue result → GoesWell alternative.now instr.now way next.now }
-    ensures misses { IsFalse result → Misses alternative.now instr.now way next.now }
+    ensures { IsTrue result ↔ GoesWell app.now point alternative.now way next.now }
 {
-    app.recall_faultless();
-    match change_by(alternative, instr, way) {
-        Some(change) => is_kept(app, alternative, &change, next),
+    let known = Known::alone(alternative);
+    match change_by(app, &known, point, instr, way) {
+        Some(change) => is_kept(&known, &change, next),
         None => true,
     }
 }
 
 /// Whether steps by this row keep the next note, whichever alternative of the note holds before.
 fn all_go_well(app: &App, note: &Note, point: Point, instr: &Instr, way: Way, next: &Note) -> bool
+    requires point { IsPoint app.now point }
     requires instr { instr_of app.now point ≡ Some instr.now }
     requires fits { All (λ n. AlternativeFits app.now n) note.now }
     requires next { All (λ m. AlternativeFits app.now m) next.now }
-    ensures well { IsTrue result →
-        ((n : AlternativeOf) → Contains note.now n → GoesWell n instr.now way next.now) }
-    ensures misses { IsFalse result →
-        ((n : AlternativeOf) × Contains note.now n × Misses n instr.now way next.now) }
+    ensures { IsTrue result ↔
+        ((n : AlternativeOf) → Contains note.now n → GoesWell app.now point n way next.now) }
 {
     for alternative in note.alternatives() {
         if !goes_well(app, alternative, point, instr, way, next) {
@@ -83,10 +78,9 @@ fn missed(
     requires instr { instr_of app.now point ≡ Some instr.now }
     requires fit { NotesFit app.now notes.now }
     requires note { note.now ≡ note_at app.now notes.now point }
-    requires rules { KeepsRules app.now notes.now point }
     ensures { WayOutcome app.now notes.now point way result }
 {
-    app.recall_faultless();
+    recall_faultless(app);
     app.recall_numbered();
     let Landing::At(target) = lands_at(point, point.pc + 1, instr, way) else {
         return None;
@@ -116,7 +110,6 @@ pub fn least_missed(
     requires instr { instr_of app.now point ≡ Some instr.now }
     requires fit { NotesFit app.now notes.now }
     requires note { note.now ≡ note_at app.now notes.now point }
-    requires rules { KeepsRules app.now notes.now point }
     ensures { GoesOutcome app.now notes.now point result }
 {
     let one = missed(app, notes, note, point, instr, Way::Then);

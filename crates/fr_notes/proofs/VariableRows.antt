@@ -50,11 +50,11 @@ two-end R range l r one two is false = is.other_lo
 two-end R range l r one two is true = is.other_hi
 
 -- a choice with this number for an operand, and an operand's number in a choice
-abbrev chosen_for : Operand → ℤ → Choice → Choice
+abbrev pub chosen_for : Operand → ℤ → Choice → Choice
 chosen_for (Number z) v f = f
 chosen_for (Variable x) v f = valued x.0 v f
 
-abbrev number_in : Choice → Operand → ℤ
+abbrev pub number_in : Choice → Operand → ℤ
 number_in f (Number z) = z
 number_in f (Variable x) = f.value x.0
 
@@ -67,27 +67,27 @@ module _ (s : Site) where
   abbrev range : ℕ → ℤ × ℤ
   range x = joint_range s.known x
 
-  can-be-known : (o : Operand) (S : State) → IsKnown s S → CanBeIn range o (operand_of S o)
+  pub can-be-known : (o : Operand) (S : State) → IsKnown s S → CanBeIn range o (operand_of S o)
   can-be-known (Number z) S known = (omega (arith, ints), omega (arith, ints))
   can-be-known (Variable x) S known = values-within s S known x.0
 
-  for-chosen : (o : Operand) (v : ℤ) (f : Choice) → CanBeIn range o v → IsChosen s f → IsChosen s (chosen_for o v f)
+  pub for-chosen : (o : Operand) (v : ℤ) (f : Choice) → CanBeIn range o v → IsChosen s f → IsChosen s (chosen_for o v f)
   for-chosen (Number z) v f can chosen = chosen
   for-chosen (Variable x) v f can chosen = valued-chosen s f chosen x.0 v can
 
-  number-drawn : (o : Operand) (f : Choice) → IsNamed s.app o → operand_of (drawn s f) o ≡ number_in f o
+  pub number-drawn : (o : Operand) (f : Choice) → IsNamed s.app o → operand_of (drawn s f) o ≡ number_in f o
   number-drawn (Number z) f named = refl
   number-drawn (Variable x) f named = drawn-value s f x.0 named
 
   -- the operands have the numbers that were chosen for them, since no variable is both
-  first-number : (l : Operand) (u : ℤ) (f : Choice) → CanBeIn range l u → number_in (chosen_for l u f) l ≡ u
+  pub first-number : (l : Operand) (u : ℤ) (f : Choice) → CanBeIn range l u → number_in (chosen_for l u f) l ≡ u
   first-number (Number z) u f can = omega (arith, ints)
   first-number (Variable x) u f can = instead-same x.0 u f.value
 
   apart-numbers : (x y : VarId) → x ≢ y → y.0 ≢ x.0
   apart-numbers x y ne e = ne (let of : ℕ → VarId = λ k. record { 0 = k } in ap of (sym e))
 
-  second-number : (l r : Operand) (u v : ℤ) (f : Choice) → AreApart l r → CanBeIn range r v → number_in (chosen_for l u (chosen_for r v f)) r ≡ v
+  pub second-number : (l r : Operand) (u v : ℤ) (f : Choice) → AreApart l r → CanBeIn range r v → number_in (chosen_for l u (chosen_for r v f)) r ≡ v
   second-number l (Number z) u v f apart can = omega (arith, ints)
   second-number (Number w) (Variable y) u v f apart can = instead-same y.0 v f.value
   second-number (Variable x) (Variable y) u v f apart can =

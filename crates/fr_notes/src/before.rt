@@ -20,7 +20,7 @@ use fr_program::{
 };
 
 /// An entry of the critical section: no step while another actor is in it.
-fn entered(known: &Known) -> Option<Change>
+pub fn entered(known: &Known) -> Option<Change>
     ensures { (P : Program) (form : FormOf) →
         LeavesBefore P known.now (Instr.Call (Call.EnterCritical form)) Way.Then result }
 {
@@ -34,7 +34,7 @@ fn entered(known: &Known) -> Option<Change>
 }
 
 /// An exit from the critical section.
-fn left(known: &Known) -> Option<Change>
+pub fn left(known: &Known) -> Option<Change>
     ensures { (P : Program) (form : FormOf) →
         LeavesBefore P known.now (Instr.Call (Call.ExitCritical form)) Way.Then result }
 {
@@ -49,7 +49,7 @@ fn left(known: &Known) -> Option<Change>
 }
 
 /// A suspension of the scheduler.
-fn suspended(known: &Known) -> Change
+pub fn suspended(known: &Known) -> Change
     ensures { (P : Program) →
         LeavesBefore P known.now (Instr.Call Call.SuspendAll) Way.Then (Some result) }
 {
@@ -60,7 +60,7 @@ fn suspended(known: &Known) -> Change
 }
 
 /// The end of a suspension.
-fn resumed(known: &Known) -> Option<Change>
+pub fn resumed(known: &Known) -> Option<Change>
     ensures { (P : Program) →
         LeavesBefore P known.now (Instr.Call Call.ResumeAll) Way.Then result }
 {
@@ -75,7 +75,7 @@ fn resumed(known: &Known) -> Option<Change>
 }
 
 /// A create of an object that isn't known to be live; one that fails leaves it dead.
-fn created(known: &Known, object: ObjId, way: Way) -> Option<Change>
+pub fn created(known: &Known, object: ObjId, way: Way) -> Option<Change>
     ensures { (P : Program) (kind : CreatedKindOf) (or_else : Option ℕ) →
         LeavesBefore P known.now (Instr.Call (Call.Create kind object or_else)) way result }
 {
@@ -89,7 +89,7 @@ fn created(known: &Known, object: ObjId, way: Way) -> Option<Change>
 }
 
 /// A delete of an object that isn't known to be dead, whoever holds it.
-fn deleted(known: &Known, object: ObjId) -> Option<Change>
+pub fn deleted(known: &Known, object: ObjId) -> Option<Change>
     ensures { (P : Program) (kind : DeletedKindOf) →
         LeavesBefore P known.now (Instr.Call (Call.Delete kind object)) Way.Then result }
 {
@@ -98,7 +98,7 @@ fn deleted(known: &Known, object: ObjId) -> Option<Change>
 }
 
 /// The begin of a call on an object, which is live then.
-fn begun(known: &Known, kind: Kind, object: ObjId, action: &Action) -> Option<Change>
+pub fn begun(known: &Known, kind: Kind, object: ObjId, action: &Action) -> Option<Change>
     ensures { (P : Program) → kind_of P object.0 ≡ kind →
         LeavesBefore P known.now (Instr.Call (Call.On object action.now)) Way.Then result }
 {
@@ -110,7 +110,13 @@ fn begun(known: &Known, kind: Kind, object: ObjId, action: &Action) -> Option<Ch
 }
 
 /// A `set`, also one that leaves its variable out of its declared range.
-fn set(known: &Known, target: VarId, operator: Operator, left: Operand, right: Operand) -> Change
+pub fn set(
+    known: &Known,
+    target: VarId,
+    operator: Operator,
+    left: Operand,
+    right: Operand,
+) -> Change
     requires possible { IsPossible known.now }
     requires numbers { HasNumbersIn (joint_range known.now) }
     requires product { operator ≡ Operator.Times → IsConstant left ⊎ IsConstant right }
@@ -125,7 +131,7 @@ fn set(known: &Known, target: VarId, operator: Operator, left: Operand, right: O
 }
 
 /// A `pick`: the variable gets some number from the lower bound to the upper one.
-fn picked(known: &Known, target: VarId, lo: i64, hi: i64) -> Option<Change>
+pub fn picked(known: &Known, target: VarId, lo: i64, hi: i64) -> Option<Change>
     ensures { (P : Program) → LeavesBefore P known.now (Instr.Pick target lo hi) Way.Then result }
 {
     let range = Range::new(i128::from(lo), i128::from(hi))?;
@@ -136,7 +142,7 @@ fn picked(known: &Known, target: VarId, lo: i64, hi: i64) -> Option<Change>
 }
 
 /// One of the ways of an `if`: both sides are narrowed.
-fn branched(
+pub fn branched(
     known: &Known,
     comparison: Comparison,
     way: Way,

@@ -14,7 +14,7 @@ use fr_program::{Comparison, Operand, Operator, Range};
 
 impl<'a> Known<'a> {
     /// The numbers that an operand can be.
-    fn operand(&self, operand: Operand) -> Range
+    pub fn operand(&self, operand: Operand) -> Range
         requires { IsPossible self.now }
         ensures { ends_of result ≡ operand_in (joint_range self.now) operand }
     {

@@ -39,12 +39,6 @@ pub least_missed-requires-clause-note : goal.least_missed-requires-clause-note
 least_missed-requires-clause-note c =
     (here-facts c.args.app.now c.args.notes.now c.args.number c.point-point.result c.in_ok-note.note.now c.recall_numbered.ensures c.requires.fit c.point-point.ensures (sym c.in_ok-note.ensures)).is_note
 
-pub least_missed-requires-clause-rules : goal.least_missed-requires-clause-rules
-least_missed-requires-clause-rules c =
-    let P = c.args.app.now in
-    let h = here-facts P c.args.notes.now c.args.number c.point-point.result c.in_ok-note.note.now c.recall_numbered.ensures c.requires.fit c.point-point.ensures (sym c.in_ok-note.ensures) in
-    all-rules P c.args.notes.now c.point-point.result c.in_ok-note.note.now h.is_note c.in_default.ensures
-
 pub point-requires : goal.point-requires
 point-requires c =
     let P = c.args.app.now in

@@ -1,8 +1,16 @@
-use Rattle.fr_edge.proofs.Standing.{actor-there}
+use Rattle.std.proofs.Common.{sym, ◌∙◌, ap}
+use Rattle.fr_calls.specs.Rule.{first_forbidden}
+use Rattle.fr_notes.specs.Spot.{condition_known}
+use Rattle.fr_edge.proofs.RuleLaws.{decided-before, decided-inside}
 use Rattle.fr_edge.proofs.rules.decided_rule.Goals as goal
 
 pub first_forbidden-requires : goal.first_forbidden-requires
-first_forbidden-requires c = c.recall_faultless.ensures.faultless.names.things _ _ _ c.requires.instr
+first_forbidden-requires c = c.recall_faultless.ensures.names.things _ _ _ c.requires.instr
 
-pub condition_at-requires-clause-point : goal.condition_at-requires-clause-point
-condition_at-requires-clause-point c = actor-there c.args.app.now c.args.point.actor.0 c.args.point.pc c.args.instr.now c.requires.instr
+pub returns-in-Before : goal.returns-in-Before
+returns-in-Before c =
+    decided-before c.args.app.now c.args.point c.args.instr.now c.args.alternative.now c.recall_faultless.ensures c.requires.point c.requires.instr c.requires.fits c.in-Before.is c.first_forbidden.result (sym (c.first_forbidden.ensures ∙ ap (λ k. first_forbidden c.args.app.now k c.args.instr.now) (c.condition_at.ensures ∙ ap (λ k. condition_known c.args.app.now k c.args.point) c.alone-known.ensures)))
+
+pub returns-in-Inside : goal.returns-in-Inside
+returns-in-Inside c =
+    decided-inside c.args.app.now c.args.point c.args.instr.now c.args.alternative.now c.recall_faultless.ensures c.requires.point c.requires.instr c.requires.fits c.in-Inside.is

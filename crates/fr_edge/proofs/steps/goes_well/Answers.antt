@@ -1,21 +1,19 @@
-use Rattle.std.proofs.Common.{inl, inr}
-use Rattle.fr_edge.proofs.RuleLaws.{has-numbers, has-operands}
+use Rattle.std.proofs.Common.{refl, subst}
+use Rattle.std.specs.Prelude.{◌↔◌, IsTrue, Contains}
+use Rattle.fr_notes.specs.Note.{Alternative}
+use Rattle.fr_notes.specs.Known.{IsLeft, NeverSteps, Keeps}
+use Rattle.fr_edge.proofs.Targets.{left-goes}
 use Rattle.fr_edge.proofs.steps.goes_well.Goals as goal
 
-pub change_by-requires : goal.change_by-requires
-change_by-requires c =
-    let f = c.recall_faultless.ensures.faultless in
-    record {
-      numbers = has-numbers c.args.app.now c.args.alternative.now f c.requires.fits;
-      operands = has-operands c.args.app.now c.args.alternative.now c.requires.fits c.args.instr.now (f.names.things _ _ _ c.requires.instr);
-      fit = f.operands _ _ _ c.requires.instr;
-    }
-
 pub returns-in-Some : goal.returns-in-Some
-returns-in-Some c = record {
-  well = λ t. let k = c.is_kept.ensures.kept t in inr (c.in-Some.change, c.in-Some.ensures.some, k.0, k.1, k.2);
-  misses = λ t. (c.in-Some.change, c.in-Some.ensures.some, c.is_kept.ensures.missed t);
-}
+returns-in-Some c =
+    let same = c.alone-known.ensures in
+    let left = subst (λ k. IsLeft c.args.app.now k c.args.point c.args.way c.in-Some.change) same c.in-Some.ensures.some in
+    let kept = subst (λ k. IsTrue c.is_kept.result ↔ ((m : Alternative) × Contains c.args.next.now m × Keeps k c.in-Some.change m)) same c.is_kept.ensures in
+    let exactly = left-goes c.args.app.now c.args.point c.args.alternative.now c.args.way c.in-Some.change c.args.next.now left c.requires.next in
+    (λ t. exactly.0 (kept.0 t), λ goes. kept.1 (exactly.1 goes))
 
 pub returns-in-None : goal.returns-in-None
-returns-in-None c = record { well = λ t. inl c.in-None.ensures.none; misses = λ t. cc }
+returns-in-None c =
+    let never = subst (λ k. NeverSteps c.args.app.now k c.args.point c.args.way) c.alone-known.ensures c.in-None.ensures.none in
+    (λ t can. absurd (never c.args.point tt can), λ goes. refl)
