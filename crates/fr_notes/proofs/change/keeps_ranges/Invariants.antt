@@ -1,8 +1,0 @@
-use Rattle.std.proofs.Common.{◌<◌, ℕ, pos, map, slice_index_or}
-use Rattle.fr_notes.specs.View.{ends_of}
-use Rattle.fr_notes.specs.Change.{new_range}
-use Rattle.fr_notes.specs.Implication.{IsPart}
-use Rattle.fr_notes.proofs.change.keeps_ranges.Given as goal
-
-abbrev pub invariant-loop-variable : goal.invariant-loop-variable
-invariant-loop-variable l = (x : ℕ) → x < l.variable → IsPart (new_range l.change x (slice_index_or (map ends_of l.ranges) x (pos 0, pos 0))) (slice_index_or (map ends_of l.others) x (pos 0, pos 0))
