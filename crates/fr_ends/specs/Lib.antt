@@ -2,3 +2,6 @@ pub mod Guard
 pub mod Certificate
 pub mod Fits
 pub mod Guarded
+pub mod Refused
+pub mod View
+pub mod Tests

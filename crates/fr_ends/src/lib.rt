@@ -3,6 +3,11 @@
 
 mod certificate;
 mod ends;
+mod fault;
+mod fits;
+mod guard;
 
 pub use certificate::Certificate;
 pub use ends::{EndName, Ends};
+pub use fault::EndsFault;
+pub use guard::{EndGuard, Guard};
