@@ -116,7 +116,7 @@ fn guard_fits(app: &App, guard: &Guard) -> bool
 }
 
 /// Whether it is the guard of an end of a stream or message buffer, and fits.
-fn end_fits(app: &App, end: &EndGuard) -> bool
+pub fn end_fits(app: &App, end: &EndGuard) -> bool
     ensures { IsTrue result ↔ EndFits app.now (end_of end.now) }
 {
     let buffer = end.end.buffer;
@@ -130,8 +130,8 @@ fn all_fit(app: &App, ends: &[EndGuard]) -> bool
     ends.iter().all(|end| end_fits(app, end))
 }
 
-/// Whether a guard is of this end.
-fn is_listed(ends: &[EndGuard], end: EndName) -> bool
+/// Whether one of the guards is of this end.
+pub fn is_listed(ends: &[EndGuard], end: EndName) -> bool
     ensures { IsTrue result ↔ Any (λ e. e.end ≡ end) ends.now }
 {
     ends.iter().any(|listed| listed.end == end)

@@ -1,6 +1,9 @@
 // What an actor has while it is inside a call at an end of a buffer.
+ghost use Rattle.std.specs.Prelude.{◌↔◌, IsTrue};
+
 use crate::ends::EndName;
-use fr_program::{ActorId, ObjId, VarId};
+use crate::fits::end_fits;
+use fr_program::{ActorId, App, ObjId, VarId};
 use std::collections::BTreeMap;
 
 /// What keeps two actors from one end of a buffer: in no state do two actors have it.
@@ -21,4 +24,17 @@ pub enum Guard {
 pub struct EndGuard {
     pub end: EndName,
     pub guard: Guard,
+}
+
+impl EndGuard {
+    ghost use Rattle.fr_ends.specs.Fits.{EndFits};
+    ghost use Rattle.fr_ends.specs.View.{end_of};
+
+    /// Whether it is the guard of an end of one of the application's buffers, and names what the
+    /// application has. Takes no memory.
+    pub fn fits(&self, app: &App) -> bool
+        ensures { IsTrue result ↔ EndFits app.now (end_of self.now) }
+    {
+        end_fits(app, self)
+    }
 }

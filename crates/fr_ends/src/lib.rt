@@ -10,4 +10,5 @@ mod guard;
 pub use certificate::Certificate;
 pub use ends::{EndName, Ends};
 pub use fault::EndsFault;
+pub use fits::is_listed;
 pub use guard::{EndGuard, Guard};

@@ -6,3 +6,4 @@ pub mod SaidLemmas
 pub mod FitLemmas
 pub mod ImpliedLemmas
 pub mod ChangeLaws
+pub mod AlternativesLemmas

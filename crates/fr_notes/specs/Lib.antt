@@ -8,5 +8,6 @@ pub mod Implied
 pub mod Narrow
 pub mod Change
 pub mod Laws
+pub mod Alternatives
 pub mod WorkedNotes
 pub mod WorkedParts

@@ -3,6 +3,7 @@
 // step makes of an alternative.
 #![tactic(auto)]
 
+mod alternatives;
 mod change;
 mod claim;
 mod fault;
@@ -16,6 +17,7 @@ mod said;
 mod stands;
 mod worked;
 
+pub use alternatives::{Alts, AltsFault};
 pub use change::{Change, change_by, keeps};
 pub use claim::Claim;
 pub use fault::{NoteFault, NotesFault};
