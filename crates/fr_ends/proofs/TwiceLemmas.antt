@@ -71,7 +71,7 @@ pub fit_from : (P : Program) (es : List EndGuard) → All (λ e. EndFits P e) (m
 fit_from P es h k d within = subst (EndFits P) (get_or-map end_of es k d (end_of d) within) (h k (end_of d) (omega (arith, length-map es end_of, within)))
 
 -- the ends are the same, where the numbers of the buffers are
-name_same : (a b : EndName) → a.buffer.0 ≡ b.buffer.0 → a.end ≡ b.end → a ≡ b
+pub name_same : (a b : EndName) → a.buffer.0 ≡ b.buffer.0 → a.end ≡ b.end → a ≡ b
 name_same a b buffer end =
     let whole : name_made a.buffer.0 a.end ≡ name_made b.buffer.0 b.end = rw (buffer, end) refl in
     whole
