@@ -26,3 +26,4 @@ pub mod Never
 pub mod EndLaws
 pub mod PairLaws
 pub mod BeforeLaws
+pub mod AlternativesLemmas

@@ -3,6 +3,7 @@
 // step makes of an alternative.
 #![tactic(auto)]
 
+mod alternatives;
 mod before;
 mod change;
 mod checks;
@@ -23,6 +24,7 @@ mod parts;
 mod reckoning;
 mod worked;
 
+pub use alternatives::{Alts, AltsFault};
 pub use change::{Change, change_by, keeps};
 pub use claim::Claim;
 pub use fault::{NoteFault, NotesFault};
