@@ -1,49 +1,67 @@
--- One more entry of a list, and one more note that it stands for.
-use Rattle.std.proofs.Common.{◌≡◌, ℕ, zero, suc, ◌+◌, ◌<◌, ◌≤◌, List, [], ◌∷◌, ◌++◌, Some, length, get_or, take, refl, ap, ◌∙◌, subst, arith, ◌==◌, false}
-use Rattle.std.proofs.lemmas.Bool.{false≢true}
-use Rattle.std.proofs.lemmas.List.{take_more, take_all}
-use Rattle.serde_json.specs.Data.{Data, Items, no_items, item}
+-- One more entry of a list, and one more thing that it means.
+use Rattle.std.proofs.Common.{◌≡◌, ℕ, zero, suc, ◌+◌, ◌<◌, ◌≤◌, List, [], ◌∷◌, ◌++◌, Some, length, get_or, take, refl, sym, ap, ◌∙◌, subst, arith}
+use Rattle.std.proofs.lemmas.List.{take_more, take_all, get_or-take, length-take-le}
+use Rattle.serde_json.specs.Data.{Data, no_items, item}
 use Rattle.serde_json.specs.Events.{items_len}
 use Rattle.serde_json.specs.Find.{get_item}
 use Rattle.serde_json.specs.View.{items_view, view}
 use Rattle.serde_json.specs.declared.value.Value.{Value}
-use Rattle.fr_program.specs.Program.{Program}
-use Rattle.fr_notes.specs.Note.{Note}
-use Rattle.fr_cert.specs.PlainMeaning.{IsNote, EachNote}
+use Rattle.serde_json.proofs.Views.{get_item_within, items_len-items_view}
+use Rattle.fr_cert.specs.Shapes.{EachEntry}
 
-pub each_push : (P : Program) (xs : List Value) (x : Value) (notes : List Note) (note : Note) → EachNote P (items_view xs) notes → IsNote P (view x) note
-    → EachNote P (items_view (xs ++ x ∷ [])) (notes ++ note ∷ [])
-each_push P [] x [] note h p = (p, tt)
-each_push P [] x (n ∷ notes) note h p = absurd h
-each_push P (y ∷ xs) x [] note h p = absurd h
-each_push P (y ∷ xs) x (n ∷ notes) note h p = (h.0, each_push P xs x notes note h.1 p)
+-- how many entries there are
+pub view_length : (vs : List Value) → items_len (items_view vs) ≡ length vs
+view_length vs = items_len-items_view vs
+
+pub entry_push : {A : Type 0} (M : Data → A → Type 0) (vs : List Value) (v : Value) (xs : List A) (x : A) → EachEntry M (items_view vs) xs → M (view v) x → EachEntry M (items_view (vs ++ v ∷ [])) (xs ++ x ∷ [])
+entry_push M [] v [] x h p = (p, tt)
+entry_push M [] v (y ∷ xs) x h p = absurd h
+entry_push M (w ∷ vs) v [] x h p = absurd h
+entry_push M (w ∷ vs) v (y ∷ xs) x h p = (h.0, entry_push M vs v xs x h.1 p)
 
 -- the turn of a loop that reads the entries one after another
-pub each_more : (P : Program) (xs ys : List Value) (i : ℕ) (d : Value) (notes more : List Note) (note : Note) → ys ≡ xs → i < length ys → EachNote P (items_view (take i xs)) notes
-    → d ≡ get_or ys i d → IsNote P (view d) note → more ≡ notes ++ note ∷ [] → EachNote P (items_view (take (i + 1) xs)) more
-each_more P xs ys i d notes more note same within h is p e =
-    let Here : Value → Type 0 = λ x. IsNote P (view x) note in
-    let here : d ≡ get_or xs i d = is ∙ ap (λ zs. get_or zs i d) same in
-    rw (take_more xs i d (subst (λ zs. i < length zs) same within), e) (each_push P (take i xs) (get_or xs i d) notes note h (subst Here here p))
+pub entries_more : {A : Type 0} (M : Data → A → Type 0) (vs ws : List Value) (i : ℕ) (v : Value) (xs : List A) (x : A) → ws ≡ vs → i < length ws → v ≡ get_or ws i v
+    → EachEntry M (items_view (take i vs)) xs → M (view v) x → EachEntry M (items_view (take (i + 1) vs)) (xs ++ x ∷ [])
+entries_more M vs ws i v xs x same within is h p =
+    let here : v ≡ get_or vs i v = is ∙ ap (λ us. get_or us i v) same in
+    let there : M (view (get_or vs i v)) x = subst (λ u. M (view u) x) here p in
+    rw (take_more vs i v (subst (λ us. i < length us) same within)) (entry_push M (take i vs) (get_or vs i v) xs x h there)
 
 -- its end
-pub each_all : (P : Program) (xs ys : List Value) (i : ℕ) (notes : List Note) → ys ≡ xs → length ys ≤ i → EachNote P (items_view (take i xs)) notes → EachNote P (items_view xs) notes
-each_all P xs ys i notes same end h =
-    let Whole : List Value → Type 0 = λ zs. EachNote P (items_view zs) notes in
-    subst Whole (take_all i xs (subst (λ zs. length zs ≤ i) same end)) h
+pub entries_all : {A : Type 0} (M : Data → A → Type 0) (vs ws : List Value) (i : ℕ) (xs : List A) → ws ≡ vs → length ws ≤ i → EachEntry M (items_view (take i vs)) xs → EachEntry M (items_view vs) xs
+entries_all M vs ws i xs same end h = subst (λ us. EachEntry M (items_view us) xs) (take_all i vs (subst (λ us. length us ≤ i) same end)) h
 
--- a list that isn't empty has a first entry
-pub first_item : (xs : List Value) → 0 < length xs → (d : Data) × (get_item 0 (items_view xs) ≡ Some d)
-first_item [] h = absurd (omega (arith, h))
-first_item (x ∷ xs) h = (view x, refl)
+-- the entry of this turn
+pub entry_here : (vs ws : List Value) (i : ℕ) (v : Value) → ws ≡ vs → i < length ws → v ≡ get_or ws i v → get_item i (items_view vs) ≡ Some (view v)
+entry_here vs ws i v same within is =
+    let there : i < length vs = subst (λ us. i < length us) same within in
+    let here : v ≡ get_or vs i v = is ∙ ap (λ us. get_or us i v) same in
+    sym (get_item_within vs i v there) ∙ ap (λ u. Some (view u)) (sym here)
 
-pub positive : (n : ℕ) → false ≡ (n == 0) → 0 < n
-positive zero h = absurd (false≢true h)
-positive (suc n) h = omega arith
+-- what an entry means
+entry_meant : {A : Type 0} (M : Data → A → Type 0) (vs : List Value) (xs : List A) (k : ℕ) (v : Value) (e : A) → EachEntry M (items_view vs) xs → k < length xs → (k < length vs) × M (view (get_or vs k v)) (get_or xs k e)
+entry_meant M [] [] k v e h within = absurd (omega (arith, within))
+entry_meant M [] (x ∷ xs) k v e h within = absurd h
+entry_meant M (w ∷ vs) [] k v e h within = absurd h
+entry_meant M (w ∷ vs) (x ∷ xs) zero v e h within = (omega arith, h.0)
+entry_meant M (w ∷ vs) (x ∷ xs) (suc k) v e h within = let rest = entry_meant M vs xs k v e h.1 (omega (arith, within)) in (omega (arith, rest.0), rest.1)
 
--- there are as many notes as entries
-pub each_length : (P : Program) (ds : Items) (notes : List Note) → EachNote P ds notes → length notes ≡ items_len ds
-each_length P no_items [] h = refl
-each_length P no_items (n ∷ notes) h = absurd h
-each_length P (item d ds) [] h = absurd h
-each_length P (item d ds) (n ∷ notes) h = ap suc (each_length P ds notes h.1)
+-- an earlier entry, and what it means
+pub record Earlier {A : Type 0} (M : Data → A → Type 0) (vs : List Value) (i k : ℕ) (x : A) : Type 0 where
+  pub entry : Data
+  pub before : k < i
+  pub there : get_item k (items_view vs) ≡ Some entry
+  pub means : M entry x
+
+pub earlier : {A : Type 0} (M : Data → A → Type 0) (vs ws : List Value) (i : ℕ) (xs : List A) (k : ℕ) (v : Value) (e : A) → ws ≡ vs → i < length ws → EachEntry M (items_view (take i vs)) xs → k < length xs → Earlier M vs i k (get_or xs k e)
+earlier M vs ws i xs k v e same within h in_xs =
+    let meant = entry_meant M (take i vs) xs k v e h in_xs in
+    let in_vs : i < length vs = subst (λ us. i < length us) same within in
+    let before : k < i = omega (arith, meant.0, length-take-le i vs) in
+    let place : get_or (take i vs) k v ≡ get_or vs k v = get_or-take i vs k v before in
+    record {
+      entry = view (get_or vs k v);
+      before = before;
+      there = sym (get_item_within vs k v (omega (arith, before, in_vs)));
+      means = subst (λ u. M (view u) (get_or xs k e)) place meant.1;
+    }

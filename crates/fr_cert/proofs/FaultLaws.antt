@@ -1,6 +1,6 @@
 -- Bytes in which a fault is present mean no certificate: at each level, a value that means something has no fault of
 -- that level.
-use Rattle.std.proofs.Common.{◌≡◌, ◌<◌, ◌≤◌, ◌<ℤ◌, ◌≤ℤ◌, ℕ, ℤ, zero, suc, pos, List, [], ◌∷◌, Option, Some, None, All, AllPairs, codes, length, refl, sym, ap, ◌∙◌, subst, arith, inl, inr}
+use Rattle.std.proofs.Common.{◌≡◌, ◌<◌, ◌≤◌, ◌<ℤ◌, ◌≤ℤ◌, ℕ, ℤ, zero, suc, pos, List, [], ◌∷◌, Option, Some, None, All, codes, length, get_or, refl, sym, ap, ◌∙◌, subst, arith, inl, inr}
 use Rattle.std.proofs.lemmas.Bool.{false≢true}
 use Rattle.std.proofs.lemmas.Int.{ints}
 use Rattle.std.proofs.lemmas.List.Elements.{All-head, All-tail}
@@ -9,23 +9,25 @@ use Rattle.serde_json.specs.Events.{items_len}
 use Rattle.serde_json.specs.Find.{get_item, as_array, as_object, as_str}
 use Rattle.serde_json.specs.Read.{read}
 use Rattle.fr_program.specs.Program.{Program}
+use Rattle.fr_program.specs.Limits.{IsNumber}
 use Rattle.fr_program.specs.Points.{points_of}
+use Rattle.fr_instr.specs.Names.{NamesOf, place_of}
 use Rattle.fr_notes.specs.Note.{Alternative, Note}
 use Rattle.fr_ends.specs.Certificate.{Certificate}
 use Rattle.fr_ends.specs.Guard.{Guard, Sole, ByMutex, InCritical, Turn, EndGuard}
 use Rattle.fr_ends.specs.Fits.{EndFits, EndsFit, AreOfOneEnd}
-use Rattle.fr_cert.specs.Keys.{AreKnown, key_text, field, integer_of, end_at, variable_named, object_named, actor_named}
-use Rattle.fr_cert.specs.Shapes.{At, OrDefault, IsObject, IsList, EachEntry, EachMember, Names, IsDepth, AreEnds, IsSpan}
-use Rattle.fr_cert.specs.Meaning.{NoteText, NoteTextFits, IsHeldCount, IsRange, IsTurnValue, AreTurnValues, IsAlternative, IsPlainNote, IsNote, IsGuardObject, IsGuard, IsEndName, IsEnd, IsVersion, IsCertificate, IsTree, Means}
-use Rattle.fr_cert.specs.Faults.{InKeys, InField, InNeeded, InObject, InList, InEntries, InMembers, InNamed, InInteger, InDepth, InName, InEnds, InSpan}
-use Rattle.fr_cert.specs.Present.{InKeysOfNote, InAlternative, InAlternatives, InNote, InNotes, Has, InTurn, InGuardObject, InGuard, InEndName, InEnd, InAllEnds, InVersion, InCertificate, InTree, InBytes, IsPresent}
+use Rattle.fr_cert.specs.Keys.{AreKnown, key_text, field, integer_of, end_at, names_in}
+use Rattle.fr_cert.specs.Shapes.{At, OrDefault, IsObject, IsList, EachEntry, EachMember, Names, AreNames, IsDepth, AreEnds, IsSpan}
+use Rattle.fr_cert.specs.Meaning.{NoteText, IsNoteText, NoteTextFits, IsTurnNumber, IsHeldCount, IsRange, IsTurnValue, AreTurnValues, IsAlternative, IsPlainNote, IsNote, IsGuardObject, IsGuard, IsEndName, IsEnd, IsVersion, IsCertificate, IsTree, Means}
+use Rattle.fr_cert.specs.Faults.{InKeys, InField, InNeeded, InObject, InList, InEntries, InMembers, InNamed, InInteger, InDepth, InName, InNames, InEnds, InSpan}
+use Rattle.fr_cert.specs.Present.{InKeysOfNote, InAlternative, InAlternatives, InNote, InNotes, Has, InTurnValue, InTurn, InGuardObject, InGuard, InEndName, InKeysOfEnd, InEnd, InAllEnds, InVersion, InCertificate, InTree, InBytes, IsPresent}
 use Rattle.fr_cert.specs.declared.key.Key.{Key}
 use Rattle.fr_cert.specs.declared.key.Key.TheVariants as key
 use Rattle.fr_cert.specs.declared.key.Place.{Place}
 use Rattle.fr_cert.specs.declared.key.Place.TheVariants as place
 use Rattle.fr_cert.specs.declared.fault.CertFault.{CertFault}
 use Rattle.fr_cert.specs.declared.fault.CertFault.TheVariants as fault
-use Rattle.fr_cert.proofs.Laws.{both, never, one_at, one_text, one_version, one_end, one_ends_list, unknown, apart, list_apart, object_apart}
+use Rattle.fr_cert.proofs.Laws.{both, never, one_at, one_name, one_text, one_version, one_end, one_end_value, unknown, apart, list_apart, object_apart}
 
 -- ---- values by their shape
 
@@ -80,14 +82,30 @@ free_members M F free (member name d ms) [] f h s = absurd h
 free_members M F free (member name d ms) (x ∷ xs) f h (inl s) = free name d x f h.0 s
 free_members M F free (member name d ms) (x ∷ xs) f h (inr s) = free_members M F free ms xs f h.1 s
 
-free_named : {A : Type 0} (named : List ℕ → Option ℕ) (M : Data → A → Type 0) (F : Data → CertFault → Type 0) → Free M F
-    → (name : List ℕ) (d : Data) (n : ℕ) (x : A) (f : CertFault) → named name ≡ Some n → M d x → InNamed named F name d f → ⊥
-free_named named M F free name d n x f is h (inl s) = never (named name) n s.0 is
-free_named named M F free name d n x f is h (inr s) = free d x s.0 h s.1
+free_named : {A : Type 0} (names : List (List ℕ)) (M : Data → A → Type 0) (F : Data → CertFault → Type 0) → Free M F
+    → (name : List ℕ) (d : Data) (n : ℕ) (x : A) (f : CertFault) → place_of names name ≡ Some n → M d x → InNamed names F name d f → ⊥
+free_named names M F free name d n x f is h (inl s) = never (place_of names name) n s.0 is
+free_named names M F free name d n x f is h (inr s) = free d x s.0 h s.1
 
-free_name : (named : List ℕ → Option ℕ) → Free (Names named) (InName named)
-free_name named d n f h (inl s) = never (as_str d) h.0 s.0 h.1
-free_name named d n f h (inr s) = never (named h.0) n (subst (λ t. named t ≡ None) (both (as_str d) s.0 h.0 s.1 h.1) s.2) h.2
+free_name : (names : List (List ℕ)) → Free (Names names) (InName names)
+free_name names d n f h (inl s) = never (as_str d) h.0 s.0 h.1
+free_name names d n f h (inr s) = never (place_of names h.0) n (subst (λ t. place_of names t ≡ None) (both (as_str d) s.0 h.0 s.1 h.1) s.2) h.2
+
+-- what an entry means is at its place
+meant_at : {A : Type 0} (M : Data → A → Type 0) → ((d : Data) (x y : A) → M d x → M d y → x ≡ y) → (ds : Items) (xs : List A) (i : ℕ) (d : Data) (x e : A)
+    → EachEntry M ds xs → get_item i ds ≡ Some d → M d x → (i < length xs) × (get_or xs i e ≡ x)
+meant_at M one no_items xs i d x e h is m = absurd (never None d refl is)
+meant_at M one (item y ds) [] i d x e h is m = absurd h
+meant_at M one (item y ds) (z ∷ xs) zero d x e h is m = (omega arith, one d z x (subst (λ w. M w z) (both (Some y) y d refl is) h.0) m)
+meant_at M one (item y ds) (z ∷ xs) (suc i) d x e h is m = let rest = meant_at M one ds xs i d x e h.1 is m in (omega (arith, rest.0), rest.1)
+
+free_names : (names : List (List ℕ)) → FreeOf (AreNames names) (InNames names)
+free_names names ds ns f h (inl s) = free_entries (Names names) (InName names) (free_name names) ds ns f h.0 s
+free_names names ds ns f h (inr s) =
+    let n = s.4 in
+    let one = meant_at (Names names) (one_name names) ds ns s.0 s.2 n n h.0 s.6 s.8 in
+    let other = meant_at (Names names) (one_name names) ds ns s.1 s.3 n n h.0 s.7 s.9 in
+    h.1 s.0 s.1 n s.5 other.0 (one.1 ∙ sym other.1)
 
 free_depth : Free IsDepth InDepth
 free_depth d n f h (inl s) = never (integer_of d) (pos n) s.0 h.0
@@ -107,30 +125,33 @@ free_span = free_list AreEnds InEnds free_ends
 
 -- ---- notes
 
-free_count : (P : Program) (name : List ℕ) → Free (IsHeldCount P name) (InNamed (object_named P) InDepth name)
-free_count P name d x f h s = free_named (object_named P) IsDepth InDepth free_depth name d x.0 x.1 f h.0 h.1 s
+free_count : (N : NamesOf) (name : List ℕ) → Free (IsHeldCount N name) (InNamed N.objects InDepth name)
+free_count N name d x f h s = free_named N.objects IsDepth InDepth free_depth name d x.0 x.1 f h.0 h.1 s
 
-free_range : (P : Program) (name : List ℕ) → Free (IsRange P name) (InNamed (variable_named P) InSpan name)
-free_range P name d x f h s = free_named (variable_named P) IsSpan InSpan free_span name d x.0 x.1 f h.0 h.1 s
+free_range : (N : NamesOf) (name : List ℕ) → Free (IsRange N name) (InNamed N.variables InSpan name)
+free_range N name d x f h s = free_named N.variables IsSpan InSpan free_span name d x.0 x.1 f h.0 h.1 s
 
-free_names : (P : Program) → Free (IsList (EachEntry (Names (object_named P)))) (InList (InEntries (InName (object_named P))))
-free_names P = free_list (EachEntry (Names (object_named P))) (InEntries (InName (object_named P))) (free_entries (Names (object_named P)) (InName (object_named P)) (free_name (object_named P)))
+free_name_list : (N : NamesOf) → Free (IsList (AreNames N.objects)) (InList (InNames N.objects))
+free_name_list N = free_list (AreNames N.objects) (InNames N.objects) (free_names N.objects)
 
-free_counts : (P : Program) → Free (IsObject (EachMember (IsHeldCount P))) (InObject (InMembers (InNamed (object_named P) InDepth)))
-free_counts P = free_object (EachMember (IsHeldCount P)) (InMembers (InNamed (object_named P) InDepth)) (free_members (IsHeldCount P) (InNamed (object_named P) InDepth) (free_count P))
+free_counts : (N : NamesOf) → Free (IsObject (EachMember (IsHeldCount N))) (InObject (InMembers (InNamed N.objects InDepth)))
+free_counts N = free_object (EachMember (IsHeldCount N)) (InMembers (InNamed N.objects InDepth)) (free_members (IsHeldCount N) (InNamed N.objects InDepth) (free_count N))
 
-free_ranges : (P : Program) → Free (IsObject (EachMember (IsRange P))) (InObject (InMembers (InNamed (variable_named P) InSpan)))
-free_ranges P = free_object (EachMember (IsRange P)) (InMembers (InNamed (variable_named P) InSpan)) (free_members (IsRange P) (InNamed (variable_named P) InSpan) (free_range P))
+free_ranges : (N : NamesOf) → Free (IsObject (EachMember (IsRange N))) (InObject (InMembers (InNamed N.variables InSpan)))
+free_ranges N = free_object (EachMember (IsRange N)) (InMembers (InNamed N.variables InSpan)) (free_members (IsRange N) (InNamed N.variables InSpan) (free_range N))
+
+free_keys_of_note : (N : NamesOf) (ms : Members) (text : NoteText) (f : CertFault) → IsNoteText N ms text → InKeysOfNote N ms f → ⊥
+free_keys_of_note N ms text f h (inl s) = free_keys place.Note ms f h.only s
+free_keys_of_note N ms text f h (inr (inl s)) = free_default key.Held [] (IsObject (EachMember (IsHeldCount N))) (InObject (InMembers (InNamed N.objects InDepth))) (free_counts N) ms text.held f h.held s
+free_keys_of_note N ms text f h (inr (inr (inl s))) = free_default key.Crit 0 IsDepth InDepth free_depth ms text.crit f h.crit s
+free_keys_of_note N ms text f h (inr (inr (inr (inl s)))) = free_default key.Susp 0 IsDepth InDepth free_depth ms text.susp f h.susp s
+free_keys_of_note N ms text f h (inr (inr (inr (inr (inl s))))) = free_default key.Live [] (IsList (AreNames N.objects)) (InList (InNames N.objects)) (free_name_list N) ms text.live f h.live s
+free_keys_of_note N ms text f h (inr (inr (inr (inr (inr (inl s)))))) = free_default key.Dead [] (IsList (AreNames N.objects)) (InList (InNames N.objects)) (free_name_list N) ms text.dead f h.dead s
+free_keys_of_note N ms text f h (inr (inr (inr (inr (inr (inr s)))))) = free_default key.Range [] (IsObject (EachMember (IsRange N))) (InObject (InMembers (InNamed N.variables InSpan))) (free_ranges N) ms text.ranges f h.ranges s
 
 free_alternative : (P : Program) → FreeIn (IsAlternative P) (InAlternative P)
-free_alternative P ms n f h (inl (inl s)) = free_keys place.Note ms f h.1.only s
-free_alternative P ms n f h (inl (inr (inl s))) = free_default key.Held [] (IsObject (EachMember (IsHeldCount P))) (InObject (InMembers (InNamed (object_named P) InDepth))) (free_counts P) ms h.0.held f h.1.held s
-free_alternative P ms n f h (inl (inr (inr (inl s)))) = free_default key.Crit 0 IsDepth InDepth free_depth ms h.0.crit f h.1.crit s
-free_alternative P ms n f h (inl (inr (inr (inr (inl s))))) = free_default key.Susp 0 IsDepth InDepth free_depth ms h.0.susp f h.1.susp s
-free_alternative P ms n f h (inl (inr (inr (inr (inr (inl s)))))) = free_default key.Live [] (IsList (EachEntry (Names (object_named P)))) (InList (InEntries (InName (object_named P)))) (free_names P) ms h.0.live f h.1.live s
-free_alternative P ms n f h (inl (inr (inr (inr (inr (inr (inl s))))))) = free_default key.Dead [] (IsList (EachEntry (Names (object_named P)))) (InList (InEntries (InName (object_named P)))) (free_names P) ms h.0.dead f h.1.dead s
-free_alternative P ms n f h (inl (inr (inr (inr (inr (inr (inr s))))))) = free_default key.Range [] (IsObject (EachMember (IsRange P))) (InObject (InMembers (InNamed (variable_named P) InSpan))) (free_ranges P) ms h.0.ranges f h.1.ranges s
-free_alternative P ms n f h (inr s) = s.2 (subst (NoteTextFits P) (one_text P ms h.0 s.0 h.1 s.1) h.2)
+free_alternative P ms n f h (inl s) = free_keys_of_note (names_in P) ms h.0 f h.1 s
+free_alternative P ms n f h (inr s) = s.2 (subst (NoteTextFits P) (one_text (names_in P) ms h.0 s.0 h.1 s.1) h.2)
 
 free_plain : (P : Program) → Free (IsPlainNote P) (InObject (InAlternative P))
 free_plain P = free_object (IsAlternative P) (InAlternative P) (free_alternative P)
@@ -165,55 +186,63 @@ free_notes P version ds notes f h same (inr s) = free_entries (IsNote P version)
 
 -- ---- guards
 
-free_integer : Free (λ d z. integer_of d ≡ Some z) InInteger
-free_integer d z f h s = never (integer_of d) z s.0 h
+free_number : Free IsTurnNumber InTurnValue
+free_number d z f h (inl s) = never (integer_of d) z s.0 h.0
+free_number d z f h (inr s) = s.2 (subst IsNumber (both (integer_of d) z s.0 h.0 s.1) h.1)
 
-free_value : (P : Program) (name : List ℕ) → Free (IsTurnValue P name) (InNamed (actor_named P) InInteger name)
-free_value P name d v f h s = free_named (actor_named P) (λ d z. integer_of d ≡ Some z) InInteger free_integer name d v.0 v.1 f h.0 h.1 s
+free_value : (N : NamesOf) (name : List ℕ) → Free (IsTurnValue N name) (InNamed N.actors InTurnValue name)
+free_value N name d v f h s = free_named N.actors IsTurnNumber InTurnValue free_number name d v.0 v.1 f h.0 h.1 s
 
-free_values : (P : Program) → FreeIn (AreTurnValues P) (InMembers (InNamed (actor_named P) InInteger))
-free_values P ms values f h s = free_members (IsTurnValue P) (InNamed (actor_named P) InInteger) (free_value P) ms h.0 f h.1 s
+free_values : (N : NamesOf) → FreeIn (AreTurnValues N) (InMembers (InNamed N.actors InTurnValue))
+free_values N ms values f h s = free_members (IsTurnValue N) (InNamed N.actors InTurnValue) (free_value N) ms h.0 f h.1 s
 
 -- an object lacks a key that it has
 lacks : {A : Type 0} (k : Key) (M : Data → A → Type 0) (ms : Members) (x : A) → At k M ms x → field k ms ≡ None → ⊥
 lacks k M ms x h none = never (field k ms) h.0 none h.1
 
-free_guard_object : (P : Program) → FreeIn (IsGuardObject P) (InGuardObject P)
-free_guard_object P ms (Sole a) f h (inl (has, inl s)) = free_keys place.Sole ms f h.0 s
-free_guard_object P ms (Sole a) f h (inl (has, inr s)) = free_field key.Sole (Names (actor_named P)) (InName (actor_named P)) (free_name (actor_named P)) ms a f h.1 s
-free_guard_object P ms (Sole a) f h (inr (inl s)) = lacks key.Sole (Names (actor_named P)) ms a h.1 s.0
-free_guard_object P ms (Sole a) f h (inr (inr s)) = lacks key.Sole (Names (actor_named P)) ms a h.1 s.0
-free_guard_object P ms (ByMutex m) f h (inl (has, s)) = unknown place.Mutex key.Sole ms has.0 h.0 has.1 refl
-free_guard_object P ms (ByMutex m) f h (inr (inl (none, has, inl s))) = free_keys place.Mutex ms f h.0 s
-free_guard_object P ms (ByMutex m) f h (inr (inl (none, has, inr s))) = free_field key.Mutex (Names (object_named P)) (InName (object_named P)) (free_name (object_named P)) ms m f h.1 s
-free_guard_object P ms (ByMutex m) f h (inr (inr s)) = lacks key.Mutex (Names (object_named P)) ms m h.1 s.1
-free_guard_object P ms InCritical f h s = h
-free_guard_object P ms (Turn x values) f h (inl (has, s)) = unknown place.Turn key.Sole ms has.0 h.0 has.1 refl
-free_guard_object P ms (Turn x values) f h (inr (inl (none, has, s))) = unknown place.Turn key.Mutex ms has.0 h.0 has.1 refl
-free_guard_object P ms (Turn x values) f h (inr (inr (no_sole, no_mutex, inl s))) = free_keys place.Turn ms f h.0 s
-free_guard_object P ms (Turn x values) f h (inr (inr (no_sole, no_mutex, inr (inl s)))) = free_needed key.Turn (Names (variable_named P)) (InName (variable_named P)) (free_name (variable_named P)) ms x f h.1 s
-free_guard_object P ms (Turn x values) f h (inr (inr (no_sole, no_mutex, inr (inr s)))) =
-    free_needed key.Values (IsObject (AreTurnValues P)) (InObject (InMembers (InNamed (actor_named P) InInteger))) (free_object (AreTurnValues P) (InMembers (InNamed (actor_named P) InInteger)) (free_values P)) ms values f h.2 s
+free_guard_object : (N : NamesOf) → FreeIn (IsGuardObject N) (InGuardObject N)
+free_guard_object N ms (Sole a) f h (inl (has, inl s)) = free_keys place.Sole ms f h.0 s
+free_guard_object N ms (Sole a) f h (inl (has, inr s)) = free_needed key.Sole (Names N.actors) (InName N.actors) (free_name N.actors) ms a f h.1 s
+free_guard_object N ms (Sole a) f h (inr (inl s)) = lacks key.Sole (Names N.actors) ms a h.1 s.0
+free_guard_object N ms (Sole a) f h (inr (inr s)) = lacks key.Sole (Names N.actors) ms a h.1 s.0
+free_guard_object N ms (ByMutex m) f h (inl (has, s)) = unknown place.Mutex key.Sole ms has.0 h.0 has.1 refl
+free_guard_object N ms (ByMutex m) f h (inr (inl (none, has, inl s))) = free_keys place.Mutex ms f h.0 s
+free_guard_object N ms (ByMutex m) f h (inr (inl (none, has, inr s))) = free_needed key.Mutex (Names N.objects) (InName N.objects) (free_name N.objects) ms m f h.1 s
+free_guard_object N ms (ByMutex m) f h (inr (inr s)) = lacks key.Mutex (Names N.objects) ms m h.1 s.1
+free_guard_object N ms InCritical f h s = h
+free_guard_object N ms (Turn x values) f h (inl (has, s)) = unknown place.Turn key.Sole ms has.0 h.0 has.1 refl
+free_guard_object N ms (Turn x values) f h (inr (inl (none, has, s))) = unknown place.Turn key.Mutex ms has.0 h.0 has.1 refl
+free_guard_object N ms (Turn x values) f h (inr (inr (no_sole, no_mutex, inl s))) = free_keys place.Turn ms f h.0 s
+free_guard_object N ms (Turn x values) f h (inr (inr (no_sole, no_mutex, inr (inl s)))) = free_needed key.Turn (Names N.variables) (InName N.variables) (free_name N.variables) ms x f h.1 s
+free_guard_object N ms (Turn x values) f h (inr (inr (no_sole, no_mutex, inr (inr s)))) =
+    free_needed key.Values (IsObject (AreTurnValues N)) (InObject (InMembers (InNamed N.actors InTurnValue))) (free_object (AreTurnValues N) (InMembers (InNamed N.actors InTurnValue)) (free_values N)) ms values f h.2 s
 
-free_guard : (P : Program) → Free (IsGuard P) (InGuard P)
-free_guard P d g f (inl h) (inl s) = s.1 h.0
-free_guard P d g f (inl h) (inr s) = apart d s.0 (codes "critical") s.1 h.0
-free_guard P d g f (inr h) (inl s) = never (as_object d) h.0 s.0 h.1
-free_guard P d g f (inr h) (inr s) = free_object (IsGuardObject P) (InGuardObject P) (free_guard_object P) d g f h (inr s)
+free_guard : (N : NamesOf) → Free (IsGuard N) (InGuard N)
+free_guard N d g f (inl h) (inl s) = s.1 h.0
+free_guard N d g f (inl h) (inr s) = apart d s.0 (codes "critical") s.1 h.0
+free_guard N d g f (inr h) (inl s) = never (as_object d) h.0 s.0 h.1
+free_guard N d g f (inr h) (inr s) = free_object (IsGuardObject N) (InGuardObject N) (free_guard_object N) d g f h (inr s)
 
 -- ---- ends
 
 free_end_name : Free IsEndName InEndName
 free_end_name d end f h s = s.0 end h
 
-free_end : (P : Program) (ms : Members) (e : EndGuard) (f : CertFault) → IsEnd P ms e → EndFits P e → InEnd P ms f → ⊥
-free_end P ms e f h fits (inl s) = free_keys place.End ms f h.only s
-free_end P ms e f h fits (inr (inl s)) = free_needed key.Buffer (Names (object_named P)) (InName (object_named P)) (free_name (object_named P)) ms e.buffer f h.buffer s
-free_end P ms e f h fits (inr (inr (inl s))) = free_needed key.End IsEndName InEndName free_end_name ms e.end f h.end s
-free_end P ms e f h fits (inr (inr (inr (inl s)))) = free_needed key.Guard (IsGuard P) (InGuard P) (free_guard P) ms e.guard f h.guard s
-free_end P ms e f h fits (inr (inr (inr (inr s)))) = s.2 (subst (EndFits P) (one_end P ms e s.0 h s.1) fits)
+free_keys_of_end : (N : NamesOf) (ms : Members) (e : EndGuard) (f : CertFault) → IsEnd N ms e → InKeysOfEnd N ms f → ⊥
+free_keys_of_end N ms e f h (inl s) = free_keys place.End ms f h.only s
+free_keys_of_end N ms e f h (inr (inl s)) = free_needed key.Buffer (Names N.objects) (InName N.objects) (free_name N.objects) ms e.buffer f h.buffer s
+free_keys_of_end N ms e f h (inr (inr (inl s))) = free_needed key.End IsEndName InEndName free_end_name ms e.end f h.end s
+free_keys_of_end N ms e f h (inr (inr (inr s))) = free_needed key.Guard (IsGuard N) (InGuard N) (free_guard N) ms e.guard f h.guard s
 
-free_end_value : (P : Program) → Free (λ d e. IsObject (IsEnd P) d e × EndFits P e) (InObject (InEnd P))
+free_end : (P : Program) (ms : Members) (e : EndGuard) (f : CertFault) → IsEnd (names_in P) ms e → EndFits P e → InEnd P ms f → ⊥
+free_end P ms e f h fits (inl s) = free_keys_of_end (names_in P) ms e f h s
+free_end P ms e f h fits (inr s) = s.2 (subst (EndFits P) (one_end (names_in P) ms e s.0 h s.1) fits)
+
+-- an end that fits
+abbrev FitEnd : Program → Data → EndGuard → Type 0
+FitEnd P d e = IsObject (IsEnd (names_in P)) d e × EndFits P e
+
+free_end_value : (P : Program) → Free (FitEnd P) (InObject (InEnd P))
 free_end_value P d e f h (inl s) = never (as_object d) h.0.0 s.0 h.0.1
 free_end_value P d e f h (inr s) = free_end P h.0.0 e f h.0.2 h.1 (subst (λ ms. InEnd P ms f) (both (as_object d) s.0 h.0.0 s.1 h.0.1) s.2)
 
@@ -224,12 +253,19 @@ each_with M Q no_items (x ∷ xs) h all = absurd h
 each_with M Q (item d ds) [] h all = absurd h
 each_with M Q (item d ds) (x ∷ xs) h all = ((h.0, All-head Q x xs all), each_with M Q ds xs h.1 (All-tail Q x xs all))
 
-free_all_ends : (P : Program) (ds : Items) (es : List EndGuard) (f : CertFault) → EachEntry (IsObject (IsEnd P)) ds es → EndsFit P es → InAllEnds P ds f → ⊥
-free_all_ends P ds es f h fit (inl s) =
-    free_entries (λ d e. IsObject (IsEnd P) d e × EndFits P e) (InObject (InEnd P)) (free_end_value P) ds es f (each_with (IsObject (IsEnd P)) (EndFits P) ds es h fit.0) s
-free_all_ends P ds es f h fit (inr s) = s.2 (subst (λ l. AllPairs (λ e g. AreOfOneEnd e g → ⊥) l) (one_ends_list P ds es s.0 h s.1) fit.1)
+free_all_ends : (P : Program) (ds : Items) (es : List EndGuard) (f : CertFault) → EachEntry (IsObject (IsEnd (names_in P))) ds es → EndsFit P es → InAllEnds P ds f → ⊥
+free_all_ends P ds es f h fit (inl s) = free_entries (FitEnd P) (InObject (InEnd P)) (free_end_value P) ds es f (each_with (IsObject (IsEnd (names_in P))) (EndFits P) ds es h fit.0) s
+free_all_ends P ds es f h fit (inr s) =
+    let M = IsObject (IsEnd (names_in P)) in
+    let e = s.4 in
+    let one = meant_at M (one_end_value (names_in P)) ds es s.0 s.2 e e h s.7 s.9 in
+    let other = meant_at M (one_end_value (names_in P)) ds es s.1 s.3 s.5 e h s.8 s.10 in
+    fit.1 s.0 s.1 e s.6 other.0 (
+      ap (λ x. x.buffer) one.1 ∙ (s.11.0 ∙ ap (λ x. x.buffer) (sym other.1)),
+      ap (λ x. x.end) one.1 ∙ (s.11.1 ∙ ap (λ x. x.end) (sym other.1)),
+    )
 
-free_ends_value : (P : Program) → Free (λ d es. IsList (EachEntry (IsObject (IsEnd P))) d es × EndsFit P es) (InList (InAllEnds P))
+free_ends_value : (P : Program) → Free (λ d es. IsList (EachEntry (IsObject (IsEnd (names_in P)))) d es × EndsFit P es) (InList (InAllEnds P))
 free_ends_value P d es f h (inl s) = never (as_array d) h.0.0 s.0 h.0.1
 free_ends_value P d es f h (inr s) = free_all_ends P h.0.0 es f h.0.2 h.1 (subst (λ ds. InAllEnds P ds f) (both (as_array d) s.0 h.0.0 s.1 h.0.1) s.2)
 
@@ -248,7 +284,7 @@ free_certificate : (P : Program) → FreeIn (IsCertificate P) (InCertificate P)
 free_certificate P ms C f h (inl s) = free_keys place.Certificate ms f h.only s
 free_certificate P ms C f h (inr (inl s)) = free_needed key.Version IsVersion InVersion free_version ms h.version f h.numbered s
 free_certificate P ms C f h (inr (inr (inl s))) =
-    free_needed key.Ends (λ d es. IsList (EachEntry (IsObject (IsEnd P))) d es × EndsFit P es) (InList (InAllEnds P)) (free_ends_value P) ms C.ends f (h.ends.0, h.ends.1, (h.ends.2, h.fit)) s
+    free_needed key.Ends (λ d es. IsList (EachEntry (IsObject (IsEnd (names_in P)))) d es × EndsFit P es) (InList (InAllEnds P)) (free_ends_value P) ms C.ends f (h.ends.0, h.ends.1, (h.ends.2, h.fit)) s
 free_certificate P ms C f h (inr (inr (inr s))) =
     let version : s.0 ≡ h.version = one_at key.Version IsVersion one_version ms s.0 h.version s.1 h.numbered in
     let there : InNeeded key.Notes (InList (InNotes P h.version)) ms f = subst (λ v. InNeeded key.Notes (InList (InNotes P v)) ms f) version s.2 in

@@ -8,15 +8,16 @@ use Rattle.serde_json.specs.Data.{Data, Items, no_items, item, Members, no_membe
 use Rattle.serde_json.specs.Find.{as_array, as_object, as_str}
 use Rattle.serde_json.specs.Read.{read}
 use Rattle.fr_program.specs.Program.{Program}
+use Rattle.fr_instr.specs.Names.{NamesOf, place_of}
 use Rattle.fr_calls.specs.declared.buffer_end.End.{End as BufferEnd}
 use Rattle.fr_calls.specs.declared.buffer_end.End.TheVariants.{Writer, Reader}
 use Rattle.fr_notes.specs.Note.{Alternative, Note}
 use Rattle.fr_ends.specs.Certificate.{Certificate, value_for}
 use Rattle.fr_ends.specs.Guard.{Guard, Sole, ByMutex, InCritical, Turn, EndGuard}
-use Rattle.fr_ends.specs.Fits.{AreRising}
-use Rattle.fr_cert.specs.Keys.{AreKnown, is_key_of, key_text, field, integer_of, end_at, variable_named, object_named, actor_named}
-use Rattle.fr_cert.specs.Shapes.{At, OrDefault, IsObject, IsList, EachEntry, EachMember, Names, IsDepth, AreEnds, IsSpan}
-use Rattle.fr_cert.specs.Meaning.{NoteText, IsHeldCount, IsRange, AreNamed, IsNoteText, note_said, IsAlternative, IsPlainNote, IsNote, IsTurnValue, AreTurnValues, IsGuardObject, IsGuard, IsEndName, IsEnd, IsVersion, IsCertificate, IsTree, Means}
+use Rattle.fr_ends.proofs.TurnLemmas.{RisesFrom, rises_whole, none_below, first_value, later_value}
+use Rattle.fr_cert.specs.Keys.{AreKnown, is_key_of, key_text, field, integer_of, end_at, names_in}
+use Rattle.fr_cert.specs.Shapes.{At, OrDefault, IsObject, IsList, EachEntry, EachMember, Names, AreNames, IsDepth, AreEnds, IsSpan}
+use Rattle.fr_cert.specs.Meaning.{NoteText, IsHeldCount, IsRange, IsNoteText, note_said, IsAlternative, IsPlainNote, IsNote, IsTurnValue, AreTurnValues, IsGuardObject, IsGuard, IsEndName, IsEnd, IsVersion, IsCertificate, IsTree, Means}
 use Rattle.fr_cert.specs.declared.key.Key.{Key}
 use Rattle.fr_cert.specs.declared.key.Key.TheVariants as key
 use Rattle.fr_cert.specs.declared.key.Place.{Place}
@@ -77,8 +78,11 @@ one_members M one (member name d ms) [] ys h g = absurd h
 one_members M one (member name d ms) (x ∷ xs) [] h g = absurd g
 one_members M one (member name d ms) (x ∷ xs) (y ∷ ys) h g = rw (one name d x y h.0 g.0, one_members M one ms xs ys h.1 g.1) refl
 
-one_name : (named : List ℕ → Option ℕ) → One (Names named)
-one_name named d x y h g = both (named h.0) x y h.2 (subst (λ s. named s ≡ Some y) (both (as_str d) g.0 h.0 g.1 h.1) g.2)
+pub one_name : (names : List (List ℕ)) → One (Names names)
+one_name names d x y h g = both (place_of names h.0) x y h.2 (subst (λ s. place_of names s ≡ Some y) (both (as_str d) g.0 h.0 g.1 h.1) g.2)
+
+one_names : (names : List (List ℕ)) → OneOf (AreNames names)
+one_names names ds xs ys h g = one_entries (Names names) (one_name names) ds xs ys h.0 g.0
 
 one_depth : One IsDepth
 one_depth d n m h g = let e : pos n ≡ pos m = both (integer_of d) (pos n) (pos m) h.0 g.0 in cc
@@ -88,32 +92,29 @@ one_ends ds r s h g = pair r s (both (end_at 0 ds) r.0 s.0 h.lo g.lo) (both (end
 
 -- ---- notes
 
-one_count : (P : Program) (name : List ℕ) → One (IsHeldCount P name)
-one_count P name d x y h g = pair x y (both (object_named P name) x.0 y.0 h.0 g.0) (one_depth d x.1 y.1 h.1 g.1)
+one_count : (N : NamesOf) (name : List ℕ) → One (IsHeldCount N name)
+one_count N name d x y h g = pair x y (both (place_of N.objects name) x.0 y.0 h.0 g.0) (one_depth d x.1 y.1 h.1 g.1)
 
-one_range : (P : Program) (name : List ℕ) → One (IsRange P name)
-one_range P name d x y h g = pair x y (both (variable_named P name) x.0 y.0 h.0 g.0) (one_list AreEnds one_ends d x.1 y.1 h.1 g.1)
-
-one_named : (P : Program) → One (AreNamed P)
-one_named P = one_list (EachEntry (Names (object_named P))) (one_entries (Names (object_named P)) (one_name (object_named P)))
+one_range : (N : NamesOf) (name : List ℕ) → One (IsRange N name)
+one_range N name d x y h g = pair x y (both (place_of N.variables name) x.0 y.0 h.0 g.0) (one_list AreEnds one_ends d x.1 y.1 h.1 g.1)
 
 abbrev text_made : List (ℕ × ℕ) → ℕ → ℕ → List ℕ → List ℕ → List (ℕ × (ℤ × ℤ)) → NoteText
 text_made held crit susp live dead ranges = record { held = held; crit = crit; susp = susp; live = live; dead = dead; ranges = ranges }
 
-pub one_text : (P : Program) → OneIn (IsNoteText P)
-one_text P ms t u h g =
-    let held = one_default [] (IsObject (EachMember (IsHeldCount P))) (one_object (EachMember (IsHeldCount P)) (one_members (IsHeldCount P) (one_count P))) (field key.Held ms) t.held u.held h.held g.held in
+pub one_text : (N : NamesOf) → OneIn (IsNoteText N)
+one_text N ms t u h g =
+    let held = one_default [] (IsObject (EachMember (IsHeldCount N))) (one_object (EachMember (IsHeldCount N)) (one_members (IsHeldCount N) (one_count N))) (field key.Held ms) t.held u.held h.held g.held in
     let crit = one_default 0 IsDepth one_depth (field key.Crit ms) t.crit u.crit h.crit g.crit in
     let susp = one_default 0 IsDepth one_depth (field key.Susp ms) t.susp u.susp h.susp g.susp in
-    let live = one_default [] (AreNamed P) (one_named P) (field key.Live ms) t.live u.live h.live g.live in
-    let dead = one_default [] (AreNamed P) (one_named P) (field key.Dead ms) t.dead u.dead h.dead g.dead in
-    let ranges = one_default [] (IsObject (EachMember (IsRange P))) (one_object (EachMember (IsRange P)) (one_members (IsRange P) (one_range P))) (field key.Range ms) t.ranges u.ranges h.ranges g.ranges in
+    let live = one_default [] (IsList (AreNames N.objects)) (one_list (AreNames N.objects) (one_names N.objects)) (field key.Live ms) t.live u.live h.live g.live in
+    let dead = one_default [] (IsList (AreNames N.objects)) (one_list (AreNames N.objects) (one_names N.objects)) (field key.Dead ms) t.dead u.dead h.dead g.dead in
+    let ranges = one_default [] (IsObject (EachMember (IsRange N))) (one_object (EachMember (IsRange N)) (one_members (IsRange N) (one_range N))) (field key.Range ms) t.ranges u.ranges h.ranges g.ranges in
     let whole : text_made t.held t.crit t.susp t.live t.dead t.ranges ≡ text_made u.held u.crit u.susp u.live u.dead u.ranges =
     rw (held, crit, susp, live, dead, ranges) refl in
     whole
 
 one_alternative : (P : Program) → OneIn (IsAlternative P)
-one_alternative P ms n m h g = h.3 ∙ ap (note_said P) (one_text P ms h.0 g.0 h.1 g.1) ∙ sym g.3
+one_alternative P ms n m h g = h.3 ∙ ap (note_said P) (one_text (names_in P) ms h.0 g.0 h.1 g.1) ∙ sym g.3
 
 one_plain : (P : Program) → One (IsPlainNote P)
 one_plain P = one_object (IsAlternative P) (one_alternative P)
@@ -156,37 +157,6 @@ one_note P version d x y (inr (inr h)) (inr (inr g)) = one_list (EachEntry (IsPl
 
 -- ---- the values of a turn: lists that rise by actor and give each actor the same are the same
 
--- the list rises, from actors above this one on
-abbrev pub RisesFrom : ℕ → List (ℕ × ℤ) → Type 0
-RisesFrom least [] = Unit {0}
-RisesFrom least (v ∷ vs) = (least < suc v.0) × RisesFrom (suc v.0) vs
-
-pub rises : (vs : List (ℕ × ℤ)) (least : ℕ) → AreRising vs → ((k : ℕ) (d : ℕ × ℤ) → k < length vs → least < suc (get_or vs k d).0) → RisesFrom least vs
-rises [] least h from = tt
-rises (v ∷ vs) least h from = (
-  from 0 v (omega arith),
-  rises vs (suc v.0) (λ i j d less within. h (suc i) (suc j) d (omega (arith, less)) (omega (arith, within)))
-      (λ k d within. let above : v.0 < (get_or vs k d).0 = h 0 (suc k) d (omega arith) (omega (arith, within)) in omega (arith, above)),
-)
-
-pub none_below : (vs : List (ℕ × ℤ)) (least a : ℕ) → RisesFrom least vs → a < least → value_for vs a ≡ None
-none_below [] least a h less = refl
-none_below (v ∷ vs) least a h less = go (nat_eq v.0 a) refl (none_below vs (suc v.0) a h.1 (omega (arith, h.0, less)))
-  where
-    go : (b : Bool) → nat_eq v.0 a ≡ b → value_for vs a ≡ None → cond b (Some v.1) (value_for vs a) ≡ None
-    go true e rest = let same = (Decides-eqb v.0 a).0 e in absurd (omega (arith, same, h.0, less))
-    go false e rest = rest
-
-first_value : (v : ℕ × ℤ) (vs : List (ℕ × ℤ)) → value_for (v ∷ vs) v.0 ≡ Some v.1
-first_value v vs = ap (λ b. cond b (Some v.1) (value_for vs v.0)) ((Decides-eqb v.0 v.0).1 refl)
-
-later_value : (v : ℕ × ℤ) (vs : List (ℕ × ℤ)) (a : ℕ) → (v.0 ≡ a → ⊥) → value_for (v ∷ vs) a ≡ value_for vs a
-later_value v vs a other = go (nat_eq v.0 a) refl
-  where
-    go : (b : Bool) → nat_eq v.0 a ≡ b → cond b (Some v.1) (value_for vs a) ≡ value_for vs a
-    go true e = absurd (other ((Decides-eqb v.0 a).0 e))
-    go false e = refl
-
 -- the two lists begin with one actor: if one began below the other, that one would lack it
 first_below : (v w : ℕ × ℤ) (vs ws : List (ℕ × ℤ)) (least : ℕ) → RisesFrom least (w ∷ ws) → v.0 < w.0 → value_for (v ∷ vs) v.0 ≡ value_for (w ∷ ws) v.0 → ⊥
 first_below v w vs ws least h less same =
@@ -219,43 +189,42 @@ rising_same (v ∷ vs) (w ∷ ws) least h g same =
 
 -- ---- guards
 
-one_turn_value : (P : Program) (name : List ℕ) → One (IsTurnValue P name)
-one_turn_value P name d x y h g = pair x y (both (actor_named P name) x.0 y.0 h.0 g.0) (both (integer_of d) x.1 y.1 h.1 g.1)
+one_turn_value : (N : NamesOf) (name : List ℕ) → One (IsTurnValue N name)
+one_turn_value N name d x y h g = pair x y (both (place_of N.actors name) x.0 y.0 h.0 g.0) (both (integer_of d) x.1 y.1 h.1.0 g.1.0)
 
-one_turn : (P : Program) → OneIn (AreTurnValues P)
-one_turn P ms x y h g =
-    let given : g.0 ≡ h.0 = one_members (IsTurnValue P) (one_turn_value P) ms g.0 h.0 g.1 h.1 in
-    rising_same x y 0 (rises x 0 h.2 (λ k d within. omega arith)) (rises y 0 g.2 (λ k d within. omega arith))
-    (λ a. h.3 a ∙ sym (g.3 a ∙ ap (λ vs. value_for vs a) given))
+one_turn : (N : NamesOf) → OneIn (AreTurnValues N)
+one_turn N ms x y h g =
+    let given : g.0 ≡ h.0 = one_members (IsTurnValue N) (one_turn_value N) ms g.0 h.0 g.1 h.1 in
+    rising_same x y 0 (rises_whole x h.2) (rises_whole y g.2) (λ a. h.3 a ∙ sym (g.3 a ∙ ap (λ vs. value_for vs a) given))
 
 -- an object has no key that is unknown at its place
 pub unknown : (p : Place) (k : Key) (ms : Members) (d : Data) → AreKnown p ms → field k ms ≡ Some d → is_key_of p (key_text k) ≡ false → ⊥
 unfolding field
 unknown p k ms d h e hidden = false≢true (sym hidden ∙ h (key_text k) d e)
 
-one_guard_object : (P : Program) → OneIn (IsGuardObject P)
-one_guard_object P ms (Sole a) (Sole b) h g = ap Sole (one_at key.Sole (Names (actor_named P)) (one_name (actor_named P)) ms a b h.1 g.1)
-one_guard_object P ms (Sole a) (ByMutex m) h g = absurd (unknown place.Sole key.Mutex ms g.1.0 h.0 g.1.1 refl)
-one_guard_object P ms (Sole a) InCritical h g = absurd g
-one_guard_object P ms (Sole a) (Turn x vs) h g = absurd (unknown place.Sole key.Turn ms g.1.0 h.0 g.1.1 refl)
-one_guard_object P ms (ByMutex m) (Sole a) h g = absurd (unknown place.Mutex key.Sole ms g.1.0 h.0 g.1.1 refl)
-one_guard_object P ms (ByMutex m) (ByMutex n) h g = ap ByMutex (one_at key.Mutex (Names (object_named P)) (one_name (object_named P)) ms m n h.1 g.1)
-one_guard_object P ms (ByMutex m) InCritical h g = absurd g
-one_guard_object P ms (ByMutex m) (Turn x vs) h g = absurd (unknown place.Mutex key.Turn ms g.1.0 h.0 g.1.1 refl)
-one_guard_object P ms InCritical other h g = absurd h
-one_guard_object P ms (Turn x vs) (Sole a) h g = absurd (unknown place.Turn key.Sole ms g.1.0 h.0 g.1.1 refl)
-one_guard_object P ms (Turn x vs) (ByMutex m) h g = absurd (unknown place.Turn key.Mutex ms g.1.0 h.0 g.1.1 refl)
-one_guard_object P ms (Turn x vs) InCritical h g = absurd g
-one_guard_object P ms (Turn x vs) (Turn y ws) h g =
-    let variable = one_at key.Turn (Names (variable_named P)) (one_name (variable_named P)) ms x y h.1 g.1 in
-    let values = one_at key.Values (IsObject (AreTurnValues P)) (one_object (AreTurnValues P) (one_turn P)) ms vs ws h.2 g.2 in
+one_guard_object : (N : NamesOf) → OneIn (IsGuardObject N)
+one_guard_object N ms (Sole a) (Sole b) h g = ap Sole (one_at key.Sole (Names N.actors) (one_name N.actors) ms a b h.1 g.1)
+one_guard_object N ms (Sole a) (ByMutex m) h g = absurd (unknown place.Sole key.Mutex ms g.1.0 h.0 g.1.1 refl)
+one_guard_object N ms (Sole a) InCritical h g = absurd g
+one_guard_object N ms (Sole a) (Turn x vs) h g = absurd (unknown place.Sole key.Turn ms g.1.0 h.0 g.1.1 refl)
+one_guard_object N ms (ByMutex m) (Sole a) h g = absurd (unknown place.Mutex key.Sole ms g.1.0 h.0 g.1.1 refl)
+one_guard_object N ms (ByMutex m) (ByMutex n) h g = ap ByMutex (one_at key.Mutex (Names N.objects) (one_name N.objects) ms m n h.1 g.1)
+one_guard_object N ms (ByMutex m) InCritical h g = absurd g
+one_guard_object N ms (ByMutex m) (Turn x vs) h g = absurd (unknown place.Mutex key.Turn ms g.1.0 h.0 g.1.1 refl)
+one_guard_object N ms InCritical other h g = absurd h
+one_guard_object N ms (Turn x vs) (Sole a) h g = absurd (unknown place.Turn key.Sole ms g.1.0 h.0 g.1.1 refl)
+one_guard_object N ms (Turn x vs) (ByMutex m) h g = absurd (unknown place.Turn key.Mutex ms g.1.0 h.0 g.1.1 refl)
+one_guard_object N ms (Turn x vs) InCritical h g = absurd g
+one_guard_object N ms (Turn x vs) (Turn y ws) h g =
+    let variable = one_at key.Turn (Names N.variables) (one_name N.variables) ms x y h.1 g.1 in
+    let values = one_at key.Values (IsObject (AreTurnValues N)) (one_object (AreTurnValues N) (one_turn N)) ms vs ws h.2 g.2 in
     rw (variable, values) refl
 
-one_guard : (P : Program) → One (IsGuard P)
-one_guard P d x y (inl h) (inl g) = h.1 ∙ sym g.1
-one_guard P d x y (inl h) (inr g) = absurd (apart d g.0 (codes "critical") g.1 h.0)
-one_guard P d x y (inr h) (inl g) = absurd (apart d h.0 (codes "critical") h.1 g.0)
-one_guard P d x y (inr h) (inr g) = one_object (IsGuardObject P) (one_guard_object P) d x y h g
+one_guard : (N : NamesOf) → One (IsGuard N)
+one_guard N d x y (inl h) (inl g) = h.1 ∙ sym g.1
+one_guard N d x y (inl h) (inr g) = absurd (apart d g.0 (codes "critical") g.1 h.0)
+one_guard N d x y (inr h) (inl g) = absurd (apart d h.0 (codes "critical") h.1 g.0)
+one_guard N d x y (inr h) (inr g) = one_object (IsGuardObject N) (one_guard_object N) d x y h g
 
 -- ---- ends
 
@@ -272,16 +241,19 @@ one_end_name d Reader Reader h g = refl
 abbrev end_made : ℕ → BufferEnd → Guard → EndGuard
 end_made buffer end guard = record { buffer = buffer; end = end; guard = guard }
 
-pub one_end : (P : Program) → OneIn (IsEnd P)
-one_end P ms e f h g =
-    let buffer = one_at key.Buffer (Names (object_named P)) (one_name (object_named P)) ms e.buffer f.buffer h.buffer g.buffer in
+pub one_end : (N : NamesOf) → OneIn (IsEnd N)
+one_end N ms e f h g =
+    let buffer = one_at key.Buffer (Names N.objects) (one_name N.objects) ms e.buffer f.buffer h.buffer g.buffer in
     let end = one_at key.End IsEndName one_end_name ms e.end f.end h.end g.end in
-    let guard = one_at key.Guard (IsGuard P) (one_guard P) ms e.guard f.guard h.guard g.guard in
+    let guard = one_at key.Guard (IsGuard N) (one_guard N) ms e.guard f.guard h.guard g.guard in
     let whole : end_made e.buffer e.end e.guard ≡ end_made f.buffer f.end f.guard = rw (buffer, end, guard) refl in
     whole
 
-pub one_ends_list : (P : Program) → OneOf (EachEntry (IsObject (IsEnd P)))
-one_ends_list P = one_entries (IsObject (IsEnd P)) (one_object (IsEnd P) (one_end P))
+pub one_end_value : (N : NamesOf) → One (IsObject (IsEnd N))
+one_end_value N = one_object (IsEnd N) (one_end N)
+
+one_ends_list : (N : NamesOf) → OneOf (EachEntry (IsObject (IsEnd N)))
+one_ends_list N = one_entries (IsObject (IsEnd N)) (one_end_value N)
 
 -- ---- the whole
 
@@ -294,7 +266,7 @@ certificate_made notes ends = record { notes = notes; ends = ends }
 one_certificate : (P : Program) → OneIn (IsCertificate P)
 one_certificate P ms C D h g =
     let version = one_at key.Version IsVersion one_version ms h.version g.version h.numbered g.numbered in
-    let ends = one_at key.Ends (IsList (EachEntry (IsObject (IsEnd P)))) (one_list (EachEntry (IsObject (IsEnd P))) (one_ends_list P)) ms C.ends D.ends h.ends g.ends in
+    let ends = one_at key.Ends (IsList (EachEntry (IsObject (IsEnd (names_in P))))) (one_list (EachEntry (IsObject (IsEnd (names_in P)))) (one_ends_list (names_in P))) ms C.ends D.ends h.ends g.ends in
     let there = subst (λ v. At key.Notes (IsList (EachEntry (IsNote P v))) ms D.notes) (sym version) g.notes in
     let notes = one_at key.Notes (IsList (EachEntry (IsNote P h.version))) (one_list (EachEntry (IsNote P h.version)) (one_entries (IsNote P h.version) (one_note P h.version))) ms C.notes D.notes h.notes there in
     let whole : certificate_made C.notes C.ends ≡ certificate_made D.notes D.ends = rw (notes, ends) refl in

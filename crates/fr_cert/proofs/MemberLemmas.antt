@@ -1,25 +1,24 @@
--- One more name of an object, and one more range that it gives.
-use Rattle.std.proofs.Common.{◌≡◌, ℕ, ℤ, List, [], ◌∷◌, ◌++◌, map, string_bytes, refl, ap, inl, inr}
+-- One more member of an object, and one more thing that it means.
+use Rattle.std.proofs.Common.{◌≡◌, ℕ, List, [], ◌∷◌, ◌++◌, map, string_bytes, refl, ap, inl, inr}
+use Rattle.serde_json.specs.Data.{Data}
 use Rattle.serde_json.specs.View.{members_view, view}
 use Rattle.serde_json.proofs.Views.{Entry}
-use Rattle.fr_program.specs.Program.{Program}
-use Rattle.fr_cert.specs.Meaning.{IsRange}
-use Rattle.fr_cert.specs.PlainMeaning.{Named}
-use Rattle.fr_cert.specs.PlainFaults.{InNamed, InMembers}
+use Rattle.fr_cert.specs.Shapes.{EachMember}
+use Rattle.fr_cert.specs.Faults.{InMembers}
 use Rattle.fr_cert.specs.declared.fault.CertFault.{CertFault}
 
-pub named_push : (P : Program) (es : List Entry) (e : Entry) (xs : List (ℕ × (ℤ × ℤ))) (x : ℕ × (ℤ × ℤ)) → Named P (members_view es) xs → IsRange P (string_bytes e.0) (view e.1) x
-    → Named P (members_view (es ++ e ∷ [])) (xs ++ x ∷ [])
-named_push P [] e [] x h p = (p, tt)
-named_push P [] e (y ∷ xs) x h p = absurd h
-named_push P (d ∷ es) e [] x h p = absurd h
-named_push P (d ∷ es) e (y ∷ xs) x h p = (h.0, named_push P es e xs x h.1 p)
+pub member_push : {A : Type 0} (M : List ℕ → Data → A → Type 0) (es : List Entry) (e : Entry) (xs : List A) (x : A) → EachMember M (members_view es) xs → M (string_bytes e.0) (view e.1) x
+    → EachMember M (members_view (es ++ e ∷ [])) (xs ++ x ∷ [])
+member_push M [] e [] x h p = (p, tt)
+member_push M [] e (y ∷ xs) x h p = absurd h
+member_push M (d ∷ es) e [] x h p = absurd h
+member_push M (d ∷ es) e (y ∷ xs) x h p = (h.0, member_push M es e xs x h.1 p)
 
 pub map_push : {A B : Type 0} (f : B → A) (vs : List B) (v : B) → map f (vs ++ v ∷ []) ≡ map f vs ++ f v ∷ []
 map_push f [] v = refl
 map_push f (w ∷ vs) v = ap (λ t. f w ∷ t) (map_push f vs v)
 
--- a fault at a name of the object stands in it
-pub in_members : (P : Program) (front : List Entry) (e : Entry) (rest : List Entry) (f : CertFault) → InNamed P (string_bytes e.0) (view e.1) f → InMembers P (members_view (front ++ e ∷ rest)) f
-in_members P [] e rest f h = inl h
-in_members P (d ∷ front) e rest f h = inr (in_members P front e rest f h)
+-- a fault in a member of the object is in the object
+pub in_members : (F : List ℕ → Data → CertFault → Type 0) (front : List Entry) (e : Entry) (rest : List Entry) (f : CertFault) → F (string_bytes e.0) (view e.1) f → InMembers F (members_view (front ++ e ∷ rest)) f
+in_members F [] e rest f h = inl h
+in_members F (d ∷ front) e rest f h = inr (in_members F front e rest f h)

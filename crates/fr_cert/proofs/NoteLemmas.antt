@@ -1,27 +1,28 @@
--- What plain parts of a note say, beside what an object has to say for them.
-use Rattle.std.proofs.Common.{◌≡◌, ◌≢◌, ◌⊎◌, true≢false, ℕ, ℤ, zero, suc, ◌+◌, ◌<◌, ◌≤ℤ◌, List, [], ◌∷◌, Bool, true, false, Option, Some, option_map, length, get_or, cond, find, map, nat_eq, replicate, T, All, Any, unwrap_or, refl, ap, ◌∙◌, arith, inl, inr}
-use Rattle.std.specs.List.{range_with_len}
+-- What the parts of a note say, beside what an object has to say for them.
+use Rattle.std.proofs.Common.{◌≡◌, ◌≢◌, ◌⊎◌, ◌||◌, true≢false, ℕ, ℤ, zero, suc, ◌+◌, ◌<◌, ◌≤◌, ◌≤ℤ◌, List, [], ◌∷◌, Bool, true, false, IsTrue, Option, Some, is_some, option_map, length, get_or, cond, find, map, nat_eq, T, All, Any, unwrap_or, refl, sym, ap, ◌∙◌, subst, arith, inl, inr}
+use Rattle.std.specs.List.{list_any, range_with_len}
 use Rattle.std.proofs.lemmas.Bool.{cases_lt}
 use Rattle.std.proofs.lemmas.List.{get_or_default, get_or-map, length-map}
 use Rattle.std.specs.Int.Signed.{le_z, le_z_yes}
 use Rattle.std.proofs.lemmas.List.Elements.{All-map}
-use Rattle.serde_json.specs.Data.{Members}
+use Rattle.fr_program.specs.declared.ids.ObjId.{ObjId}
 use Rattle.fr_program.specs.declared.ids.VarId.{VarId}
+use Rattle.fr_program.specs.declared.parts.Kind.{Kind}
+use Rattle.fr_program.specs.declared.parts.Kind.TheVariants.{Queue, Binary, Counting, Mutex, Recursive, Stream, Message}
 use Rattle.fr_program.specs.declared.range.Range.{Range}
 use Rattle.fr_program.specs.Program.{Program}
 use Rattle.fr_program.specs.Lookup.{variable_at}
+use Rattle.fr_calls.specs.State.{kind_of}
 use Rattle.fr_notes.specs.declared.claim.Claim.{Claim}
-use Rattle.fr_notes.specs.declared.claim.Claim.TheVariants.{NotHeld}
+use Rattle.fr_notes.specs.declared.claim.Claim.TheVariants.{HeldTimes, Gone, Alive, NotHeld}
 use Rattle.fr_notes.specs.declared.note.NoteParts.{NoteParts}
 use Rattle.fr_notes.specs.declared.fault.NoteFault.{NoteFault}
 use Rattle.fr_notes.specs.declared.fault.NoteFault.TheVariants.{Memory, Count, Lives, Span}
 use Rattle.fr_notes.specs.Note.{Alternative}
-use Rattle.fr_notes.specs.Parts.{said, claim_said, range_in, range_by, range_said, HasFault}
-use Rattle.fr_cert.specs.PlainMeaning.{IsPlainText, plain_said}
-use Rattle.fr_cert.specs.Meaning.{IsInside, range_at}
-use Rattle.fr_cert.specs.Faults.{Standing}
-use Rattle.fr_cert.specs.PlainStands.{InPlain}
-use Rattle.fr_cert.specs.Views.{named_of, text_of, IsPlainParts, refused_as}
+use Rattle.fr_notes.specs.Fits.{CanClaim, most_depth}
+use Rattle.fr_notes.specs.Parts.{said, claim_by, claim_said, count_in, names, is_live_said, range_in, range_by, range_said, IsCount, Stands}
+use Rattle.fr_cert.specs.Meaning.{NoteTextFits, IsInside, count_for, has, claim_at, range_at, note_said}
+use Rattle.fr_cert.specs.Views.{named_of, count_of, number_of, text_of}
 
 abbrev Given : Type 0
 Given = VarId × Range
@@ -43,24 +44,35 @@ map_same : {A B : Type 0} (f g : A → B) → ((x : A) → f x ≡ g x) → (xs 
 map_same f g e [] = refl
 map_same f g e (x ∷ xs) = rw (e x, map_same f g e xs) refl
 
--- nothing is said of any object
-claim_plain : (parts : NoteParts) → IsPlainParts parts → (o : ℕ) → claim_said parts o ≡ NotHeld
-claim_plain parts h o = rw (h.held, h.dead, h.live) refl
+-- how often an object is held is the same, whether it is looked for among objects or among their numbers
+count_step : (b : Bool) (h : ObjId × ℕ) (rest : Option (ObjId × ℕ)) (found : Option (ℕ × ℕ)) → option_map (λ x. x.1) rest ≡ option_map (λ x. x.1) found
+    → option_map (λ x. x.1) (cond b (Some h) rest) ≡ option_map (λ x. x.1) (cond b (Some (count_of h)) found)
+count_step true h rest found e = refl
+count_step false h rest found e = e
 
-pub claims_along : (f : ℕ → Claim) → ((o : ℕ) → f o ≡ NotHeld) → (from n : ℕ) → map f (range_with_len from n) ≡ replicate n NotHeld
-claims_along f e from zero = refl
-claims_along f e from (suc n) = rw (e from, claims_along f e (from + 1) n) refl
+count_same : (held : List (ObjId × ℕ)) (o : ℕ) → count_in held o ≡ count_for (map count_of held) o
+count_same [] o = refl
+count_same (h ∷ held) o = count_step (nat_eq h.0.0 o) h _ _ (count_same held o)
+
+has_same : (objects : List ObjId) (o : ℕ) → names objects o ≡ has (map number_of objects) o
+has_same [] o = refl
+has_same (x ∷ objects) o = ap (λ b. nat_eq x.0 o || b) (has_same objects o)
+
+claim_same : (parts : NoteParts) (o : ℕ) → claim_said parts o ≡ claim_at (text_of parts) o
+claim_same parts o = rw (count_same parts.held.items o, has_same parts.dead.items o, has_same parts.live.items o) refl
+
+live_same : (parts : NoteParts) (o : ℕ) → is_live_said parts o ≡ (has (text_of parts).live o || is_some (count_for (text_of parts).held o))
+live_same parts o = rw (count_same parts.held.items o, has_same parts.live.items o) refl
 
 abbrev made : ℕ → ℕ → List Claim → List (ℤ × ℤ) → Alternative
 made c s k r = record { critical = c; suspended = s; claims = k; ranges = r }
 
-pub said_plain : (P : Program) (parts : NoteParts) → IsPlainParts parts → said P parts ≡ plain_said P (text_of parts)
-said_plain P parts h =
+pub said_same : (P : Program) (parts : NoteParts) → said P parts ≡ note_said P (text_of parts)
+said_same P parts =
     let whole : made parts.crit parts.susp (map (claim_said parts) (range_with_len 0 (length P.objects))) (map (range_said P parts.range.items) (range_with_len 0 (length P.variables)))
-    ≡ made parts.crit 0 (replicate (length P.objects) NotHeld) (map (range_at P (map named_of parts.range.items)) (range_with_len 0 (length P.variables))) =
+    ≡ made parts.crit parts.susp (map (claim_at (text_of parts)) (range_with_len 0 (length P.objects))) (map (range_at P (map named_of parts.range.items)) (range_with_len 0 (length P.variables))) =
     rw (
-      h.susp,
-      claims_along (claim_said parts) (claim_plain parts h) 0 (length P.objects),
+      map_same (claim_said parts) (claim_at (text_of parts)) (claim_same parts) (range_with_len 0 (length P.objects)),
       map_same (range_said P parts.range.items) (range_at P (map named_of parts.range.items)) (range_same P parts.range.items) (range_with_len 0 (length P.variables)),
     ) refl in
     whole
@@ -94,24 +106,49 @@ all_or_any Q decide xs none k d within =
       | inr not ↦ absurd (none (k, get_or xs k d, within, get_or_default xs k (get_or xs k d) d within, not))
     ]
 
-pub all_inside : (P : Program) (parts : NoteParts) → ((f : NoteFault) → HasFault P parts f → ⊥) → All (IsInside P) (text_of parts).ranges
-all_inside P parts free =
-    All-map (IsInside P) named_of parts.range.items (all_or_any (λ r. IsInside P (named_of r)) (λ r. inside_or P (named_of r)) parts.range.items (free Span))
 
-any_map : {A B : Type 0} (f : B → A) (Q : A → Type 0) (xs : List B) → Any (λ x. Q (f x)) xs → Any Q (map f xs)
-any_map f Q xs h = (h.0, f h.1, rw (length-map xs f) h.2, get_or-map f xs h.0 h.1 (f h.1) h.2 ∙ ap f h.3, h.4)
+claim_or : (kind : Kind) (n : ℕ) → CanClaim kind (HeldTimes n) ⊎ (CanClaim kind (HeldTimes n) → ⊥)
+claim_or Mutex n =
+    elim (cases_lt n 1) [
+      | inl less ↦ inr (λ h. absurd (omega (arith, less, h)))
+      | inr from ↦ elim (cases_lt 1 n) [ inl more ↦ inr (λ h. absurd (omega (arith, more, h))) | inr to ↦ inl (omega (arith, from, to)) ]
+    ]
+claim_or Recursive n =
+    elim (cases_lt n 1) [
+      | inl less ↦ inr (λ h. absurd (omega (arith, less, h.0)))
+      | inr from ↦ elim (cases_lt 255 n) [ inl more ↦ inr (λ h. absurd (omega (arith, more, h.1))) | inr to ↦ inl (from, to) ]
+    ]
+claim_or kind n = inr (λ h. h)
 
--- a fault of plain parts is a range outside the declared one
-pub plain_stands : (P : Program) (parts : NoteParts) (f : NoteFault) → IsPlainParts parts → HasFault P parts f → Any (λ x. IsInside P x → ⊥) (text_of parts).ranges
-plain_stands P parts Memory h s = absurd s
-plain_stands P parts Count h s = absurd (omega (arith, ap length h.held, s.2))
-plain_stands P parts Lives h s = absurd (omega (arith, ap length h.dead, s.2))
-plain_stands P parts Span h s = any_map named_of (λ x. IsInside P x → ⊥) parts.range.items s
+count_or : (P : Program) (h : ObjId × ℕ) → IsCount P h ⊎ (IsCount P h → ⊥)
+count_or P h =
+    elim (nat_or h.0.0 (length P.objects)) [
+      | inl a ↦ elim (claim_or (kind_of P h.0.0) h.1) [ inl b ↦ inl (a, b) | inr b ↦ inr (λ g. b g.1) ]
+      | inr a ↦ inr (λ g. a g.0)
+    ]
 
--- so it stands where the parts were read from
-pub plain_fault : (P : Program) (ms : Members) (parts : NoteParts) (f : NoteFault) → IsPlainText P ms (text_of parts) → IsPlainParts parts → (f ≢ Memory → HasFault P parts f)
-    → Standing (InPlain P ms) (refused_as f)
-plain_fault P ms parts Memory text plain h named = absurd (true≢false named)
-plain_fault P ms parts Count text plain h named = inr (text_of parts, text, plain_stands P parts Count plain (h (λ e. cc)), refl)
-plain_fault P ms parts Lives text plain h named = inr (text_of parts, text, plain_stands P parts Lives plain (h (λ e. cc)), refl)
-plain_fault P ms parts Span text plain h named = inr (text_of parts, text, plain_stands P parts Span plain (h (λ e. cc)), refl)
+-- what holds of each thing that is meant holds of each in code
+all_of_map : {A B : Type 0} (Q : B → Type 0) (f : A → B) (xs : List A) → All Q (map f xs) → All (λ x. Q (f x)) xs
+all_of_map Q f xs h k d within = subst Q (get_or-map f xs k d (f d) within) (h k (f d) (omega (arith, length-map xs f, within)))
+
+-- what holds of each fails of none
+all_not_any : {A : Type 0} (Q : A → Type 0) (xs : List A) → All Q xs → Any (λ x. Q x → ⊥) xs → ⊥
+all_not_any Q xs all s = s.4 (subst Q s.3 (all s.0 s.1 s.2))
+
+-- parts without a fault are those of a note
+pub fits_from : (P : Program) (parts : NoteParts) → ((f : NoteFault) → Stands P parts f → ⊥) → NoteTextFits P (text_of parts)
+fits_from P parts free = record {
+  held = All-map (λ h. (h.0 < length P.objects) × CanClaim (kind_of P h.0) (HeldTimes h.1)) count_of parts.held.items (all_or_any (IsCount P) (count_or P) parts.held.items (free Count));
+  apart = All-map (λ o. IsTrue (has (text_of parts).live o || is_some (count_for (text_of parts).held o)) → ⊥) number_of parts.dead.items
+      (λ k d within live. free Lives (k, get_or parts.dead.items k d, within, get_or_default parts.dead.items k (get_or parts.dead.items k d) d within, live_same parts (get_or parts.dead.items k d).0 ∙ live));
+  ranges = All-map (IsInside P) named_of parts.range.items (all_or_any (λ r. IsInside P (named_of r)) (λ r. inside_or P (named_of r)) parts.range.items (free Span));
+}
+
+-- parts with a fault are those of no note
+pub unfit : (P : Program) (parts : NoteParts) (f : NoteFault) → Stands P parts f → NoteTextFits P (text_of parts) → ⊥
+unfit P parts Memory s fit = s
+unfit P parts Count s fit = all_not_any (IsCount P) parts.held.items (all_of_map (λ h. (h.0 < length P.objects) × CanClaim (kind_of P h.0) (HeldTimes h.1)) count_of parts.held.items fit.held) s
+unfit P parts Lives s fit =
+    let free = all_of_map (λ o. IsTrue (has (text_of parts).live o || is_some (count_for (text_of parts).held o)) → ⊥) number_of parts.dead.items fit.apart s.0 s.1 s.2 in
+    free (ap (λ o. has (text_of parts).live o.0 || is_some (count_for (text_of parts).held o.0)) s.3 ∙ (sym (live_same parts s.1.0) ∙ s.4))
+unfit P parts Span s fit = all_not_any (λ r. IsInside P (named_of r)) parts.range.items (all_of_map (IsInside P) named_of parts.range.items fit.ranges) s

@@ -11,14 +11,17 @@
 -- | InObject, InList           | a value is no object, no list, or the fault is in its contents                   |
 -- | InEntries, InMembers       | the fault is in an entry of a list; in a member of an object                     |
 -- | InInteger, InDepth         | a value is no integer; or it is none from 0 to 255                               |
--- | InName                     | a value is no text, or names nothing                                             |
+-- | IsUnknown, InName          | a name is none; a value is no text, or such a name                               |
+-- | IsNamedTwice, InNames      | a name is there twice; the fault is in a list of names                           |
 -- | InEnds, InSpan             | a list is not two integers in order; a value is no such list                     |
-use Rattle.std.specs.Prelude.{◌≡◌, ◌⊎◌, ◌≤◌, ◌<ℤ◌, ℕ, ℤ, pos, List, [], ◌∷◌, Option, Bool, true, false, Some, None}
+use Rattle.std.specs.Prelude.{◌≡◌, ◌⊎◌, ◌<◌, ◌≤◌, ◌<ℤ◌, ℕ, ℤ, pos, List, [], ◌∷◌, Option, Bool, true, false, Some, None, string_bytes}
 use Rattle.serde_json.specs.Data.{Data, Items, Members, no_members, member}
 use Rattle.serde_json.specs.Find.{get_member, get_item, as_array, as_object, as_str}
 use Rattle.fr_notes.specs.Fits.{most_depth}
+use Rattle.fr_instr.specs.Names.{place_of}
 use Rattle.fr_cert.specs.Path.{PathStep, key, at}
 use Rattle.fr_cert.specs.Keys.{key_text, is_key_of, field, integer_of, end_at}
+use Rattle.fr_cert.specs.Shapes.{Names}
 use Rattle.fr_cert.specs.declared.key.Key.{Key}
 use Rattle.fr_cert.specs.declared.key.Place.{Place}
 use Rattle.fr_cert.specs.declared.fault.CertFault.{CertFault}
@@ -40,6 +43,11 @@ Departs path f = f ≡ fault.Shape path
 -- the fault of a value, as seen from one that has it at this step
 abbrev pub deeper : PathStep → CertFault → CertFault
 deeper s (fault.Shape path) = fault.Shape (s ∷ path)
+deeper s (fault.UnknownName path name) = fault.UnknownName (s ∷ path) name
+deeper s (fault.Note path) = fault.Note (s ∷ path)
+deeper s (fault.Guard path) = fault.Guard (s ∷ path)
+deeper s (fault.EndTwice path) = fault.EndTwice (s ∷ path)
+deeper s (fault.Alternatives path) = fault.Alternatives (s ∷ path)
 deeper s f = f
 
 -- the fault is present in the value at this step
@@ -75,9 +83,14 @@ abbrev pub InMembers : (List ℕ → Data → CertFault → Type 0) → Members 
 InMembers F no_members f = ⊥
 InMembers F (member name d ms) f = F name d f ⊎ InMembers F ms f
 
--- the name is that of nothing, or the fault is in the value beside it
-abbrev pub InNamed : (List ℕ → Option ℕ) → (Data → CertFault → Type 0) → List ℕ → Data → CertFault → Type 0
-InNamed named F name d f = ((named name ≡ None) × (f ≡ fault.UnknownName)) ⊎ Within (key name) (F d) f
+-- the name is that of nothing
+abbrev pub IsUnknown : List ℕ → CertFault → Type 0
+IsUnknown name (fault.UnknownName path text) = (path ≡ []) × (string_bytes text ≡ name)
+IsUnknown name f = ⊥
+
+-- the name is none of the list, or the fault is in the value beside it
+abbrev pub InNamed : List (List ℕ) → (Data → CertFault → Type 0) → List ℕ → Data → CertFault → Type 0
+InNamed names F name d f = ((place_of names name ≡ None) × IsUnknown name f) ⊎ Within (key name) (F d) f
 
 -- the value is no integer
 abbrev pub InInteger : Data → CertFault → Type 0
@@ -85,19 +98,29 @@ InInteger d f = (integer_of d ≡ None) × Departs [] f
 
 -- the value is no integer, or one that no depth is
 abbrev pub InDepth : Data → CertFault → Type 0
-InDepth d f = InInteger d f ⊎ ((z : ℤ) × (integer_of d ≡ Some z) × ((n : ℕ) → n ≤ most_depth → z ≡ pos n → ⊥) × (f ≡ fault.Note))
+InDepth d f = InInteger d f ⊎ ((z : ℤ) × (integer_of d ≡ Some z) × ((n : ℕ) → n ≤ most_depth → z ≡ pos n → ⊥) × (f ≡ fault.Note []))
 
--- the value is no text, or it is the name of nothing
-abbrev pub InName : (List ℕ → Option ℕ) → Data → CertFault → Type 0
-InName named d f =
+-- the value is no text, or it is no name of the list
+abbrev pub InName : List (List ℕ) → Data → CertFault → Type 0
+InName names d f =
     ((as_str d ≡ None) × Departs [] f)
-    ⊎ ((name : List ℕ) × (as_str d ≡ Some name) × (named name ≡ None) × (f ≡ fault.UnknownName))
+    ⊎ ((name : List ℕ) × (as_str d ≡ Some name) × (place_of names name ≡ None) × IsUnknown name f)
+
+-- two entries of the list are one name; the fault is at the later one
+abbrev pub IsNamedTwice : List (List ℕ) → Items → CertFault → Type 0
+IsNamedTwice names ds f =
+    (i j : ℕ) × (one other : Data) × (n : ℕ) × (i < j) × (get_item i ds ≡ Some one) × (get_item j ds ≡ Some other)
+    × Names names one n × Names names other n × (f ≡ fault.Note (at j ∷ []))
+
+-- the fault is in a name of the list, or a name is there twice
+abbrev pub InNames : List (List ℕ) → Items → CertFault → Type 0
+InNames names ds f = InEntries (InName names) ds f ⊎ IsNamedTwice names ds f
 
 -- the list is not exactly two integers, or the lower end is above the upper one
 abbrev pub InEnds : Items → CertFault → Type 0
 InEnds ds f = ((end_at 0 ds ≡ None) × Departs (at 0 ∷ []) f) ⊎ (((end_at 1 ds ≡ None) × Departs (at 1 ∷ []) f)
     ⊎ (((d : Data) × (get_item 2 ds ≡ Some d) × Departs (at 2 ∷ []) f)
-    ⊎ ((lo hi : ℤ) × (end_at 0 ds ≡ Some lo) × (end_at 1 ds ≡ Some hi) × (hi <ℤ lo) × (f ≡ fault.Note))))
+    ⊎ ((lo hi : ℤ) × (end_at 0 ds ≡ Some lo) × (end_at 1 ds ≡ Some hi) × (hi <ℤ lo) × (f ≡ fault.Note []))))
 
 -- the value is no list, or the fault is in its two ends
 abbrev pub InSpan : Data → CertFault → Type 0

@@ -4,11 +4,7 @@ pub mod Shapes
 pub mod Meaning
 pub mod Faults
 pub mod Present
-pub mod NotYet
 pub mod Written
 pub mod FaultText
-pub mod PlainMeaning
-pub mod PlainFaults
-pub mod PlainStands
-pub mod PlainWritten
+pub mod Named
 pub mod Views

@@ -4,7 +4,6 @@
 -- |-------------------------------------|------------------------------------------------------------------------|
 -- | NoteText                            | a note as its object has it: depths, counts, and numbers of things     |
 -- | IsHeldCount, IsRange, IsTurnValue   | a name beside a count, a range, a turn value                           |
--- | AreNamed                            | a list of names of objects                                             |
 -- | IsNoteText                          | an object means the parts of a note, key by key                        |
 -- | IsInside, NoteTextFits              | a range is in the declared one; the parts are a note of the application |
 -- | claim_at, range_at, note_said       | what the parts say of an object, of a variable; the alternative        |
@@ -17,14 +16,16 @@
 -- | IsCertificate, IsTree               | an object means a certificate, key by key; a value is such an object   |
 -- | IsTreeText                          | the bytes are the text of this value                                   |
 -- | Means                               | the bytes mean a certificate of this application                       |
-use Rattle.std.specs.Prelude.{◌≡◌, ◌≢◌, ◌<◌, ◌≤◌, ◌≤ℤ◌, ◌⊎◌, ℕ, ℤ, pos, List, [], ◌∷◌, Bool, ◌||◌, IsTrue, if◌then◌else◌, Option, Some, None, is_some, option_map, unwrap_or, All, AllPairs, IsUtf8, codes, find, length, map, nat_eq}
+use Rattle.std.specs.Prelude.{◌≡◌, ◌<◌, ◌≤◌, ◌≤ℤ◌, ◌⊎◌, ℕ, ℤ, pos, List, [], ◌∷◌, Bool, ◌||◌, IsTrue, if◌then◌else◌, Option, Some, None, is_some, option_map, unwrap_or, All, IsUtf8, codes, find, length, map, nat_eq}
 use Rattle.std.specs.List.{list_any, range_with_len}
 use Rattle.serde_json.specs.Data.{Data, Items, Members}
 use Rattle.serde_json.specs.Find.{as_array, as_str}
 use Rattle.serde_json.specs.Read.{read}
 use Rattle.fr_program.specs.Program.{Program}
 use Rattle.fr_program.specs.Lookup.{variable_at}
+use Rattle.fr_program.specs.Limits.{IsNumber}
 use Rattle.fr_program.specs.Points.{points_of}
+use Rattle.fr_instr.specs.Names.{NamesOf, place_of}
 use Rattle.fr_calls.specs.declared.buffer_end.End.{End as BufferEnd}
 use Rattle.fr_calls.specs.BufferEnd.{end_text}
 use Rattle.fr_calls.specs.State.{kind_of}
@@ -36,8 +37,8 @@ use Rattle.fr_notes.specs.Parts.{claim_by}
 use Rattle.fr_ends.specs.Guard.{Guard, Sole, ByMutex, InCritical, Turn, EndGuard}
 use Rattle.fr_ends.specs.Certificate.{Certificate, value_for}
 use Rattle.fr_ends.specs.Fits.{AreRising, EndsFit}
-use Rattle.fr_cert.specs.Keys.{AreKnown, integer_of, variable_named, object_named, actor_named}
-use Rattle.fr_cert.specs.Shapes.{At, AtOrDefault, IsObject, IsList, EachEntry, EachMember, Names, IsDepth, IsSpan}
+use Rattle.fr_cert.specs.Keys.{AreKnown, integer_of, names_in}
+use Rattle.fr_cert.specs.Shapes.{At, AtOrDefault, IsObject, IsList, EachEntry, EachMember, Names, AreNames, IsDepth, IsSpan}
 use Rattle.fr_cert.specs.declared.key.Key.TheVariants as key
 use Rattle.fr_cert.specs.declared.key.Place.TheVariants as place
 
@@ -52,26 +53,22 @@ pub record NoteText : Type 0 where
   pub ranges : List (ℕ × (ℤ × ℤ))
 
 -- the name is that of the object with this number, and the value beside it is this count
-abbrev pub IsHeldCount : Program → List ℕ → Data → ℕ × ℕ → Type 0
-IsHeldCount P name d x = (object_named P name ≡ Some x.0) × IsDepth d x.1
+abbrev pub IsHeldCount : NamesOf → List ℕ → Data → ℕ × ℕ → Type 0
+IsHeldCount N name d x = (place_of N.objects name ≡ Some x.0) × IsDepth d x.1
 
 -- the name is that of the variable with this number, and the value beside it is this range
-abbrev pub IsRange : Program → List ℕ → Data → ℕ × (ℤ × ℤ) → Type 0
-IsRange P name d x = (variable_named P name ≡ Some x.0) × IsSpan d x.1
-
--- the value is a list of names of these objects
-abbrev pub AreNamed : Program → Data → List ℕ → Type 0
-AreNamed P d os = IsList (EachEntry (Names (object_named P))) d os
+abbrev pub IsRange : NamesOf → List ℕ → Data → ℕ × (ℤ × ℤ) → Type 0
+IsRange N name d x = (place_of N.variables name ≡ Some x.0) × IsSpan d x.1
 
 -- the object means these parts of a note, key by key; each key may be missing
-pub record IsNoteText (P : Program) (ms : Members) (text : NoteText) : Type 0 where
+pub record IsNoteText (N : NamesOf) (ms : Members) (text : NoteText) : Type 0 where
   pub only : AreKnown place.Note ms
-  pub held : AtOrDefault key.Held [] (IsObject (EachMember (IsHeldCount P))) ms text.held
+  pub held : AtOrDefault key.Held [] (IsObject (EachMember (IsHeldCount N))) ms text.held
   pub crit : AtOrDefault key.Crit 0 IsDepth ms text.crit
   pub susp : AtOrDefault key.Susp 0 IsDepth ms text.susp
-  pub live : AtOrDefault key.Live [] (AreNamed P) ms text.live
-  pub dead : AtOrDefault key.Dead [] (AreNamed P) ms text.dead
-  pub ranges : AtOrDefault key.Range [] (IsObject (EachMember (IsRange P))) ms text.ranges
+  pub live : AtOrDefault key.Live [] (IsList (AreNames N.objects)) ms text.live
+  pub dead : AtOrDefault key.Dead [] (IsList (AreNames N.objects)) ms text.dead
+  pub ranges : AtOrDefault key.Range [] (IsObject (EachMember (IsRange N))) ms text.ranges
 
 -- the application has the variable, and the range is inside its declared one
 abbrev pub IsInside : Program → ℕ × (ℤ × ℤ) → Type 0
@@ -85,12 +82,10 @@ count_for held o = option_map (λ h. h.1) (find (λ h. nat_eq h.0 o) held)
 abbrev pub has : List ℕ → ℕ → Bool
 has objects o = list_any (λ named. nat_eq named o) objects
 
--- the parts are a note of the application: each count is one that an actor can hold, no object is named twice in one
--- list, no dead object is named live or held, and each range is inside the declared one
+-- the parts are a note of the application: each count is one that an actor can hold, no dead object is named live or
+-- held, and each range is inside the declared one
 pub record NoteTextFits (P : Program) (text : NoteText) : Type 0 where
-  pub held : All (λ h. CanClaim (kind_of P h.0) (HeldTimes h.1)) text.held
-  pub live : AllPairs (λ o p. o ≢ p) text.live
-  pub dead : AllPairs (λ o p. o ≢ p) text.dead
+  pub held : All (λ h. (h.0 < length P.objects) × CanClaim (kind_of P h.0) (HeldTimes h.1)) text.held
   pub apart : All (λ o. IsTrue (has text.live o || is_some (count_for text.held o)) → ⊥) text.dead
   pub ranges : All (IsInside P) text.ranges
 
@@ -113,7 +108,7 @@ note_said P text = record {
 
 -- the object means this alternative
 abbrev pub IsAlternative : Program → Members → Alternative → Type 0
-IsAlternative P ms n = (text : NoteText) × IsNoteText P ms text × NoteTextFits P text × (n ≡ note_said P text)
+IsAlternative P ms n = (text : NoteText) × IsNoteText (names_in P) ms text × NoteTextFits P text × (n ≡ note_said P text)
 
 -- the value is an object that does
 abbrev pub IsPlainNote : Program → Data → Alternative → Type 0
@@ -126,39 +121,43 @@ IsNote P version d note =
     ⊎ (((n : Alternative) × IsPlainNote P d n × (note ≡ n ∷ []))
     ⊎ ((version ≡ 2) × IsList (EachEntry (IsPlainNote P)) d note × (1 ≤ length note) × (length note ≤ most_alternatives)))
 
+-- the value is an integer of 64 bits
+abbrev pub IsTurnNumber : Data → ℤ → Type 0
+IsTurnNumber d z = (integer_of d ≡ Some z) × IsNumber z
+
 -- the name is that of the actor with this number, and the value beside it is its turn value
-abbrev pub IsTurnValue : Program → List ℕ → Data → ℕ × ℤ → Type 0
-IsTurnValue P name d v = (actor_named P name ≡ Some v.0) × (integer_of d ≡ Some v.1)
+abbrev pub IsTurnValue : NamesOf → List ℕ → Data → ℕ × ℤ → Type 0
+IsTurnValue N name d v = (place_of N.actors name ≡ Some v.0) × IsTurnNumber d v.1
 
 -- the object gives each actor the value that it has in the list, which rises by actor
-abbrev pub AreTurnValues : Program → Members → List (ℕ × ℤ) → Type 0
-AreTurnValues P ms values =
-    (given : List (ℕ × ℤ)) × EachMember (IsTurnValue P) ms given × AreRising values
+abbrev pub AreTurnValues : NamesOf → Members → List (ℕ × ℤ) → Type 0
+AreTurnValues N ms values =
+    (given : List (ℕ × ℤ)) × EachMember (IsTurnValue N) ms given × AreRising values
     × ((a : ℕ) → value_for values a ≡ value_for given a)
 
 -- the object means the guard, key by key; a critical section is no object
-abbrev pub IsGuardObject : Program → Members → Guard → Type 0
-IsGuardObject P ms (Sole actor) = AreKnown place.Sole ms × At key.Sole (Names (actor_named P)) ms actor
-IsGuardObject P ms (ByMutex mutex) = AreKnown place.Mutex ms × At key.Mutex (Names (object_named P)) ms mutex
-IsGuardObject P ms InCritical = ⊥
-IsGuardObject P ms (Turn x values) =
-    AreKnown place.Turn ms × At key.Turn (Names (variable_named P)) ms x
-    × At key.Values (IsObject (AreTurnValues P)) ms values
+abbrev pub IsGuardObject : NamesOf → Members → Guard → Type 0
+IsGuardObject N ms (Sole actor) = AreKnown place.Sole ms × At key.Sole (Names N.actors) ms actor
+IsGuardObject N ms (ByMutex mutex) = AreKnown place.Mutex ms × At key.Mutex (Names N.objects) ms mutex
+IsGuardObject N ms InCritical = ⊥
+IsGuardObject N ms (Turn x values) =
+    AreKnown place.Turn ms × At key.Turn (Names N.variables) ms x
+    × At key.Values (IsObject (AreTurnValues N)) ms values
 
 -- the value means the guard: the text `critical`, or such an object
-abbrev pub IsGuard : Program → Data → Guard → Type 0
-IsGuard P d guard = ((as_str d ≡ Some (codes "critical")) × (guard ≡ InCritical)) ⊎ IsObject (IsGuardObject P) d guard
+abbrev pub IsGuard : NamesOf → Data → Guard → Type 0
+IsGuard N d guard = ((as_str d ≡ Some (codes "critical")) × (guard ≡ InCritical)) ⊎ IsObject (IsGuardObject N) d guard
 
 -- the value is the name of the end
 abbrev pub IsEndName : Data → BufferEnd → Type 0
 IsEndName d end = as_str d ≡ Some (end_text end)
 
 -- the object means the guard of an end, key by key
-pub record IsEnd (P : Program) (ms : Members) (e : EndGuard) : Type 0 where
+pub record IsEnd (N : NamesOf) (ms : Members) (e : EndGuard) : Type 0 where
   pub only : AreKnown place.End ms
-  pub buffer : At key.Buffer (Names (object_named P)) ms e.buffer
+  pub buffer : At key.Buffer (Names N.objects) ms e.buffer
   pub end : At key.End IsEndName ms e.end
-  pub guard : At key.Guard (IsGuard P) ms e.guard
+  pub guard : At key.Guard (IsGuard N) ms e.guard
 
 -- the value is the version 1 or 2
 abbrev pub IsVersion : Data → ℕ → Type 0
@@ -169,7 +168,7 @@ pub record IsCertificate (P : Program) (ms : Members) (C : Certificate) : Type 0
   pub version : ℕ
   pub only : AreKnown place.Certificate ms
   pub numbered : At key.Version IsVersion ms version
-  pub ends : At key.Ends (IsList (EachEntry (IsObject (IsEnd P)))) ms C.ends
+  pub ends : At key.Ends (IsList (EachEntry (IsObject (IsEnd (names_in P))))) ms C.ends
   pub fit : EndsFit P C.ends
   pub notes : At key.Notes (IsList (EachEntry (IsNote P version))) ms C.notes
   pub points : length C.notes ≡ length (points_of P)

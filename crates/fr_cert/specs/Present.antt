@@ -12,21 +12,24 @@
 -- | InCertificate, InTree | the fault is in the object, in the value of the whole text                             |
 -- | InBytes               | the fault is in the bytes themselves                                                   |
 -- | IsPresent             | the fault is in the bytes, or in the value that they are the text of                   |
-use Rattle.std.specs.Prelude.{◌≡◌, ◌⊎◌, ◌<◌, ℕ, ℤ, pos, List, [], ◌∷◌, Some, None, AllPairs, IsUtf8, codes, length}
+use Rattle.std.specs.Prelude.{◌≡◌, ◌⊎◌, ◌<◌, ℕ, ℤ, pos, List, [], ◌∷◌, Some, None, IsUtf8, codes, length}
 use Rattle.serde_json.specs.Data.{Data, Items, Members}
-use Rattle.serde_json.specs.Find.{as_array, as_object, as_str}
+use Rattle.serde_json.specs.Find.{get_item, as_array, as_object, as_str}
 use Rattle.serde_json.specs.Read.{read}
 use Rattle.serde_json.specs.Events.{items_len}
 use Rattle.fr_program.specs.Program.{Program}
+use Rattle.fr_program.specs.Limits.{IsNumber}
 use Rattle.fr_program.specs.Points.{points_of}
 use Rattle.fr_calls.specs.declared.buffer_end.End.{End as BufferEnd}
 use Rattle.fr_notes.specs.Fits.{most_alternatives}
 use Rattle.fr_ends.specs.Guard.{EndGuard}
 use Rattle.fr_ends.specs.Fits.{EndFits, AreOfOneEnd}
-use Rattle.fr_cert.specs.Keys.{field, integer_of, variable_named, object_named, actor_named}
-use Rattle.fr_cert.specs.Shapes.{At, IsObject, EachEntry}
+use Rattle.fr_instr.specs.Names.{NamesOf}
+use Rattle.fr_cert.specs.Path.{at}
+use Rattle.fr_cert.specs.Keys.{field, integer_of, names_in}
+use Rattle.fr_cert.specs.Shapes.{At, IsObject}
 use Rattle.fr_cert.specs.Meaning.{NoteText, IsNoteText, NoteTextFits, IsEndName, IsEnd, IsVersion, IsTreeText, most_bytes}
-use Rattle.fr_cert.specs.Faults.{Departs, InKeys, InField, InNeeded, InObject, InList, InEntries, InMembers, InNamed, InInteger, InDepth, InName, InSpan}
+use Rattle.fr_cert.specs.Faults.{Departs, InKeys, InField, InNeeded, InObject, InList, InEntries, InMembers, InNamed, InInteger, InDepth, InName, InNames, InSpan}
 use Rattle.fr_cert.specs.declared.key.Key.{Key}
 use Rattle.fr_cert.specs.declared.key.Key.TheVariants as key
 use Rattle.fr_cert.specs.declared.key.Place.TheVariants as place
@@ -34,25 +37,26 @@ use Rattle.fr_cert.specs.declared.fault.CertFault.{CertFault}
 use Rattle.fr_cert.specs.declared.fault.CertFault.TheVariants as fault
 
 -- the fault is in a key of a note's object, or in what it holds there
-abbrev pub InKeysOfNote : Program → Members → CertFault → Type 0
-InKeysOfNote P ms f =
+abbrev pub InKeysOfNote : NamesOf → Members → CertFault → Type 0
+InKeysOfNote N ms f =
     InKeys place.Note ms f
-    ⊎ (InField key.Held (InObject (InMembers (InNamed (object_named P) InDepth))) ms f
+    ⊎ (InField key.Held (InObject (InMembers (InNamed N.objects InDepth))) ms f
     ⊎ (InField key.Crit InDepth ms f
     ⊎ (InField key.Susp InDepth ms f
-    ⊎ (InField key.Live (InList (InEntries (InName (object_named P)))) ms f
-    ⊎ (InField key.Dead (InList (InEntries (InName (object_named P)))) ms f
-    ⊎ InField key.Range (InObject (InMembers (InNamed (variable_named P) InSpan))) ms f)))))
+    ⊎ (InField key.Live (InList (InNames N.objects)) ms f
+    ⊎ (InField key.Dead (InList (InNames N.objects)) ms f
+    ⊎ InField key.Range (InObject (InMembers (InNamed N.variables InSpan))) ms f)))))
 
 -- so it is, or the parts that the object means are no note of the application
 abbrev pub InAlternative : Program → Members → CertFault → Type 0
 InAlternative P ms f =
-    InKeysOfNote P ms f ⊎ ((text : NoteText) × IsNoteText P ms text × (NoteTextFits P text → ⊥) × (f ≡ fault.Note))
+    InKeysOfNote (names_in P) ms f
+    ⊎ ((text : NoteText) × IsNoteText (names_in P) ms text × (NoteTextFits P text → ⊥) × (f ≡ fault.Note []))
 
 -- the list has no entry or more than four, or the fault is in an entry, each of which has to be an object
 abbrev pub InAlternatives : Program → Items → CertFault → Type 0
 InAlternatives P ds f =
-    (((items_len ds ≡ 0) ⊎ (most_alternatives < items_len ds)) × (f ≡ fault.Alternatives))
+    (((items_len ds ≡ 0) ⊎ (most_alternatives < items_len ds)) × (f ≡ fault.Alternatives []))
     ⊎ InEntries (InObject (InAlternative P)) ds f
 
 -- the value is neither an object nor `never`, nor in version 2 a list; or the fault is in the object, or in the list
@@ -70,46 +74,58 @@ InNotes P version ds f = ((items_len ds ≡ length (points_of P) → ⊥) × (f 
 abbrev pub Has : Key → Members → Type 0
 Has k ms = (d : Data) × (field k ms ≡ Some d)
 
+-- the value is no integer, or one past 64 bits
+abbrev pub InTurnValue : Data → CertFault → Type 0
+InTurnValue d f = InInteger d f ⊎ ((z : ℤ) × (integer_of d ≡ Some z) × (IsNumber z → ⊥) × (f ≡ fault.Guard []))
+
 -- the fault is in the object of a turn
-abbrev pub InTurn : Program → Members → CertFault → Type 0
-InTurn P ms f =
+abbrev pub InTurn : NamesOf → Members → CertFault → Type 0
+InTurn N ms f =
     InKeys place.Turn ms f
-    ⊎ (InNeeded key.Turn (InName (variable_named P)) ms f
-    ⊎ InNeeded key.Values (InObject (InMembers (InNamed (actor_named P) InInteger))) ms f)
+    ⊎ (InNeeded key.Turn (InName N.variables) ms f
+    ⊎ InNeeded key.Values (InObject (InMembers (InNamed N.actors InTurnValue))) ms f)
 
 -- the fault is in the object of a guard: which guard it has to be, its first key of `sole`, `mutex` and others says
-abbrev pub InGuardObject : Program → Members → CertFault → Type 0
-InGuardObject P ms f =
-    (Has key.Sole ms × (InKeys place.Sole ms f ⊎ InField key.Sole (InName (actor_named P)) ms f))
+abbrev pub InGuardObject : NamesOf → Members → CertFault → Type 0
+InGuardObject N ms f =
+    (Has key.Sole ms × (InKeys place.Sole ms f ⊎ InNeeded key.Sole (InName N.actors) ms f))
     ⊎ (((field key.Sole ms ≡ None) × Has key.Mutex ms
-    × (InKeys place.Mutex ms f ⊎ InField key.Mutex (InName (object_named P)) ms f))
-    ⊎ ((field key.Sole ms ≡ None) × (field key.Mutex ms ≡ None) × InTurn P ms f))
+    × (InKeys place.Mutex ms f ⊎ InNeeded key.Mutex (InName N.objects) ms f))
+    ⊎ ((field key.Sole ms ≡ None) × (field key.Mutex ms ≡ None) × InTurn N ms f))
 
 -- the value is neither an object nor `critical`, or the fault is in the object
-abbrev pub InGuard : Program → Data → CertFault → Type 0
-InGuard P d f =
+abbrev pub InGuard : NamesOf → Data → CertFault → Type 0
+InGuard N d f =
     ((as_object d ≡ None) × (as_str d ≡ Some (codes "critical") → ⊥) × Departs [] f)
-    ⊎ ((ms : Members) × (as_object d ≡ Some ms) × InGuardObject P ms f)
+    ⊎ ((ms : Members) × (as_object d ≡ Some ms) × InGuardObject N ms f)
 
 -- the value is no name of an end
 abbrev pub InEndName : Data → CertFault → Type 0
 InEndName d f = ((end : BufferEnd) → IsEndName d end → ⊥) × Departs [] f
 
--- the fault is in the object of an end, or the guard that it means doesn't fit the application
+-- the fault is in the object of an end
+abbrev pub InKeysOfEnd : NamesOf → Members → CertFault → Type 0
+InKeysOfEnd N ms f =
+    InKeys place.End ms f
+    ⊎ (InNeeded key.Buffer (InName N.objects) ms f
+    ⊎ (InNeeded key.End InEndName ms f
+    ⊎ InNeeded key.Guard (InGuard N) ms f))
+
+-- so it is, or the guard that the object means doesn't fit the application
 abbrev pub InEnd : Program → Members → CertFault → Type 0
 InEnd P ms f =
-    InKeys place.End ms f
-    ⊎ (InNeeded key.Buffer (InName (object_named P)) ms f
-    ⊎ (InNeeded key.End InEndName ms f
-    ⊎ (InNeeded key.Guard (InGuard P) ms f
-    ⊎ ((e : EndGuard) × IsEnd P ms e × (EndFits P e → ⊥) × (f ≡ fault.Guard)))))
+    InKeysOfEnd (names_in P) ms f
+    ⊎ ((e : EndGuard) × IsEnd (names_in P) ms e × (EndFits P e → ⊥) × (f ≡ fault.Guard []))
+
+-- two entries of the list are of one end; the fault is at the later one
+abbrev pub IsListedTwice : NamesOf → Items → CertFault → Type 0
+IsListedTwice N ds f =
+    (i j : ℕ) × (one other : Data) × (e g : EndGuard) × (i < j) × (get_item i ds ≡ Some one) × (get_item j ds ≡ Some other)
+    × IsObject (IsEnd N) one e × IsObject (IsEnd N) other g × AreOfOneEnd e g × (f ≡ fault.EndTwice (at j ∷ []))
 
 -- the fault is in an entry of the list of ends, or an end is listed twice
 abbrev pub InAllEnds : Program → Items → CertFault → Type 0
-InAllEnds P ds f =
-    InEntries (InObject (InEnd P)) ds f
-    ⊎ ((ends : List EndGuard) × EachEntry (IsObject (IsEnd P)) ds ends
-    × (AllPairs (λ e g. AreOfOneEnd e g → ⊥) ends → ⊥) × (f ≡ fault.EndTwice))
+InAllEnds P ds f = InEntries (InObject (InEnd P)) ds f ⊎ IsListedTwice (names_in P) ds f
 
 -- the value is no integer, or another one than 1 and 2
 abbrev pub InVersion : Data → CertFault → Type 0

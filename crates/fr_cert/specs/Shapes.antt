@@ -7,12 +7,13 @@
 -- | IsObject, IsList       | the value is an object, a list, and its contents mean this                    |
 -- | EachEntry              | the entries of a list mean these things, one for each, in order               |
 -- | EachMember             | the members of an object do, each by its name and its value                   |
--- | Names                  | the value is a text, and names the thing with this number                     |
+-- | Names, AreNames        | the value is a name, is a list of different names                             |
 -- | IsDepth                | the value is an integer from 0 to 255                                         |
 -- | IsSpan                 | the value is a list of two integers, the lower end first                      |
-use Rattle.std.specs.Prelude.{◌≡◌, ◌≤◌, ◌≤ℤ◌, ℕ, ℤ, pos, List, [], ◌∷◌, Option, Some, None}
+use Rattle.std.specs.Prelude.{◌≡◌, ◌≢◌, ◌≤◌, ◌≤ℤ◌, ℕ, ℤ, pos, List, [], ◌∷◌, Option, Some, None, AllPairs}
 use Rattle.serde_json.specs.Data.{Data, Items, no_items, item, Members, no_members, member}
 use Rattle.serde_json.specs.Find.{get_item, as_array, as_object, as_str}
+use Rattle.fr_instr.specs.Names.{place_of}
 use Rattle.fr_notes.specs.Fits.{most_depth}
 use Rattle.fr_cert.specs.Keys.{field, integer_of, end_at}
 use Rattle.fr_cert.specs.declared.key.Key.{Key}
@@ -52,9 +53,13 @@ EachMember M no_members (x ∷ xs) = ⊥
 EachMember M (member name d ms) [] = ⊥
 EachMember M (member name d ms) (x ∷ xs) = M name d x × EachMember M ms xs
 
--- the value is a text, and the thing with this name has this number
-abbrev pub Names : (List ℕ → Option ℕ) → Data → ℕ → Type 0
-Names named d n = (name : List ℕ) × (as_str d ≡ Some name) × (named name ≡ Some n)
+-- the value is a text, which is the name at this place of the list
+abbrev pub Names : List (List ℕ) → Data → ℕ → Type 0
+Names names d n = (name : List ℕ) × (as_str d ≡ Some name) × (place_of names name ≡ Some n)
+
+-- the value is a list of names at these places, none of them twice
+abbrev pub AreNames : List (List ℕ) → Items → List ℕ → Type 0
+AreNames names ds ns = EachEntry (Names names) ds ns × AllPairs (λ n m. n ≢ m) ns
 
 -- the value is an integer from 0 to 255
 abbrev pub IsDepth : Data → ℕ → Type 0

@@ -18,21 +18,22 @@ pub enum CertFault {
     Json,
     /// A key or a value that a certificate doesn't have there, or one that is missing.
     Shape(Path),
-    /// The version is another integer than those that are taken: 1, and later 2.
+    /// The version is another integer than 1 and 2.
     Version,
     /// There isn't one note for each point.
     PointCount,
-    /// A name that the application doesn't have.
-    UnknownName,
-    /// A depth that is not 0 to 255, or a range that is empty or isn't inside the declared one.
-    Note,
+    /// A name that the application doesn't have, and where it is.
+    UnknownName(Path, String),
+    /// A depth or a count that is not 0 to 255, a range with its lower end above the upper one, a name
+    /// that is twice in one list, or a note that can't be one of the application.
+    Note(Path),
     /// A guard of what is no stream or message buffer, of what is no mutex, or a turn with two equal
     /// values or one past 64 bits.
-    Guard,
-    /// One end is listed twice.
-    EndTwice,
+    Guard(Path),
+    /// An end that is listed before.
+    EndTwice(Path),
     /// A list of no alternative, or of more than four.
-    Alternatives,
+    Alternatives(Path),
 }
 
 impl CertFault {
@@ -50,11 +51,11 @@ impl CertFault {
             CertFault::Shape(_) => "3 Shape",
             CertFault::Version => "4 Version",
             CertFault::PointCount => "5 PointCount",
-            CertFault::UnknownName => "6 UnknownName",
-            CertFault::Note => "7 Note",
-            CertFault::Guard => "8 Guard",
-            CertFault::EndTwice => "9 EndTwice",
-            CertFault::Alternatives => "10 Alternatives",
+            CertFault::UnknownName(..) => "6 UnknownName",
+            CertFault::Note(_) => "7 Note",
+            CertFault::Guard(_) => "8 Guard",
+            CertFault::EndTwice(_) => "9 EndTwice",
+            CertFault::Alternatives(_) => "10 Alternatives",
         }
     }
 

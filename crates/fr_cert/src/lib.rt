@@ -6,16 +6,18 @@
 // `specs/NotYet.antt` says. The crates above rely on `read_cert`'s contract.
 #![tactic(auto)]
 
+mod end;
 mod fault;
+mod guard;
+mod held;
 mod key;
+mod names;
 mod note;
 mod path;
 mod ranges;
 mod reading;
 mod tree;
-mod writing;
 
 pub use fault::CertFault;
 pub use path::{Path, Step};
 pub use reading::{MOST_BYTES, no_meaning, one_meaning, read_cert};
-pub use writing::write_cert;

@@ -1,6 +1,5 @@
 // Where in a certificate's text a value stands.
-ghost use Rattle.std.specs.Prelude.{◌≡◌, [], ◌∷◌, Some, OnOk};
-ghost use Rattle.fr_cert.specs.Path.{key, at};
+ghost use Rattle.std.specs.Prelude.{◌≡◌, [], ◌∷◌, Some, IfOk};
 
 use std::alloc::{AllocError, Global};
 use std::fmt;
@@ -29,6 +28,8 @@ impl Model for Path {
 }
 
 impl Path {
+    ghost use Rattle.fr_cert.specs.Path.{step_of};
+
     /// The whole text. Takes no memory.
     pub fn whole(alloc: Global) -> Path
         ensures { result ≡ [] }
@@ -38,21 +39,12 @@ impl Path {
         }
     }
 
-    /// The same value, seen from one that has this one's whole at a key.
-    pub fn within_key(&mut self, alloc: Global, name: &str) -> Result<(), AllocError>
-        ensures { OnOk result (self.new ≡ key name.now ∷ self.old) }
+    /// The same value, seen from one that has this one's whole at this step.
+    pub fn within(mut self, step: Step) -> Result<Path, AllocError>
+        ensures { IfOk result (λ path. path ≡ step_of step ∷ self) }
     {
-        let name = String::from_str(alloc, name)?;
-        self.steps.insert(0, Step::Key(name))?;
-        Ok(())
-    }
-
-    /// The same value, seen from one that has this one's whole at a position.
-    pub fn within_position(&mut self, index: usize) -> Result<(), AllocError>
-        ensures { OnOk result (self.new ≡ at index ∷ self.old) }
-    {
-        self.steps.insert(0, Step::At(index))?;
-        Ok(())
+        self.steps.insert(0, step)?;
+        Ok(self)
     }
 }
 

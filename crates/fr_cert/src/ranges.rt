@@ -1,20 +1,20 @@
 // Reading the ranges that a note gives variables.
-ghost use Rattle.std.specs.Prelude.{◌≡◌, ℕ, List, Some, None, IfOk, IfErr, option_map, map, position, string_bytes};
-ghost use Rattle.std.specs.Str.{bytes_eq};
-ghost use Rattle.serde_json.specs.Find.{as_array, as_object, get_item};
+ghost use Rattle.std.specs.Prelude.{◌≡◌, Some, IfOk, IfErr, option_map, map};
+ghost use Rattle.serde_json.specs.Find.{get_item};
 ghost use Rattle.serde_json.specs.View.{view, items_view, members_view};
-ghost use Rattle.fr_cert.specs.Keys.{variable_named, end_at};
-ghost use Rattle.fr_cert.specs.Shapes.{AreEnds, IsSpan};
-ghost use Rattle.fr_cert.specs.Meaning.{IsRange};
-ghost use Rattle.fr_cert.specs.PlainMeaning.{Named, RangesAt};
-ghost use Rattle.fr_cert.specs.Faults.{Standing, Departs, InEnds, InSpan};
-ghost use Rattle.fr_cert.specs.PlainFaults.{InNamed, InMembers, InRanges};
 ghost use Rattle.fr_notes.specs.View.{ends_of};
+ghost use Rattle.fr_cert.specs.Keys.{end_at};
+ghost use Rattle.fr_cert.specs.Shapes.{IsObject, EachMember, AreEnds, IsSpan};
+ghost use Rattle.fr_cert.specs.Meaning.{IsRange};
+ghost use Rattle.fr_cert.specs.Faults.{Standing, InObject, InMembers, InNamed, InEnds, InSpan};
 ghost use Rattle.fr_cert.specs.Views.{named_of};
 
 use crate::fault::CertFault;
-use crate::tree::{departs, departs_in, integer_of, list_in, within_key};
-use fr_program::{App, Range, VarId, Variable};
+use crate::names::{Thing, number_named};
+use crate::path::Path;
+use crate::tree::{departs_in, integer_of, list_in, object_in, within_key};
+use fr_instr::Names;
+use fr_program::{Range, VarId};
 use serde_json::{Map, Value};
 use std::alloc::Global;
 
@@ -55,11 +55,11 @@ fn span_of(alloc: Global, ends: &Vec<Value>) -> Result<Range, CertFault>
     }
     match Range::new(lo, hi) {
         Some(range) => Ok(range),
-        None => Err(CertFault::Note),
+        None => Err(CertFault::Note(Path::whole(alloc))),
     }
 }
 
-// The range that a list of two integers stands for.
+// The range that a list of two integers means.
 fn range_of(alloc: Global, value: &Value) -> Result<Range, CertFault>
     ensures ok { IfOk result (λ range. IsSpan (view value.now) (ends_of range)) }
     ensures err { IfErr result (Standing (InSpan (view value.now))) }
@@ -67,35 +67,18 @@ fn range_of(alloc: Global, value: &Value) -> Result<Range, CertFault>
     span_of(alloc, list_in(alloc, value)?)
 }
 
-// The place of the first variable with this name.
-fn place_of(variables: &[Variable], name: &str) -> Option<usize>
-    ensures { result ≡ position (λ v. bytes_eq (string_bytes v.name) name.now) variables.now }
-{
-    variables
-        .iter()
-        .position(|variable| variable.name.as_str() == name)
-}
-
-// The number of the variable with this name.
-fn variable_named(app: &App, name: &str) -> Option<usize>
-    ensures { result ≡ variable_named app.now name.now }
-{
-    place_of(app.variables(), name)
-}
-
-// The variable with this name, and the range that stands beside it.
+// The variable with this name, and the range beside it.
 fn named_range(
     alloc: Global,
-    app: &App,
+    names: &Names,
     name: &str,
     value: &Value,
 ) -> Result<(VarId, Range), CertFault>
-    ensures ok { IfOk result (λ x. IsRange app.now name.now (view value.now) (named_of x)) }
-    ensures err { IfErr result (Standing (InNamed app.now name.now (view value.now))) }
+    ensures ok { IfOk result (λ x. IsRange names.now name.now (view value.now) (named_of x)) }
+    ensures err { IfErr result
+        (Standing (InNamed names.now.variables InSpan name.now (view value.now))) }
 {
-    let Some(number) = variable_named(app, name) else {
-        return Err(CertFault::UnknownName);
-    };
+    let number = number_named(alloc, names, Thing::Variable, name)?;
     match range_of(alloc, value) {
         Ok(range) => Ok((VarId(number), range)),
         Err(fault) => Err(within_key(alloc, name, fault)),
@@ -105,32 +88,31 @@ fn named_range(
 // The ranges of an object, in its order.
 fn members_of(
     alloc: Global,
-    app: &App,
+    names: &Names,
     object: &Map<String, Value>,
 ) -> Result<Vec<(VarId, Range)>, CertFault>
     ensures ok { IfOk result
-        (λ v. Named app.now (members_view object.now.entries) (map named_of v.items)) }
-    ensures err { IfErr result (Standing (InMembers app.now (members_view object.now.entries))) }
+        (λ v. EachMember (IsRange names.now) (members_view object.now.entries) (map named_of v.items)) }
+    ensures err { IfErr result
+        (Standing (InMembers (InNamed names.now.variables InSpan) (members_view object.now.entries))) }
 {
     let mut ranges = Vec::new(alloc);
     for (name, value) in object {
-        ranges.push(named_range(alloc, app, name.as_str(), value)?)?;
+        ranges.push(named_range(alloc, names, name.as_str(), value)?)?;
     }
     Ok(ranges)
 }
 
-// The ranges that the value stands for, in its order.
+// The ranges that the value means, in its order.
 pub(crate) fn ranges_of(
     alloc: Global,
-    app: &App,
+    names: &Names,
     value: &Value,
 ) -> Result<Vec<(VarId, Range)>, CertFault>
     ensures ok { IfOk result
-        (λ v. RangesAt app.now (Some (view value.now)) (map named_of v.items)) }
-    ensures err { IfErr result (Standing (InRanges app.now (view value.now))) }
+        (λ v. IsObject (EachMember (IsRange names.now)) (view value.now) (map named_of v.items)) }
+    ensures err { IfErr result
+        (Standing (InObject (InMembers (InNamed names.now.variables InSpan)) (view value.now))) }
 {
-    match value.as_object() {
-        Some(object) => members_of(alloc, app, object),
-        None => Err(departs(alloc)),
-    }
+    members_of(alloc, names, object_in(alloc, value)?)
 }

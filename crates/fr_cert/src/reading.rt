@@ -1,31 +1,31 @@
 // Reading a certificate's bytes.
-ghost use Rattle.std.specs.Prelude.{◌≡◌, ℕ, List, pos, Some, All, IfOk, IfErr, OnOk, option_and_then, length};
-ghost use Rattle.serde_json.specs.Data.{no_items};
-ghost use Rattle.serde_json.specs.Find.{as_array};
+ghost use Rattle.std.specs.Prelude.{◌≡◌, ℕ, List, Some, All, IfOk, IfErr, OnOk, map, length};
+ghost use Rattle.serde_json.specs.Events.{items_len};
 ghost use Rattle.serde_json.specs.View.{view, items_view, members_view};
 ghost use Rattle.fr_program.specs.Program.{Program};
 ghost use Rattle.fr_program.specs.Points.{points_of};
 ghost use Rattle.fr_notes.specs.Fits.{NoteFits, NotesFit};
 ghost use Rattle.fr_ends.specs.Certificate.{Certificate as CertificateOf};
-ghost use Rattle.fr_ends.specs.Fits.{CertificateFits};
-ghost use Rattle.fr_cert.specs.Keys.{field, integer_of};
-ghost use Rattle.fr_cert.specs.Meaning.{IsTreeText, Means};
-ghost use Rattle.fr_cert.specs.PlainMeaning.{EachNote, NotesAt, IsCertificate, IsTree};
-ghost use Rattle.fr_cert.specs.Faults.{Standing, InNeeded};
-ghost use Rattle.fr_cert.specs.NotYet.{IsRefused, IsWrittenToday};
-ghost use Rattle.fr_cert.specs.Present.{InBytes, IsPresent};
-ghost use Rattle.fr_cert.specs.PlainStands.{InVersion, InGuards, InEach, InNotes, InCertificate, InTree};
+ghost use Rattle.fr_ends.specs.Fits.{CertificateFits, EndsFit};
+ghost use Rattle.fr_ends.specs.View.{end_of};
+ghost use Rattle.fr_cert.specs.Keys.{names_in};
+ghost use Rattle.fr_cert.specs.Shapes.{At, IsObject, IsList, EachEntry};
+ghost use Rattle.fr_cert.specs.Meaning.{IsNote, IsEnd, IsVersion, IsCertificate, IsTree, IsTreeText, Means};
+ghost use Rattle.fr_cert.specs.Faults.{Standing, InNeeded, InList, InEntries};
+ghost use Rattle.fr_cert.specs.Present.{InVersion, InAllEnds, InNote, InNotes, InCertificate, InTree, InBytes, IsPresent};
 ghost use Rattle.fr_cert.specs.declared.fault.CertFault.{CertFault as Refusal};
 
+use crate::end::ends_of;
 use crate::fault::CertFault;
 use crate::key::{Key, Place};
+use crate::names::names_of;
 use crate::note::note_of;
 use crate::tree::{
-    departs, departs_at, departs_in, found_at, integer_in, known_keys, list_in, within_key,
-    within_position,
+    departs_at, found_at, integer_in, known_keys, list_in, object_in, within_key, within_position,
 };
-use fr_ends::{Certificate, Ends};
-use fr_notes::{Note, Notes, NotesFault};
+use fr_ends::{Certificate, EndGuard, Ends};
+use fr_instr::Names;
+use fr_notes::{Alts, Notes};
 use fr_program::App;
 use serde_json::{Map, Value};
 use std::alloc::Global;
@@ -33,71 +33,87 @@ use std::alloc::Global;
 /// The most bytes that a certificate has.
 pub const MOST_BYTES: usize = 16_777_216;
 
-// The value is the integer 1.
-fn check_one(alloc: Global, value: &Value) -> Result<(), CertFault>
-    ensures ok { OnOk result (integer_of (view value.now) ≡ Some (pos 1)) }
+// The version that the value means, 1 or 2.
+fn version_of(alloc: Global, value: &Value) -> Result<u8, CertFault>
+    ensures ok { IfOk result (IsVersion (view value.now)) }
     ensures err { IfErr result (Standing (InVersion (view value.now))) }
 {
-    if integer_in(alloc, value)? == 1 {
-        Ok(())
-    } else {
-        Err(CertFault::Version)
+    match integer_in(alloc, value)? {
+        1 => Ok(1),
+        2 => Ok(2),
+        _ => Err(CertFault::Version),
     }
 }
 
-// The object is of version 1.
-fn check_version(alloc: Global, object: &Map<String, Value>) -> Result<(), CertFault>
-    ensures ok { OnOk result
-        (option_and_then integer_of (field Key.Version (members_view object.now.entries)) ≡ Some (pos 1)) }
+// The version at its key, which the object has to have.
+fn version_at(alloc: Global, object: &Map<String, Value>) -> Result<u8, CertFault>
+    ensures ok { IfOk result (At Key.Version IsVersion (members_view object.now.entries)) }
     ensures err { IfErr result
         (Standing (InNeeded Key.Version InVersion (members_view object.now.entries))) }
 {
     let Some(value) = found_at(object, Key::Version) else {
         return Err(departs_at(alloc, Key::Version.text()));
     };
-    match check_one(alloc, value) {
-        Ok(()) => Ok(()),
+    match version_of(alloc, value) {
+        Ok(version) => Ok(version),
         Err(fault) => Err(within_key(alloc, Key::Version.text(), fault)),
     }
 }
 
-// The value is the empty list.
-fn check_empty(alloc: Global, value: &Value) -> Result<(), CertFault>
-    ensures ok { OnOk result (as_array (view value.now) ≡ Some no_items) }
-    ensures err { IfErr result (Standing (InGuards (view value.now))) }
-{
-    if list_in(alloc, value)?.is_empty() {
-        Ok(())
-    } else {
-        Err(departs_in(alloc, 0))
-    }
-}
-
-// The object has no ends.
-fn check_ends(alloc: Global, object: &Map<String, Value>) -> Result<(), CertFault>
-    ensures ok { OnOk result
-        (option_and_then as_array (field Key.Ends (members_view object.now.entries)) ≡ Some no_items) }
+// The guards of ends at their key, which the object has to have.
+fn ends_at(
+    alloc: Global,
+    app: &App,
+    names: &Names,
+    object: &Map<String, Value>,
+) -> Result<Vec<EndGuard>, CertFault>
+    requires { names.now ≡ names_in app.now }
+    ensures ok { IfOk result
+        (λ v. At Key.Ends (IsList (EachEntry (IsObject (IsEnd (names_in app.now))))) (members_view object.now.entries) (map end_of v.items)) }
+    ensures fits { IfOk result (λ v. EndsFit app.now (map end_of v.items)) }
     ensures err { IfErr result
-        (Standing (InNeeded Key.Ends InGuards (members_view object.now.entries))) }
+        (Standing (InNeeded Key.Ends (InList (InAllEnds app.now)) (members_view object.now.entries))) }
 {
     let Some(value) = found_at(object, Key::Ends) else {
         return Err(departs_at(alloc, Key::Ends.text()));
     };
-    match check_empty(alloc, value) {
-        Ok(()) => Ok(()),
+    match ends_of(alloc, app, names, value) {
+        Ok(ends) => Ok(ends),
         Err(fault) => Err(within_key(alloc, Key::Ends.text(), fault)),
     }
 }
 
-// The notes that the entries of a list stand for, in its order.
-fn each_note(alloc: Global, app: &App, list: &Vec<Value>) -> Result<Vec<Note>, CertFault>
-    ensures ok { IfOk result (λ v. EachNote app.now (items_view list.now.items) v.items) }
+// The list has one entry for each point.
+fn check_count(app: &App, list: &Vec<Value>) -> Result<(), CertFault>
+    ensures ok { OnOk result (items_len (items_view list.now.items) ≡ length (points_of app.now)) }
+    ensures err { IfErr result
+        (λ f. (items_len (items_view list.now.items) ≡ length (points_of app.now) → ⊥) × (f ≡ CertFault.PointCount)) }
+{
+    if list.len() == app.points() {
+        Ok(())
+    } else {
+        Err(CertFault::PointCount)
+    }
+}
+
+// The notes that the entries of a list mean, in its order.
+fn each_note(
+    alloc: Global,
+    app: &App,
+    names: &Names,
+    version: u8,
+    list: &Vec<Value>,
+) -> Result<Vec<Alts>, CertFault>
+    requires { names.now ≡ names_in app.now }
+    ensures ok { IfOk result
+        (λ v. EachEntry (IsNote app.now version) (items_view list.now.items) v.items) }
     ensures fits { IfOk result (λ v. All (NoteFits app.now) v.items) }
-    ensures err { IfErr result (Standing (InEach app.now (items_view list.now.items))) }
+    ensures err { IfErr result
+        (Standing (InEntries (InNote app.now version) (items_view list.now.items))) }
 {
     let mut notes = Vec::new(alloc);
     for (index, value) in list.iter().enumerate() {
-        match note_of(alloc, app, value) {
+        match note_of(alloc, app, names, version, value) {
             Ok(note) => notes.push(note)?,
             Err(fault) => return Err(within_position(index, fault)),
         }
@@ -105,82 +121,126 @@ fn each_note(alloc: Global, app: &App, list: &Vec<Value>) -> Result<Vec<Note>, C
     Ok(notes)
 }
 
-// The notes that a value stands for, one for each point.
-fn notes_of(alloc: Global, app: &App, value: &Value) -> Result<Vec<Note>, CertFault>
-    ensures ok { IfOk result (λ v. NotesAt app.now (Some (view value.now)) v.items) }
-    ensures fits { IfOk result (λ v. All (NoteFits app.now) v.items) }
-    ensures err { IfErr result (Standing (InNotes app.now (view value.now))) }
-{
-    let list = list_in(alloc, value)?;
-    if list.len() == app.points() {
-        each_note(alloc, app, list)
-    } else {
-        Err(CertFault::PointCount)
-    }
-}
-
-// The notes of an object.
-fn notes_at(alloc: Global, app: &App, object: &Map<String, Value>) -> Result<Vec<Note>, CertFault>
+// The notes of a list, one for each point.
+fn notes_in(
+    alloc: Global,
+    app: &App,
+    names: &Names,
+    version: u8,
+    list: &Vec<Value>,
+) -> Result<Vec<Alts>, CertFault>
+    requires { names.now ≡ names_in app.now }
     ensures ok { IfOk result
-        (λ v. NotesAt app.now (field Key.Notes (members_view object.now.entries)) v.items) }
+        (λ v. EachEntry (IsNote app.now version) (items_view list.now.items) v.items) }
+    ensures points { IfOk result (λ v. length v.items ≡ length (points_of app.now)) }
     ensures fits { IfOk result (λ v. All (NoteFits app.now) v.items) }
     ensures err { IfErr result
-        (Standing (InNeeded Key.Notes (InNotes app.now) (members_view object.now.entries))) }
+        (Standing (InNotes app.now version (items_view list.now.items))) }
+{
+    check_count(app, list)?;
+    each_note(alloc, app, names, version, list)
+}
+
+// The notes that a value means, one for each point.
+fn notes_of(
+    alloc: Global,
+    app: &App,
+    names: &Names,
+    version: u8,
+    value: &Value,
+) -> Result<Vec<Alts>, CertFault>
+    requires { names.now ≡ names_in app.now }
+    ensures ok { IfOk result
+        (λ v. IsList (EachEntry (IsNote app.now version)) (view value.now) v.items) }
+    ensures points { IfOk result (λ v. length v.items ≡ length (points_of app.now)) }
+    ensures fits { IfOk result (λ v. All (NoteFits app.now) v.items) }
+    ensures err { IfErr result (Standing (InList (InNotes app.now version) (view value.now))) }
+{
+    notes_in(alloc, app, names, version, list_in(alloc, value)?)
+}
+
+// The notes at their key, which the object has to have.
+fn notes_at(
+    alloc: Global,
+    app: &App,
+    names: &Names,
+    version: u8,
+    object: &Map<String, Value>,
+) -> Result<Vec<Alts>, CertFault>
+    requires { names.now ≡ names_in app.now }
+    ensures ok { IfOk result
+        (λ v. At Key.Notes (IsList (EachEntry (IsNote app.now version))) (members_view object.now.entries) v.items) }
+    ensures points { IfOk result (λ v. length v.items ≡ length (points_of app.now)) }
+    ensures fits { IfOk result (λ v. All (NoteFits app.now) v.items) }
+    ensures err { IfErr result
+        (Standing (InNeeded Key.Notes (InList (InNotes app.now version)) (members_view object.now.entries))) }
 {
     let Some(value) = found_at(object, Key::Notes) else {
         return Err(departs_at(alloc, Key::Notes.text()));
     };
-    match notes_of(alloc, app, value) {
+    match notes_of(alloc, app, names, version, value) {
         Ok(notes) => Ok(notes),
         Err(fault) => Err(within_key(alloc, Key::Notes.text(), fault)),
     }
 }
 
 // The same notes, which are one for each point, so they are not refused.
-fn built(alloc: Global, app: &App, notes: Vec<Note>) -> Result<Notes, CertFault>
+fn built_notes(alloc: Global, app: &App, notes: Vec<Alts>) -> Result<Notes, CertFault>
     requires points { length notes.items ≡ length (points_of app.now) }
     requires fit { All (NoteFits app.now) notes.items }
     ensures same { IfOk result (λ n. n ≡ notes.items) }
     ensures fits { IfOk result (NotesFit app.now) }
     ensures memory { IfErr result (λ f. f ≡ CertFault.Memory) }
 {
-    match Notes::build(alloc, app, notes) {
+    match Notes::build_alts(alloc, app, notes) {
         Ok(notes) => Ok(notes),
         Err(_) => Err(CertFault::Memory),
     }
 }
 
-// The certificate that the object stands for, key by key.
+// The same guards, which fit the application, so they are not refused.
+fn built_ends(alloc: Global, app: &App, ends: Vec<EndGuard>) -> Result<Ends, CertFault>
+    requires { EndsFit app.now (map end_of ends.items) }
+    ensures same { IfOk result (λ e. e ≡ map end_of ends.items) }
+    ensures memory { IfErr result (λ f. f ≡ CertFault.Memory) }
+{
+    match Ends::build(alloc, app, ends) {
+        Ok(ends) => Ok(ends),
+        Err(_) => Err(CertFault::Memory),
+    }
+}
+
+// The certificate that the object means, key by key.
 fn certificate_of(
     alloc: Global,
     app: &App,
+    names: &Names,
     object: &Map<String, Value>,
 ) -> Result<Certificate, CertFault>
+    requires { names.now ≡ names_in app.now }
     ensures ok { IfOk result (IsCertificate app.now (members_view object.now.entries)) }
     ensures fits { IfOk result (CertificateFits app.now) }
     ensures err { IfErr result
         (Standing (InCertificate app.now (members_view object.now.entries))) }
 {
     known_keys(alloc, object, Place::Certificate)?;
-    check_version(alloc, object)?;
-    check_ends(alloc, object)?;
-    let notes = notes_at(alloc, app, object)?;
+    let version = version_at(alloc, object)?;
+    let ends = ends_at(alloc, app, names, object)?;
+    let notes = notes_at(alloc, app, names, version, object)?;
     Ok(Certificate {
-        notes: built(alloc, app, notes)?,
-        ends: Ends::none(alloc),
+        notes: built_notes(alloc, app, notes)?,
+        ends: built_ends(alloc, app, ends)?,
     })
 }
 
-// The certificate that the value of the whole text stands for.
+// The certificate that the value of the whole text means.
 fn certificate_in(alloc: Global, app: &App, value: &Value) -> Result<Certificate, CertFault>
     ensures ok { IfOk result (IsTree app.now (view value.now)) }
     ensures fits { IfOk result (CertificateFits app.now) }
     ensures err { IfErr result (Standing (InTree app.now (view value.now))) }
 {
-    match value.as_object() {
-        Some(object) => certificate_of(alloc, app, object),
-        None => Err(departs(alloc)),
-    }
+    let names = names_of(alloc, app)?;
+    certificate_of(alloc, app, &names, object_in(alloc, value)?)
 }
 
 // The value that the bytes are the text of.
@@ -204,17 +264,14 @@ fn tree_of(alloc: Global, bytes: &[u8]) -> Result<Value, CertFault>
 /// The certificate that the bytes mean, for this application.
 ///
 /// The bytes are a JSON text (RFC 8259), as the crate `serde_json` reads it, of at most 16,777,216
-/// bytes. Today it takes a text of version 1 with an empty list of ends and one note for each point,
-/// each `"never"` or an object with the keys `crit` and `range`; `write_cert` can write it. A text of
-/// the rest of the format is refused as `Shape` or `Version`.
+/// bytes, in version 1 or 2 of the format. `write_cert` can write it.
 ///
-/// Otherwise its errors are those of `CertFault`: one that is present in the bytes, where they mean
-/// no certificate. Of several, which one is named is open.
+/// Its errors are those of `CertFault`: one that is present in the bytes, where they mean no
+/// certificate. Of several, which one is named is open.
 pub fn read_cert(alloc: Global, app: &App, bytes: &[u8]) -> Result<Certificate, CertFault>
     ensures ok { IfOk result (Means app.now bytes.now) }
     ensures fits { IfOk result (CertificateFits app.now) }
-    ensures written { IfOk result (IsWrittenToday app.now) }
-    ensures err { IfErr result (Standing (IsRefused app.now bytes.now)) }
+    ensures err { IfErr result (Standing (IsPresent app.now bytes.now)) }
 {
     let tree = tree_of(alloc, bytes)?;
     certificate_in(alloc, app, &tree)

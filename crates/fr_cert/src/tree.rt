@@ -1,16 +1,16 @@
 // Reading values of a JSON tree by shape, each departure with its path.
 ghost use Rattle.std.specs.Prelude.{◌≡◌, ◌∷◌, [], false, Some, None, option_map, OnOk, IfOk, IfErr};
-ghost use Rattle.serde_json.specs.Find.{as_array};
+ghost use Rattle.serde_json.specs.Find.{as_array, as_object, as_str};
 ghost use Rattle.serde_json.specs.View.{view, members_view, items_view};
-ghost use Rattle.fr_cert.specs.Path.{key, at};
+ghost use Rattle.fr_cert.specs.Path.{key, at, step_of};
 ghost use Rattle.fr_cert.specs.Keys.{key_text, field, integer_of, AreKnown};
 ghost use Rattle.fr_cert.specs.Faults.{is_memory, Standing, Departs, deeper, InKeys, InInteger};
 
 use crate::fault::CertFault;
 use crate::key::{Key, Place, is_key_of};
-use crate::path::Path;
+use crate::path::{Path, Step};
 use serde_json::{Map, Value};
-use std::alloc::Global;
+use std::alloc::{AllocError, Global};
 
 // The value itself departs.
 pub(crate) fn departs(alloc: Global) -> CertFault
@@ -19,15 +19,30 @@ pub(crate) fn departs(alloc: Global) -> CertFault
     CertFault::Shape(Path::whole(alloc))
 }
 
+// The same fault, seen from a value that has the one with the fault at this step.
+fn deeper(step: Step, fault: CertFault) -> Result<CertFault, AllocError>
+    ensures { IfOk result (λ f. f ≡ deeper (step_of step) fault) }
+{
+    Ok(match fault {
+        CertFault::Shape(path) => CertFault::Shape(path.within(step)?),
+        CertFault::UnknownName(path, name) => CertFault::UnknownName(path.within(step)?, name),
+        CertFault::Note(path) => CertFault::Note(path.within(step)?),
+        CertFault::Guard(path) => CertFault::Guard(path.within(step)?),
+        CertFault::EndTwice(path) => CertFault::EndTwice(path.within(step)?),
+        CertFault::Alternatives(path) => CertFault::Alternatives(path.within(step)?),
+        other => other,
+    })
+}
+
 // The same fault, seen from a value that has the one with the fault at a key.
 pub(crate) fn within_key(alloc: Global, name: &str, fault: CertFault) -> CertFault
     ensures { Standing (λ f. f ≡ deeper (key name.now) fault) result }
 {
-    let CertFault::Shape(mut path) = fault else {
-        return fault;
+    let Ok(name) = String::from_str(alloc, name) else {
+        return CertFault::Memory;
     };
-    match path.within_key(alloc, name) {
-        Ok(()) => CertFault::Shape(path),
+    match deeper(Step::Key(name), fault) {
+        Ok(fault) => fault,
         Err(_) => CertFault::Memory,
     }
 }
@@ -36,11 +51,8 @@ pub(crate) fn within_key(alloc: Global, name: &str, fault: CertFault) -> CertFau
 pub(crate) fn within_position(index: usize, fault: CertFault) -> CertFault
     ensures { Standing (λ f. f ≡ deeper (at index) fault) result }
 {
-    let CertFault::Shape(mut path) = fault else {
-        return fault;
-    };
-    match path.within_position(index) {
-        Ok(()) => CertFault::Shape(path),
+    match deeper(Step::At(index), fault) {
+        Ok(fault) => fault,
         Err(_) => CertFault::Memory,
     }
 }
@@ -94,6 +106,29 @@ pub(crate) fn list_in(alloc: Global, value: &Value) -> Result<&Vec<Value>, CertF
 {
     match value.as_array() {
         Some(list) => Ok(list),
+        None => Err(departs(alloc)),
+    }
+}
+
+// The text that the value has to be.
+pub(crate) fn text_in(alloc: Global, value: &Value) -> Result<&str, CertFault>
+    ensures ok { IfOk result (λ s. as_str (view value.now) ≡ Some s.now) }
+    ensures err { IfErr result (λ f. (as_str (view value.now) ≡ None) × Departs [] f) }
+{
+    match value.as_str() {
+        Some(text) => Ok(text),
+        None => Err(departs(alloc)),
+    }
+}
+
+// The object that the value has to be.
+pub(crate) fn object_in(alloc: Global, value: &Value) -> Result<&Map<String, Value>, CertFault>
+    ensures ok { IfOk result
+        (λ map. as_object (view value.now) ≡ Some (members_view map.now.entries)) }
+    ensures err { IfErr result (λ f. (as_object (view value.now) ≡ None) × Departs [] f) }
+{
+    match value.as_object() {
+        Some(object) => Ok(object),
         None => Err(departs(alloc)),
     }
 }

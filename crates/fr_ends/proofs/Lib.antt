@@ -1,1 +1,3 @@
 pub mod NearLaws
+pub mod TurnLemmas
+pub mod TwiceLemmas

@@ -3,3 +3,6 @@ pub mod Certificate
 pub mod Fits
 pub mod Guarded
 pub mod Nearness
+pub mod Refused
+pub mod View
+pub mod Tests

@@ -3,8 +3,14 @@
 
 mod certificate;
 mod ends;
+mod fault;
+mod fits;
+mod guard;
 mod nearness;
 
 pub use certificate::Certificate;
 pub use ends::{EndName, Ends};
+pub use fault::EndsFault;
+pub use fits::is_listed;
+pub use guard::{EndGuard, Guard};
 pub use nearness::near;

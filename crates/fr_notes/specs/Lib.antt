@@ -14,6 +14,7 @@ pub mod Holding
 pub mod Spot
 pub mod Pairs
 pub mod Laws
+pub mod Alternatives
 pub mod WorkedNotes
 pub mod WorkedParts
 pub mod Reckoning

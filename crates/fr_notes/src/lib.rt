@@ -3,6 +3,7 @@
 // step makes of an alternative.
 #![tactic(auto)]
 
+mod alternatives;
 mod before;
 mod change;
 mod checks;
@@ -24,6 +25,7 @@ mod reckoning;
 mod steps;
 mod worked;
 
+pub use alternatives::{Alts, AltsFault};
 pub use change::Change;
 pub use claim::Claim;
 pub use fault::{NoteFault, NotesFault};

@@ -118,6 +118,20 @@ impl Note {
         Ok(Note { alternatives })
     }
 
+    /// The note with these alternatives.
+    pub(crate) fn of(alternatives: Vec<Alternative>) -> Note
+        ensures { result ≡ alternatives.items }
+    {
+        Note { alternatives }
+    }
+
+    /// The alternatives, taken out of the note.
+    pub(crate) fn into_alternatives(self) -> Vec<Alternative>
+        ensures { result.items ≡ self }
+    {
+        self.alternatives
+    }
+
     /// The alternatives, of which one holds.
     pub fn alternatives(&self) -> &[Alternative]
         ensures { result.now ≡ self.now }

@@ -53,6 +53,13 @@ impl Notes {
         }
     }
 
+    /// These notes, in the order of the points.
+    pub(crate) fn of(notes: Vec<Note>) -> Notes
+        ensures { result ≡ notes.items }
+    {
+        Notes { notes }
+    }
+
     /// The note of a point, or None where there is none with this number.
     pub fn get(&self, number: usize) -> Option<&Note>
         ensures { option_copied result ≡ slice_get self.now number }
