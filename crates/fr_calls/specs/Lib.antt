@@ -2,6 +2,8 @@ pub mod State
 pub mod Rule
 pub mod Step
 pub mod Landing
+pub mod View
+pub mod Choices
 pub mod Run
 pub mod Laws
 pub mod WorkedSteps

@@ -4,12 +4,16 @@
 // (`lands_at`). The laws are functions that do nothing: each is there for its contract.
 #![tactic(auto)]
 
+mod content;
 mod laws;
+mod moves;
 mod rules;
 mod way;
 mod worked;
 
+pub use content::Content;
 pub use laws::{steps_stay_well_formed, the_start_is_well_formed};
+pub use moves::Moves;
 pub use rules::rule_of;
 pub use way::{Landing, Way, lands_at};
 pub use worked::{breaches_as_worked, steps_as_worked};
