@@ -8,6 +8,7 @@ mod content;
 mod laws;
 mod moves;
 mod rules;
+mod state;
 mod way;
 mod worked;
 
@@ -15,5 +16,6 @@ pub use content::Content;
 pub use laws::{steps_stay_well_formed, the_start_is_well_formed};
 pub use moves::Moves;
 pub use rules::rule_of;
+pub use state::{Place, State};
 pub use way::{Landing, Way, lands_at};
 pub use worked::{breaches_as_worked, steps_as_worked};
