@@ -4,3 +4,7 @@ pub mod Formed
 pub mod Free
 pub mod WorkedSteps
 pub mod WorkedRules
+pub mod Unforbidden
+pub mod Endings
+pub mod Begins
+pub mod Rows

@@ -5,6 +5,7 @@
 #![tactic(auto)]
 
 mod content;
+mod freedom;
 mod laws;
 mod moves;
 mod rules;

@@ -61,7 +61,7 @@ fn is_from_isr(call: &Call) -> bool
 }
 
 /// Whether a take or a give doesn't suit the kind of semaphore.
-fn is_unsuited(kind: Kind, action: &Action) -> bool
+pub(crate) fn is_unsuited(kind: Kind, action: &Action) -> bool
     ensures { result ≡ is_unsuited kind action.now }
 {
     match (kind, action) {
