@@ -4,6 +4,7 @@ pub mod Step
 pub mod Landing
 pub mod View
 pub mod Choices
+pub mod Ways
 pub mod Run
 pub mod Laws
 pub mod WorkedSteps

@@ -10,6 +10,7 @@ mod laws;
 mod moves;
 mod rules;
 mod state;
+mod step;
 mod way;
 mod worked;
 
