@@ -8,3 +8,4 @@ pub mod Unforbidden
 pub mod Endings
 pub mod Begins
 pub mod Rows
+pub mod Named
