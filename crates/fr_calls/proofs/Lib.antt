@@ -9,3 +9,4 @@ pub mod Endings
 pub mod Begins
 pub mod Rows
 pub mod Named
+pub mod Chosen
