@@ -1,8 +1,8 @@
 -- The list of a set of choices has them all, in rising order.
-use Rattle.std.proofs.Common.{◌≡◌, ◌<◌, ◌≤◌, ◌+◌, ◌%◌, ℕ, zero, suc, List, [], ◌∷◌, Some, length, get_or, refl, sym, ap, ◌∙◌, subst, arith, rules, ◌↔◌, ◌⊎◌, inl, inr}
+use Rattle.std.proofs.Common.{◌≡◌, ◌<◌, ◌+◌, ℕ, zero, suc, List, [], ◌∷◌, Some, length, get_or, refl, sym, ap, ◌∙◌, subst, arith, rules, ◌↔◌, ◌⊎◌, inl, inr}
 use Rattle.std.specs.Prelude.{ℤ, pos, ◌+ℤ◌, ◌-ℤ◌, ◌≤ℤ◌, ◌<ℤ◌, slice_get, AllPairs, Contains, nat_abs}
 use Rattle.std.proofs.lemmas.Int.{ints}
-use Rattle.std.proofs.lemmas.Option.{slice_get-get_or}
+use Rattle.std.proofs.lemmas.Option.{slice_get-get_or, slice_get_within, same_Some}
 use Rattle.fr_program.specs.Program.{Program}
 use Rattle.fr_calls.specs.State.{State}
 use Rattle.fr_calls.specs.declared.moves.Moves.{Moves}
@@ -89,3 +89,9 @@ are-choices P S a moves r exact =
       rising = listed-rises moves r;
       exact = λ c. let h = listed-has moves r c in ((λ k. (exact c).0 (h.0 k)), (λ k. h.1 ((exact c).1 k)));
     }
+
+-- what is at a place of a list is one of it
+pub contains-at : (xs : List ℤ) (k : ℕ) (c : ℤ) → slice_get xs k ≡ Some c → Contains xs c
+contains-at xs k c e =
+    let within = slice_get_within xs k c e in
+    (k, within, same_Some _ _ (sym (slice_get-get_or xs k c within) ∙ e))

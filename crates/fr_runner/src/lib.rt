@@ -4,6 +4,9 @@
 #![tactic(auto)]
 
 mod choice;
+mod fault;
 mod trace;
+mod turn;
 
+pub use fault::RunFault;
 pub use trace::{Entry, Trace};

@@ -7,7 +7,7 @@ use Rattle.std.proofs.lemmas.Option.{slice_get-get_or}
 use mir.Syntax.{w64}
 use mir.Val.{SFits, to_z, of_z}
 use Rattle.fr_runner.specs.Listed.{numbers_from}
-use Rattle.fr_runner.proofs.Listing.{length-numbers, numbers-at, are-choices}
+use Rattle.fr_runner.proofs.Listing.{length-numbers, numbers-at}
 use Rattle.fr_runner.proofs.choice.of_span.Goals as goal
 
 -- the number that a word picks
