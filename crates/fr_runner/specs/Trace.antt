@@ -6,11 +6,13 @@
 -- | word_at        | the word for the entry with this number                                                  |
 -- | AreChoices     | the list has exactly the choices of an actor's steps, in rising order                    |
 -- | IsChosen       | the word picks this one of an actor's choices                                            |
+-- | actor_of       | whose poll an entry tells of                                                             |
 -- | IsEntry        | an entry is true between two states                                                      |
 -- | Replays        | entries lead from one state to another, each of them true where it stands                |
 -- | AllDone        | every actor of the application is done                                                   |
 -- | IsRunOf        | a trace replays from the start, and ends early only where every actor is done            |
 use Rattle.std.specs.Prelude.{◌≡◌, ◌<◌, ◌≤◌, ◌<ℤ◌, ◌+◌, ◌%◌, ◌↔◌, ℕ, ℤ, List, [], ◌∷◌, Some, length, slice_index, slice_get, AllPairs, Contains}
+use Rattle.fr_program.specs.declared.ids.ActorId.{ActorId}
 use Rattle.fr_program.specs.Program.{Program}
 use Rattle.fr_calls.specs.State.{State, Done, place_of, start}
 use Rattle.fr_calls.specs.Step.{Step}
@@ -31,6 +33,11 @@ pub record AreChoices (P : Program) (S : State) (a : ℕ) (choices : List ℤ) :
 -- divided by their number
 abbrev pub IsChosen : Program → State → ℕ → ℕ → ℤ → Type 0
 IsChosen P S a word c = (choices : List ℤ) × AreChoices P S a choices × (slice_get choices (word % length choices) ≡ Some c)
+
+-- whose poll it was
+abbrev pub actor_of : Entry → ActorId
+actor_of (Stepped a c) = a
+actor_of (Blocked a) = a
 
 -- the entry is true: the actor steps from S to S' by the choice that the word picks, or it has no step in S, which stays
 abbrev pub IsEntry : Program → ℕ → State → Entry → State → Type 0

@@ -5,8 +5,10 @@
 
 mod choice;
 mod fault;
+mod machine;
 mod trace;
 mod turn;
 
 pub use fault::RunFault;
+pub use machine::Machine;
 pub use trace::{Entry, Trace};

@@ -1,7 +1,7 @@
 // One turn of an actor, from a state that keeps the notes of a certificate.
 ghost use Rattle.std.specs.Prelude.{◌≡◌, ◌<◌, length, IfOk, OnOk, OnErr};
 ghost use Rattle.fr_judge.specs.Sound.{KeepsNotes};
-ghost use Rattle.fr_runner.specs.Trace.{IsEntry};
+ghost use Rattle.fr_runner.specs.Trace.{IsEntry, actor_of};
 
 use crate::choice::chosen;
 use crate::trace::Entry;
@@ -21,6 +21,7 @@ pub(crate) fn turn(
     requires notes { KeepsNotes passed.now.app passed.now.certificate state.old }
     requires actor { actor.0 < length passed.now.app.actors }
     ensures entry { IfOk result (λ e. IsEntry passed.now.app word state.old e state.new) }
+    ensures whose { IfOk result (λ e. actor_of e ≡ actor) }
     ensures notes { OnOk result (KeepsNotes passed.now.app passed.now.certificate state.new) }
     ensures err { OnErr result (state.new ≡ state.old) }
 {
