@@ -5,6 +5,7 @@
 
 mod choice;
 mod fault;
+mod lock;
 mod machine;
 mod trace;
 mod turn;

@@ -116,6 +116,13 @@ impl<'a> Machine<'a> {
         actor.0 < self.passed.app().actors().len() && matches!(self.state.place(actor), Place::Done)
     }
 
+    /// Whether it is an actor of the application that isn't done.
+    pub(crate) fn waits(&self, actor: ActorId) -> bool
+        ensures { IsTrue result ↔ ((actor.0 < length self.now.approved.app.actors) × (place_of self.now.state actor.0 ≢ Done)) }
+    {
+        actor.0 < self.passed.app().actors().len() && !self.done(actor)
+    }
+
     /// How many polls are left.
     pub fn left(&self) -> u64
         ensures { result ≡ self.now.left }
