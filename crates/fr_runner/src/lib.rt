@@ -7,6 +7,7 @@ mod choice;
 mod fault;
 mod lock;
 mod machine;
+mod rest;
 mod trace;
 mod turn;
 

@@ -98,7 +98,7 @@ impl<'a> Machine<'a> {
         if self.left == 0 {
             return Err(RunFault::Spent);
         }
-        if actor.0 >= self.passed.app().actors().len() {
+        if actor.0 >= self.actors() {
             return Err(RunFault::NoActor);
         }
         self.entries.reserve(1)?;
@@ -113,14 +113,21 @@ impl<'a> Machine<'a> {
     pub fn done(&self, actor: ActorId) -> bool
         ensures { IsTrue result ↔ ((actor.0 < length self.now.approved.app.actors) × (place_of self.now.state actor.0 ≡ Done)) }
     {
-        actor.0 < self.passed.app().actors().len() && matches!(self.state.place(actor), Place::Done)
+        actor.0 < self.actors() && matches!(self.state.place(actor), Place::Done)
+    }
+
+    /// How many actors the application has.
+    pub(crate) fn actors(&self) -> usize
+        ensures { result ≡ length self.now.approved.app.actors }
+    {
+        self.passed.app().actors().len()
     }
 
     /// Whether it is an actor of the application that isn't done.
     pub(crate) fn waits(&self, actor: ActorId) -> bool
         ensures { IsTrue result ↔ ((actor.0 < length self.now.approved.app.actors) × (place_of self.now.state actor.0 ≢ Done)) }
     {
-        actor.0 < self.passed.app().actors().len() && !self.done(actor)
+        actor.0 < self.actors() && !self.done(actor)
     }
 
     /// How many polls are left.
