@@ -8,9 +8,11 @@ mod fault;
 mod lock;
 mod machine;
 mod rest;
+mod threads;
 mod trace;
 mod turn;
 
 pub use fault::RunFault;
 pub use machine::Machine;
+pub use threads::run;
 pub use trace::{Entry, Trace};
