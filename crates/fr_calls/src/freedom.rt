@@ -2,12 +2,12 @@
 ghost use Rattle.std.specs.Prelude.{◌≡◌, ◌<◌, ◌↔◌, length, IsTrue, IsFalse};
 ghost use Rattle.fr_program.specs.Fault.{NamesThings};
 ghost use Rattle.fr_calls.specs.State.{IsWellFormed};
-ghost use Rattle.fr_calls.specs.Rule.{GivesUnheld, UsesDead};
+ghost use Rattle.fr_calls.specs.Rule.{GivesUnheld, UsesDead, condition_of};
 ghost use Rattle.fr_calls.specs.Step.{SuitsInside, IsFree};
 
-use crate::rules::{is_unsuited, rule_of};
+use crate::rules::{Condition, first_forbidden, is_unsuited};
 use crate::state::State;
-use fr_program::{Action, App, Call, GiveForm, Instr, Kind, Point, Side};
+use fr_program::{Action, ActorId, App, Call, GiveForm, Instr, Kind, Point, Side};
 
 /// Whether the actor isn't inside a take or a give that doesn't suit the kind of semaphore.
 fn suits_inside(app: &App, side: Side, instr: &Instr) -> bool
@@ -45,17 +45,33 @@ impl State {
         asks && self.content(*object).count_held(point.actor) == 0
     }
 
-    /// Whether it is a delete or an object call of an object that isn't live.
-    fn uses_dead(&self, app: &App, instr: &Instr) -> bool
+    /// Whether the actor is before a delete, or before or inside an object call, of an object that
+    /// isn't live.
+    fn uses_dead(&self, app: &App, side: Side, instr: &Instr) -> bool
         requires formed { IsWellFormed app.now self.now }
         requires names { NamesThings app.now instr.now }
-        ensures { IsTrue result ↔ UsesDead self.now instr.now }
+        ensures { IsTrue result ↔ UsesDead self.now instr.now side }
     {
-        match instr {
-            Instr::Call(Call::Delete { object, .. } | Call::On { object, .. }) => {
+        match (side, instr) {
+            (Side::Before, Instr::Call(Call::Delete { object, .. })) => {
                 self.content(*object).is_dead()
             }
+            (_, Instr::Call(Call::On { object, .. })) => self.content(*object).is_dead(),
             _ => false,
+        }
+    }
+
+    /// What some rules ask of the actor, in this state.
+    fn condition(&self, app: &App, actor: ActorId) -> Condition
+        requires formed { IsWellFormed app.now self.now }
+        requires actor { actor.0 < length app.now.actors }
+        ensures { result ≡ condition_of app.now self.now actor.0 }
+    {
+        Condition {
+            interrupt: app.is_interrupt(actor),
+            critical: self.depth(actor),
+            suspended: self.suspension(actor),
+            holds: self.holds_some(actor),
         }
     }
 
@@ -67,23 +83,13 @@ impl State {
         requires actor { point.actor.0 < length app.now.actors }
         ensures { IsTrue result ↔ IsFree app.now self.now point.actor.0 point.side instr.now }
     {
-        let actor = point.actor;
-        if self.gives_unheld(app, point, instr) || self.uses_dead(app, instr) {
+        if self.gives_unheld(app, point, instr) || self.uses_dead(app, point.side, instr) {
             return false;
         }
         if let Side::Inside = point.side {
             return suits_inside(app, point.side, instr);
         }
-        let interrupt = app.is_interrupt(actor);
-        let (depth, suspended) = (self.depth(actor), self.suspension(actor));
-        rule_of(
-            app,
-            interrupt,
-            depth,
-            suspended,
-            self.holds_some(actor),
-            instr,
-        )
-        .is_none()
+        let condition = self.condition(app, point.actor);
+        first_forbidden(app, condition, instr).is_none()
     }
 }

@@ -1,6 +1,7 @@
 -- What holds an actor back, and what is asked on either side of an instruction.
-use Rattle.std.proofs.Common.{inl, inr, ◌∙◌}
-use Rattle.fr_calls.proofs.Unforbidden.{held-back, free-before, least-is}
+use Rattle.std.proofs.Common.{inl, inr, ap, ◌∙◌}
+use Rattle.fr_calls.specs.Rule.{first_forbidden}
+use Rattle.fr_calls.proofs.Unforbidden.{held-back, free-before}
 use Rattle.fr_calls.proofs.state.State.is_free.Goals as goal
 use Rattle.fr_calls.proofs.state.State.is_free.Goals.{then-gives_unheld-via-then-gives_unheld, then-gives_unheld-via-else-gives_unheld+then-uses_dead}
 
@@ -23,9 +24,9 @@ returns c =
     let S = c.args.self.now in
     let a = c.args.point.actor.0 in
     let i = c.args.instr.now in
-    free-before P S a i c.args.point.side c.rule_of.result c.is_none.result
+    free-before P S a i c.args.point.side c.first_forbidden.result c.is_none.result
     (λ g. let t = c.gives_unheld.ensures.1 g in let f = c.if-gives_unheld.false in cc)
     (λ u. let t = c.uses_dead.ensures.1 u in let f = c.if-uses_dead.false in cc)
     c.in_default.not-Inside
-    (c.rule_of.ensures ∙ least-is P S a i _ _ _ _ c.is_interrupt-interrupt.ensures c.depth-depth.ensures c.suspension-suspended.ensures c.holds_some.ensures)
+    (c.first_forbidden.ensures ∙ ap (λ condition. first_forbidden P condition i) c.condition-condition.ensures)
     c.is_none.ensures
