@@ -61,6 +61,6 @@ impl Passed {
         ensures certified { Certified self.now.app self.now.certificate }
     {
         let _ = &self.certificate;
-        self.app.is_faultless();
+        self.app.recall_faultless();
     }
 }
