@@ -5,3 +5,9 @@ pub mod Free
 pub mod WorkedSteps
 pub mod WorkedStates
 pub mod WorkedRules
+pub mod Unforbidden
+pub mod Endings
+pub mod Begins
+pub mod Rows
+pub mod Named
+pub mod Chosen

@@ -3,6 +3,9 @@ pub mod BufferEnd
 pub mod Rule
 pub mod Step
 pub mod Landing
+pub mod View
+pub mod Choices
+pub mod Ways
 pub mod Run
 pub mod Laws
 pub mod WorkedStates

@@ -5,13 +5,21 @@
 #![tactic(auto)]
 
 mod buffer_end;
+mod content;
+mod freedom;
 mod laws;
+mod moves;
 mod rules;
+mod state;
+mod step;
 mod way;
 mod worked;
 
 pub use buffer_end::End;
+pub use content::Content;
 pub use laws::{steps_stay_well_formed, the_start_is_well_formed};
+pub use moves::Moves;
 pub use rules::{Condition, Rule, first_forbidden, is_unsuited, rule_of};
+pub use state::{Place, State};
 pub use way::{Landing, Way, lands_at};
 pub use worked::{breaches_as_worked, states_as_worked, steps_as_worked};

@@ -4,6 +4,7 @@ ghost use Rattle.fr_calls.specs.Run.{IsSafe};
 ghost use Rattle.fr_ends.specs.Fits.{CertificateFits};
 ghost use Rattle.fr_judge.specs.Told.{TellsVerdict};
 ghost use Rattle.fr_judge.specs.Verdict.{IsCertified};
+ghost use Rattle.fr_judge.specs.Sound.{Certified};
 
 use crate::part::Verdict;
 use crate::verdict::judge;
@@ -51,5 +52,15 @@ impl Passed {
         ensures { result.now ≡ self.now.app }
     {
         &self.app
+    }
+
+    /// What passing says: the certificate fits the application, which has no build fault, and every
+    /// part is kept at every point.
+    pub fn recall_certified(&self)
+        ensures fits { CertificateFits self.now.app self.now.certificate }
+        ensures certified { Certified self.now.app self.now.certificate }
+    {
+        let _ = &self.certificate;
+        self.app.recall_faultless();
     }
 }

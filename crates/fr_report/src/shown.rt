@@ -42,7 +42,7 @@ fn number_of(app: &App, point: Point) -> usize
 }
 
 /// The name of an actor of the application, or no text where there is none.
-fn actor_name(app: &App, actor: ActorId) -> &str
+pub(crate) fn actor_name(app: &App, actor: ActorId) -> &str
     ensures { result.now ≡ (actor_at app.now actor.0).name }
 {
     match app.actors().get(actor.0) {

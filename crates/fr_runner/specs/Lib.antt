@@ -1,0 +1,4 @@
+pub mod Trace
+pub mod Listed
+pub mod Machine
+pub mod View

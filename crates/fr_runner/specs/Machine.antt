@@ -1,0 +1,27 @@
+-- What a machine is: an application that has passed, the words, the entries so far with the state after them, and how
+-- many polls are left.
+--
+-- | word           | meaning                                                                                  |
+-- |----------------|------------------------------------------------------------------------------------------|
+-- | MachineOf      | a machine as the contracts see it                                                        |
+-- | IsRunning      | its entries replay from the start to its state, which keeps the notes                    |
+use Rattle.std.specs.Prelude.{ℕ, List}
+use Rattle.fr_calls.specs.State.{State, start}
+use Rattle.fr_judge.specs.Approved.{Approved}
+use Rattle.fr_judge.specs.Sound.{KeepsNotes}
+use Rattle.fr_runner.specs.Trace.{Entry, Replays}
+
+-- a machine
+pub record MachineOf : Type 0 where
+  -- the application that has passed, with its certificate
+  pub approved : Approved
+  pub words : List ℕ
+  pub entries : List Entry
+  -- the state after the entries
+  pub state : State
+  pub left : ℕ
+
+-- the entries replay from the start to the state, and the note of each actor that isn't done holds of it there
+pub record IsRunning (m : MachineOf) : Type 0 where
+  pub replays : Replays m.approved.app m.words 0 (start m.approved.app) m.entries m.state
+  pub notes : KeepsNotes m.approved.app m.approved.certificate m.state

@@ -1,0 +1,7 @@
+-- For private clauses: the machine that a machine in code stands for.
+use Rattle.fr_runner.specs.declared.machine.Machine.TheInside.{Inside}
+use Rattle.fr_runner.specs.Machine.{MachineOf}
+
+-- its parts, read from the code's
+abbrev pub machine_of : Inside → MachineOf
+machine_of m = record { approved = m.passed.now; words = m.words.items; entries = m.entries.items; state = m.state; left = m.left }
