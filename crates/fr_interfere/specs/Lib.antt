@@ -1,1 +1,2 @@
 pub mod Undisturbed
+pub mod Disturbance

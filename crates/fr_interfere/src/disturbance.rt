@@ -1,0 +1,184 @@
+// Whether another actor's steps leave a point's note holding.
+ghost use Rattle.std.specs.Prelude.{◌≡◌, ◌≢◌, ◌<◌, ◌↔◌, IsTrue, Some, All, Contains, length, slice_get};
+ghost use Rattle.fr_program.specs.declared.ids.Point.{Point};
+ghost use Rattle.fr_program.specs.Fault.{IsFaultless};
+ghost use Rattle.fr_program.specs.Lookup.{IsPoint, instr_of};
+ghost use Rattle.fr_program.specs.Points.{points_of};
+ghost use Rattle.fr_notes.specs.Fits.{AlternativeFits, NoteFits, NotesFit};
+ghost use Rattle.fr_notes.specs.Known.{KnownFits, IsOther, LeavesSome, Spares};
+ghost use Rattle.fr_notes.specs.Note.{Alternative as AlternativeOf};
+ghost use Rattle.fr_interfere.specs.Disturbance.{IsSparedByRows, IsSpoiler};
+ghost use Rattle.fr_interfere.specs.Undisturbed.{Undisturbed};
+
+use fr_calls::Way;
+use fr_notes::{Alternative, Change, Known, Note, Notes, can_meet, change_by, spares};
+use fr_program::{App, Instr, Point};
+
+/// Recalls that an application has no build fault, whatever is judged today.
+fn recall_faultless(app: &App)
+    ensures { IsFaultless app.now }
+{
+    app.recall_faultless();
+}
+
+/// Whether some alternative of the note holds of the other actor after each step that makes this
+/// change, where this one held before.
+fn some_spared(
+    app: &App,
+    known: &Known,
+    alternative: &Alternative,
+    change: &Change,
+    note: &Note,
+) -> bool
+    requires fits { KnownFits app.now known.now }
+    requires other { known.now.other ≡ Some alternative.now }
+    ensures kept { IsTrue result →
+        ((k : AlternativeOf) × Contains note.now k × Spares known.now alternative.now change.now k) }
+    ensures missed { ((k : AlternativeOf) × Contains note.now k × Spares known.now alternative.now change.now k) →
+        IsTrue result }
+{
+    let _ = app;
+    for next in note.alternatives() {
+        if spares(known, alternative, change, next) {
+            return true;
+        }
+    }
+    false
+}
+
+/// Whether one alternative of the note is left by every step of the mover by this row.
+fn is_spared_by_row(
+    app: &App,
+    known: &Known,
+    alternative: &Alternative,
+    mover: Point,
+    instr: &Instr,
+    way: Way,
+    note: &Note,
+) -> bool
+    requires fits { KnownFits app.now known.now }
+    requires other { known.now.other ≡ Some alternative.now }
+    requires point { IsPoint app.now mover }
+    requires instr { instr_of app.now mover ≡ Some instr.now }
+    requires note { NoteFits app.now note.now }
+    ensures { (p : Point) → IsOther app.now known.now mover p →
+        (IsTrue result ↔ LeavesSome app.now known.now mover p way p.actor.0 note.now) }
+{
+    recall_faultless(app);
+    match change_by(app, known, mover, instr, way) {
+        Some(change) => some_spared(app, known, alternative, &change, note),
+        None => true,
+    }
+}
+
+/// The same by both rows, of any two alternatives: where they exclude each other, no state has such
+/// a step.
+fn is_spared(
+    app: &App,
+    alternative: &Alternative,
+    other: &Alternative,
+    mover: Point,
+    instr: &Instr,
+    note: &Note,
+) -> bool
+    requires alternative { AlternativeFits app.now alternative.now }
+    requires other { AlternativeFits app.now other.now }
+    requires point { IsPoint app.now mover }
+    requires instr { instr_of app.now mover ≡ Some instr.now }
+    requires note { NoteFits app.now note.now }
+    ensures { (p : Point) → IsPoint app.now p → p.actor ≢ mover.actor →
+        (IsTrue result ↔ IsSparedByRows app.now p alternative.now mover other.now note.now) }
+{
+    if !can_meet(other, alternative) {
+        return true;
+    }
+    let known = Known::beside(other, alternative);
+    is_spared_by_row(app, &known, alternative, mover, instr, Way::Then, note)
+        && is_spared_by_row(app, &known, alternative, mover, instr, Way::Else, note)
+}
+
+/// Whether that is so of each alternative of the mover's note.
+fn is_spared_beside_each(
+    app: &App,
+    alternative: &Alternative,
+    others: &Note,
+    mover: Point,
+    instr: &Instr,
+    note: &Note,
+) -> bool
+    requires alternative { AlternativeFits app.now alternative.now }
+    requires others { NoteFits app.now others.now }
+    requires point { IsPoint app.now mover }
+    requires instr { instr_of app.now mover ≡ Some instr.now }
+    requires note { NoteFits app.now note.now }
+    ensures { (p : Point) → IsPoint app.now p → p.actor ≢ mover.actor →
+        (IsTrue result ↔ ((m : AlternativeOf) → Contains others.now m → IsSparedByRows app.now p alternative.now mover m note.now)) }
+{
+    for other in others.alternatives() {
+        if !is_spared(app, alternative, other, mover, instr, note) {
+            return false;
+        }
+    }
+    true
+}
+
+/// Whether that is so of each alternative of the note too.
+fn is_each_spared(app: &App, note: &Note, others: &Note, mover: Point, instr: &Instr) -> bool
+    requires note { NoteFits app.now note.now }
+    requires others { NoteFits app.now others.now }
+    requires point { IsPoint app.now mover }
+    requires instr { instr_of app.now mover ≡ Some instr.now }
+    ensures { (p : Point) → IsPoint app.now p → p.actor ≢ mover.actor →
+        (IsTrue result ↔ ((n m : AlternativeOf) → Contains note.now n → Contains others.now m → IsSparedByRows app.now p n mover m note.now)) }
+{
+    for alternative in note.alternatives() {
+        if !is_spared_beside_each(app, alternative, others, mover, instr, note) {
+            return false;
+        }
+    }
+    true
+}
+
+/// Whether no step of another actor from the point with the other number disturbs the note of the
+/// point with this one. Between points of one actor none does. The notes fit the application. Takes
+/// no memory.
+pub fn undisturbed(app: &App, notes: &Notes, number: usize, other: usize) -> bool
+    requires number { number < length (points_of app.now) }
+    requires other { other < length (points_of app.now) }
+    requires fit { NotesFit app.now notes.now }
+    ensures { (p q : Point) → slice_get (points_of app.now) number ≡ Some p →
+        slice_get (points_of app.now) other ≡ Some q → (IsTrue result ↔ Undisturbed app.now notes.now p q) }
+{
+    app.recall_numbered();
+    let (point, mover) = (app.point(number), app.point(other));
+    if point.actor.0 == mover.actor.0 {
+        return true;
+    }
+    match app.instr(mover) {
+        None => true,
+        Some(instr) => is_each_spared(
+            app,
+            notes.at(app, number),
+            notes.at(app, other),
+            mover,
+            instr,
+        ),
+    }
+}
+
+/// The least number of a point whose steps disturb the note of the point with this number; None
+/// where no step of another actor does. The notes fit the application. Takes no memory.
+pub fn spoiler(app: &App, notes: &Notes, number: usize) -> Option<usize>
+    requires number { number < length (points_of app.now) }
+    requires fit { NotesFit app.now notes.now }
+    ensures { (p : Point) → slice_get (points_of app.now) number ≡ Some p →
+        IsSpoiler app.now notes.now p result }
+{
+    app.recall_numbered();
+    for other in 0..app.points() {
+        if !undisturbed(app, notes, number, other) {
+            return Some(other);
+        }
+    }
+    None
+}
