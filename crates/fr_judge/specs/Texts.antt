@@ -13,7 +13,7 @@ use Rattle.fr_reader.specs.Stands.{Stands as StandsInApp}
 use Rattle.fr_ends.specs.Certificate.{Certificate}
 use Rattle.fr_cert.specs.Meaning.{Means as CertMeans}
 use Rattle.fr_cert.specs.Faults.{Standing as CertStanding}
-use Rattle.fr_cert.specs.NotYet.{IsRefused as IsCertRefused}
+use Rattle.fr_cert.specs.Present.{IsPresent as IsCertPresent}
 use Rattle.fr_judge.specs.declared.part.Verdict.{Verdict as ToldVerdict}
 use Rattle.fr_judge.specs.declared.text.TextFault.{TextFault}
 use Rattle.fr_judge.specs.declared.text.TextFault.TheVariants.{Memory, App, Cert}
@@ -29,9 +29,8 @@ IsAnswerOne =
     (app certificate : List ℕ) (P Q : Program) (one other : ToldVerdict) → IsJudged app certificate P one →
     IsJudged app certificate Q other → (P ≡ Q) × (one ≡ other)
 
--- the fault is present in the application's bytes, or in the certificate's for the application that was read, or the
--- certificate isn't taken yet
+-- the fault is present in the application's bytes, or in the certificate's for the application that was read
 abbrev pub FaultStands : List ℕ → List ℕ → TextFault → Type 0
 FaultStands app certificate Memory = Unit {0}
 FaultStands app certificate (App f) = AppStanding (StandsInApp app) f
-FaultStands app certificate (Cert f) = (P : Program) × AppMeans app P × CertStanding (IsCertRefused P certificate) f
+FaultStands app certificate (Cert f) = (P : Program) × AppMeans app P × CertStanding (IsCertPresent P certificate) f

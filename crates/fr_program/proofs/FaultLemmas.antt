@@ -16,14 +16,14 @@ use Rattle.fr_program.specs.declared.instr.Instr.TheVariants.{Goto, Return, Call
 use Rattle.fr_program.specs.declared.instr.Call.TheVariants.{DeleteSelf}
 use Rattle.fr_program.specs.declared.fault.CodeLine.{CodeLine}
 use Rattle.fr_program.specs.declared.fault.BuildFault.{BuildFault}
-use Rattle.fr_program.specs.declared.fault.BuildFault.TheVariants.{Memory, TooMany, BadRange, BadTarget, FallsOff, TwoShared, NotOwner, KindMismatch, FromIsrInTask, ResultRange, Operands, Names, NotYet}
+use Rattle.fr_program.specs.declared.fault.BuildFault.TheVariants.{Memory, TooMany, BadRange, BadTarget, FallsOff, TwoShared, NotOwner, KindMismatch, FromIsrInTask, ResultRange, Operands, Names}
 use Rattle.fr_program.specs.Program.{Program, ActorOf}
 use Rattle.fr_program.specs.Lookup.{actor_at, no_actor}
 use Rattle.fr_program.specs.Limits.{InstrInLimits, IsName, names_of}
 use Rattle.fr_program.specs.Uses.{TargetsBelow}
-use Rattle.fr_program.specs.Fault.{AtLine, SharesAtMostOne, MayUseAll, SuitsKind, SuitsActor, ResultsFit, OperandsFit, NamesThings, IsFreeOf, IsFaultless, IsJudgedYet, IsInstrJudgedYet, Leaves, EndsWell}
+use Rattle.fr_program.specs.Fault.{AtLine, SharesAtMostOne, MayUseAll, SuitsKind, SuitsActor, ResultsFit, OperandsFit, NamesThings, IsFreeOf, IsFaultless, Leaves, EndsWell}
 use Rattle.fr_program.specs.InstrFault.{HasFault, HasFaultIn, IsCodeFaultless}
-use Rattle.fr_program.specs.ListFault.{leaves, ends_well, AreListsFaultless, AreNamesFaultless, IsActorJudgedYet, IsAlone}
+use Rattle.fr_program.specs.ListFault.{leaves, ends_well, AreListsFaultless, AreNamesFaultless}
 use Rattle.fr_program.specs.View.{actor_of}
 use Rattle.fr_program.proofs.ListLemmas.{All-unmapped}
 use Rattle.fr_program.proofs.InstrLemmas.{All-slice_get, instr_at-within, code-from_places}
@@ -70,23 +70,22 @@ pub if_some : {X : Type 0} (F : X → Type 0) (o : Option X) → ((x : X) → o 
 if_some F None each = tt
 if_some F (Some x) each = each x refl
 
--- an application has none of the faults but what isn't judged yet
-pub free_of : (P : Program) (f : BuildFault) → f ≢ NotYet → IsFaultless P → IsFreeOf P f
-free_of P Memory yet h = tt
-free_of P TooMany yet h = h.small
-free_of P (BadRange None) yet h = record { variables = h.limits.variables; objects = h.limits.objects }
-free_of P (BadRange (Some at)) yet h = if_some InstrInLimits _ (h.limits.code at.actor.0 at.pc)
-free_of P (BadTarget at) yet h = if_some (TargetsBelow (length (actor_at P at.actor.0).code)) _ (h.targets at.actor.0 at.pc)
-free_of P (FallsOff a) yet h = if_some EndsWell _ (λ x is. All-slice_get EndsWell P.actors a.0 x h.ends is)
-free_of P (TwoShared at) yet h = if_some (SharesAtMostOne P) _ (h.shared at.actor.0 at.pc)
-free_of P (NotOwner at) yet h = if_some (MayUseAll P at.actor.0) _ (h.owners at.actor.0 at.pc)
-free_of P (KindMismatch at) yet h = if_some (SuitsKind P) _ (h.kinds at.actor.0 at.pc)
-free_of P (FromIsrInTask at) yet h = if_some (SuitsActor (actor_at P at.actor.0)) _ (h.forms at.actor.0 at.pc)
-free_of P (ResultRange at) yet h = if_some (ResultsFit P) _ (h.results at.actor.0 at.pc)
-free_of P (Operands at) yet h = if_some OperandsFit _ (h.operands at.actor.0 at.pc)
-free_of P (Names None) yet h = record { names = h.names.names; once = h.names.once; owners = h.names.owners }
-free_of P (Names (Some at)) yet h = if_some (NamesThings P) _ (h.names.things at.actor.0 at.pc)
-free_of P NotYet yet h = absurd (yet refl)
+-- an application has none of the faults
+pub free_of : (P : Program) (f : BuildFault) → IsFaultless P → IsFreeOf P f
+free_of P Memory h = tt
+free_of P TooMany h = h.small
+free_of P (BadRange None) h = record { variables = h.limits.variables; objects = h.limits.objects }
+free_of P (BadRange (Some at)) h = if_some InstrInLimits _ (h.limits.code at.actor.0 at.pc)
+free_of P (BadTarget at) h = if_some (TargetsBelow (length (actor_at P at.actor.0).code)) _ (h.targets at.actor.0 at.pc)
+free_of P (FallsOff a) h = if_some EndsWell _ (λ x is. All-slice_get EndsWell P.actors a.0 x h.ends is)
+free_of P (TwoShared at) h = if_some (SharesAtMostOne P) _ (h.shared at.actor.0 at.pc)
+free_of P (NotOwner at) h = if_some (MayUseAll P at.actor.0) _ (h.owners at.actor.0 at.pc)
+free_of P (KindMismatch at) h = if_some (SuitsKind P) _ (h.kinds at.actor.0 at.pc)
+free_of P (FromIsrInTask at) h = if_some (SuitsActor (actor_at P at.actor.0)) _ (h.forms at.actor.0 at.pc)
+free_of P (ResultRange at) h = if_some (ResultsFit P) _ (h.results at.actor.0 at.pc)
+free_of P (Operands at) h = if_some OperandsFit _ (h.operands at.actor.0 at.pc)
+free_of P (Names None) h = record { names = h.names.names; once = h.names.once; owners = h.names.owners }
+free_of P (Names (Some at)) h = if_some (NamesThings P) _ (h.names.things at.actor.0 at.pc)
 
 -- lists, instructions and names without a fault are an application without one
 pub faultless : (P : Program) → AreListsFaultless P → IsCodeFaultless P → AreNamesFaultless P → IsFaultless P
@@ -145,21 +144,6 @@ falls_off (a ∷ rest) k first ends =
     slice_get-map actor_of (a ∷ rest) k ∙ ap (option_map actor_of) (slice_get-get_or (a ∷ rest) k a found.0) in
     let here : EndsWell (actor_of (get_or (a ∷ rest) k a)) = subst (λ o. IfSome o EndsWell) is ends in
     false≢true (sym (not-true _ found.1) ∙ ends-true (get_or (a ∷ rest) k a).code.items here.0 here.1 here.2)
-
--- what is judged today, by actors and by the application's places
-pub judged-from_actors : (P : Program) → IsAlone P → All IsActorJudgedYet P.actors → IsJudgedYet P
-judged-from_actors P alone each = record {
-  objects = alone.objects;
-  one = alone.one;
-  tasks = λ k d below. (each k d below).task;
-  code = λ a pc i at. All-slice_get IsInstrJudgedYet (actor_at P a).code pc i (each a no_actor (instr_at-within P a pc i at)).code at;
-}
-
-pub actors-from_judged : (P : Program) → IsJudgedYet P → All IsActorJudgedYet P.actors
-actors-from_judged P judged = λ k d below. record {
-  task = judged.tasks k d below;
-  code = code-from_places P (λ x i. IsInstrJudgedYet i) k (get_or P.actors k d) (get_or_default P.actors k no_actor d below) (judged.code k);
-}
 
 -- pairs of a mapped list, and pairs of the list itself
 pub pairs-map : {X Y : Type 0} (R : Y → Y → Type 0) (f : X → Y) (xs : List X) → AllPairs (λ x y. R (f x) (f y)) xs → AllPairs R (map f xs)

@@ -16,12 +16,10 @@
 -- | NamesThings      | each number in the instruction names a variable or an object                        |
 -- | IsFreeOf         | this fault is not present at the line or the actor that it is about                 |
 -- | IsFaultless      | none of the eleven faults is present                                                |
--- | IsJudgedYet      | the application has only what is judged today                                       |
-use Rattle.std.specs.Prelude.{◌≡◌, ◌≢◌, ◌≤◌, ◌<◌, ◌≤ℤ◌, ◌⊎◌, ◌+◌, ℕ, ℤ, pos, [], Option, None, Some, Bool, false, IsTrue, length, IfSome, All, AllPairs, count_by, slice_get, is_none}
+use Rattle.std.specs.Prelude.{◌≡◌, ◌≢◌, ◌≤◌, ◌<◌, ◌≤ℤ◌, ◌⊎◌, ◌+◌, ℕ, ℤ, pos, Option, None, Some, Bool, false, IsTrue, length, IfSome, All, AllPairs, count_by, slice_get, is_none}
 use Rattle.fr_program.specs.declared.instr.Instr.{Instr}
 use Rattle.fr_program.specs.declared.instr.Instr.TheVariants.{Set, If, Goto, Pick, Call as Calls, Return}
-use Rattle.fr_program.specs.declared.instr.Call.TheVariants.{EnterCritical, ExitCritical, Delay, DeleteSelf, Create, Delete, On}
-use Rattle.fr_program.specs.declared.instr.Form.TheVariants.{Task as InTask}
+use Rattle.fr_program.specs.declared.instr.Call.TheVariants.{DeleteSelf, Create, Delete, On}
 use Rattle.fr_program.specs.declared.instr.Action.{Action}
 use Rattle.fr_program.specs.declared.instr.Action.TheVariants.{QueueReceive, Send, Receive}
 use Rattle.fr_program.specs.declared.instr.Operand.{Operand}
@@ -34,7 +32,7 @@ use Rattle.fr_program.specs.declared.parts.Kind.TheVariants.{Queue}
 use Rattle.fr_program.specs.declared.parts.ActorKind.TheVariants.{Task}
 use Rattle.fr_program.specs.declared.fault.CodeLine.{CodeLine}
 use Rattle.fr_program.specs.declared.fault.BuildFault.{BuildFault}
-use Rattle.fr_program.specs.declared.fault.BuildFault.TheVariants.{Memory, TooMany, BadRange, BadTarget, FallsOff, TwoShared, NotOwner, KindMismatch, FromIsrInTask, ResultRange, Operands, Names, NotYet}
+use Rattle.fr_program.specs.declared.fault.BuildFault.TheVariants.{Memory, TooMany, BadRange, BadTarget, FallsOff, TwoShared, NotOwner, KindMismatch, FromIsrInTask, ResultRange, Operands, Names}
 use Rattle.fr_program.specs.Program.{Program, ActorOf}
 use Rattle.fr_program.specs.Lookup.{actor_at, variable_at, instr_at}
 use Rattle.fr_program.specs.Limits.{VariableInLimits, KindInLimits, InstrInLimits, IsName, names_of, most_actors, most_variables, most_objects, most_instructions}
@@ -154,25 +152,6 @@ pub record IsSmall (P : Program) : Type 0 where
   pub objects : length P.objects ≤ most_objects
   pub code : All (λ a. length a.code ≤ most_instructions) P.actors
 
--- the instructions that are judged today
-abbrev pub IsInstrJudgedYet : Instr → Type 0
-IsInstrJudgedYet (Set x l op r) = Unit {0}
-IsInstrJudgedYet (If l comparison r target) = Unit {0}
-IsInstrJudgedYet (Goto target) = Unit {0}
-IsInstrJudgedYet Return = Unit {0}
-IsInstrJudgedYet (Calls (EnterCritical InTask)) = Unit {0}
-IsInstrJudgedYet (Calls (ExitCritical InTask)) = Unit {0}
-IsInstrJudgedYet (Calls (Delay ticks)) = Unit {0}
-IsInstrJudgedYet (Calls DeleteSelf) = Unit {0}
-IsInstrJudgedYet i = ⊥
-
--- one task at the most, with no object and no other instruction
-pub record IsJudgedYet (P : Program) : Type 0 where
-  pub objects : P.objects ≡ []
-  pub one : length P.actors ≤ 1
-  pub tasks : All (λ a. a.kind ≡ Task) P.actors
-  pub code : EachInstr P (λ a i. IsInstrJudgedYet i)
-
 -- the numbers of variables and objects are within their limits
 pub record AreThingsInLimits (P : Program) : Type 0 where
   pub variables : All VariableInLimits P.variables
@@ -200,7 +179,6 @@ IsFreeOf P (ResultRange at) = AtLine P at (ResultsFit P)
 IsFreeOf P (Operands at) = AtLine P at OperandsFit
 IsFreeOf P (Names None) = AreThingsNamed P
 IsFreeOf P (Names (Some at)) = AtLine P at (NamesThings P)
-IsFreeOf P NotYet = IsJudgedYet P
 
 -- an application: parts in which none of the eleven faults is present
 pub record IsFaultless (P : Program) : Type 0 where

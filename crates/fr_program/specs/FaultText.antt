@@ -1,7 +1,7 @@
 -- The texts of build faults: the number and the name that a refusal's line shows.
 use Rattle.std.specs.Prelude.{ℕ, List, codes}
 use Rattle.fr_program.specs.declared.fault.BuildFault.{BuildFault}
-use Rattle.fr_program.specs.declared.fault.BuildFault.TheVariants.{Memory, TooMany, BadRange, BadTarget, FallsOff, TwoShared, NotOwner, KindMismatch, FromIsrInTask, ResultRange, Operands, Names, NotYet}
+use Rattle.fr_program.specs.declared.fault.BuildFault.TheVariants.{Memory, TooMany, BadRange, BadTarget, FallsOff, TwoShared, NotOwner, KindMismatch, FromIsrInTask, ResultRange, Operands, Names}
 
 -- the number and the name of a build fault, without the line of code or the actor that it is about
 abbrev pub text_of : BuildFault → List ℕ
@@ -17,4 +17,3 @@ text_of (FromIsrInTask at) = codes "8 FromIsrInTask"
 text_of (ResultRange at) = codes "9 ResultRange"
 text_of (Operands at) = codes "10 Operands"
 text_of (Names at) = codes "11 Names"
-text_of NotYet = codes "12 NotYet"

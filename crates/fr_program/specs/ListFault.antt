@@ -7,15 +7,13 @@
 -- | IsWord                             | a name, except that it may be a reserved word                    |
 -- | AreListsFaultless                  | variables, objects and ends of codes have no fault               |
 -- | AreNamesFaultless                  | names are names, and each is given once                          |
--- | IsAlone, IsActorJudgedYet          | no object and one actor; a task that is judged today             |
-use Rattle.std.specs.Prelude.{◌≡◌, ◌<◌, ◌≤◌, ◌≢◌, List, [], ℕ, length, IfSome, All, AllPairs, Option, Some, Bool, true, false, slice_get, slice_index, ◌-◌, ◌||◌}
+use Rattle.std.specs.Prelude.{◌≡◌, ◌<◌, ◌≤◌, ◌≢◌, List, ℕ, length, IfSome, All, AllPairs, Option, Some, Bool, true, false, slice_get, slice_index, ◌-◌, ◌||◌}
 use Rattle.fr_program.specs.declared.instr.Instr.{Instr}
 use Rattle.fr_program.specs.declared.instr.Instr.TheVariants.{Goto, Return, Call as Calls}
 use Rattle.fr_program.specs.declared.instr.Call.TheVariants.{DeleteSelf}
-use Rattle.fr_program.specs.declared.parts.ActorKind.TheVariants.{Task}
 use Rattle.fr_program.specs.Program.{Program, VariableOf, ActorOf}
 use Rattle.fr_program.specs.Limits.{VariableInLimits, KindInLimits, IsName, names_of, is_letter, is_digit}
-use Rattle.fr_program.specs.Fault.{IsSmall, EndsWell, IsInstrJudgedYet}
+use Rattle.fr_program.specs.Fault.{IsSmall, EndsWell}
 
 -- the owner of the variable, where it has one, is among so many actors
 abbrev pub HasOwner : ℕ → VariableOf → Type 0
@@ -44,16 +42,6 @@ pub record AreListsFaultless (P : Program) : Type 0 where
 pub record AreNamesFaultless (P : Program) : Type 0 where
   pub names : All IsName (names_of P)
   pub once : AllPairs (λ x y. x ≢ y) (names_of P)
-
--- there is no object, and one actor at the most
-pub record IsAlone (P : Program) : Type 0 where
-  pub objects : P.objects ≡ []
-  pub one : length P.actors ≤ 1
-
--- a task of which each instruction is judged today
-pub record IsActorJudgedYet (actor : ActorOf) : Type 0 where
-  pub task : actor.kind ≡ Task
-  pub code : All IsInstrJudgedYet actor.code
 
 -- a name, except that it may be a reserved word
 pub record IsWord (name : List ℕ) : Type 0 where

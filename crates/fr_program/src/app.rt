@@ -3,7 +3,7 @@ ghost use Rattle.std.specs.Prelude.{◌≡◌, ◌≢◌, ◌<◌, ◌+◌, ◌^
 ghost use Rattle.fr_program.specs.Lookup.{HasSide, IsPoint};
 ghost use Rattle.fr_program.specs.Points.{points_of, point_number, side_number};
 ghost use Rattle.fr_program.specs.PointNumbers.{starts_from, PointsAreNumbered};
-ghost use Rattle.fr_program.specs.Fault.{IsFreeOf, IsFaultless, IsJudgedYet};
+ghost use Rattle.fr_program.specs.Fault.{IsFreeOf, IsFaultless};
 ghost use Rattle.fr_program.specs.View.{actor_of, program_of};
 
 use crate::check::check_parts;
@@ -50,13 +50,11 @@ impl App {
     /// compared pair by pair, which is cheap since more than 160 are refused before.
     ///
     /// On a refusal the parts come back unchanged, with a fault that is present at the line or the
-    /// actor that it names. Where several are present, which one is named is open, but `NotYet`
-    /// comes after all others. `Memory` says that an allocation was refused. The rules are this
-    /// project's profile.
+    /// actor that it names. Where several are present, which one is named is open. `Memory` says that
+    /// an allocation was refused. The rules are this project's profile.
     pub fn build(alloc: Global, parts: Parts) -> Result<App, (BuildFault, Parts)>
         ensures same { IfOk result (λ app. app ≡ program_of parts) }
         ensures faultless { IfOk result (λ app. IsFaultless app) }
-        ensures judged { IfOk result (λ app. IsJudgedYet app) }
         ensures present { IfErr result
             (λ e. e.0 ≢ BuildFault.Memory → IsFreeOf (program_of parts) e.0 → ⊥) }
         ensures returned { IfErr result (λ e. e.1 ≡ parts) }
@@ -86,10 +84,9 @@ impl App {
         self.points[k]
     }
 
-    /// Recalls that an application has no build fault, and only what is judged today.
+    /// Recalls that an application has no build fault.
     pub fn recall_faultless(&self)
-        ensures faultless { IsFaultless self.now }
-        ensures judged { IsJudgedYet self.now }
+        ensures { IsFaultless self.now }
     {
         let _ = &self.parts;
     }
@@ -206,7 +203,6 @@ fn checked_table(alloc: Global, parts: &Parts) -> Result<Table, BuildFault>
     ensures starts { IfOk result
         (λ t. map (λ v. v.items) t.starts.items ≡ starts_from 0 (program_of parts.now).actors) }
     ensures faultless { OnOk result (IsFaultless (program_of parts.now)) }
-    ensures judged { OnOk result (IsJudgedYet (program_of parts.now)) }
     ensures present { IfErr result
         (λ f. f ≢ BuildFault.Memory → IsFreeOf (program_of parts.now) f → ⊥) }
 {

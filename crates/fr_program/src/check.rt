@@ -1,6 +1,6 @@
 // What `App::build` refuses: each fault is looked for in turn.
 ghost use Rattle.std.specs.Prelude.{◌≢◌, OnOk, IfErr, All};
-ghost use Rattle.fr_program.specs.Fault.{IsFreeOf, IsFaultless, IsJudgedYet};
+ghost use Rattle.fr_program.specs.Fault.{IsFreeOf, IsFaultless};
 ghost use Rattle.fr_program.specs.ListFault.{AreListsFaultless, AreNamesFaultless};
 ghost use Rattle.fr_program.specs.InstrFault.{HasFault, HasFaultIn, IsInstrFaultless, IsCodeFaultless};
 ghost use Rattle.fr_program.specs.View.{actor_of, program_of};
@@ -9,7 +9,6 @@ mod kinds;
 mod limits;
 mod names;
 mod results;
-mod scope;
 mod targets;
 mod uses;
 
@@ -23,26 +22,19 @@ pub use limits::{MOST_SIZE, MOST_TICKS};
 pub use names::is_name;
 use names::{are_distinct, are_names, are_owners_there, names_of};
 use results::{operands_fit, results_fit};
-use scope::is_judged_yet;
 use std::alloc::Global;
 use targets::{are_targets_below, first_falling_off};
 use uses::{may_use_all, names_things, shares_at_most_one};
 
-/// Ok where no fault is present and the application is judged yet; else a fault that is present, or
-/// `Memory` where an allocation was refused.
+/// Ok where no fault is present; else a fault that is present, or `Memory` where an allocation was
+/// refused.
 pub fn check_parts(alloc: Global, parts: &Parts) -> Result<(), BuildFault>
     ensures faultless { OnOk result (IsFaultless (program_of parts.now)) }
-    ensures judged { OnOk result (IsJudgedYet (program_of parts.now)) }
     ensures err { IfErr result (λ f. f ≢ BuildFault.Memory → IsFreeOf (program_of parts.now) f → ⊥) }
 {
     check_lists(parts)?;
     check_code(parts)?;
-    check_names(alloc, parts)?;
-    if is_judged_yet(parts) {
-        Ok(())
-    } else {
-        Err(BuildFault::NotYet)
-    }
+    check_names(alloc, parts)
 }
 
 fn check_lists(parts: &Parts) -> Result<(), BuildFault>

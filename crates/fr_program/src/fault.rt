@@ -46,10 +46,6 @@ pub enum BuildFault {
     /// A number that names nothing, at a line of code; or with none, a name that is none or is
     /// given twice, or an owner that is no actor.
     Names(Option<CodeLine>),
-    /// The application is not judged yet: it has an object, an interrupt, a second actor, or an
-    /// instruction other than `set`, `if`, `goto`, `return`, entering and leaving a critical section
-    /// in the task's form, `vTaskDelay` and `vTaskDelete(NULL)`.
-    NotYet,
 }
 
 impl BuildFault {
@@ -72,7 +68,6 @@ impl BuildFault {
             BuildFault::ResultRange(_) => "9 ResultRange",
             BuildFault::Operands(_) => "10 Operands",
             BuildFault::Names(_) => "11 Names",
-            BuildFault::NotYet => "12 NotYet",
         }
     }
 }

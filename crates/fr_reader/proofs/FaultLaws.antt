@@ -14,7 +14,6 @@ use Rattle.fr_program.specs.declared.parts.Kind.{Kind}
 use Rattle.fr_program.specs.declared.parts.Kind.TheVariants as kind
 use Rattle.fr_program.specs.Program.{Program, VariableOf, ObjectOf, ActorOf}
 use Rattle.fr_program.specs.Limits.{IsName}
-use Rattle.fr_program.specs.declared.fault.BuildFault.TheVariants.{NotYet}
 use Rattle.fr_program.specs.Fault.{IsFreeOf}
 use Rattle.fr_program.proofs.FaultLemmas.{free_of}
 use Rattle.fr_instr.specs.Names.{NamesOf}
@@ -22,7 +21,7 @@ use Rattle.fr_instr.specs.Lines.{IsLine}
 use Rattle.fr_instr.proofs.LineLaws.{no_line}
 use Rattle.fr_reader.specs.Keys.{key_text, field, suits, is_own_key, IsKeyOf, IsRequired, IsListKey, kind_word, kind_named, actor_word}
 use Rattle.fr_reader.specs.Texts.{VariableText, ActorText, Texts, AreKnown, IsVariable, IsObject, IsActor, HasKind, IsTableOf, IsText, Each, EachAt, AreTexts}
-use Rattle.fr_reader.specs.Faults.{is_memory, is_not_yet, InTable, InVariable, InKind, InObject, InActor, InEntry, InLine as InLineOf, InEach, InEachAt, InApplication}
+use Rattle.fr_reader.specs.Faults.{is_memory, InTable, InVariable, InKind, InObject, InActor, InEntry, InLine as InLineOf, InEach, InEachAt, InApplication}
 use Rattle.fr_reader.specs.Meaning.{names_in, actors_in, lists_in, AreNames, IsOwner, IsOwned, IsCoded, Says, Means}
 use Rattle.fr_reader.specs.Stands.{StandsTwice, InNames, IsNoOwner, InOwners, InLines, InCode, InBuild, InTexts, InBytes, Stands}
 use Rattle.fr_reader.specs.declared.key.Key.{Key}
@@ -218,23 +217,22 @@ in_no_texts t P f names says free (inr (n, inl s)) = in_no_owners (actors_in t) 
 in_no_texts t P f names says free (inr (n, inr (inl s))) = in_no_code (lists_in t) t.actors P.actors f says.actors s.2
 in_no_texts t P f names says free (inr (n, inr (inr s))) = free s
 
-not_built : (bytes : List ℕ) (P : Program) (f : ReadFault) → is_not_yet f ≡ false → (m : Means bytes P) → InBuild m.texts f → ⊥
-not_built bytes P (fault.Build b) named m s =
-    let yet : b ≢ NotYet = λ e. false≢true (sym named ∙ ap (λ x. is_not_yet (fault.Build x)) e) in
-    s.2 (subst (λ Q. IsFreeOf Q b) (one_program m.texts P s.0 m.names m.says s.1) (free_of P b yet m.faultless))
-not_built bytes P f named m s = absurd s
+not_built : (bytes : List ℕ) (P : Program) (f : ReadFault) → (m : Means bytes P) → InBuild m.texts f → ⊥
+not_built bytes P (fault.Build b) m s =
+    s.2 (subst (λ Q. IsFreeOf Q b) (one_program m.texts P s.0 m.names m.says s.1) (free_of P b m.faultless))
+not_built bytes P f m s = absurd s
 
 in_no_bytes : (bytes : List ℕ) (P : Program) (f : ReadFault) → Means bytes P → InBytes bytes f → ⊥
 in_no_bytes bytes P fault.TooLong m s = omega (arith, s, m.text.size)
 in_no_bytes bytes P fault.Toml m s = never (parse_document bytes) m.root (s m.text.utf8) m.text.parsed
 in_no_bytes bytes P f m s = absurd s
 
-pub no_meaning : (bytes : List ℕ) (f : ReadFault) (P : Program) → is_memory f ≡ false → is_not_yet f ≡ false → Stands bytes f → Means bytes P → ⊥
-no_meaning bytes f P named yet (inl s) m = in_no_bytes bytes P f m s
-no_meaning bytes f P named yet (inr (root, text, inl s)) m =
+pub no_meaning : (bytes : List ℕ) (f : ReadFault) (P : Program) → is_memory f ≡ false → Stands bytes f → Means bytes P → ⊥
+no_meaning bytes f P named (inl s) m = in_no_bytes bytes P f m s
+no_meaning bytes f P named (inr (root, text, inl s)) m =
     let same = both (parse_document bytes) root m.root text.parsed m.text.parsed in
     in_no_application m.root m.texts f m.tables (subst (λ r. InApplication r f) same s)
-no_meaning bytes f P named yet (inr (root, text, inr (t, tables, s))) m =
+no_meaning bytes f P named (inr (root, text, inr (t, tables, s))) m =
     let same = both (parse_document bytes) root m.root text.parsed m.text.parsed in
     let texts = one_texts m.root t m.texts (subst (λ r. AreTexts r t) same tables) m.tables in
-    in_no_texts m.texts P f m.names m.says (not_built bytes P f yet m) (subst (λ u. InTexts u f) texts s)
+    in_no_texts m.texts P f m.names m.says (not_built bytes P f m) (subst (λ u. InTexts u f) texts s)

@@ -3,7 +3,6 @@
 -- | word                       | meaning                                                                        |
 -- |----------------------------|--------------------------------------------------------------------------------|
 -- | is_memory, Standing        | an allocation was refused; a fact about every other fault                      |
--- | is_not_yet                 | the text may mean an application, but for one that isn't judged yet             |
 -- | InTable, InVariable        | a key of a table is missing, of a wrong type or unknown                        |
 -- | InKind                     | the key `kind` is missing, or says no kind                                     |
 -- | InObject, InLine, InActor  | the same of an object's table, of an entry of the code, of an actor's table    |
@@ -30,11 +29,6 @@ is_memory fault.Memory = true
 is_memory (fault.Line actor i line.Memory) = true
 is_memory (fault.Build build.Memory) = true
 is_memory f = false
-
--- what the text says isn't judged yet: the one refusal of texts that may well mean an application
-abbrev pub is_not_yet : ReadFault → Bool
-is_not_yet (fault.Build build.NotYet) = true
-is_not_yet f = false
 
 -- a fault that is not want of memory is present
 abbrev pub Standing : (ReadFault → Type 0) → ReadFault → Type 0

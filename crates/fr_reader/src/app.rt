@@ -3,7 +3,7 @@ ghost use Rattle.std.specs.Prelude.{◌≡◌, ℕ, List, Bool, false, IfOk, IfE
 ghost use Rattle.toml.specs.View.{table_view};
 ghost use Rattle.fr_program.specs.Program.{Program};
 ghost use Rattle.fr_reader.specs.Meaning.{IsTableText, Means};
-ghost use Rattle.fr_reader.specs.Faults.{Standing, is_memory, is_not_yet};
+ghost use Rattle.fr_reader.specs.Faults.{Standing, is_memory};
 ghost use Rattle.fr_reader.specs.Stands.{InBytes, Stands};
 ghost use Rattle.fr_reader.specs.declared.fault.ReadFault.{ReadFault as Refusal};
 
@@ -62,8 +62,7 @@ pub fn one_meaning()
     ensures { (bytes : List ℕ) (P Q : Program) → Means bytes P → Means bytes Q → P ≡ Q }
 {}
 
-/// Bytes in which a fault is present mean no application, but for a refused allocation and for
-/// what isn't judged yet.
+/// Bytes in which a fault is present mean no application, but for a refused allocation.
 pub fn no_meaning()
-    ensures { (bytes : List ℕ) (f : Refusal) (P : Program) → is_memory f ≡ false → is_not_yet f ≡ false → Stands bytes f → Means bytes P → ⊥ }
+    ensures { (bytes : List ℕ) (f : Refusal) (P : Program) → is_memory f ≡ false → Stands bytes f → Means bytes P → ⊥ }
 {}
