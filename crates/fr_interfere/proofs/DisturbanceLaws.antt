@@ -1,6 +1,6 @@
 -- What a step leaves decides whether it disturbs a note.
 use Rattle.std.proofs.Common.{◌≡◌, ◌≢◌, ℕ, ◌+◌, ◌<◌, List, Option, Some, None, length, sym, ap, ◌∙◌, subst, arith}
-use Rattle.std.specs.Prelude.{◌↔◌, IfSome, Contains, slice_get}
+use Rattle.std.specs.Prelude.{◌↔◌, Bool, IsTrue, IfSome, Contains, slice_get}
 use Rattle.std.proofs.lemmas.Option.{same_Some}
 use Rattle.fr_program.specs.declared.ids.ActorId.{ActorId}
 use Rattle.fr_program.specs.declared.ids.Point.{Point}
@@ -14,9 +14,10 @@ use Rattle.fr_notes.specs.declared.change.Change.{Change}
 use Rattle.fr_notes.specs.Note.{Alternative, Note}
 use Rattle.fr_notes.specs.Noted.{note_at}
 use Rattle.fr_notes.specs.Fits.{AlternativeFits, NoteFits}
-use Rattle.fr_notes.specs.Known.{Known, AreCompatible, AllLeave, IsLeft, IsOther, LeavesSome, Spares}
+use Rattle.fr_notes.specs.Known.{Known, AllLeave, IsLeft, IsOther, LeavesSome, Spares, beside}
+use Rattle.fr_notes.specs.Pairs.{CanMeet}
 use Rattle.fr_notes.proofs.KnownUses.{undisturbed-both}
-use Rattle.fr_notes.proofs.PairLaws.{compatible-from}
+use Rattle.fr_notes.proofs.PairLaws.{compatible-from, compatible-meet}
 use Rattle.fr_interfere.specs.Disturbance.{SparesSome, IsSparedByRow, IsSparedByRows}
 use Rattle.fr_interfere.specs.Undisturbed.{Undisturbed}
 use Rattle.fr_interfere.proofs.Lists.{contained-fits, get-there, get-below}
@@ -38,9 +39,13 @@ left-spares P k n e q way change left p other note fits = (
         subst (λ (o : Option Alternative). IfSome o (λ n. (m : Alternative) → AlternativeFits P m → (Spares k n change m ↔ AllLeave P k q p way p.actor.0 m))) e (left.spares p other) m (contained-fits P note fits m i)
 
 -- alternatives that exclude each other are in no state together
-pub apart-spares : (P : Program) (p q : Point) → p.actor ≢ q.actor → (n m : Alternative) (note : Note) → (AreCompatible m n → ⊥) → (way : Way) → IsSparedByRow P p n q m way note
-apart-spares P p q ne n m note none way = λ can.
-    absurd (none (compatible-from q.actor.0 p.actor.0 (λ e. ne (same-actor p.actor q.actor e)) m n can.0 can.3.mover.holds can.3.other.holds))
+pub unmet-spares : (P : Program) (p q : Point) → p.actor ≢ q.actor → (n m : Alternative) → AlternativeFits P n → AlternativeFits P m → (note : Note) → (CanMeet m n → ⊥) → IsSparedByRows P p n q m note
+unmet-spares P p q ne n m fits others note none = (by_way Then, by_way Else)
+  where
+    by_way : (way : Way) → IsSparedByRow P p n q m way note
+    by_way way can =
+        let c = compatible-from q.actor.0 p.actor.0 (λ e. ne (same-actor p.actor q.actor e)) m n can.0 can.3.mover.holds can.3.other.holds in
+        absurd (none (compatible-meet P m n others fits c))
 
 -- a point is undisturbed exactly where each pair of alternatives is spared by both rows
 pub undisturbed-spared : (P : Program) (notes : List Note) (p q : Point) → IsPoint P q → q.actor ≢ p.actor → (((n m : Alternative) → Contains (note_at P notes p) n → Contains (note_at P notes q) m → IsSparedByRows P p n q m (note_at P notes p)) ↔ Undisturbed P notes p q)
@@ -53,6 +58,18 @@ undisturbed-spared P notes p q there ne =
     by_way : (n m : Alternative) → IsSparedByRows P p n q m (note_at P notes p) → (way : Way) → IsSparedByRow P p n q m way (note_at P notes p)
     by_way n m s Then = s.0
     by_way n m s Else = s.1
+
+-- the same, as the code tells it of both notes
+pub each-undisturbed : (P : Program) (notes : List Note) (p q : Point) → IsPoint P q → q.actor ≢ p.actor → (note others : Note) → note ≡ note_at P notes p → others ≡ note_at P notes q → (result : Bool) → (IsTrue result ↔ ((n m : Alternative) → Contains note n → Contains others m → IsSparedByRows P p n q m note)) → (IsTrue result ↔ Undisturbed P notes p q)
+each-undisturbed P notes p q there ne note others is are result both =
+    let b = undisturbed-spared P notes p q there ne in
+    let k = subst (λ (x : Note). IsTrue result ↔ ((n m : Alternative) → Contains (note_at P notes p) n → Contains x m → IsSparedByRows P p n q m (note_at P notes p))) are (subst (λ (x : Note). IsTrue result ↔ ((n m : Alternative) → Contains x n → Contains others m → IsSparedByRows P p n q m x)) is both) in
+    (λ t. b.0 (k.0 t), λ u. k.1 (b.1 u))
+
+-- one row, of what is known where p's actor has the alternative n and q's the alternative m
+pub by-row : (P : Program) (p q : Point) (n m : Alternative) (note : Note) (way : Way) (k : Known) → k ≡ beside m n → (result : Bool) → ((p : Point) → IsOther P k q p → (IsTrue result ↔ LeavesSome P k q p way p.actor.0 note)) → IsPoint P p → p.actor ≢ q.actor → (IsTrue result ↔ IsSparedByRow P p n q m way note)
+by-row P p q n m note way k e result both at ne =
+    subst (λ x. (p : Point) → IsOther P x q p → (IsTrue result ↔ LeavesSome P x q p way p.actor.0 note)) e both p (at, ne)
 
 -- points of one actor don't disturb each other
 pub undisturbed-own : (P : Program) (notes : List Note) (p q : Point) → p.actor.0 ≡ q.actor.0 → Undisturbed P notes p q
