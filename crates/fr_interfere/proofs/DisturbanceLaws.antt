@@ -1,12 +1,12 @@
 -- What a step leaves decides whether it disturbs a note.
-use Rattle.std.proofs.Common.{◌≡◌, ◌≢◌, ℕ, ◌+◌, ◌<◌, List, Option, Some, None, length, sym, ap, ◌∙◌, subst, arith}
+use Rattle.std.proofs.Common.{◌≡◌, ◌≢◌, ℕ, List, Option, Some, sym, ap, ◌∙◌, subst}
 use Rattle.std.specs.Prelude.{◌↔◌, Bool, IsTrue, IfSome, Contains, slice_get}
 use Rattle.std.proofs.lemmas.Option.{same_Some}
 use Rattle.fr_program.specs.declared.ids.ActorId.{ActorId}
 use Rattle.fr_program.specs.declared.ids.Point.{Point}
 use Rattle.fr_program.specs.Program.{Program}
 use Rattle.fr_program.specs.Lookup.{IsPoint}
-use Rattle.fr_program.specs.Points.{points_of, point_number}
+use Rattle.fr_program.specs.Points.{points_of}
 use Rattle.fr_program.specs.PointNumbers.{PointsAreNumbered}
 use Rattle.fr_calls.specs.declared.way.Way.{Way}
 use Rattle.fr_calls.specs.declared.way.Way.TheVariants.{Then, Else}
@@ -20,7 +20,7 @@ use Rattle.fr_notes.proofs.KnownUses.{undisturbed-both}
 use Rattle.fr_notes.proofs.PairLaws.{compatible-from, compatible-meet}
 use Rattle.fr_interfere.specs.Disturbance.{SparesSome, IsSparedByRow, IsSparedByRows}
 use Rattle.fr_interfere.specs.Undisturbed.{Undisturbed}
-use Rattle.fr_interfere.proofs.Lists.{contained-fits, get-there, get-below}
+use Rattle.fr_interfere.proofs.Lists.{contained-fits}
 
 -- two actors with one number are one actor
 pub same-actor : (a b : ActorId) → a.0 ≡ b.0 → a ≡ b

@@ -1,8 +1,7 @@
-use Rattle.std.proofs.Common.{◌≡◌, ◌<◌, refl, sym, ◌∙◌, subst, ap, arith, ⊎_elim, inl, inr}
+use Rattle.std.proofs.Common.{◌≡◌, sym, ◌∙◌, ap, arith, ⊎_elim}
 use Rattle.std.specs.Prelude.{slice_get}
 use Rattle.std.proofs.lemmas.Bool.{cases_lt}
 use Rattle.fr_program.specs.Points.{points_of, point_number}
-use Rattle.fr_interfere.specs.Undisturbed.{Undisturbed}
 use Rattle.fr_interfere.proofs.Lists.{get-there, get-below}
 use Rattle.fr_interfere.proofs.disturbance.spoiler.Goals as goal
 
