@@ -1,7 +1,7 @@
 -- A note implies a guard exactly where each of its alternatives says that the guard holds. Where one doesn't, there is a
 -- state with it in which the guard doesn't hold: the usual one, or the one with a variable at the upper end of its range.
-use Rattle.std.proofs.Common.{◌≡◌, ◌<◌, ℕ, ℤ, Option, Some, None, Bool, true, false, List, [], ◌∷◌, length, get_or, refl, sym, ap, ◌∙◌, subst, arith, ◌&&◌}
-use Rattle.std.specs.Prelude.{All, IsTrue, nat_eq, if◌then◌else◌}
+use Rattle.std.proofs.Common.{◌≡◌, ◌<◌, ℕ, Some, None, Bool, true, false, List, [], ◌∷◌, length, get_or, refl, sym, ap, ◌∙◌, subst, arith, ◌&&◌}
+use Rattle.std.specs.Prelude.{All, IsTrue, ◌↔◌, nat_eq, if◌then◌else◌, slice_get}
 use Rattle.std.proofs.lemmas.Bool.{false≢true}
 use Rattle.std.proofs.lemmas.Int.{ints}
 use Rattle.std.proofs.lemmas.List.{get_or_default}
@@ -16,10 +16,15 @@ use Rattle.fr_program.specs.declared.instr.Action.{Action}
 use Rattle.fr_program.specs.Program.{Program}
 use Rattle.fr_program.specs.Lookup.{IsPoint, instr_of}
 use Rattle.fr_program.specs.Fault.{IsFaultless}
+use Rattle.fr_program.specs.Points.{points_of}
+use Rattle.fr_program.specs.PointNumbers.{PointsAreNumbered}
 use Rattle.fr_calls.specs.State.{State, Content, count_held, content_of, value_of, kind_of}
 use Rattle.fr_calls.specs.declared.buffer_end.End.{End}
+use Rattle.fr_calls.specs.declared.buffer_end.End.TheVariants.{Writer, Reader}
 use Rattle.fr_calls.specs.Rule.{is_at_end}
-use Rattle.fr_notes.specs.Note.{Alternative, Note, Claim, NotHeld, Alive, Gone, HeldTimes, Meets, Within, HoldsOne, claim_of, range_of}
+use Rattle.fr_notes.specs.declared.claim.Claim.{Claim}
+use Rattle.fr_notes.specs.declared.claim.Claim.TheVariants.{NotHeld, Alive, Gone, HeldTimes}
+use Rattle.fr_notes.specs.Note.{Alternative, Note, Meets, Within, HoldsOne, claim_of, range_of}
 use Rattle.fr_notes.specs.Noted.{NotedBy, note_at}
 use Rattle.fr_notes.specs.Fits.{CanClaim, AlternativeFits, NoteFits}
 use Rattle.fr_notes.specs.Known.{alone, is_held}
@@ -29,7 +34,8 @@ use Rattle.fr_notes.proofs.Shown.{depth_for-same, instead-same}
 use Rattle.fr_ends.specs.Guard.{Guard, Sole, ByMutex, InCritical, Turn, EndGuard}
 use Rattle.fr_ends.specs.Certificate.{Certificate, HasGuard, value_for, guard_for, same_end}
 use Rattle.fr_ends.specs.Fits.{GuardFits, EndFits, CertificateFits}
-use Rattle.fr_ends.specs.Guarded.{Guarded, ImpliesGuard, IsInsideOn}
+use Rattle.fr_ends.specs.FirstEnd.{IsFirstEnd}
+use Rattle.fr_ends.specs.Guarded.{Guarded, ImpliesGuard}
 use Rattle.fr_ends.specs.Implied.{called_inside, SaysGuard, NoteSays, KeepsEnd}
 
 -- what an alternative says of a guard is so in each state with the alternative
@@ -43,6 +49,7 @@ module _ (P : Program) (n : Alternative) (fits : AlternativeFits P n) (a : ℕ) 
   held-count kind Gone content can t m = absurd (false≢true t)
 
   says-has : (g : Guard) (S : State) → SaysGuard n a g → HoldsOne n a S → HasGuard g a S
+  unfolding SaysGuard
   says-has (Sole actor) S says holds = says
   says-has (ByMutex mutex) S says holds =
       held-count (kind_of P mutex) (claim_of n mutex) (content_of S mutex) (fits.claims.1 mutex) says (holds.objects mutex)
@@ -81,6 +88,7 @@ module _ (P : Program) (free : IsFaultless P) (p : Point) (at : IsPoint P p) (n 
       let none : count_held a content ≡ 0 = ap (count_held a) m in absurd (omega (arith, none, above))
 
   has-says : (g : Guard) → GuardFits P g → ((S : State) → NotedBy P p n S → HasGuard g p.actor.0 S) → SaysGuard n p.actor.0 g
+  unfolding SaysGuard
   has-says (Sole actor) fit has = has low low-noted
   has-says (ByMutex mutex) fit has =
       count-held p.actor.0 (claim_of n mutex) (content_of low mutex) (low-noted.holds.objects mutex) (has low low-noted)
@@ -126,7 +134,10 @@ guard_for-fits P (f ∷ ends) buffer end g fit e = go (nat_eq f.buffer buffer &&
 pub outside-guarded : (P : Program) (C : Certificate) (p : Point) → called_inside p.side (instr_of P p) ≡ None → (buffer : ℕ) (end : End) → Guarded P C p buffer end
 outside-guarded P C p none buffer end = λ action inside t.
     let there : called_inside p.side (instr_of P p) ≡ Some (inside.0, action) = rw (inside.2, inside.3) refl in
-    let e : None ≡ Some (inside.0, action) = sym none ∙ there in cc
+    absurd (none_is_some (inside.0, action) (sym none ∙ there))
+  where
+    none_is_some : (found : ObjId × Action) → None ≡ Some found → ⊥
+    none_is_some found e = cc
 
 -- a point inside a call
 pub record Called (P : Program) (p : Point) (o : ObjId) (action : Action) : Type 0 where
@@ -160,3 +171,48 @@ module _ (P : Program) (free : IsFaultless P) (C : Certificate) (fit : Certifica
   guarded-kept end guarded = λ t.
       let g = guarded action (o, refl, called.side, called.is) t in
       (g.0, g.1, subst (λ m. NoteSays m p.actor.0 g.0) (sym noted) (implies-says P free p at C.notes there g.0 (guard_for-fits P C.ends o.0 end g.0 fit.1.0 g.1) g.2))
+
+-- the answer, by what the code compares at each end
+module _ (P : Program) (free : IsFaultless P) (C : Certificate) (fit : CertificateFits P C) (k : ℕ) (point : Point) (numbered : PointsAreNumbered P) (listed : slice_get (points_of P) k ≡ Some point) where
+  standing : IsPoint P point
+  standing = (numbered.listed k point listed).0
+
+  -- what is so of the point that was found is so of each point with the number
+  each : (Q : Point → Type 0) → Q point → (p : Point) → slice_get (points_of P) k ≡ Some p → Q p
+  each Q q p e = subst Q (same_Some _ _ (sym listed ∙ e)) q
+
+  pub first-outside : called_inside point.side (instr_of P point) ≡ None → (p : Point) → slice_get (points_of P) k ≡ Some p → IsFirstEnd P C p None
+  first-outside none = each (λ p. IsFirstEnd P C p None) (λ buffer end. outside-guarded P C point none buffer end)
+
+  module _ (inside : Certificate) (view : inside ≡ C) (note : Note) (noted : (p : Point) → slice_get (points_of P) k ≡ Some p → note ≡ note_at P inside.notes p) (fits : NoteFits P note) (o : ObjId) (action : Action) (found : called_inside point.side (instr_of P point) ≡ Some (o, action)) where
+    called : Called P point o action
+    called = called-found P point o action found
+
+    pub called-object : o.0 < length P.objects
+    called-object = (free.names.things point.actor.0 point.pc (Calls (On o action)) called.is).1
+
+    is_noted : note ≡ note_at P C.notes point
+    is_noted = noted point listed ∙ ap (λ d. note_at P d.notes point) view
+
+    kept : (end : End) (t : Bool) → (IsTrue t ↔ KeepsEnd inside.ends note point.actor.0 o.0 end action) → t ≡ true → (buffer : ℕ) → Guarded P C point buffer end
+    kept end t h is = kept-guarded P free C fit point standing note is_noted fits o action called end (subst (λ d. KeepsEnd d.ends note point.actor.0 o.0 end action) view (h.0 is))
+
+    unkept : (end : End) (t : Bool) → (IsTrue t ↔ KeepsEnd inside.ends note point.actor.0 o.0 end action) → t ≡ false → Guarded P C point o.0 end → ⊥
+    unkept end t h is guarded =
+        let keeps = guarded-kept P free C fit point standing note is_noted fits o action called end guarded in
+        false≢true (sym is ∙ h.1 (subst (λ d. KeepsEnd d.ends note point.actor.0 o.0 end action) (sym view) keeps))
+
+    module _ (w : Bool) (writer : IsTrue w ↔ KeepsEnd inside.ends note point.actor.0 o.0 Writer action) where
+      pub first-writer : w ≡ false → (p : Point) → slice_get (points_of P) k ≡ Some p → IsFirstEnd P C p (Some (record { buffer = o; end = Writer }))
+      first-writer is = each (λ p. IsFirstEnd P C p (Some (record { buffer = o; end = Writer }))) (unkept Writer w writer is, λ e. cc)
+
+      module _ (r : Bool) (reader : IsTrue r ↔ KeepsEnd inside.ends note point.actor.0 o.0 Reader action) (is_kept : w ≡ true) where
+        pub first-reader : r ≡ false → (p : Point) → slice_get (points_of P) k ≡ Some p → IsFirstEnd P C p (Some (record { buffer = o; end = Reader }))
+        first-reader is = each (λ p. IsFirstEnd P C p (Some (record { buffer = o; end = Reader }))) (unkept Reader r reader is, λ e buffer. kept Writer w writer is_kept buffer)
+
+        pub first-none : r ≡ true → (p : Point) → slice_get (points_of P) k ≡ Some p → IsFirstEnd P C p None
+        first-none is = each (λ p. IsFirstEnd P C p None) both
+          where
+            both : (buffer : ℕ) (end : End) → Guarded P C point buffer end
+            both buffer Writer = kept Writer w writer is_kept buffer
+            both buffer Reader = kept Reader r reader is buffer

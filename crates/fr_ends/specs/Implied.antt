@@ -29,7 +29,7 @@ called_inside side i = None
 
 -- the alternative says that the guard holds of the actor: it is that actor, holds the mutex, is in the critical section,
 -- or the variable can have the actor's value alone
-abbrev pub SaysGuard : Alternative → ℕ → Guard → Type 0
+unfoldable pub SaysGuard : Alternative → ℕ → Guard → Type 0
 SaysGuard n a (Sole actor) = a ≡ actor
 SaysGuard n a (ByMutex mutex) = IsTrue (is_held (claim_of n mutex))
 SaysGuard n a InCritical = 0 < n.critical

@@ -18,7 +18,7 @@ use crate::certificate::Certificate;
 use crate::ends::{EndName, Ends};
 use crate::guard::Guard;
 use fr_calls::End;
-use fr_notes::{Alternative, Claim, Known, Note, recall_faultless};
+use fr_notes::{Alternative, Claim, Known, Note};
 use fr_program::{Action, ActorId, App, Call, Instr, ObjId, Point, Range, Side, VarId};
 use std::collections::BTreeMap;
 
@@ -60,6 +60,7 @@ fn is_only(range: Range, number: i64) -> bool
 }
 
 /// Whether the variable can have the actor's value alone.
+#[tactic(auto, unfolding(crate::specs::Implied::SaysGuard))]
 fn has_turn(
     alternative: &Alternative,
     actor: ActorId,
@@ -84,6 +85,7 @@ fn holds(alternative: &Alternative, mutex: ObjId) -> bool
 }
 
 /// Whether the alternative says that the guard holds of its actor.
+#[tactic(auto, unfolding(crate::specs::Implied::SaysGuard))]
 fn says_guard(alternative: &Alternative, actor: ActorId, guard: &Guard) -> bool
     ensures { IsTrue result ↔ SaysGuard alternative.now actor.0 (guard_of guard.now) }
 {
@@ -131,7 +133,7 @@ pub fn guarded(app: &App, certificate: &Certificate, number: usize) -> Option<En
         IsFirstEnd app.now certificate.now p result }
     ensures buffer { IfSome result (λ e. e.buffer.0 < length app.now.objects) }
 {
-    recall_faultless(app);
+    app.recall_faultless();
     app.recall_numbered();
     let point = app.point(number);
     let (buffer, action) = called_inside(app, point)?;
