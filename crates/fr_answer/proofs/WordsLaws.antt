@@ -1,9 +1,10 @@
 -- A word has no comma, so the first comma of a text parts its first word from the others. By it a text that was read up
 -- to some place means the words so far and those of what is left.
-use Rattle.std.proofs.Common.{◌≡◌, ◌≢◌, ◌<◌, ◌+◌, ◌×◌, ℕ, suc, List, [], ◌∷◌, ◌++◌, length, get_or, refl, sym, ap, ◌∙◌, subst, arith, append_assoc}
+use Rattle.std.proofs.Common.{◌≡◌, ◌≢◌, ◌<◌, ◌^◌, ℕ, suc, List, [], ◌∷◌, ◌++◌, length, get_or, Result, Ok, Err, IfSome, IfNone, refl, sym, ap, ◌∙◌, subst, arith, append_assoc}
+use Rattle.std.specs.Result.{OkIff, result_ok}
 use Rattle.std.specs.Str.Parse.{AllDigits, digits_value}
 use Rattle.std.proofs.lemmas.Str.Parse.{IsNumeralModel, numerals_by_value, tells_digits, not_in_digits}
-use Rattle.fr_answer.specs.Words.{comma, IsWord, AreWords}
+use Rattle.fr_answer.specs.Words.{IsWord, AreWords}
 
 -- no byte of the text is a comma
 abbrev pub HasNone : List ℕ → Type 0
@@ -11,6 +12,11 @@ HasNone text = (i : ℕ) → i < length text → get_or text i 0 ≢ 44
 
 pub own : IsNumeralModel (AllDigits 10) (digits_value 10)
 own = numerals_by_value (AllDigits 10) tells_digits
+
+-- what is read as a number, or isn't
+pub word-by : {E : Type 0} → (text : List ℕ) (r : Result ℕ E) → OkIff r (AllDigits 10 text × (0 < length text) × (digits_value 10 text < 2 ^ 64)) (digits_value 10 text) → IfSome (result_ok r) (IsWord text) × IfNone (result_ok r) ((w : ℕ) → IsWord text w → ⊥)
+word-by text (Ok x) h = (record { digits = (h.0.1, h.0.0); value = h.1; fits = subst (λ n. n < 2 ^ 64) (sym h.1) h.0.2 }, tt)
+word-by text (Err e) h = (tt, λ w word. h (word.digits.1, word.digits.0, subst (λ n. n < 2 ^ 64) word.value word.fits))
 
 pub word-has-none : (text : List ℕ) (w : ℕ) → IsWord text w → HasNone text
 word-has-none text w h = not_in_digits own text 44 h.digits.1 (λ r. absurd (omega (arith, r.0, r.1)))

@@ -1,5 +1,5 @@
 // The words that a run picks its choices by, as the command line gives them.
-ghost use Rattle.std.specs.Prelude.{◌≡◌, ◌↔◌, ℕ, List, IfOk, IfSome, IfNone, IsErrOf, codes};
+ghost use Rattle.std.specs.Prelude.{◌≡◌, ◌≤◌, ℕ, List, IfOk, IfSome, IfNone, IsErrOf, codes};
 ghost use Rattle.std.specs.Io.KnownBytes.{Appends};
 ghost use Rattle.fr_answer.specs.declared.words.WordsFault.TheVariants.{Memory, Bad};
 ghost use Rattle.fr_answer.specs.Words.{AreWords, IsWord};
@@ -57,10 +57,16 @@ pub fn words_of(alloc: Global, text: &str) -> Result<Vec<u64>, WordsFault>
     let mut words = Vec::new(alloc);
     let mut rest = text;
     'words: while let Some((first, others)) = rest.split_once(',') {
-        words.push(word_of(first).ok_or(WordsFault::Bad)?)?;
+        let Some(word) = word_of(first) else {
+            return Err(WordsFault::Bad);
+        };
+        words.push(word)?;
         rest = others;
     }
-    words.push(word_of(rest).ok_or(WordsFault::Bad)?)?;
+    let Some(word) = word_of(rest) else {
+        return Err(WordsFault::Bad);
+    };
+    words.push(word)?;
     Ok(words)
 }
 
