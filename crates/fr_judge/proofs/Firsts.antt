@@ -30,7 +30,9 @@ use Rattle.fr_judge.proofs.Telling.{failing-is-of}
 -- of two ends, the one that comes first is the writer's
 writer-first : (e f : End) → end_number e < end_number f → (e ≡ Writer) × (f ≡ Reader)
 writer-first Writer Reader l = (refl, refl)
-writer-first e f l = absurd (omega arith)
+writer-first Writer Writer l = absurd (omega arith)
+writer-first Reader Writer l = absurd (omega arith)
+writer-first Reader Reader l = absurd (omega arith)
 
 module _ (P : Program) (C : Certificate) (p : Point) where
   -- where the own obligations hold, parts of the first three kinds are kept; with guards those of the first four; where
