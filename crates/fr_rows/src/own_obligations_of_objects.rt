@@ -48,7 +48,7 @@ actor = [{name="t", kind="task", code=["xSemaphoreTake(m, 10) else 3", "xSemapho
 "#;
 
 #[test]
-fn takes_and_gives_of_a_mutex(rt: HostRuntime) {
+fn takes_of_a_mutex(rt: HostRuntime) {
     let good =
         r#"{"live":["m"]},{"live":["m"]},{"held":{"m":1}},{"held":{"m":1}},{"live":["m"]},{},{"live":["m"]}"#;
     ask_kept(&rt, rt.alloc(), MUTEX, good, 5);
@@ -75,6 +75,13 @@ fn takes_and_gives_of_a_mutex(rt: HostRuntime) {
             1,
             Some(goes(1)),
         ),
+    ];
+    ask(&rt, rt.alloc(), MUTEX, &cases);
+}
+
+#[test]
+fn gives_of_a_mutex(rt: HostRuntime) {
+    let cases = [
         // A give frees the mutex, and its actor has to hold it.
         (
             r#"{},{},{},{"held":{"m":1}},{"held":{"m":1}},{},{}"#,
@@ -96,6 +103,13 @@ fn takes_and_gives_of_a_mutex(rt: HostRuntime) {
             3,
             breaks(Rule::GivenByHolder),
         ),
+    ];
+    ask(&rt, rt.alloc(), MUTEX, &cases);
+}
+
+#[test]
+fn calls_on_a_mutex_that_may_be_dead(rt: HostRuntime) {
+    let cases = [
         // The mutex has to be live, before its call and inside it.
         ("{},{},{},{},{},{},{}", 0, breaks(Rule::IsLive)),
         ("{},{},{},{},{},{},{}", 1, breaks(Rule::IsLive)),
@@ -183,14 +197,9 @@ object = [{name="q", kind="queue", size=2, lo=0, hi=5, live=true}]
 actor = [{name="t", kind="task", code=["xQueueReceive(q, x, 10) else 2", "goto 0", "goto 0"]}]
 "#;
 
-const SEND: &str = r#"variable = [{name="x", lo=0, hi=9, init=0}]
-object = [{name="q", kind="queue", size=2, lo=0, hi=5, live=true}]
-actor = [{name="t", kind="task", code=["xQueueSend(q, x, 0)", "goto 0"]}]
-"#;
-
 #[test]
-fn values_of_queues(rt: HostRuntime) {
-    let received = [
+fn values_that_are_received(rt: HostRuntime) {
+    let cases = [
         // The variable gets any value that the queue can hold, and keeps its own where nothing came.
         (
             r#"{},{"live":["q"],"range":{"x":[0,0]}},{"range":{"x":[0,5]}},{"range":{"x":[0,0]}}"#,
@@ -213,8 +222,17 @@ fn values_of_queues(rt: HostRuntime) {
             Some(goes(2)),
         ),
     ];
-    ask(&rt, rt.alloc(), RECEIVE, &received);
-    let sent = [
+    ask(&rt, rt.alloc(), RECEIVE, &cases);
+}
+
+const SEND: &str = r#"variable = [{name="x", lo=0, hi=9, init=0}]
+object = [{name="q", kind="queue", size=2, lo=0, hi=5, live=true}]
+actor = [{name="t", kind="task", code=["xQueueSend(q, x, 0)", "goto 0"]}]
+"#;
+
+#[test]
+fn values_that_are_sent(rt: HostRuntime) {
+    let cases = [
         (
             r#"{},{"live":["q"],"range":{"x":[0,5]}},{"range":{"x":[0,5]}}"#,
             1,
@@ -232,7 +250,7 @@ fn values_of_queues(rt: HostRuntime) {
             Some(begins(0)),
         ),
     ];
-    ask(&rt, rt.alloc(), SEND, &sent);
+    ask(&rt, rt.alloc(), SEND, &cases);
 }
 
 const CREATE: &str = r#"object = [{name="m", kind="mutex", live=false}]
@@ -280,99 +298,61 @@ fn calling(alloc: Global, kind: &str, call: &str) -> Option<String> {
     ).ok()
 }
 
-/// What fails first inside the call where its result is in one of these ranges after it.
-fn with_result(alloc: Global, kind: &str, call: &str, after: &str) -> Option<Option<Own>> {
+/// What fails first inside the call where this is the note after it.
+fn fails_before(alloc: Global, kind: &str, call: &str, after: &str) -> Option<Option<Own>> {
     let app = calling(alloc, kind, call)?;
     let notes = format!(in alloc; "{{}},{{\"live\":[\"b\"]}},{after}").ok()?;
     own_at(alloc, app.as_str(), notes.as_str(), 1)
 }
 
+/// Asks that the call keeps the one note after it, and not the other.
+fn ask_result(rt: &impl Abort, alloc: Global, kind: &str, call: &str, kept: &str, missed: &str) {
+    assert!(rt;
+        fails_before(alloc, kind, call, kept) == Some(None),
+        "{call} {kept}"
+    );
+    assert!(rt;
+        fails_before(alloc, kind, call, missed) == Some(Some(goes(1))),
+        "{call} {missed}"
+    );
+}
+
 #[test]
-fn results_of_buffers(rt: HostRuntime) {
-    let missed = Some(goes(1));
-    let cases = [
-        // As many bytes as there can be.
-        (
-            "stream",
-            "r = xStreamBufferReceive(b, 8, 0)",
-            r#"{"range":{"r":[0,4]}}"#,
-            None,
-        ),
-        (
-            "stream",
-            "r = xStreamBufferReceive(b, 8, 0)",
-            r#"{"range":{"r":[0,3]}}"#,
-            missed,
-        ),
-        (
-            "stream",
-            "r = xStreamBufferSend(b, 3, 0)",
-            r#"{"range":{"r":[0,3]}}"#,
-            None,
-        ),
-        (
-            "stream",
-            "r = xStreamBufferSend(b, 3, 0)",
-            r#"{"range":{"r":[1,3]}}"#,
-            missed,
-        ),
-        // A whole message or nothing; one that is longer than the buffer is never sent.
-        (
-            "message",
-            "r = xMessageBufferSend(b, 3, 0)",
-            r#"{"range":{"r":[0,3]}}"#,
-            None,
-        ),
-        (
-            "message",
-            "r = xMessageBufferSend(b, 3, 0)",
-            r#"{"range":{"r":[0,2]}}"#,
-            missed,
-        ),
-        (
-            "message",
-            "r = xMessageBufferSend(b, 5, 0)",
-            r#"{"range":{"r":[0,0]}}"#,
-            None,
-        ),
-        (
-            "message",
-            "r = xMessageBufferReceive(b, 8, 0)",
-            r#"{"range":{"r":[0,4]}}"#,
-            None,
-        ),
-        (
-            "message",
-            "r = xMessageBufferReceive(b, 8, 0)",
-            r#"{"range":{"r":[0,3]}}"#,
-            missed,
-        ),
-        // Each row of the step table may have an alternative of its own.
-        (
-            "message",
-            "r = xMessageBufferSend(b, 3, 0)",
-            r#"[{"range":{"r":[0,0]}},{"range":{"r":[3,3]}}]"#,
-            None,
-        ),
-        (
-            "message",
-            "r = xMessageBufferSend(b, 3, 0)",
-            r#"[{"range":{"r":[0,0]}},{"range":{"r":[1,2]}}]"#,
-            missed,
-        ),
-        (
-            "stream",
-            "r = xStreamBufferSend(b, 1, 0)",
-            r#"[{"range":{"r":[0,0]}},{"range":{"r":[1,1]}}]"#,
-            missed,
-        ),
-    ];
-    for (kind, call, after, wanted) in cases {
-        assert!(rt;
-            with_result(rt.alloc(), kind, call, after) == Some(wanted),
-            "{call} {after}"
-        );
-    }
+fn results_of_stream_buffers(rt: HostRuntime) {
+    // As many bytes as there can be, or fewer.
+    let receive = "r = xStreamBufferReceive(b, 8, 0)";
+    let (kept, missed) = (r#"{"range":{"r":[0,4]}}"#, r#"{"range":{"r":[0,3]}}"#);
+    ask_result(&rt, rt.alloc(), "stream", receive, kept, missed);
+    let send = "r = xStreamBufferSend(b, 3, 0)";
+    let (kept, missed) = (r#"{"range":{"r":[0,3]}}"#, r#"{"range":{"r":[1,3]}}"#);
+    ask_result(&rt, rt.alloc(), "stream", send, kept, missed);
+    // One row of the step table, so one alternative has to hold after all of its steps.
+    let send = "r = xStreamBufferSend(b, 1, 0)";
+    let (kept, missed) = (
+        r#"{"range":{"r":[0,1]}}"#,
+        r#"[{"range":{"r":[0,0]}},{"range":{"r":[1,1]}}]"#,
+    );
+    ask_result(&rt, rt.alloc(), "stream", send, kept, missed);
+}
+
+#[test]
+fn results_of_message_buffers(rt: HostRuntime) {
+    // A whole message or nothing; one that is longer than the buffer is never sent.
+    let send = "r = xMessageBufferSend(b, 3, 0)";
+    let (kept, missed) = (r#"{"range":{"r":[0,3]}}"#, r#"{"range":{"r":[0,2]}}"#);
+    ask_result(&rt, rt.alloc(), "message", send, kept, missed);
+    let long = "r = xMessageBufferSend(b, 5, 0)";
+    let (kept, missed) = (r#"{"range":{"r":[0,0]}}"#, r#"{"range":{"r":[1,8]}}"#);
+    ask_result(&rt, rt.alloc(), "message", long, kept, missed);
+    let receive = "r = xMessageBufferReceive(b, 8, 0)";
+    let (kept, missed) = (r#"{"range":{"r":[0,4]}}"#, r#"{"range":{"r":[0,3]}}"#);
+    ask_result(&rt, rt.alloc(), "message", receive, kept, missed);
+    // Nothing and a message are two rows of the step table: each may have an alternative of its own.
+    let (kept, missed) = (
+        r#"[{"range":{"r":[0,0]}},{"range":{"r":[3,3]}}]"#,
+        r#"[{"range":{"r":[0,0]}},{"range":{"r":[1,2]}}]"#,
+    );
+    ask_result(&rt, rt.alloc(), "message", send, kept, missed);
 }
 
 #[test]
