@@ -1,26 +1,25 @@
 -- What is written for the guards of ends means them again.
-use Rattle.std.proofs.Common.{◌≡◌, ◌≢◌, ◌<◌, ◌≤◌, ◌+◌, ◌∙◌, ◌⊎◌, ℕ, zero, suc, ℤ, List, [], ◌∷◌, Bool, true, false, Option, Some, None, nat_eq, cond, length, All, codes, refl, sym, ap, subst, inl, inr, arith}
+use Rattle.std.proofs.Common.{◌≡◌, ◌<◌, ◌≤◌, ◌∙◌, ℕ, suc, ℤ, List, [], ◌∷◌, Bool, true, false, Some, None, nat_eq, cond, length, All, refl, sym, ap, inl, inr, arith}
 use Rattle.std.specs.List.{AllByRecursion}
-use Rattle.std.proofs.lemmas.Bool.{false≢true, cases_lt}
+use Rattle.std.proofs.lemmas.Bool.{cases_lt}
 use Rattle.std.proofs.lemmas.Bool.Decides.{Decides-eqb}
 use Rattle.std.proofs.lemmas.List.Elements.{All-head, All-tail}
-use Rattle.serde_json.specs.Data.{Data, number, string, array, object, Items, no_items, item, Members, no_members, member, put}
+use Rattle.serde_json.specs.Data.{number, string, object, Members, no_members, member, put}
 use Rattle.serde_json.specs.Find.{of_integer}
 use Rattle.fr_program.specs.Program.{Program}
 use Rattle.fr_program.specs.Lookup.{variable_at, object_at, actor_at}
 use Rattle.fr_program.specs.Limits.{IsNumber}
 use Rattle.fr_program.specs.Fault.{IsFaultless}
-use Rattle.fr_instr.specs.Names.{place_of}
 use Rattle.fr_calls.specs.BufferEnd.{end_text}
 use Rattle.fr_ends.specs.Guard.{Guard, Sole, ByMutex, InCritical, Turn, EndGuard}
 use Rattle.fr_ends.specs.Certificate.{value_for}
 use Rattle.fr_ends.specs.Fits.{AreRising, GuardFits, EndFits}
 use Rattle.fr_ends.proofs.TurnLemmas.{RisesFrom, rises_whole, none_below, later_value}
-use Rattle.fr_cert.specs.Keys.{AreKnown, key_text, field, names_in}
+use Rattle.fr_cert.specs.Keys.{key_text, field, names_in}
 use Rattle.fr_cert.specs.declared.key.Key.TheVariants as key
 use Rattle.fr_cert.specs.declared.key.Place.TheVariants as place
-use Rattle.fr_cert.specs.Shapes.{At, IsObject, EachEntry, EachMember, Names}
-use Rattle.fr_cert.specs.Meaning.{IsTurnNumber, IsTurnValue, AreTurnValues, IsGuardObject, IsGuard, IsEndName, IsEnd}
+use Rattle.fr_cert.specs.Shapes.{IsObject, EachEntry, EachMember}
+use Rattle.fr_cert.specs.Meaning.{IsTurnNumber, IsTurnValue, AreTurnValues, IsGuard, IsEnd}
 use Rattle.fr_cert.specs.Written.{with_values, guard_tree, end_tree, ends_tree}
 use Rattle.fr_cert.proofs.GivenLemmas.{given, given-cons, put_named, actor_place, object_place, variable_place}
 use Rattle.fr_cert.proofs.NotesAgain.{integer_again, known_more, none_known}

@@ -1,8 +1,8 @@
 -- What is written for a note means the note again.
-use Rattle.std.proofs.Common.{◌≡◌, ◌≢◌, ◌<◌, ◌≤◌, ◌≤ℤ◌, ◌+◌, ◌∙◌, ◌&&◌, ◌||◌, ℕ, zero, suc, ℤ, pos, negsuc, List, [], ◌∷◌, Bool, true, false, IsTrue, Option, Some, None, is_some, option_map, unwrap_or, Ordering, Less, Equal, Greater, nat_cmp, nat_eq, nat_le, cond, find, get_or, length, map, All, AllPairs, refl, sym, ap, subst, inl, inr, arith}
+use Rattle.std.proofs.Common.{◌≡◌, ◌≢◌, ◌<◌, ◌≤◌, ◌≤ℤ◌, ◌+◌, ◌∙◌, ◌&&◌, ◌||◌, ℕ, zero, suc, ℤ, pos, negsuc, List, [], ◌∷◌, Bool, true, false, IsTrue, Option, Some, None, is_some, unwrap_or, Ordering, Less, Equal, Greater, nat_cmp, nat_eq, nat_le, cond, get_or, length, map, All, AllPairs, refl, sym, ap, subst, inl, inr, arith}
 use Rattle.std.specs.Cmp.{tied_itself}
 use Rattle.std.specs.Cmp.Lexicographic.{slice_cmp}
-use Rattle.std.specs.List.{AllByRecursion, list_any, list_all, range_with_len}
+use Rattle.std.specs.List.{AllByRecursion, list_all, range_with_len}
 use Rattle.std.specs.Ordering.{match_ordering, int_eq}
 use Rattle.std.proofs.lemmas.Bool.{false≢true}
 use Rattle.std.proofs.lemmas.Bool.Decides.{Decides-eqb, Decides-int_eq, leb_tells}
@@ -15,7 +15,7 @@ use Rattle.std.proofs.lemmas.Option.{same_Some}
 use Rattle.serde_json.specs.Data.{Data, number, unsigned, string, array, object, Items, no_items, item, Members, no_members, member, put}
 use Rattle.serde_json.specs.Find.{of_integer, get_member, as_integer}
 use Rattle.fr_program.specs.Program.{Program, VariableOf, ObjectOf}
-use Rattle.fr_program.specs.Lookup.{no_variable, no_object, variable_at, object_at}
+use Rattle.fr_program.specs.Lookup.{no_variable, no_object, variable_at}
 use Rattle.fr_program.specs.Fault.{IsFaultless}
 use Rattle.fr_program.specs.declared.parts.Kind.{Kind}
 use Rattle.fr_program.specs.declared.parts.Kind.TheVariants.{Mutex, Recursive}
@@ -24,17 +24,17 @@ use Rattle.fr_calls.specs.State.{kind_of}
 use Rattle.fr_notes.specs.declared.claim.Claim.{Claim}
 use Rattle.fr_notes.specs.declared.claim.Claim.TheVariants.{NotHeld, Alive, Gone, HeldTimes}
 use Rattle.fr_notes.specs.Note.{Alternative, Note}
-use Rattle.fr_notes.specs.Fits.{AlternativeFits, NoteFits, CanClaim, most_depth, most_alternatives}
+use Rattle.fr_notes.specs.Fits.{AlternativeFits, NoteFits, CanClaim, most_depth}
 use Rattle.fr_notes.specs.Parts.{claim_by}
 use Rattle.fr_cert.specs.Keys.{AreKnown, is_key_of, key_text, field, names_in}
 use Rattle.fr_cert.specs.declared.key.Key.{Key}
 use Rattle.fr_cert.specs.declared.key.Key.TheVariants as key
 use Rattle.fr_cert.specs.declared.key.Place.{Place}
 use Rattle.fr_cert.specs.declared.key.Place.TheVariants as place
-use Rattle.fr_cert.specs.Shapes.{OrDefault, AtOrDefault, IsObject, IsList, EachEntry, EachMember, Names, AreNames, IsDepth, IsSpan}
-use Rattle.fr_cert.specs.Meaning.{NoteText, IsHeldCount, IsRange, IsNoteText, IsInside, NoteTextFits, count_for, has, claim_at, range_at, note_said, IsAlternative, IsPlainNote, IsNote}
+use Rattle.fr_cert.specs.Shapes.{OrDefault, IsObject, IsList, EachEntry, EachMember, Names, AreNames, IsDepth, IsSpan}
+use Rattle.fr_cert.specs.Meaning.{NoteText, IsHeldCount, IsRange, IsNoteText, IsInside, count_for, has, claim_at, range_at, IsPlainNote, IsNote}
 use Rattle.fr_cert.specs.Written.{range_tree, is_declared, with_named, with_ranges, with_count, with_counts, is_alive, is_gone, names_where, with_depth, with_list, with_object, alternative_tree, alternatives_tree, note_tree, notes_tree, version_of}
-use Rattle.fr_cert.proofs.GivenLemmas.{given, put_if, put_all, whole, Whole, variable_place, object_place}
+use Rattle.fr_cert.proofs.GivenLemmas.{given, put_if, put_all, whole, variable_place, object_place}
 
 -- ---- numbers and ranges
 

@@ -1,11 +1,11 @@
 -- What is written has no float, and nests six deep at the most, so that its text is read again.
-use Rattle.std.proofs.Common.{◌≡◌, ◌≤◌, ◌<◌, ◌||◌, ℕ, zero, suc, max, ℤ, pos, negsuc, List, [], ◌∷◌, Bool, true, false, cond, Ordering, Less, Equal, Greater, nat_cmp, codes, refl, sym, arith}
+use Rattle.std.proofs.Common.{◌≡◌, ◌≤◌, ◌||◌, ℕ, zero, suc, max, ℤ, pos, negsuc, List, [], ◌∷◌, Bool, true, false, cond, Less, Equal, Greater, nat_cmp, codes, refl, sym, arith}
 use Rattle.std.specs.Cmp.Lexicographic.{slice_cmp}
 use Rattle.std.specs.Ordering.{match_ordering}
 use Rattle.std.proofs.Math.Nat.{max-le, le-max_left, le-max_right}
 use Rattle.std.proofs.lemmas.Bool.{false≢true}
 use Rattle.serde_json.specs.Data.{Data, number, unsigned, string, array, object, Items, no_items, item, Members, no_members, member, put, depth, items_depth, members_depth}
-use Rattle.serde_json.specs.Find.{of_integer, is_float}
+use Rattle.serde_json.specs.Find.{of_integer}
 use Rattle.serde_json.specs.Read.{max_depth}
 use Rattle.serde_json.specs.Written.{has_float, items_have_float, members_have_float}
 use Rattle.fr_program.specs.Program.{Program, VariableOf, ObjectOf}

@@ -1,7 +1,7 @@
 -- What is written for a certificate means the certificate again.
-use Rattle.std.proofs.Common.{◌≡◌, ◌≤◌, ◌∙◌, ℕ, pos, List, [], ◌∷◌, Bool, true, false, IsUtf8, Some, cond, length, nat_le, refl, sym, ap, subst, inl, inr, ◌⊎◌}
+use Rattle.std.proofs.Common.{◌≡◌, ◌≤◌, ℕ, List, Bool, true, false, IsUtf8, Some, cond, length, nat_le, refl, sym, subst, inl, inr, ◌⊎◌}
 use Rattle.std.specs.List.{list_all}
-use Rattle.serde_json.specs.Data.{Data, number, unsigned, array, object, no_members, member, depth}
+use Rattle.serde_json.specs.Data.{Data, number, unsigned, array, no_members, member, depth}
 use Rattle.serde_json.specs.Read.{read, max_depth}
 use Rattle.fr_program.specs.Program.{Program}
 use Rattle.fr_program.specs.Fault.{IsFaultless}

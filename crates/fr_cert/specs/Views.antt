@@ -1,6 +1,6 @@
 -- For private clauses: what the parts of a note and of a guard in code mean, what a fault of a note is called, and the
 -- order of the keys that are written.
-use Rattle.std.specs.Prelude.{◌≡◌, ℕ, ℤ, List, [], ◌∷◌, Bool, map}
+use Rattle.std.specs.Prelude.{◌≡◌, ℕ, ℤ, [], ◌∷◌, Bool, map}
 use Rattle.std.specs.Ordering.{nat_cmp}
 use Rattle.std.specs.declared.cmp.Ordering.TheVariants.{Less}
 use Rattle.std.specs.Cmp.Lexicographic.{slice_cmp}

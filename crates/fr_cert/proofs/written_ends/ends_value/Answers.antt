@@ -1,4 +1,4 @@
-use Rattle.std.proofs.Common.{◌∙◌, All, map, sym, ap, subst}
+use Rattle.std.proofs.Common.{◌∙◌, All, sym, ap, subst}
 use Rattle.fr_ends.specs.Fits.{EndFits}
 use Rattle.fr_ends.specs.View.{end_of}
 use Rattle.fr_ends.proofs.TwiceLemmas.{fit_from}

@@ -1,4 +1,4 @@
-use Rattle.std.proofs.Common.{◌≡◌, ◌<◌, ◌∷◌, ◌∙◌, ℕ, ℤ, All, List, length, map, sym, ap, subst, to_z-of_z}
+use Rattle.std.proofs.Common.{◌<◌, ◌∙◌, ℕ, ℤ, All, length, map, ap, subst, to_z-of_z}
 use Rattle.std.specs.Map.Iter.{deref_pair}
 use Rattle.std.proofs.lemmas.List.Elements.{All-head, All-tail}
 use Rattle.std.proofs.lemmas.Map.Iter.{rest_more, rest_all}
@@ -7,7 +7,6 @@ use Rattle.serde_json.specs.Find.{of_integer}
 use Rattle.serde_json.specs.View.{members_view}
 use Rattle.fr_program.specs.Limits.{IsNumber}
 use Rattle.fr_program.specs.Lookup.{actor_at}
-use Rattle.fr_program.specs.declared.ids.ActorId.{ActorId}
 use Rattle.fr_ends.specs.View.{value_of}
 use Rattle.fr_cert.proofs.WrittenLemmas.{values_more, values_end}
 use Rattle.fr_cert.proofs.written_ends.values_value.Goals as goal

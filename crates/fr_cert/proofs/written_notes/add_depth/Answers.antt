@@ -1,8 +1,7 @@
-use Rattle.std.proofs.Common.{◌∙◌, ◌<◌, ap, sym, arith}
+use Rattle.std.proofs.Common.{◌∙◌, ◌<◌, ap, arith}
 use Rattle.std.proofs.lemmas.Result.{on_ok_weaker}
 use Rattle.serde_json.specs.Data.{put, number, unsigned}
 use Rattle.serde_json.specs.View.{members_view}
-use Rattle.fr_cert.specs.Keys.{key_text}
 use Rattle.fr_cert.proofs.WrittenLemmas.{depth_added}
 use Rattle.fr_cert.proofs.written_notes.add_depth.Goals as goal
 

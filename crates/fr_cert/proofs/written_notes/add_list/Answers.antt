@@ -1,12 +1,11 @@
-use Rattle.std.proofs.Common.{◌∙◌, ◌<◌, length, sym, ap, rules}
+use Rattle.std.proofs.Common.{◌∙◌, ◌<◌, length, ap, rules}
 use Rattle.std.proofs.lemmas.Result.{on_ok_weaker}
-use Rattle.std.proofs.lemmas.Bool.{false≢true}
 use Rattle.serde_json.specs.Data.{put}
 use Rattle.serde_json.specs.View.{members_view, view}
 use Rattle.serde_json.specs.declared.value.Value.{Array}
 use Rattle.serde_json.proofs.Views.{view-Array}
 use Rattle.fr_cert.specs.Keys.{key_text}
-use Rattle.fr_cert.proofs.WrittenLemmas.{list_added, not_none}
+use Rattle.fr_cert.proofs.WrittenLemmas.{list_added}
 use Rattle.fr_cert.proofs.written_notes.add_list.Goals as goal
 
 pub returns : goal.returns

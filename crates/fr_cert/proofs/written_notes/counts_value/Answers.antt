@@ -1,4 +1,4 @@
-use Rattle.std.proofs.Common.{◌<◌, ◌≤◌, length, get_or, refl, arith}
+use Rattle.std.proofs.Common.{◌<◌, ◌≤◌, length, get_or, arith}
 use Rattle.std.proofs.lemmas.List.{get_or_default}
 use Rattle.serde_json.specs.View.{members_view}
 use Rattle.fr_notes.specs.declared.claim.Claim.TheVariants.{NotHeld}
