@@ -1,5 +1,5 @@
 -- The first point that disturbs a note: of one instruction, of one actor, of all.
-use Rattle.std.proofs.Common.{◌≡◌, ◌≢◌, ℕ, ◌<◌, ◌≤◌, List, Option, Some, None, refl, sym, ap, ◌∙◌, subst, arith, ⊎_elim, inl, inr}
+use Rattle.std.proofs.Common.{◌≡◌, ◌≢◌, ℕ, ◌<◌, ◌≤◌, List, get_or, Option, Some, None, true, refl, sym, ap, ◌∙◌, subst, arith, ⊎_elim, inl, inr}
 use Rattle.std.specs.Prelude.{◌⊎◌, slice_get}
 use Rattle.std.proofs.lemmas.Bool.{cases_lt}
 use Rattle.fr_program.specs.declared.ids.ActorId.{ActorId}
@@ -7,20 +7,28 @@ use Rattle.fr_program.specs.declared.ids.Point.{Point}
 use Rattle.fr_program.specs.declared.ids.Side.{Side}
 use Rattle.fr_program.specs.declared.ids.Side.TheVariants.{Before, Inside}
 use Rattle.fr_program.specs.declared.instr.Instr.{Instr}
+use Rattle.fr_program.specs.declared.instr.Instr.TheVariants.{Set, Pick, Call as Calls}
+use Rattle.fr_program.specs.declared.instr.Call.{Call}
+use Rattle.fr_program.specs.declared.instr.Call.TheVariants.{Create, Delete, On}
+use Rattle.fr_program.specs.declared.instr.Action.{Action}
+use Rattle.fr_program.specs.declared.instr.Action.TheVariants.{QueueReceive, Send, Receive}
+use Rattle.fr_program.specs.declared.parts.Kind.{Kind}
 use Rattle.fr_program.specs.Program.{Program}
-use Rattle.fr_program.specs.Lookup.{IsPoint, instr_of}
+use Rattle.fr_program.specs.Lookup.{IsPoint, instr_of, actor_at}
 use Rattle.fr_program.specs.Points.{points_of, point_number}
 use Rattle.fr_program.specs.PointNumbers.{PointsAreNumbered}
 use Rattle.fr_program.specs.Fault.{IsFaultless}
 use Rattle.fr_notes.specs.Note.{Note}
 use Rattle.fr_notes.specs.Noted.{note_at}
 use Rattle.fr_interfere.specs.declared.effects.Effect.TheVariants.{Nothing}
-use Rattle.fr_interfere.specs.Effects.{effect_of, AllBear}
+use Rattle.fr_interfere.specs.Effects.{effect_inside, effect_of, is_quiet_end, is_quiet, AllBear}
+use Rattle.fr_calls.specs.State.{kind_of}
 use Rattle.fr_interfere.specs.Disturbance.{IsSpoiler}
 use Rattle.fr_interfere.specs.Spoilers.{DisturbsAt, IsFirstOf, IsOfLine, IsOf}
 use Rattle.fr_interfere.specs.Undisturbed.{Undisturbed}
 use Rattle.fr_interfere.proofs.BearLaws.{borne-spared}
 use Rattle.fr_interfere.proofs.DisturbanceLaws.{undisturbed-spared, same-actor}
+use Rattle.fr_interfere.proofs.Lists.{get-at}
 use Rattle.fr_interfere.proofs.Order.{line-order, actor-order}
 
 -- steps that change nothing disturb nobody
@@ -28,6 +36,38 @@ pub nothing-undisturbed : (P : Program) → IsFaultless P → (notes : List Note
 nothing-undisturbed P free notes p q ne i is none there apart =
     let borne : AllBear (effect_of P q.side i) (note_at P notes q) (note_at P notes p) = subst (λ e. AllBear e (note_at P notes q) (note_at P notes p)) (sym none) (λ m k n l. tt) in
     (undisturbed-spared P notes p q there apart).0 (λ n m one other. borne-spared P free p q ne i is (note_at P notes p) (note_at P notes q) borne n m one other) there apart
+
+-- a quiet instruction has no effect, at neither of its sides
+quiet-end : (kind : Kind) (action : Action) → is_quiet_end action ≡ true → effect_inside kind action ≡ Nothing
+quiet-end kind (QueueReceive into timing e) quiet = cc
+quiet-end kind (Send buffer length timing None) quiet = refl
+quiet-end kind (Send buffer length timing (Some x)) quiet = cc
+quiet-end kind (Receive buffer length timing None) quiet = refl
+quiet-end kind (Receive buffer length timing (Some x)) quiet = cc
+quiet-end kind action quiet = refl
+
+quiet-nothing : (P : Program) (side : Side) (i : Instr) → is_quiet i ≡ true → effect_of P side i ≡ Nothing
+quiet-nothing P side (Set target left operator right) quiet = cc
+quiet-nothing P side (Pick target lo hi) quiet = cc
+quiet-nothing P Before (Calls call) quiet = by_call call quiet
+  where
+    by_call : (call : Call) → is_quiet (Calls call) ≡ true → effect_of P Before (Calls call) ≡ Nothing
+    by_call (Create kind o e) quiet = cc
+    by_call (Delete kind o) quiet = cc
+    by_call call quiet = refl
+quiet-nothing P Inside (Calls (On o action)) quiet = quiet-end (kind_of P o.0) action quiet
+quiet-nothing P Before i quiet = refl
+quiet-nothing P Inside i quiet = refl
+
+-- so none of the points at its line disturbs a note
+pub quiet-line : (P : Program) → IsFaultless P → (notes : List Note) (p q : Point) → p.actor ≢ q.actor → (i : Instr) → instr_of P q ≡ Some i → is_quiet i ≡ true → Undisturbed P notes p q
+quiet-line P free notes p q ne i is quiet =
+    nothing-undisturbed P free notes p q ne i is (quiet-nothing P q.side i quiet)
+
+-- what the code reads at a line is the instruction of each point there
+pub line-instr : (P : Program) (q : Point) (a : ActorId) (pc : ℕ) (items : List Instr) (d i : Instr) → items ≡ (actor_at P a.0).code → q.actor ≡ a → q.pc ≡ pc → instr_of P q ≡ Some i → get_or items pc d ≡ i
+line-instr P q a pc items d i same of line is =
+    get-at items pc d i (ap (λ xs. slice_get xs pc) same ∙ ap (λ b. slice_get (actor_at P b.0).code pc) (sym of) ∙ ap (λ k. slice_get (actor_at P q.actor.0).code k) (sym line) ∙ is)
 
 -- the place of a point in the list of points
 pub numbered-at : (P : Program) → PointsAreNumbered P → (p : Point) (k : ℕ) → IsPoint P p × (k ≡ point_number P p) → slice_get (points_of P) k ≡ Some p

@@ -3,12 +3,13 @@
 -- | word                    | meaning                                                                          |
 -- |-------------------------|----------------------------------------------------------------------------------|
 -- | effect_of               | what the steps from a side of an instruction can change                          |
+-- | is_quiet                | neither side's steps can change anything                                         |
 -- | IsMade, IsWritten       | the effect is on this object's life; it gives this variable that number          |
 -- | IsSeen                  | all that a note of this actor can say is as it was, but for the effect           |
 -- | IsComputable            | what a `set` computes has a number among the factors of a product                |
 -- | Bears, EachBears,       | an alternative holds after an effect where it held before; each of a note's      |
 -- |   AllBear               | does; each does whichever alternative the mover has                              |
-use Rattle.std.specs.Prelude.{◌≡◌, ◌≤ℤ◌, ◌⊎◌, ℕ, ℤ, pos, Option, None, Some, Contains}
+use Rattle.std.specs.Prelude.{◌≡◌, ◌≤ℤ◌, ◌⊎◌, ℕ, ℤ, pos, Option, None, Some, Bool, true, false, is_none, Contains}
 use Rattle.fr_program.specs.declared.ids.VarId.{VarId}
 use Rattle.fr_program.specs.declared.ids.Side.{Side}
 use Rattle.fr_program.specs.declared.ids.Side.TheVariants.{Before, Inside}
@@ -56,6 +57,22 @@ effect_of P Before (Calls (Create kind o e)) = Life o
 effect_of P Before (Calls (Delete kind o)) = Life o
 effect_of P Inside (Calls (On o action)) = effect_inside (kind_of P o.0) action
 effect_of P side i = Nothing
+
+-- whether the end of an object call changes nothing
+abbrev pub is_quiet_end : Action → Bool
+is_quiet_end (QueueReceive into timing e) = false
+is_quiet_end (Send buffer length timing result) = is_none result
+is_quiet_end (Receive buffer length timing result) = is_none result
+is_quiet_end action = true
+
+-- whether no step of the instruction changes anything
+abbrev pub is_quiet : Instr → Bool
+is_quiet (Set target left operator right) = false
+is_quiet (Pick target lo hi) = false
+is_quiet (Calls (Create kind o e)) = false
+is_quiet (Calls (Delete kind o)) = false
+is_quiet (Calls (On o action)) = is_quiet_end action
+is_quiet i = true
 
 -- the effect is on the life of this object
 abbrev pub IsMade : Effect → ℕ → Type 0

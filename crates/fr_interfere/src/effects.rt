@@ -3,7 +3,7 @@ ghost use Rattle.std.specs.Prelude.{◌≡◌, ◌⊎◌, ◌<◌, ◌↔◌, Is
 ghost use Rattle.fr_program.specs.Fault.{IsConstant, NamesThings};
 ghost use Rattle.fr_calls.specs.State.{kind_of};
 ghost use Rattle.fr_notes.specs.Fits.{AlternativeFits, NoteFits};
-ghost use Rattle.fr_interfere.specs.Effects.{received, moved, effect_inside, effect_of, IsComputable, Bears, EachBears, AllBear};
+ghost use Rattle.fr_interfere.specs.Effects.{received, moved, effect_inside, effect_of, is_quiet_end, is_quiet, IsComputable, Bears, EachBears, AllBear};
 
 use fr_notes::{Alternative, Claim, Known, Note};
 use fr_program::{Action, App, Call, Instr, Kind, ObjId, Operand, Operator, Side, VarId};
@@ -108,6 +108,30 @@ pub fn effect_of(app: &App, side: Side, instr: &Instr) -> Effect
             effect_inside(app, *object, action)
         }
         _ => Effect::Nothing,
+    }
+}
+
+fn is_quiet_end(action: &Action) -> bool
+    ensures { result ≡ is_quiet_end action.now }
+{
+    match action {
+        Action::QueueReceive { .. } => false,
+        Action::Send { result, .. } => result.is_none(),
+        Action::Receive { result, .. } => result.is_none(),
+        _ => true,
+    }
+}
+
+/// Whether the instruction's steps, before it and inside it, change nothing that another actor's note
+/// can say. Most do, so this is asked of each pair of points first.
+pub fn is_quiet(instr: &Instr) -> bool
+    ensures { result ≡ is_quiet instr.now }
+{
+    match instr {
+        Instr::Set { .. } | Instr::Pick { .. } => false,
+        Instr::Call(Call::Create { .. } | Call::Delete { .. }) => false,
+        Instr::Call(Call::On { action, .. }) => is_quiet_end(action),
+        _ => true,
     }
 }
 

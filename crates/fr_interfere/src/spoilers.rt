@@ -9,7 +9,7 @@ ghost use Rattle.fr_interfere.specs.Disturbance.{IsSpoiler};
 ghost use Rattle.fr_interfere.specs.Spoilers.{DisturbsAt, IsFirstOf, IsOfLine, IsOf};
 
 use crate::disturbance::is_left;
-use crate::effects::effect_of;
+use crate::effects::{effect_of, is_quiet};
 use fr_notes::{Note, Notes};
 use fr_program::{ActorId, App, Instr, Point, Side};
 
@@ -82,9 +82,12 @@ fn spoiler_of(app: &App, notes: &Notes, note: &Note, actor: ActorId) -> Option<u
     ensures { (p : Point) → IsPoint app.now p → note.now ≡ note_at app.now notes.now p →
         p.actor ≢ actor → IsFirstOf app.now notes.now p (IsOf actor) result }
 {
+    app.recall_faultless();
     for (pc, instr) in code_of(app, actor).iter().enumerate() {
-        if let Some(found) = spoiler_at(app, notes, note, actor, pc, instr) {
-            return Some(found);
+        if !is_quiet(instr) {
+            if let Some(found) = spoiler_at(app, notes, note, actor, pc, instr) {
+                return Some(found);
+            }
         }
     }
     None
