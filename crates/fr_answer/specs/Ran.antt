@@ -22,7 +22,8 @@ use Rattle.fr_judge.specs.declared.part.Verdict.{Verdict}
 use Rattle.fr_judge.specs.declared.part.Verdict.TheVariants.{Yes, No}
 use Rattle.fr_runner.specs.declared.fault.RunFault.{RunFault}
 use Rattle.fr_runner.specs.declared.fault.RunFault.TheVariants.{Memory as NoMemory, Polls as TooManyPolls, Threads as NoThread, Spent, NoActor}
-use Rattle.fr_runner.specs.Trace.{Entry, IsRunOf}
+use Rattle.fr_runner.specs.declared.trace.Entry.{Entry}
+use Rattle.fr_runner.specs.Trace.{IsRunOf}
 use Rattle.fr_report.specs.Report.{report_text}
 use Rattle.fr_report.specs.Trace.{trace_text}
 use Rattle.fr_answer.specs.declared.fault.CheckFault.{CheckFault}

@@ -4,6 +4,7 @@ ghost use Rattle.fr_calls.specs.Run.{IsSafe};
 ghost use Rattle.fr_reader.specs.Meaning.{Means as AppMeans};
 ghost use Rattle.fr_cert.specs.Meaning.{Means as CertMeans};
 ghost use Rattle.fr_ends.specs.Fits.{CertificateFits};
+ghost use Rattle.fr_judge.specs.declared.part.Verdict.TheVariants.{Yes};
 ghost use Rattle.fr_answer.specs.Checked.{IsSafeText};
 ghost use Rattle.fr_answer.specs.Ran.{
   CanRefuseRun,
@@ -78,7 +79,7 @@ fn run_text<R: Threads + Wait + Sync, G: Gate>(
     gate: &G,
 ) -> Result<String, CheckFault>
     ensures output { IfOk result
-        (λ text. IsOutput passed.now.app Verdict.Yes polls words.now (string_bytes text)) }
+        (λ text. IsOutput passed.now.app Yes polls words.now (string_bytes text)) }
     ensures refused { IfErr result
         (λ f. (app certificate : List ℕ) → CanRefuseRun app certificate polls f) }
 {
