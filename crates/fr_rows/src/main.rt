@@ -17,6 +17,8 @@ mod certificates;
 mod faults;
 mod files;
 #[cfg(test)]
+mod interference;
+#[cfg(test)]
 mod lines;
 #[cfg(test)]
 mod own_obligations;
