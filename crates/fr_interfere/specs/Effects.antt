@@ -6,6 +6,9 @@
 -- | is_quiet                | neither side's steps can change anything                                         |
 -- | IsMade, IsWritten       | the effect is on this object's life; it gives this variable that number          |
 -- | IsSeen                  | all that a note of this actor can say is as it was, but for the effect           |
+-- | declared_of,            | the declared ranges; the operands of a `set` are there                           |
+-- |   HasOperands           |                                                                                  |
+-- | BearsAny, EachBearsAny  | an alternative bears an effect whatever the mover's note says; each of a note's  |
 -- | IsComputable            | what a `set` computes has a number among the factors of a product                |
 -- | Bears, EachBears,       | an alternative holds after an effect where it held before; each of a note's      |
 -- |   AllBear               | does; each does whichever alternative the mover has                              |
@@ -23,12 +26,14 @@ use Rattle.fr_program.specs.declared.parts.Kind.{Kind}
 use Rattle.fr_program.specs.declared.parts.Kind.TheVariants.{Queue}
 use Rattle.fr_program.specs.Program.{Program}
 use Rattle.fr_program.specs.Fault.{IsConstant}
+use Rattle.fr_program.specs.Lookup.{variable_at}
 use Rattle.fr_calls.specs.State.{State, content_of, value_of, depth_of, suspension_of, kind_of}
 use Rattle.fr_calls.specs.Rule.{operand_of, result_of}
 use Rattle.fr_notes.specs.declared.claim.Claim.{Claim}
 use Rattle.fr_notes.specs.declared.claim.Claim.TheVariants.{NotHeld}
 use Rattle.fr_notes.specs.Note.{Alternative, Note, Meets, Within, claim_of, range_of}
-use Rattle.fr_notes.specs.Reckoning.{CanBeIn}
+use Rattle.fr_notes.specs.Fits.{AlternativeFits}
+use Rattle.fr_notes.specs.Reckoning.{CanBeIn, IsNamed}
 use Rattle.fr_interfere.specs.declared.effects.Effect.{Effect}
 use Rattle.fr_interfere.specs.declared.effects.Effect.TheVariants.{Nothing, Life, Gives, Sets}
 
@@ -113,3 +118,20 @@ AllBear effect others note = (m : Alternative) → Contains others m → EachBea
 abbrev pub IsComputable : Effect → Type 0
 IsComputable (Sets x l Times r) = IsConstant l ⊎ IsConstant r
 IsComputable effect = Unit {0}
+
+-- the declared range of each variable
+abbrev pub declared_of : Program → ℕ → ℤ × ℤ
+declared_of P x = ((variable_at P x).lo, (variable_at P x).hi)
+
+-- the application has the operands' variables
+abbrev pub HasOperands : Program → Effect → Type 0
+HasOperands P (Sets x l op r) = IsNamed P l × IsNamed P r
+HasOperands P effect = Unit {0}
+
+-- whatever alternative the mover has
+abbrev pub BearsAny : Program → Effect → Alternative → Type 0
+BearsAny P effect n = (m : Alternative) → AlternativeFits P m → Bears effect m n
+
+-- so it is of each alternative of the note
+abbrev pub EachBearsAny : Program → Effect → Note → Type 0
+EachBearsAny P effect note = (n : Alternative) → Contains note n → BearsAny P effect n

@@ -21,6 +21,8 @@ mod files;
 #[cfg(test)]
 mod guards;
 #[cfg(test)]
+mod interference;
+#[cfg(test)]
 mod lines;
 #[cfg(test)]
 mod notes_of_objects;
