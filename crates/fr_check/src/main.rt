@@ -4,6 +4,7 @@
 ghost use Rattle.std.specs.Prelude.{◌≤◌};
 ghost use Rattle.fr_answer.specs.Checked.{most_bytes};
 
+mod running;
 #[cfg(test)]
 mod tests;
 mod words;
@@ -13,6 +14,7 @@ use fr_answer::{
     CheckFault, MOST_APP_BYTES, MOST_CERTIFICATE_BYTES, answer_check, answer_fault, load,
 };
 use fr_parallel::Open;
+use running::run;
 use std::fs::File;
 use std::process::ExitCode;
 use std::sync::Wait;
@@ -99,6 +101,7 @@ fn answer<R: Threads + Wait + Sync>(rt: &HostRuntime, threads: &R) -> Result<u8,
                     workers,
                 },
             ) => check(rt, threads, app, certificate, workers),
+            Some(Request::Run(asked)) => run(rt, threads, asked),
             None => refuse_words(rt),
         },
         Err(error) => explain(rt, &error),

@@ -19,6 +19,10 @@ fn answer_to(alloc: Global, line: &str) -> Result<String, AllocError> {
                     workers,
                 },
             ) => format!(in alloc; "{app} {certificate} {workers}"),
+            Some(Request::Run(run)) => {
+                let (app, certificate, polls) = (run.app, run.certificate, run.polls);
+                format!(in alloc; "{app} {certificate} {polls} {:?}", run.words)
+            }
             None => String::from_str(alloc, "nothing"),
         },
         Err(error) => format!(in alloc; "{} {error}", error.exit_code()),
@@ -40,6 +44,20 @@ fn words_and_what_is_said_to_them(rt: HostRuntime) {
         ),
         (
             "fr_check check A",
+            "2 error: the following required arguments",
+        ),
+        (
+            "fr_check run A C --polls 1000000 --words 8,x",
+            "A C 1000000 Some(\"8,x\")",
+        ),
+        ("fr_check run A C --polls 0", "A C 0 None"),
+        ("fr_check run A C --polls 1 --words ", "A C 1 Some(\"\")"),
+        (
+            "fr_check run A C --polls 1000001",
+            "2 error: invalid value '1000001'",
+        ),
+        (
+            "fr_check run A C",
             "2 error: the following required arguments",
         ),
         ("fr_check", "2 Checks that a multicore FreeRTOS application"),

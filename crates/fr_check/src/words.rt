@@ -1,9 +1,10 @@
 // The words of the command line.
+use crate::running::{RunRequest, asked_run, run_command};
 use clap::{Arg, ArgAction, ArgMatches, Command, Error, value_parser};
 use std::alloc::{AllocError, Global};
 
 /// The name that the version is printed with, by `--version` and `check --version` alike.
-const NAME: &str = "fr_check";
+pub const NAME: &str = "fr_check";
 
 const STATUSES: &str = "Exit status:
   0  The verdict is yes
@@ -20,9 +21,11 @@ pub enum Request<'a> {
         certificate: &'a str,
         workers: u16,
     },
+    /// A run of the application.
+    Run(RunRequest<'a>),
 }
 
-fn file_arg<'a>(alloc: Global, id: &'a str, help: &'a str) -> Arg<'a> {
+pub fn file_arg<'a>(alloc: Global, id: &'a str, help: &'a str) -> Arg<'a> {
     Arg::new(alloc, id)
         .value_name(id)
         .required(true)
@@ -57,7 +60,8 @@ fn command<'a>(alloc: Global) -> Result<Command<'a>, AllocError> {
         .after_help(STATUSES)
         .subcommand_required(true)
         .arg_required_else_help(true)
-        .subcommand(check_command(alloc)?)
+        .subcommand(check_command(alloc)?)?
+        .subcommand(run_command(alloc)?)
 }
 
 /// What the words match, or `clap`'s own text of what is wrong with them.
@@ -76,6 +80,7 @@ pub fn asked<'a>(matches: &ArgMatches<'a>) -> Option<Request<'a>> {
                 workers: words.get_one::<u16>("workers")?,
             })
         }
+        "run" => Some(Request::Run(asked_run(&words)?)),
         _ => None,
     }
 }

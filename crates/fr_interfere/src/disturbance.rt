@@ -1,43 +1,27 @@
 // Whether another actor's steps leave a point's note holding.
-ghost use Rattle.std.specs.Prelude.{◌≡◌, ◌≢◌, ◌<◌, ◌↔◌, IsTrue, Some, All, Contains, length, slice_get};
+ghost use Rattle.std.specs.Prelude.{◌≡◌, ◌≢◌, ◌<◌, ◌↔◌, IsTrue, Some, Contains, length, slice_get};
 ghost use Rattle.fr_program.specs.declared.ids.Point.{Point};
-ghost use Rattle.fr_program.specs.Fault.{IsFaultless};
 ghost use Rattle.fr_program.specs.Lookup.{IsPoint, instr_of};
 ghost use Rattle.fr_program.specs.Points.{points_of};
 ghost use Rattle.fr_notes.specs.Fits.{AlternativeFits, NoteFits, NotesFit};
-ghost use Rattle.fr_notes.specs.Known.{KnownFits, IsOther, LeavesSome, Spares};
+ghost use Rattle.fr_notes.specs.Known.{IsPossible, KnownFits, IsOther, LeavesSome};
 ghost use Rattle.fr_notes.specs.Note.{Alternative as AlternativeOf};
-ghost use Rattle.fr_interfere.specs.Disturbance.{IsSparedByRows, IsSpoiler};
+ghost use Rattle.fr_interfere.specs.Disturbance.{SparesSome, IsSparedByRows};
+ghost use Rattle.fr_interfere.specs.Effects.{effect_of};
 ghost use Rattle.fr_interfere.specs.Undisturbed.{Undisturbed};
 
+use crate::effects::{Effect, all_bear, effect_of};
 use fr_calls::Way;
 use fr_notes::{Alternative, Change, Known, Note, Notes, can_meet, change_by, spares};
 use fr_program::{App, Instr, Point};
 
-/// Recalls that an application has no build fault, whatever is judged today.
-fn recall_faultless(app: &App)
-    ensures { IsFaultless app.now }
-{
-    app.recall_faultless();
-}
-
 /// Whether some alternative of the note holds of the other actor after each step that makes this
 /// change, where this one held before.
-fn some_spared(
-    app: &App,
-    known: &Known,
-    alternative: &Alternative,
-    change: &Change,
-    note: &Note,
-) -> bool
-    requires fits { KnownFits app.now known.now }
+fn some_spared(known: &Known, alternative: &Alternative, change: &Change, note: &Note) -> bool
+    requires possible { IsPossible known.now }
     requires other { known.now.other ≡ Some alternative.now }
-    ensures kept { IsTrue result →
-        ((k : AlternativeOf) × Contains note.now k × Spares known.now alternative.now change.now k) }
-    ensures missed { ((k : AlternativeOf) × Contains note.now k × Spares known.now alternative.now change.now k) →
-        IsTrue result }
+    ensures { IsTrue result ↔ SparesSome known.now alternative.now change.now note.now }
 {
-    let _ = app;
     for next in note.alternatives() {
         if spares(known, alternative, change, next) {
             return true;
@@ -64,9 +48,8 @@ fn is_spared_by_row(
     ensures { (p : Point) → IsOther app.now known.now mover p →
         (IsTrue result ↔ LeavesSome app.now known.now mover p way p.actor.0 note.now) }
 {
-    recall_faultless(app);
     match change_by(app, known, mover, instr, way) {
-        Some(change) => some_spared(app, known, alternative, &change, note),
+        Some(change) => some_spared(known, alternative, &change, note),
         None => true,
     }
 }
@@ -139,6 +122,28 @@ fn is_each_spared(app: &App, note: &Note, others: &Note, mover: Point, instr: &I
     true
 }
 
+/// Whether no step from the mover's point disturbs the note: where each alternative bears what the
+/// instruction can change, nothing else is asked.
+pub fn is_left(
+    app: &App,
+    effect: Effect,
+    note: &Note,
+    others: &Note,
+    mover: Point,
+    instr: &Instr,
+) -> bool
+    requires effect { effect ≡ effect_of app.now mover.side instr.now }
+    requires note { NoteFits app.now note.now }
+    requires others { NoteFits app.now others.now }
+    requires point { IsPoint app.now mover }
+    requires instr { instr_of app.now mover ≡ Some instr.now }
+    ensures { (p : Point) → IsPoint app.now p → p.actor ≢ mover.actor →
+        (IsTrue result ↔ ((n m : AlternativeOf) → Contains note.now n → Contains others.now m → IsSparedByRows app.now p n mover m note.now)) }
+{
+    app.recall_faultless();
+    all_bear(app, effect, others, note) || is_each_spared(app, note, others, mover, instr)
+}
+
 /// Whether no step of another actor from the point with the other number disturbs the note of the
 /// point with this one. Between points of one actor none does. The notes fit the application. Takes
 /// no memory.
@@ -149,6 +154,7 @@ pub fn undisturbed(app: &App, notes: &Notes, number: usize, other: usize) -> boo
     ensures { (p q : Point) → slice_get (points_of app.now) number ≡ Some p →
         slice_get (points_of app.now) other ≡ Some q → (IsTrue result ↔ Undisturbed app.now notes.now p q) }
 {
+    app.recall_faultless();
     app.recall_numbered();
     let (point, mover) = (app.point(number), app.point(other));
     if point.actor.0 == mover.actor.0 {
@@ -156,29 +162,10 @@ pub fn undisturbed(app: &App, notes: &Notes, number: usize, other: usize) -> boo
     }
     match app.instr(mover) {
         None => true,
-        Some(instr) => is_each_spared(
-            app,
-            notes.at(app, number),
-            notes.at(app, other),
-            mover,
-            instr,
-        ),
-    }
-}
-
-/// The least number of a point whose steps disturb the note of the point with this number; None
-/// where no step of another actor does. The notes fit the application. Takes no memory.
-pub fn spoiler(app: &App, notes: &Notes, number: usize) -> Option<usize>
-    requires number { number < length (points_of app.now) }
-    requires fit { NotesFit app.now notes.now }
-    ensures { (p : Point) → slice_get (points_of app.now) number ≡ Some p →
-        IsSpoiler app.now notes.now p result }
-{
-    app.recall_numbered();
-    for other in 0..app.points() {
-        if !undisturbed(app, notes, number, other) {
-            return Some(other);
+        Some(instr) => {
+            let effect = effect_of(app, mover.side, instr);
+            let (note, others) = (notes.at(app, number), notes.at(app, other));
+            is_left(app, effect, note, others, mover, instr)
         }
     }
-    None
 }

@@ -14,6 +14,8 @@ mod built_notes;
 #[cfg(test)]
 mod certificates;
 #[cfg(test)]
+mod certificates_whole;
+#[cfg(test)]
 mod faults;
 mod files;
 #[cfg(test)]
@@ -21,12 +23,22 @@ mod guards;
 #[cfg(test)]
 mod lines;
 #[cfg(test)]
+mod notes_of_objects;
+#[cfg(test)]
 mod own_obligations;
+#[cfg(test)]
+mod own_obligations_of_objects;
 #[cfg(test)]
 mod passing;
 #[cfg(test)]
 mod plain_notes;
+#[cfg(test)]
+mod polled_machine;
 mod row;
+#[cfg(test)]
+mod run_words;
+#[cfg(test)]
+mod runs;
 #[cfg(test)]
 mod want_of_memory;
 #[cfg(test)]
@@ -52,7 +64,7 @@ fn is_kept<R: Threads + Wait + Sync>(
 ) -> io::Result<bool> {
     let alloc = rt.alloc();
     let (app, certificate) = (row.app(cut), row.certificate(cut));
-    let answer = Answer::to_files(threads, alloc, app, certificate, row.workers);
+    let answer = Answer::to_files(threads, alloc, app, certificate, &row.asked);
     if answer.is_same(&row.expected) {
         return Ok(true);
     }
