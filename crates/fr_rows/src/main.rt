@@ -21,7 +21,11 @@ mod interference;
 #[cfg(test)]
 mod lines;
 #[cfg(test)]
+mod notes_of_objects;
+#[cfg(test)]
 mod own_obligations;
+#[cfg(test)]
+mod own_obligations_of_objects;
 #[cfg(test)]
 mod passing;
 #[cfg(test)]

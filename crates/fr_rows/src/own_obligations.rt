@@ -17,9 +17,9 @@ actor = [{name="t", kind="task", code=["if x < 2147483647 goto 2", "goto 0", "se
 const RETURNING: &str = r#"actor = [{name="t", kind="task", code=["goto 0", "return"]}]"#;
 
 /// The first own obligation that fails at the point with this number where the points have these notes, `Some(None)`
-/// where all are kept; None where a text is refused or there is no such point.
-fn own_at(alloc: Global, app: &str, notes: &str, number: usize) -> Option<Option<Own>> {
-    let text = format!(in alloc; "{{\"version\":1,\"ends\":[],\"notes\":[{notes}]}}").ok()?;
+/// where all are kept; None where a text is refused or there is no such point. The notes may have several alternatives.
+pub fn own_at(alloc: Global, app: &str, notes: &str, number: usize) -> Option<Option<Own>> {
+    let text = format!(in alloc; "{{\"version\":2,\"ends\":[],\"notes\":[{notes}]}}").ok()?;
     let app = read_app(alloc, app.as_bytes()).ok()?;
     let certificate = read_cert(alloc, &app, text.as_bytes()).ok()?;
     if certificate.notes.fits(&app) && number < app.points() {
@@ -29,7 +29,8 @@ fn own_at(alloc: Global, app: &str, notes: &str, number: usize) -> Option<Option
     }
 }
 
-fn goes(pc: usize) -> Own {
+/// A step goes to this line of the first actor without keeping its note.
+pub fn goes(pc: usize) -> Own {
     Own::Goes(Point {
         actor: ActorId(0),
         pc,
