@@ -13,6 +13,7 @@ use crate::answer::Answer;
 use crate::files::{bytes_of, names_in, text_of, wrong};
 use std::alloc::Global;
 use std::io;
+use std::str::Lines;
 
 const APP: &str = "app.toml";
 
@@ -113,7 +114,7 @@ fn check_end(word: Option<&str>) -> io::Result<()> {
 }
 
 /// The rest of a check's words: the number of workers.
-fn check_asked<'a, I: Iterator<Item = &'a str>>(words: &mut I) -> io::Result<Asked> {
+fn check_asked(words: &mut Lines) -> io::Result<Asked> {
     let workers = match words.next() {
         None => DEFAULT_WORKERS,
         Some("--workers") => number(words.next())?,
@@ -124,7 +125,7 @@ fn check_asked<'a, I: Iterator<Item = &'a str>>(words: &mut I) -> io::Result<Ask
 }
 
 /// The rest of a run's words: the number of polls, and the text of its words.
-fn run_asked<'a, I: Iterator<Item = &'a str>>(alloc: Global, words: &mut I) -> io::Result<Asked> {
+fn run_asked(alloc: Global, words: &mut Lines) -> io::Result<Asked> {
     if words.next() != Some("--polls") {
         return Err(wrong("the words are not those of a run"));
     }

@@ -26,7 +26,8 @@ object = [{name="m", kind="mutex", live=true}, {name="sb", kind="stream", size=1
 actor = [{name="t", kind="task", code=["goto 0"]}]
 "#;
 
-const TURNS_NOTES: &str = r#"{"ends":[{"buffer":"sb","end":"writer","guard":{"turn":"turn","values":{"t":1}}}],"notes":[[{"dead":["sb"],"live":["m"]},{"held":{"m":1},"range":{"turn":[1,1]}}]],"version":2}"#;
+const TURNS_NOTES: &str =
+    r#"{"ends":[{"buffer":"sb","end":"writer","guard":{"turn":"turn","values":{"t":1}}}],"notes":[[{"dead":["sb"],"live":["m"]},{"held":{"m":1},"range":{"turn":[1,1]}}]],"version":2}"#;
 
 /// Whether an allocation was refused.
 fn is_memory(fault: &TextFault) -> bool {
