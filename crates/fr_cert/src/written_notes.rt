@@ -215,7 +215,7 @@ fn ranges_of(
         ≡ with_ranges app.now.variables alternative.now.ranges no_members) }
 {
     app.recall_faultless();
-    ranges_value(alloc, app.variables(), &alternative.ranges)
+    ranges_value(alloc, app.variables(), alternative.ranges())
 }
 
 // How often the objects of an alternative are held, by name.
@@ -228,7 +228,7 @@ fn counts_of(
     ensures { IfOk result (λ m. members_view m.entries
         ≡ with_counts app.now.objects alternative.now.claims no_members) }
 {
-    counts_value(alloc, app.objects(), &alternative.claims)
+    counts_value(alloc, app.objects(), alternative.claims())
 }
 
 // The names of the objects of which an alternative says so.
@@ -242,7 +242,7 @@ fn names_of(
     ensures { IfOk result (λ v. items_view v.items
         ≡ names_where (says life) app.now.objects alternative.now.claims) }
 {
-    names_value(alloc, life, app.objects(), &alternative.claims)
+    names_value(alloc, life, app.objects(), alternative.claims())
 }
 
 // The object of one alternative. Its keys are added from the last one on.
@@ -259,12 +259,12 @@ fn alternative_value(
     let held = counts_of(alloc, app, alternative)?;
     let dead = names_of(alloc, app, alternative, Life::Dead)?;
     let mut note = Map::new(alloc);
-    add_depth(alloc, &mut note, Key::Susp, alternative.susp)?;
+    add_depth(alloc, &mut note, Key::Susp, alternative.suspended())?;
     add_object(alloc, &mut note, Key::Range, range)?;
     add_list(alloc, &mut note, Key::Live, live)?;
     add_object(alloc, &mut note, Key::Held, held)?;
     add_list(alloc, &mut note, Key::Dead, dead)?;
-    add_depth(alloc, &mut note, Key::Crit, alternative.crit)?;
+    add_depth(alloc, &mut note, Key::Crit, alternative.critical())?;
     Ok(Value::Object(note))
 }
 

@@ -58,16 +58,16 @@ fn holds_at_start(app: &App, alternative: &Alternative) -> bool
     requires { AlternativeFits app.now alternative.now }
     ensures { (a : ℕ) → (IsTrue result ↔ HoldsOne alternative.now a (start app.now)) }
 {
-    if alternative.crit != 0 {
+    if alternative.critical() != 0 {
         return false;
     }
-    if alternative.susp != 0 {
+    if alternative.suspended() != 0 {
         return false;
     }
-    if !begins_with_claims(app.objects(), &alternative.claims) {
+    if !begins_with_claims(app.objects(), alternative.claims()) {
         return false;
     }
-    begins_with_ranges(app.variables(), &alternative.ranges)
+    begins_with_ranges(app.variables(), alternative.ranges())
 }
 
 /// Whether some alternative of the note holds of an actor when the scheduler starts.

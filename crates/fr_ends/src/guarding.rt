@@ -69,9 +69,8 @@ fn has_turn(
 ) -> bool
     ensures { IsTrue result ↔ SaysGuard alternative.now actor.0 (Turn variable.0 (values_of values.now)) }
 {
-    let known = Known::alone(alternative);
     match value_for(values, actor) {
-        Some(value) => is_only(known.range(variable.0), value),
+        Some(value) => is_only(alternative.range(variable), value),
         None => false,
     }
 }
@@ -80,8 +79,7 @@ fn has_turn(
 fn holds(alternative: &Alternative, mutex: ObjId) -> bool
     ensures { result ≡ is_held (claim_of alternative.now mutex.0) }
 {
-    let known = Known::alone(alternative);
-    matches!(known.claim(mutex.0), Claim::HeldTimes(_))
+    matches!(alternative.claim(mutex), Claim::HeldTimes(_))
 }
 
 /// Whether the alternative says that the guard holds of its actor.
@@ -92,7 +90,7 @@ fn says_guard(alternative: &Alternative, actor: ActorId, guard: &Guard) -> bool
     match guard {
         Guard::Sole(only) => actor.0 == only.0,
         Guard::Mutex(mutex) => holds(alternative, *mutex),
-        Guard::Critical => alternative.crit > 0,
+        Guard::Critical => alternative.critical() > 0,
         Guard::Turn(variable, values) => has_turn(alternative, actor, *variable, values),
     }
 }

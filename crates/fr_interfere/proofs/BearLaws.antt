@@ -1,7 +1,6 @@
 -- An alternative that bears what a step can change holds after the step.
 use Rattle.std.proofs.Common.{◌≡◌, ◌≢◌, ℕ, length, Option, Some, None, sym, ap, ◌∙◌, subst, arith, ⊎_elim}
-use Rattle.std.proofs.lemmas.List.Elements.{All-tail}
-use Rattle.std.specs.Prelude.{ℤ, ◌<◌, ◌+ℤ◌, ◌-ℤ◌, ◌++◌, length, ◌↔◌, Bool, IsTrue, IfSome, Contains}
+use Rattle.std.specs.Prelude.{ℤ, length, ◌↔◌, Bool, IsTrue, IfSome, Contains}
 use Rattle.std.proofs.lemmas.Int.{ints}
 use Rattle.std.proofs.lemmas.Option.{slice_get-get_or}
 use Rattle.fr_program.specs.declared.ids.ObjId.{ObjId}
@@ -18,7 +17,7 @@ use Rattle.fr_program.specs.declared.instr.BufferKind.{BufferKind}
 use Rattle.fr_program.specs.declared.instr.Operand.{Operand}
 use Rattle.fr_program.specs.declared.instr.Operand.TheVariants.{Number, Variable}
 use Rattle.fr_program.specs.declared.instr.Operator.{Operator}
-use Rattle.fr_program.specs.declared.instr.Operator.TheVariants.{Plus, Minus, Times}
+use Rattle.fr_program.specs.declared.instr.Operator.TheVariants.{Times}
 use Rattle.fr_program.specs.declared.ids.VarId.{VarId}
 use Rattle.fr_program.specs.declared.parts.Kind.{Kind}
 use Rattle.fr_program.specs.declared.parts.Kind.TheVariants.{Queue}
@@ -26,8 +25,8 @@ use Rattle.fr_program.specs.declared.range.Range.{Range}
 use Rattle.fr_program.specs.Spans.{IsIn}
 use Rattle.fr_program.specs.Program.{Program}
 use Rattle.fr_program.specs.Lookup.{instr_of, no_object}
-use Rattle.fr_program.specs.Uses.{is_buffer, operand_variables}
-use Rattle.fr_program.specs.Fault.{IsFaultless, NamesThings, OperandsFit}
+use Rattle.fr_program.specs.Uses.{is_buffer}
+use Rattle.fr_program.specs.Fault.{IsFaultless, OperandsFit}
 use Rattle.fr_calls.specs.State.{State, kind_of}
 use Rattle.fr_calls.specs.Rule.{operand_of, result_of}
 use Rattle.fr_calls.specs.declared.way.Way.{Way}
@@ -36,16 +35,13 @@ use Rattle.fr_calls.specs.Step.{StepBy}
 use Rattle.fr_calls.proofs.Rows.{row-of-step, landing-of-step, free-to-step}
 use Rattle.fr_notes.specs.declared.claim.Claim.TheVariants.{NotHeld}
 use Rattle.fr_notes.specs.Note.{Alternative, Note, HoldsOne, Within, claim_of, range_of}
-use Rattle.fr_notes.specs.Reckoning.{operand_in, CanBeIn, IsSpanIn}
+use Rattle.fr_notes.specs.Reckoning.{CanBeIn, IsSpanIn}
 use Rattle.fr_notes.specs.View.{ends_of}
-use Rattle.fr_notes.specs.Fits.{AlternativeFits}
-use Rattle.fr_notes.specs.Implication.{IsPart}
-use Rattle.fr_notes.proofs.BeforeLaws.{both-named}
 use Rattle.fr_notes.specs.Known.{Known, HasKnown, alone, beside, joint_range}
 use Rattle.fr_interfere.specs.declared.effects.Effect.{Effect}
 use Rattle.fr_interfere.specs.declared.effects.Effect.TheVariants.{Life, Gives, Sets}
 use Rattle.fr_interfere.specs.Disturbance.{IsSparedByRow, IsSparedByRows}
-use Rattle.fr_interfere.specs.Effects.{effect_inside, effect_of, IsMade, IsWritten, IsSeen, Bears, AllBear, BearsAny, HasOperands, IsComputable, declared_of}
+use Rattle.fr_interfere.specs.Effects.{effect_inside, effect_of, IsMade, IsWritten, IsSeen, Bears, AllBear, IsComputable}
 use Rattle.fr_interfere.proofs.DisturbanceLaws.{same-actor}
 use Rattle.fr_interfere.proofs.EffectLaws.{row-seen}
 
@@ -125,8 +121,8 @@ computable P Inside (Calls (On o action)) fits = inside-computable (kind_of P o.
 computable P side i fits = tt
 
 -- the exact span of what a `set` computes lies in a range exactly where all of it does
-pub set-bears : (m n : Alternative) (k j : Known) → k ≡ alone m → j ≡ alone n → (x : VarId) (l : Operand) (op : Operator) (r : Operand) (span range : Range) → IsSpanIn (joint_range k) op l r span → ends_of range ≡ joint_range j x.0 → (result : Bool) → (IsTrue result ↔ ((z : ℤ) → IsIn span z → IsIn range z)) → (IsTrue result ↔ Bears (Sets x l op r) m n)
-set-bears m n k j one other x l op r span range computed ends result both = (
+pub set-bears : (m n : Alternative) (k : Known) → k ≡ alone m → (x : VarId) (l : Operand) (op : Operator) (r : Operand) (span range : Range) → IsSpanIn (joint_range k) op l r span → ends_of range ≡ range_of n x.0 → (result : Bool) → (IsTrue result ↔ ((z : ℤ) → IsIn span z → IsIn range z)) → (IsTrue result ↔ Bears (Sets x l op r) m n)
+set-bears m n k one x l op r span range computed is result both = (
   λ t u v left right. subst (λ e. Within e (result_of op u v)) is (both.0 t (result_of op u v) (s.inside u v left right)),
   λ bears.
       let lo = subst (λ e. Within e span.lo) (sym is) (subst (λ v. Within (range_of n x.0) v) s.lo.4 (bears s.lo.0 s.lo.1 s.lo.2 s.lo.3)) in
@@ -136,54 +132,3 @@ set-bears m n k j one other x l op r span range computed ends result both = (
   where
     s : IsSpanIn (range_of m) op l r span
     s = subst (λ e. IsSpanIn (joint_range e) op l r span) one computed
-
-    is : ends_of range ≡ range_of n x.0
-    is = ends ∙ ap (λ e. joint_range e x.0) other
-
--- what is noted of an operand is declared of it
-noted-declared : (P : Program) (m : Alternative) → AlternativeFits P m → (o : Operand) (u : ℤ) → CanBeIn (range_of m) o u → CanBeIn (declared_of P) o u
-noted-declared P m fits (Number z) u h = h
-noted-declared P m fits (Variable x) u h =
-    let d = fits.ranges.1 x.0 in (omega (arith, ints, d.0, h.0), omega (arith, ints, d.1, h.1))
-
--- an alternative whose range has all that a `set` can compute of declared numbers bears it
-pub declared-bears : (P : Program) (n : Alternative) (x : VarId) (l : Operand) (op : Operator) (r : Operand) (ends : ℤ × ℤ) → ((u v : ℤ) → CanBeIn (declared_of P) l u → CanBeIn (declared_of P) r v → Within ends (result_of op u v)) → IsPart ends (range_of n x.0) → BearsAny P (Sets x l op r) n
-declared-bears P n x l op r ends computed covers m fits u v left right =
-    let inside = computed u v (noted-declared P m fits l u left) (noted-declared P m fits r v right) in
-    (omega (arith, ints, covers.0, inside.0), omega (arith, ints, covers.1, inside.1))
-
--- sums and differences lie between those of the ends
-pub sum-between : (range : ℕ → ℤ × ℤ) (l r : Operand) (a b : ℤ × ℤ) → a ≡ operand_in range l → b ≡ operand_in range r → (ends : ℤ × ℤ) → ends.0 ≡ a.0 +ℤ b.0 → ends.1 ≡ a.1 +ℤ b.1 → (op : Operator) → op ≡ Plus → (u v : ℤ) → CanBeIn range l u → CanBeIn range r v → Within ends (result_of op u v)
-sum-between range l r a b is are ends low high op plus u v left right =
-    let one = subst (λ e. Within e u) (sym is) left in
-    let other = subst (λ e. Within e v) (sym are) right in
-    subst (λ o. Within ends (result_of o u v)) (sym plus) (omega (arith, ints, low, one.0, other.0), omega (arith, ints, high, one.1, other.1))
-
-pub difference-between : (range : ℕ → ℤ × ℤ) (l r : Operand) (a b : ℤ × ℤ) → a ≡ operand_in range l → b ≡ operand_in range r → (ends : ℤ × ℤ) → ends.0 ≡ a.0 -ℤ b.1 → ends.1 ≡ a.1 -ℤ b.0 → (op : Operator) → op ≡ Minus → (u v : ℤ) → CanBeIn range l u → CanBeIn range r v → Within ends (result_of op u v)
-difference-between range l r a b is are ends low high op minus u v left right =
-    let one = subst (λ e. Within e u) (sym is) left in
-    let other = subst (λ e. Within e v) (sym are) right in
-    subst (λ o. Within ends (result_of o u v)) (sym minus) (omega (arith, ints, low, one.0, other.1), omega (arith, ints, high, one.1, other.0))
-
--- the operands of an application's `set` are there
-pub has-operands : (P : Program) (side : Side) (i : Instr) → NamesThings P i → HasOperands P (effect_of P side i)
-has-operands P Before (Set x l op r) names = both-named P l r (All-tail (λ x. x.0 < length P.variables) x (operand_variables l ++ operand_variables r) names.0)
-has-operands P Before (Calls call) names = by_call call
-  where
-    by_call : (call : Call) → HasOperands P (effect_of P Before (Calls call))
-    by_call (Create kind o e) = tt
-    by_call (Delete kind o) = tt
-    by_call call = tt
-has-operands P Before (Pick x lo hi) names = tt
-has-operands P Inside (Calls (On o action)) names = inside (kind_of P o.0) action
-  where
-    inside : (kind : Kind) (action : Action) → HasOperands P (effect_inside kind action)
-    inside (Queue size lo hi) (QueueReceive into timing e) = tt
-    inside kind (QueueReceive into timing e) = tt
-    inside kind (Send buffer length timing None) = tt
-    inside kind (Send buffer length timing (Some x)) = tt
-    inside kind (Receive buffer length timing None) = tt
-    inside kind (Receive buffer length timing (Some x)) = tt
-    inside kind action = tt
-has-operands P Before i names = tt
-has-operands P Inside i names = tt

@@ -1,7 +1,8 @@
 -- The first point that disturbs a note: of one instruction, of one actor, of all.
-use Rattle.std.proofs.Common.{◌≡◌, ◌≢◌, ℕ, ◌<◌, ◌≤◌, List, get_or, Option, Some, None, true, refl, sym, ap, ◌∙◌, subst, arith, ⊎_elim, inl, inr}
+use Rattle.std.proofs.Common.{◌≡◌, ◌≢◌, ℕ, ◌<◌, ◌≤◌, List, get_or, Option, Some, None, refl, sym, ap, ◌∙◌, subst, arith, inl, inr}
 use Rattle.std.specs.Prelude.{◌⊎◌, slice_get}
 use Rattle.std.proofs.lemmas.Bool.{cases_lt}
+use Rattle.std.proofs.lemmas.Option.{same_Some}
 use Rattle.fr_program.specs.declared.ids.ActorId.{ActorId}
 use Rattle.fr_program.specs.declared.ids.Point.{Point}
 use Rattle.fr_program.specs.declared.ids.Side.{Side}
@@ -21,7 +22,7 @@ use Rattle.fr_program.specs.Fault.{IsFaultless}
 use Rattle.fr_notes.specs.Note.{Note}
 use Rattle.fr_notes.specs.Noted.{note_at}
 use Rattle.fr_interfere.specs.declared.effects.Effect.TheVariants.{Nothing}
-use Rattle.fr_interfere.specs.Effects.{effect_inside, effect_of, is_quiet_end, is_quiet, AllBear}
+use Rattle.fr_interfere.specs.Effects.{effect_inside, effect_of, changing_end, changing_side, AllBear}
 use Rattle.fr_calls.specs.State.{kind_of}
 use Rattle.fr_interfere.specs.Disturbance.{IsSpoiler}
 use Rattle.fr_interfere.specs.Spoilers.{DisturbsAt, IsFirstOf, IsOfLine, IsOf}
@@ -37,32 +38,32 @@ nothing-undisturbed P free notes p q ne i is none there apart =
     let borne : AllBear (effect_of P q.side i) (note_at P notes q) (note_at P notes p) = subst (λ e. AllBear e (note_at P notes q) (note_at P notes p)) (sym none) (λ m k n l. tt) in
     (undisturbed-spared P notes p q there apart).0 (λ n m one other. borne-spared P free p q ne i is (note_at P notes p) (note_at P notes q) borne n m one other) there apart
 
--- a quiet instruction has no effect, at neither of its sides
-quiet-end : (kind : Kind) (action : Action) → is_quiet_end action ≡ true → effect_inside kind action ≡ Nothing
-quiet-end kind (QueueReceive into timing e) quiet = cc
-quiet-end kind (Send buffer length timing None) quiet = refl
-quiet-end kind (Send buffer length timing (Some x)) quiet = cc
-quiet-end kind (Receive buffer length timing None) quiet = refl
-quiet-end kind (Receive buffer length timing (Some x)) quiet = cc
-quiet-end kind action quiet = refl
+-- at the other side, and at both where there is no such side, an instruction has no effect
+still-end : (kind : Kind) (action : Action) → (changing_end action ≡ Some Inside → ⊥) → effect_inside kind action ≡ Nothing
+still-end kind (QueueReceive into timing e) away = absurd (away refl)
+still-end kind (Send buffer length timing None) away = refl
+still-end kind (Send buffer length timing (Some x)) away = absurd (away refl)
+still-end kind (Receive buffer length timing None) away = refl
+still-end kind (Receive buffer length timing (Some x)) away = absurd (away refl)
+still-end kind action away = refl
 
-quiet-nothing : (P : Program) (side : Side) (i : Instr) → is_quiet i ≡ true → effect_of P side i ≡ Nothing
-quiet-nothing P side (Set target left operator right) quiet = cc
-quiet-nothing P side (Pick target lo hi) quiet = cc
-quiet-nothing P Before (Calls call) quiet = by_call call quiet
+still : (P : Program) (side : Side) (i : Instr) → (changing_side i ≡ Some side → ⊥) → effect_of P side i ≡ Nothing
+still P Before (Set target left operator right) away = absurd (away refl)
+still P Before (Pick target lo hi) away = absurd (away refl)
+still P Before (Calls call) away = by_call call away
   where
-    by_call : (call : Call) → is_quiet (Calls call) ≡ true → effect_of P Before (Calls call) ≡ Nothing
-    by_call (Create kind o e) quiet = cc
-    by_call (Delete kind o) quiet = cc
-    by_call call quiet = refl
-quiet-nothing P Inside (Calls (On o action)) quiet = quiet-end (kind_of P o.0) action quiet
-quiet-nothing P Before i quiet = refl
-quiet-nothing P Inside i quiet = refl
+    by_call : (call : Call) → (changing_side (Calls call) ≡ Some Before → ⊥) → effect_of P Before (Calls call) ≡ Nothing
+    by_call (Create kind o e) away = absurd (away refl)
+    by_call (Delete kind o) away = absurd (away refl)
+    by_call call away = refl
+still P Inside (Calls (On o action)) away = still-end (kind_of P o.0) action away
+still P Before i away = refl
+still P Inside i away = refl
 
--- so none of the points at its line disturbs a note
-pub quiet-line : (P : Program) → IsFaultless P → (notes : List Note) (p q : Point) → p.actor ≢ q.actor → (i : Instr) → instr_of P q ≡ Some i → is_quiet i ≡ true → Undisturbed P notes p q
-quiet-line P free notes p q ne i is quiet =
-    nothing-undisturbed P free notes p q ne i is (quiet-nothing P q.side i quiet)
+-- so no point there disturbs a note
+pub still-point : (P : Program) → IsFaultless P → (notes : List Note) (p q : Point) → p.actor ≢ q.actor → (i : Instr) → instr_of P q ≡ Some i → (changing_side i ≡ Some q.side → ⊥) → Undisturbed P notes p q
+still-point P free notes p q ne i is away =
+    nothing-undisturbed P free notes p q ne i is (still P q.side i away)
 
 -- what the code reads at a line is the instruction of each point there
 pub line-instr : (P : Program) (q : Point) (a : ActorId) (pc : ℕ) (items : List Instr) (d i : Instr) → items ≡ (actor_at P a.0).code → q.actor ≡ a → q.pc ≡ pc → instr_of P q ≡ Some i → get_or items pc d ≡ i
@@ -73,51 +74,42 @@ line-instr P q a pc items d i same of line is =
 pub numbered-at : (P : Program) → PointsAreNumbered P → (p : Point) (k : ℕ) → IsPoint P p × (k ≡ point_number P p) → slice_get (points_of P) k ≡ Some p
 numbered-at P numbered p k is = ap (λ j. slice_get (points_of P) j) is.1 ∙ numbered.at p is.0
 
-abbrev pub point_at : ActorId → ℕ → Side → Point
+abbrev point_at : ActorId → ℕ → Side → Point
 point_at a pc side = record { actor = a; pc = pc; side = side }
 
--- a point of a line is one of its two sides
-line-sides : (a : ActorId) (pc : ℕ) (q : Point) → IsOfLine a pc q → ((q ≡ point_at a pc Before) ⊎ (q ≡ point_at a pc Inside))
-line-sides a pc q is = go q.side refl
-  where
-    there : (side : Side) → q.side ≡ side → q ≡ point_at a pc side
-    there side e =
-        ap (λ b. point_at b q.pc q.side) is.0 ∙ ap (λ k. point_at a k q.side) is.1 ∙ ap (λ s. point_at a pc s) e
+decide-side : (s t : Side) → ((s ≡ t) ⊎ (s ≡ t → ⊥))
+decide-side Before Before = inl refl
+decide-side Before Inside = inr (λ e. cc)
+decide-side Inside Before = inr (λ e. cc)
+decide-side Inside Inside = inl refl
 
-    go : (side : Side) → q.side ≡ side → ((q ≡ point_at a pc Before) ⊎ (q ≡ point_at a pc Inside))
-    go Before e = inl (there Before e)
-    go Inside e = inr (there Inside e)
+module _ (P : Program) (free : IsFaultless P) (notes : List Note) (p q : Point) (ne : p.actor ≢ q.actor) (i : Instr) (is : instr_of P q ≡ Some i) (side : changing_side i ≡ Some q.side) where
+  -- a point of this line is this one, or it disturbs nothing
+  line-point : (Q : Type 0) (other : Point) → IsPoint P other → IsOfLine q.actor q.pc other → (other ≡ q → Q) → (Undisturbed P notes p other → Q) → Q
+  line-point Q other at line one none = by_side (decide-side other.side q.side)
+    where
+      same : instr_of P other ≡ Some i
+      same = ap (λ b. slice_get (actor_at P b.0).code other.pc) line.0 ∙ ap (λ k. slice_get (actor_at P q.actor.0).code k) line.1 ∙ is
+
+      by_side : ((other.side ≡ q.side) ⊎ (other.side ≡ q.side → ⊥)) → Q
+      by_side (inl e) = one (ap (λ b. point_at b other.pc other.side) line.0 ∙ ap (λ k. point_at q.actor k other.side) line.1 ∙ ap (λ s. point_at q.actor q.pc s) e)
+      by_side (inr away) = none (still-point P free notes p other (λ e. ne (e ∙ line.0)) i same (λ e. away (same_Some _ _ (sym e ∙ side))))
+
+  -- so what it does decides
+  pub line-first : (found : Option ℕ) → DisturbsAt P notes p q found → IsFirstOf P notes p (IsOfLine q.actor q.pc) found
+  line-first None d = λ other at line.
+      line-point (Undisturbed P notes p other) other at line (λ e. subst (λ x. Undisturbed P notes p x) (sym e) d) (λ u. u)
+  line-first (Some k) d = (
+    q,
+    d.0,
+    (refl, refl),
+    d.1,
+    d.2,
+    λ other at line less.
+        line-point (Undisturbed P notes p other) other at line (λ e. let same = ap (λ x. point_number P x) e in absurd (omega (arith, same, less, d.1))) (λ u. u),
+  )
 
 module _ (P : Program) (notes : List Note) (p : Point) (a : ActorId) (pc : ℕ) where
-  -- the point before the line disturbs: it is the first one
-  pub line-before : (k : ℕ) → DisturbsAt P notes p (point_at a pc Before) (Some k) → IsFirstOf P notes p (IsOfLine a pc) (Some k)
-  line-before k d = (
-    point_at a pc Before,
-    d.0,
-    (refl, refl),
-    d.1,
-    d.2,
-    λ other at among less. ⊎_elim
-        (λ e. let same = ap (λ q. point_number P q) e in absurd (omega (arith, same, less, d.1)))
-        (λ e. let same = ap (λ q. point_number P q) e in absurd (omega (arith, same, less, d.1)))
-        (line-sides a pc other among),
-  )
-
-  -- it doesn't: what the point inside does decides
-  pub line-inside : (found : Option ℕ) → Undisturbed P notes p (point_at a pc Before) → DisturbsAt P notes p (point_at a pc Inside) found → IsFirstOf P notes p (IsOfLine a pc) found
-  line-inside None u d = λ q at among.
-      ⊎_elim (λ e. subst (λ x. Undisturbed P notes p x) (sym e) u) (λ e. subst (λ x. Undisturbed P notes p x) (sym e) d) (line-sides a pc q among)
-  line-inside (Some k) u d = (
-    point_at a pc Inside,
-    d.0,
-    (refl, refl),
-    d.1,
-    d.2,
-    λ other at among less. ⊎_elim (λ e. subst (λ x. Undisturbed P notes p x) (sym e) u)
-        (λ e. let same = ap (λ q. point_number P q) e in absurd (omega (arith, same, less, d.1)))
-        (line-sides a pc other among),
-  )
-
   -- the first of a line, where no earlier line of the actor has one, is the actor's first
   pub first-of-actor : (k : ℕ) → ((q : Point) → IsPoint P q → q.actor ≡ a → q.pc < pc → Undisturbed P notes p q) → IsFirstOf P notes p (IsOfLine a pc) (Some k) → IsFirstOf P notes p (IsOf a) (Some k)
   first-of-actor k earlier (q, at, line, number, disturbs, least) = (q, at, line.0, number, disturbs, λ other there of less. by_line other there of less (cases_lt other.pc pc) (cases_lt pc other.pc))

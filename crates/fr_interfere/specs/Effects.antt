@@ -3,16 +3,14 @@
 -- | word                    | meaning                                                                          |
 -- |-------------------------|----------------------------------------------------------------------------------|
 -- | effect_of               | what the steps from a side of an instruction can change                          |
--- | is_quiet                | neither side's steps can change anything                                         |
+-- | changing_side           | the one side of an instruction whose steps can change something, or none         |
 -- | IsMade, IsWritten       | the effect is on this object's life; it gives this variable that number          |
 -- | IsSeen                  | all that a note of this actor can say is as it was, but for the effect           |
--- | declared_of,            | the declared ranges; the operands of a `set` are there                           |
--- |   HasOperands           |                                                                                  |
--- | BearsAny, EachBearsAny  | an alternative bears an effect whatever the mover's note says; each of a note's  |
 -- | IsComputable            | what a `set` computes has a number among the factors of a product                |
 -- | Bears, EachBears,       | an alternative holds after an effect where it held before; each of a note's      |
 -- |   AllBear               | does; each does whichever alternative the mover has                              |
-use Rattle.std.specs.Prelude.{◌≡◌, ◌≤ℤ◌, ◌⊎◌, ℕ, ℤ, pos, Option, None, Some, Bool, true, false, is_none, Contains}
+use Rattle.std.specs.Prelude.{◌≡◌, ◌≤ℤ◌, ◌⊎◌, ℕ, ℤ, pos, Option, None, Some, Contains}
+use Rattle.std.specs.Option.{option_map}
 use Rattle.fr_program.specs.declared.ids.VarId.{VarId}
 use Rattle.fr_program.specs.declared.ids.Side.{Side}
 use Rattle.fr_program.specs.declared.ids.Side.TheVariants.{Before, Inside}
@@ -26,14 +24,12 @@ use Rattle.fr_program.specs.declared.parts.Kind.{Kind}
 use Rattle.fr_program.specs.declared.parts.Kind.TheVariants.{Queue}
 use Rattle.fr_program.specs.Program.{Program}
 use Rattle.fr_program.specs.Fault.{IsConstant}
-use Rattle.fr_program.specs.Lookup.{variable_at}
 use Rattle.fr_calls.specs.State.{State, content_of, value_of, depth_of, suspension_of, kind_of}
 use Rattle.fr_calls.specs.Rule.{operand_of, result_of}
 use Rattle.fr_notes.specs.declared.claim.Claim.{Claim}
 use Rattle.fr_notes.specs.declared.claim.Claim.TheVariants.{NotHeld}
 use Rattle.fr_notes.specs.Note.{Alternative, Note, Meets, Within, claim_of, range_of}
-use Rattle.fr_notes.specs.Fits.{AlternativeFits}
-use Rattle.fr_notes.specs.Reckoning.{CanBeIn, IsNamed}
+use Rattle.fr_notes.specs.Reckoning.{CanBeIn}
 use Rattle.fr_interfere.specs.declared.effects.Effect.{Effect}
 use Rattle.fr_interfere.specs.declared.effects.Effect.TheVariants.{Nothing, Life, Gives, Sets}
 
@@ -63,21 +59,21 @@ effect_of P Before (Calls (Delete kind o)) = Life o
 effect_of P Inside (Calls (On o action)) = effect_inside (kind_of P o.0) action
 effect_of P side i = Nothing
 
--- whether the end of an object call changes nothing
-abbrev pub is_quiet_end : Action → Bool
-is_quiet_end (QueueReceive into timing e) = false
-is_quiet_end (Send buffer length timing result) = is_none result
-is_quiet_end (Receive buffer length timing result) = is_none result
-is_quiet_end action = true
+-- the end of an object call changes something where it gives a variable a number
+abbrev pub changing_end : Action → Option Side
+changing_end (QueueReceive into timing e) = Some Inside
+changing_end (Send buffer length timing result) = option_map (λ x. Inside) result
+changing_end (Receive buffer length timing result) = option_map (λ x. Inside) result
+changing_end action = None
 
--- whether no step of the instruction changes anything
-abbrev pub is_quiet : Instr → Bool
-is_quiet (Set target left operator right) = false
-is_quiet (Pick target lo hi) = false
-is_quiet (Calls (Create kind o e)) = false
-is_quiet (Calls (Delete kind o)) = false
-is_quiet (Calls (On o action)) = is_quiet_end action
-is_quiet i = true
+-- the side of the instruction whose steps change something; those of the other side never do
+abbrev pub changing_side : Instr → Option Side
+changing_side (Set target left operator right) = Some Before
+changing_side (Pick target lo hi) = Some Before
+changing_side (Calls (Create kind o e)) = Some Before
+changing_side (Calls (Delete kind o)) = Some Before
+changing_side (Calls (On o action)) = changing_end action
+changing_side i = None
 
 -- the effect is on the life of this object
 abbrev pub IsMade : Effect → ℕ → Type 0
@@ -118,20 +114,3 @@ AllBear effect others note = (m : Alternative) → Contains others m → EachBea
 abbrev pub IsComputable : Effect → Type 0
 IsComputable (Sets x l Times r) = IsConstant l ⊎ IsConstant r
 IsComputable effect = Unit {0}
-
--- the declared range of each variable
-abbrev pub declared_of : Program → ℕ → ℤ × ℤ
-declared_of P x = ((variable_at P x).lo, (variable_at P x).hi)
-
--- the application has the operands' variables
-abbrev pub HasOperands : Program → Effect → Type 0
-HasOperands P (Sets x l op r) = IsNamed P l × IsNamed P r
-HasOperands P effect = Unit {0}
-
--- whatever alternative the mover has
-abbrev pub BearsAny : Program → Effect → Alternative → Type 0
-BearsAny P effect n = (m : Alternative) → AlternativeFits P m → Bears effect m n
-
--- so it is of each alternative of the note
-abbrev pub EachBearsAny : Program → Effect → Note → Type 0
-EachBearsAny P effect note = (n : Alternative) → Contains note n → BearsAny P effect n

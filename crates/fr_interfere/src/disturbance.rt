@@ -10,7 +10,7 @@ ghost use Rattle.fr_interfere.specs.Disturbance.{SparesSome, IsSparedByRows};
 ghost use Rattle.fr_interfere.specs.Effects.{effect_of};
 ghost use Rattle.fr_interfere.specs.Undisturbed.{Undisturbed};
 
-use crate::effects::{Effect, all_bear, each_bears_any, effect_of};
+use crate::effects::{Effect, all_bear, effect_of};
 use fr_calls::Way;
 use fr_notes::{Alternative, Change, Known, Note, Notes, can_meet, change_by, spares};
 use fr_program::{App, Instr, Point};
@@ -141,9 +141,6 @@ pub fn is_left(
         (IsTrue result ↔ ((n m : AlternativeOf) → Contains note.now n → Contains others.now m → IsSparedByRows app.now p n mover m note.now)) }
 {
     app.recall_faultless();
-    if each_bears_any(app, effect, note) {
-        return true;
-    }
     all_bear(app, effect, others, note) || is_each_spared(app, note, others, mover, instr)
 }
 

@@ -1,13 +1,11 @@
 // What a step can change of what the notes of other actors say.
-ghost use Rattle.std.specs.Prelude.{◌≡◌, ◌⊎◌, ◌<◌, ◌+ℤ◌, ◌-ℤ◌, ◌↔◌, ℤ, IsTrue, IfSome, length};
+ghost use Rattle.std.specs.Prelude.{◌≡◌, ◌⊎◌, ◌<◌, ◌↔◌, IsTrue, length};
 ghost use Rattle.fr_program.specs.Fault.{IsConstant, NamesThings};
 ghost use Rattle.fr_calls.specs.State.{kind_of};
-ghost use Rattle.fr_calls.specs.Rule.{result_of};
 ghost use Rattle.fr_notes.specs.Fits.{AlternativeFits, NoteFits};
 ghost use Rattle.fr_notes.specs.Implication.{IsPart};
-ghost use Rattle.fr_notes.specs.Note.{Within, claim_of, range_of};
-ghost use Rattle.fr_notes.specs.Reckoning.{operand_in, CanBeIn, IsNamed};
-ghost use Rattle.fr_interfere.specs.Effects.{received, moved, effect_inside, effect_of, is_quiet_end, is_quiet, IsComputable, Bears, EachBears, AllBear, declared_of, HasOperands, BearsAny, EachBearsAny};
+ghost use Rattle.fr_notes.specs.Note.{claim_of, range_of};
+ghost use Rattle.fr_interfere.specs.Effects.{received, moved, effect_inside, effect_of, changing_end, changing_side, IsComputable, Bears, EachBears, AllBear};
 
 use fr_notes::{Alternative, Claim, Known, Note};
 use fr_program::{Action, App, Call, Instr, Kind, ObjId, Operand, Operator, Side, VarId};
@@ -32,15 +30,6 @@ pub enum Effect {
         operator: Operator,
         right: Operand,
     },
-}
-
-impl Effect {
-    /// Whether nothing can change.
-    pub fn is_nothing(self) -> bool
-        ensures { IsTrue result ↔ self ≡ Effect.Nothing }
-    {
-        matches!(self, Effect::Nothing)
-    }
 }
 
 /// A receive from an object of this kind gives the variable a value of the queue.
@@ -115,27 +104,28 @@ pub fn effect_of(app: &App, side: Side, instr: &Instr) -> Effect
     }
 }
 
-fn is_quiet_end(action: &Action) -> bool
-    ensures { result ≡ is_quiet_end action.now }
+/// The same side of an object call: `Inside` where its end gives a variable a number.
+fn changing_end(action: &Action) -> Option<Side>
+    ensures { result ≡ changing_end action.now }
 {
     match action {
-        Action::QueueReceive { .. } => false,
-        Action::Send { result, .. } => result.is_none(),
-        Action::Receive { result, .. } => result.is_none(),
-        _ => true,
+        Action::QueueReceive { .. } => Some(Side::Inside),
+        Action::Send { result, .. } => result.map(|_into| Side::Inside),
+        Action::Receive { result, .. } => result.map(|_into| Side::Inside),
+        _ => None,
     }
 }
 
-/// Whether the instruction's steps, before it and inside it, change nothing that another actor's note
-/// can say. Most do, so this is asked of each pair of points first.
-pub fn is_quiet(instr: &Instr) -> bool
-    ensures { result ≡ is_quiet instr.now }
+/// The side of an instruction whose steps can change something that another actor's note says. None
+/// where no step of it can, as is so of most instructions.
+pub fn changing_side(instr: &Instr) -> Option<Side>
+    ensures { result ≡ changing_side instr.now }
 {
     match instr {
-        Instr::Set { .. } | Instr::Pick { .. } => false,
-        Instr::Call(Call::Create { .. } | Call::Delete { .. }) => false,
-        Instr::Call(Call::On { action, .. }) => is_quiet_end(action),
-        _ => true,
+        Instr::Set { .. } | Instr::Pick { .. } => Some(Side::Before),
+        Instr::Call(Call::Create { .. } | Call::Delete { .. }) => Some(Side::Before),
+        Instr::Call(Call::On { action, .. }) => changing_end(action),
+        _ => None,
     }
 }
 
@@ -143,14 +133,14 @@ pub fn is_quiet(instr: &Instr) -> bool
 fn says_nothing(alternative: &Alternative, object: ObjId) -> bool
     ensures { IsTrue result ↔ claim_of alternative.now object.0 ≡ Claim.NotHeld }
 {
-    matches!(Known::alone(alternative).claim(object.0), Claim::NotHeld)
+    matches!(alternative.claim(object), Claim::NotHeld)
 }
 
 /// Whether the alternative's range of the variable has the numbers from the first to the second.
 fn covers(alternative: &Alternative, variable: VarId, ends: (i128, i128)) -> bool
     ensures { IsTrue result ↔ IsPart ends (range_of alternative.now variable.0) }
 {
-    let range = Known::alone(alternative).range(variable.0);
+    let range = alternative.range(variable);
     range.lo <= ends.0 && ends.1 <= range.hi
 }
 
@@ -171,7 +161,7 @@ fn bears_set(
 {
     app.recall_faultless();
     let span = Known::alone(mover).result(operator, left, right);
-    span.within(Known::alone(alternative).range(target.0))
+    span.within(alternative.range(target))
 }
 
 /// Whether the alternative holds after the effect where it held before, if the mover's alternative
@@ -218,99 +208,6 @@ pub fn all_bear(app: &App, effect: Effect, others: &Note, note: &Note) -> bool
 {
     for mover in others.alternatives() {
         if !each_bears(app, effect, mover, note) {
-            return false;
-        }
-    }
-    true
-}
-
-/// The declared numbers of an operand, from the least to the greatest.
-fn declared(app: &App, operand: Operand) -> (i64, i64)
-    requires { IsNamed app.now operand }
-    ensures { result ≡ operand_in (declared_of app.now) operand }
-{
-    match operand {
-        Operand::Number(number) => (number, number),
-        Operand::Variable(variable) => {
-            let variable = app.variable(variable);
-            (variable.lo, variable.hi)
-        }
-    }
-}
-
-fn sums(one: (i64, i64), other: (i64, i64)) -> (i128, i128)
-    ensures lo { result.0 ≡ one.0 +ℤ other.0 }
-    ensures hi { result.1 ≡ one.1 +ℤ other.1 }
-{
-    (
-        i128::from(one.0) + i128::from(other.0),
-        i128::from(one.1) + i128::from(other.1),
-    )
-}
-
-fn differences(one: (i64, i64), other: (i64, i64)) -> (i128, i128)
-    ensures lo { result.0 ≡ one.0 -ℤ other.1 }
-    ensures hi { result.1 ≡ one.1 -ℤ other.0 }
-{
-    (
-        i128::from(one.0) - i128::from(other.1),
-        i128::from(one.1) - i128::from(other.0),
-    )
-}
-
-/// Numbers between which a sum or a difference lies, where the operands have declared numbers; None
-/// for a product, for which nothing is told.
-fn declared_result(
-    app: &App,
-    left: Operand,
-    operator: Operator,
-    right: Operand,
-) -> Option<(i128, i128)>
-    requires left { IsNamed app.now left }
-    requires right { IsNamed app.now right }
-    ensures { IfSome result (λ ends. (u v : ℤ) → CanBeIn (declared_of app.now) left u →
-        CanBeIn (declared_of app.now) right v → Within ends (result_of operator u v)) }
-{
-    let (one, other) = (declared(app, left), declared(app, right));
-    match operator {
-        Operator::Plus => Some(sums(one, other)),
-        Operator::Minus => Some(differences(one, other)),
-        Operator::Times => None,
-    }
-}
-
-/// Whether the alternative surely holds after the effect where it held before, whatever the mover's
-/// note says.
-fn bears_any(app: &App, effect: Effect, alternative: &Alternative) -> bool
-    requires { HasOperands app.now effect }
-    ensures { IsTrue result → BearsAny app.now effect alternative.now }
-{
-    match effect {
-        Effect::Nothing => true,
-        Effect::Life(object) => says_nothing(alternative, object),
-        Effect::Gives { into, lo, hi } => {
-            covers(alternative, into, (i128::from(lo), i128::from(hi)))
-        }
-        Effect::Sets {
-            target,
-            left,
-            operator,
-            right,
-        } => match declared_result(app, left, operator, right) {
-            None => false,
-            Some(ends) => covers(alternative, target, ends),
-        },
-    }
-}
-
-/// Whether that is so of each alternative of the note. This is asked before the mover's note is
-/// looked up.
-pub fn each_bears_any(app: &App, effect: Effect, note: &Note) -> bool
-    requires { HasOperands app.now effect }
-    ensures { IsTrue result → EachBearsAny app.now effect note.now }
-{
-    for alternative in note.alternatives() {
-        if !bears_any(app, effect, alternative) {
             return false;
         }
     }

@@ -6,63 +6,32 @@ ghost use Rattle.fr_program.specs.Points.{points_of};
 ghost use Rattle.fr_notes.specs.Fits.{NoteFits, NotesFit};
 ghost use Rattle.fr_notes.specs.Noted.{note_at};
 ghost use Rattle.fr_interfere.specs.Disturbance.{IsSpoiler};
-ghost use Rattle.fr_interfere.specs.Spoilers.{DisturbsAt, IsFirstOf, IsOfLine, IsOf};
+ghost use Rattle.fr_interfere.specs.Effects.{changing_side};
+ghost use Rattle.fr_interfere.specs.Spoilers.{IsFirstOf, IsOfLine, IsOf};
 
 use crate::disturbance::is_left;
-use crate::effects::{effect_of, is_quiet};
+use crate::effects::{changing_side, effect_of};
 use fr_notes::{Note, Notes};
-use fr_program::{ActorId, App, Instr, Point, Side};
+use fr_program::{ActorId, App, Instr, Point};
 
-/// The number of the mover's point, where its steps disturb the note.
-fn disturbs_at(app: &App, notes: &Notes, note: &Note, mover: Point, instr: &Instr) -> Option<usize>
+/// The number of the mover's point, where its steps disturb the note. The point is at the one side of
+/// its instruction that can change something.
+fn spoiler_at(app: &App, notes: &Notes, note: &Note, mover: Point, instr: &Instr) -> Option<usize>
     requires fit { NotesFit app.now notes.now }
     requires note { NoteFits app.now note.now }
     requires instr { instr_of app.now mover ≡ Some instr.now }
+    requires side { changing_side instr.now ≡ Some mover.side }
     ensures { (p : Point) → IsPoint app.now p → note.now ≡ note_at app.now notes.now p →
-        p.actor ≢ mover.actor → DisturbsAt app.now notes.now p mover result }
+        p.actor ≢ mover.actor → IsFirstOf app.now notes.now p (IsOfLine mover.actor mover.pc) result }
 {
     app.recall_faultless();
     app.recall_numbered();
     let effect = effect_of(app, mover.side, instr);
-    if effect.is_nothing() {
-        return None;
-    }
     let number = app.number(mover)?;
     if is_left(app, effect, note, notes.at(app, number), mover, instr) {
         None
     } else {
         Some(number)
-    }
-}
-
-/// The least number of a point at this instruction of the actor whose steps disturb the note.
-fn spoiler_at(
-    app: &App,
-    notes: &Notes,
-    note: &Note,
-    actor: ActorId,
-    pc: usize,
-    instr: &Instr,
-) -> Option<usize>
-    requires fit { NotesFit app.now notes.now }
-    requires note { NoteFits app.now note.now }
-    requires instr { slice_get (actor_at app.now actor.0).code pc ≡ Some instr.now }
-    ensures { (p : Point) → IsPoint app.now p → note.now ≡ note_at app.now notes.now p →
-        p.actor ≢ actor → IsFirstOf app.now notes.now p (IsOfLine actor pc) result }
-{
-    let before = Point {
-        actor,
-        pc,
-        side: Side::Before,
-    };
-    let inside = Point {
-        actor,
-        pc,
-        side: Side::Inside,
-    };
-    match disturbs_at(app, notes, note, before, instr) {
-        Some(found) => Some(found),
-        None => disturbs_at(app, notes, note, inside, instr),
     }
 }
 
@@ -84,8 +53,9 @@ fn spoiler_of(app: &App, notes: &Notes, note: &Note, actor: ActorId) -> Option<u
 {
     app.recall_faultless();
     for (pc, instr) in code_of(app, actor).iter().enumerate() {
-        if !is_quiet(instr) {
-            if let Some(found) = spoiler_at(app, notes, note, actor, pc, instr) {
+        if let Some(side) = changing_side(instr) {
+            let mover = Point { actor, pc, side };
+            if let Some(found) = spoiler_at(app, notes, note, mover, instr) {
                 return Some(found);
             }
         }

@@ -44,24 +44,6 @@ pub fn joined(claim: Claim, other: Claim) -> Claim
     }
 }
 
-fn claim_at(alternative: &Alternative, object: usize) -> Claim
-    ensures { result ≡ claim_of alternative.now object }
-{
-    match alternative.claims.get(object) {
-        Some(claim) => *claim,
-        None => Claim::NotHeld,
-    }
-}
-
-fn range_at(alternative: &Alternative, variable: usize) -> Range
-    ensures { ends_of result ≡ range_of alternative.now variable }
-{
-    match alternative.ranges.get(variable) {
-        Some(range) => *range,
-        None => Range { lo: 0, hi: 0 },
-    }
-}
-
 /// The numbers of both ranges, of which there is at least one.
 fn met(one: Range, other: Range) -> Range
     requires { int_max one.lo other.lo ≤ℤ int_min one.hi other.hi }
@@ -125,7 +107,7 @@ impl<'a> Known<'a> {
     {
         match self.other {
             None => false,
-            Some(other) => matches!(claim_at(other, object), Claim::HeldTimes(_)),
+            Some(other) => matches!(other.claim(ObjId(object)), Claim::HeldTimes(_)),
         }
     }
 
@@ -144,10 +126,10 @@ impl<'a> Known<'a> {
     pub fn claim(&self, object: usize) -> Claim
         ensures { result ≡ joint_claim self.now object }
     {
-        let claim = claim_at(self.mover, object);
+        let claim = self.mover.claim(ObjId(object));
         match self.other {
             None => claim,
-            Some(other) => joined(claim, claim_at(other, object)),
+            Some(other) => joined(claim, other.claim(ObjId(object))),
         }
     }
 
@@ -156,10 +138,10 @@ impl<'a> Known<'a> {
         ensures { IfSome self.now.other
             (λ n. result ≡ joined (claim_of n object) (claim_of self.now.mover object)) }
     {
-        let claim = claim_at(self.mover, object);
+        let claim = self.mover.claim(ObjId(object));
         match self.other {
             None => claim,
-            Some(other) => joined(claim_at(other, object), claim),
+            Some(other) => joined(other.claim(ObjId(object)), claim),
         }
     }
 
@@ -168,10 +150,10 @@ impl<'a> Known<'a> {
         requires { IsPossible self.now }
         ensures { ends_of result ≡ joint_range self.now variable }
     {
-        let range = range_at(self.mover, variable);
+        let range = self.mover.range(VarId(variable));
         match self.other {
             None => range,
-            Some(other) => met(range, range_at(other, variable)),
+            Some(other) => met(range, other.range(VarId(variable))),
         }
     }
 
@@ -179,10 +161,10 @@ impl<'a> Known<'a> {
     pub fn holding(&self, object: usize) -> Holding
         ensures { result ≡ holding self.now object }
     {
-        let claim = claim_at(self.mover, object);
+        let claim = self.mover.claim(ObjId(object));
         match self.other {
             None => Holding::of(claim, Claim::NotHeld),
-            Some(other) => Holding::of(claim, claim_at(other, object)),
+            Some(other) => Holding::of(claim, other.claim(ObjId(object))),
         }
     }
 

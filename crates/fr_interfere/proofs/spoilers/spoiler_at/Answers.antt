@@ -1,13 +1,30 @@
-use Rattle.std.proofs.Common.{subst}
-use Rattle.fr_program.specs.declared.ids.Side.TheVariants.{Before}
-use Rattle.fr_interfere.specs.Spoilers.{DisturbsAt}
-use Rattle.fr_interfere.proofs.SpoilerLaws.{point_at, line-before, line-inside}
+use Rattle.std.proofs.Common.{Some, None, sym}
+use Rattle.fr_program.specs.Points.{points_of}
+use Rattle.fr_interfere.proofs.Lists.{get-below}
+use Rattle.fr_interfere.proofs.DisturbanceLaws.{each-undisturbed}
+use Rattle.fr_interfere.proofs.SpoilerLaws.{line-first, numbered-at}
 use Rattle.fr_interfere.proofs.spoilers.spoiler_at.Goals as goal
 
-pub returns-in-Some : goal.returns-in-Some
-returns-in-Some c = λ p at is ne.
-    line-before c.args.app.now c.args.notes.now p c.args.actor c.args.pc c.in-Some.found (subst (λ o. DisturbsAt c.args.app.now c.args.notes.now p (point_at c.args.actor c.args.pc Before) o) c.in-Some.is (c.disturbs_at.ensures p at is ne))
+pub effect_of-effect-requires : goal.effect_of-effect-requires
+effect_of-effect-requires c =
+    c.recall_faultless.ensures.names.things c.args.mover.actor.0 c.args.mover.pc c.args.instr.now c.requires.instr
 
-pub returns-in-None : goal.returns-in-None
-returns-in-None c = λ p at is ne.
-    line-inside c.args.app.now c.args.notes.now p c.args.actor c.args.pc c.disturbs_at-in-None.result (subst (λ o. DisturbsAt c.args.app.now c.args.notes.now p (point_at c.args.actor c.args.pc Before) o) c.in-None.is (c.disturbs_at.ensures p at is ne)) (c.disturbs_at-in-None.ensures p at is ne)
+pub at-requires-clause-number : goal.at-requires-clause-number
+at-requires-clause-number c =
+    get-below (points_of c.args.app.now) c.in_ok-number.number c.args.mover (numbered-at c.args.app.now c.recall_numbered.ensures c.args.mover c.in_ok-number.number c.in_ok-number.ensures.some)
+
+pub returns-then-is_left : goal.returns-then-is_left
+returns-then-is_left c = λ p at is ne.
+    let there = numbered-at c.args.app.now c.recall_numbered.ensures c.args.mover c.in_ok-number.number c.in_ok-number.ensures.some in
+    line-first c.args.app.now c.recall_faultless.ensures c.args.notes.now p c.args.mover ne c.args.instr.now c.requires.instr c.requires.side None ((each-undisturbed c.args.app.now c.args.notes.now p c.args.mover c.in_ok-number.ensures.some.0 (λ e. ne (sym e)) c.args.note.now c.at.result.now is (c.at.ensures.is c.args.mover there) c.is_left.result (c.is_left.ensures p at ne)).0 c.if-is_left.true)
+
+pub returns-else-is_left : goal.returns-else-is_left
+returns-else-is_left c = λ p at is ne.
+    let there = numbered-at c.args.app.now c.recall_numbered.ensures c.args.mover c.in_ok-number.number c.in_ok-number.ensures.some in
+    line-first c.args.app.now c.recall_faultless.ensures c.args.notes.now p c.args.mover ne c.args.instr.now c.requires.instr c.requires.side (Some c.in_ok-number.number) (
+      c.in_ok-number.ensures.some.0,
+      sym c.in_ok-number.ensures.some.1,
+      λ u.
+          let t = (each-undisturbed c.args.app.now c.args.notes.now p c.args.mover c.in_ok-number.ensures.some.0 (λ e. ne (sym e)) c.args.note.now c.at.result.now is (c.at.ensures.is c.args.mover there) c.is_left.result (c.is_left.ensures p at ne)).1 u in
+          let f = c.if-is_left.false in cc,
+    )

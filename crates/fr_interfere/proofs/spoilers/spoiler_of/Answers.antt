@@ -1,18 +1,18 @@
-use Rattle.std.proofs.Common.{◌≡◌, ap, length, subst, arith, ⊎_elim, ◌∙◌, sym}
+use Rattle.std.proofs.Common.{◌≡◌, ap, length, subst, arith, ⊎_elim, ◌∙◌}
 use Rattle.std.proofs.lemmas.Bool.{cases_lt}
 use Rattle.fr_program.specs.Lookup.{actor_at}
-use Rattle.fr_interfere.specs.Effects.{is_quiet}
+use Rattle.fr_interfere.specs.Effects.{changing_side}
 use Rattle.fr_interfere.specs.Spoilers.{IsFirstOf, IsOfLine}
 use Rattle.fr_interfere.proofs.Lists.{get-below}
-use Rattle.fr_interfere.proofs.SpoilerLaws.{first-of-actor, not-some, quiet-line, line-instr}
-use Rattle.fr_interfere.proofs.spoilers.spoiler_of.Goals.{then-not-is_quiet+in_default, else-not-is_quiet}
+use Rattle.fr_interfere.proofs.SpoilerLaws.{first-of-actor, not-some, still-point, line-instr}
+use Rattle.fr_interfere.proofs.spoilers.spoiler_of.Goals.{in-Some+in_default-spoiler_at, in_default}
 use Rattle.fr_interfere.proofs.spoilers.spoiler_of.Goals as goal
 
-pub returns-in-Some : goal.returns-in-Some
-returns-in-Some c = λ p at is ne.
+pub returns-in-Some-spoiler_at : goal.returns-in-Some-spoiler_at
+returns-in-Some-spoiler_at c = λ p at is ne.
     let P = c.args.app.now in
     let notes = c.args.notes.now in
-    first-of-actor P notes p c.args.actor c.loop-pc.pc c.in-Some.found (c.loop-pc.invariant p at is ne) (subst (λ o. IsFirstOf P notes p (IsOfLine c.args.actor c.loop-pc.pc) o) c.in-Some.is (c.spoiler_at.ensures p at is ne))
+    first-of-actor P notes p c.args.actor c.loop-pc.pc c.in-Some-spoiler_at.found (c.loop-pc.invariant p at is ne) (subst (λ o. IsFirstOf P notes p (IsOfLine c.args.actor c.loop-pc.pc) o) c.in-Some-spoiler_at.is (c.spoiler_at.ensures p at is ne))
 
 pub loop-pc-preserved : goal.loop-pc-preserved
 loop-pc-preserved c = λ p at is ne q there of less.
@@ -20,13 +20,13 @@ loop-pc-preserved c = λ p at is ne q there of less.
     let notes = c.args.notes.now in
     ⊎_elim (λ l. c.loop-pc.invariant p at is ne q there of l) (λ l.
     let same : q.pc ≡ c.loop-pc.pc = omega (arith, less, l) in
-    elim c.if-not-is_quiet.branch [
-      | then-not-is_quiet+in_default w ↦
-          let none = subst (λ o. IsFirstOf P notes p (IsOfLine c.args.actor c.loop-pc.pc) o) (not-some w.spoiler_at.result w.in_default.not-Some) (w.spoiler_at.ensures p at is ne) in
+    elim c.match-changing_side.branch [
+      | in-Some+in_default-spoiler_at w ↦
+          let none = subst (λ o. IsFirstOf P notes p (IsOfLine c.args.actor c.loop-pc.pc) o) (not-some w.spoiler_at.result w.in_default-spoiler_at.not-Some) (w.spoiler_at.ensures p at is ne) in
           none q there (of, same)
-      | else-not-is_quiet w ↦
+      | in_default w ↦
           let read = line-instr P q c.args.actor c.loop-pc.pc c.code_of-instr-items.result.now _ there.0 c.code_of-instr-items.ensures of same there.1 in
-          quiet-line P c.recall_faultless.ensures notes p q (λ e. ne (e ∙ of)) there.0 there.1 (ap is_quiet (sym read) ∙ sym c.is_quiet.ensures ∙ w.if-not-is_quiet.false)
+          still-point P c.recall_faultless.ensures notes p q (λ e. ne (e ∙ of)) there.0 there.1 (λ e. w.in_default.not-Some q.side (c.changing_side.ensures ∙ ap changing_side read ∙ e))
     ]) (cases_lt q.pc c.loop-pc.pc)
 
 pub returns : goal.returns
