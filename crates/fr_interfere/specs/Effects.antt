@@ -3,14 +3,12 @@
 -- | word                    | meaning                                                                          |
 -- |-------------------------|----------------------------------------------------------------------------------|
 -- | effect_of               | what the steps from a side of an instruction can change                          |
--- | changing_side           | the one side of an instruction whose steps can change something, or none         |
 -- | IsMade, IsWritten       | the effect is on this object's life; it gives this variable that number          |
 -- | IsSeen                  | all that a note of this actor can say is as it was, but for the effect           |
 -- | IsComputable            | what a `set` computes has a number among the factors of a product                |
 -- | Bears, EachBears,       | an alternative holds after an effect where it held before; each of a note's      |
 -- |   AllBear               | does; each does whichever alternative the mover has                              |
 use Rattle.std.specs.Prelude.{◌≡◌, ◌≤ℤ◌, ◌⊎◌, ℕ, ℤ, pos, Option, None, Some, Contains}
-use Rattle.std.specs.Option.{option_map}
 use Rattle.fr_program.specs.declared.ids.VarId.{VarId}
 use Rattle.fr_program.specs.declared.ids.Side.{Side}
 use Rattle.fr_program.specs.declared.ids.Side.TheVariants.{Before, Inside}
@@ -58,22 +56,6 @@ effect_of P Before (Calls (Create kind o e)) = Life o
 effect_of P Before (Calls (Delete kind o)) = Life o
 effect_of P Inside (Calls (On o action)) = effect_inside (kind_of P o.0) action
 effect_of P side i = Nothing
-
--- the end of an object call changes something where it gives a variable a number
-abbrev pub changing_end : Action → Option Side
-changing_end (QueueReceive into timing e) = Some Inside
-changing_end (Send buffer length timing result) = option_map (λ x. Inside) result
-changing_end (Receive buffer length timing result) = option_map (λ x. Inside) result
-changing_end action = None
-
--- the side of the instruction whose steps change something; those of the other side never do
-abbrev pub changing_side : Instr → Option Side
-changing_side (Set target left operator right) = Some Before
-changing_side (Pick target lo hi) = Some Before
-changing_side (Calls (Create kind o e)) = Some Before
-changing_side (Calls (Delete kind o)) = Some Before
-changing_side (Calls (On o action)) = changing_end action
-changing_side i = None
 
 -- the effect is on the life of this object
 abbrev pub IsMade : Effect → ℕ → Type 0

@@ -1,4 +1,3 @@
 pub mod Undisturbed
 pub mod Disturbance
 pub mod Effects
-pub mod Spoilers

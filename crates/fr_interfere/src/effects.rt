@@ -5,7 +5,7 @@ ghost use Rattle.fr_calls.specs.State.{kind_of};
 ghost use Rattle.fr_notes.specs.Fits.{AlternativeFits, NoteFits};
 ghost use Rattle.fr_notes.specs.Implication.{IsPart};
 ghost use Rattle.fr_notes.specs.Note.{claim_of, range_of};
-ghost use Rattle.fr_interfere.specs.Effects.{received, moved, effect_inside, effect_of, changing_end, changing_side, IsComputable, Bears, EachBears, AllBear};
+ghost use Rattle.fr_interfere.specs.Effects.{received, moved, effect_inside, effect_of, IsComputable, Bears, EachBears, AllBear};
 
 use fr_notes::{Alternative, Claim, Known, Note};
 use fr_program::{Action, App, Call, Instr, Kind, ObjId, Operand, Operator, Side, VarId};
@@ -101,31 +101,6 @@ pub fn effect_of(app: &App, side: Side, instr: &Instr) -> Effect
             effect_inside(app, *object, action)
         }
         _ => Effect::Nothing,
-    }
-}
-
-/// The same side of an object call: `Inside` where its end gives a variable a number.
-fn changing_end(action: &Action) -> Option<Side>
-    ensures { result ≡ changing_end action.now }
-{
-    match action {
-        Action::QueueReceive { .. } => Some(Side::Inside),
-        Action::Send { result, .. } => result.map(|_into| Side::Inside),
-        Action::Receive { result, .. } => result.map(|_into| Side::Inside),
-        _ => None,
-    }
-}
-
-/// The side of an instruction whose steps can change something that another actor's note says. None
-/// where no step of it can, as is so of most instructions.
-pub fn changing_side(instr: &Instr) -> Option<Side>
-    ensures { result ≡ changing_side instr.now }
-{
-    match instr {
-        Instr::Set { .. } | Instr::Pick { .. } => Some(Side::Before),
-        Instr::Call(Call::Create { .. } | Call::Delete { .. }) => Some(Side::Before),
-        Instr::Call(Call::On { action, .. }) => changing_end(action),
-        _ => None,
     }
 }
 

@@ -1,67 +1,13 @@
 // The first point whose steps disturb a point's note.
-ghost use Rattle.std.specs.Prelude.{◌≡◌, ◌≢◌, ◌<◌, Some, length, slice_get};
+ghost use Rattle.std.specs.Prelude.{◌≡◌, ◌<◌, Some, length, slice_get};
 ghost use Rattle.fr_program.specs.declared.ids.Point.{Point};
-ghost use Rattle.fr_program.specs.Lookup.{IsPoint, instr_of, actor_at};
 ghost use Rattle.fr_program.specs.Points.{points_of};
-ghost use Rattle.fr_notes.specs.Fits.{NoteFits, NotesFit};
-ghost use Rattle.fr_notes.specs.Noted.{note_at};
+ghost use Rattle.fr_notes.specs.Fits.{NotesFit};
 ghost use Rattle.fr_interfere.specs.Disturbance.{IsSpoiler};
-ghost use Rattle.fr_interfere.specs.Effects.{changing_side};
-ghost use Rattle.fr_interfere.specs.Spoilers.{IsFirstOf, IsOfLine, IsOf};
 
-use crate::disturbance::is_left;
-use crate::effects::{changing_side, effect_of};
-use fr_notes::{Note, Notes};
-use fr_program::{ActorId, App, Instr, Point};
-
-/// The number of the mover's point, where its steps disturb the note. The point is at the one side of
-/// its instruction that can change something.
-fn spoiler_at(app: &App, notes: &Notes, note: &Note, mover: Point, instr: &Instr) -> Option<usize>
-    requires fit { NotesFit app.now notes.now }
-    requires note { NoteFits app.now note.now }
-    requires instr { instr_of app.now mover ≡ Some instr.now }
-    requires side { changing_side instr.now ≡ Some mover.side }
-    ensures { (p : Point) → IsPoint app.now p → note.now ≡ note_at app.now notes.now p →
-        p.actor ≢ mover.actor → IsFirstOf app.now notes.now p (IsOfLine mover.actor mover.pc) result }
-{
-    app.recall_faultless();
-    app.recall_numbered();
-    let effect = effect_of(app, mover.side, instr);
-    let number = app.number(mover)?;
-    if is_left(app, effect, note, notes.at(app, number), mover, instr) {
-        None
-    } else {
-        Some(number)
-    }
-}
-
-/// The code of an actor.
-fn code_of(app: &App, actor: ActorId) -> &[Instr]
-    requires { actor.0 < length app.now.actors }
-    ensures { result.now ≡ (actor_at app.now actor.0).code }
-{
-    &app.actors()[actor.0].code
-}
-
-/// The least number of a point of the actor whose steps disturb the note.
-fn spoiler_of(app: &App, notes: &Notes, note: &Note, actor: ActorId) -> Option<usize>
-    requires fit { NotesFit app.now notes.now }
-    requires note { NoteFits app.now note.now }
-    requires actor { actor.0 < length app.now.actors }
-    ensures { (p : Point) → IsPoint app.now p → note.now ≡ note_at app.now notes.now p →
-        p.actor ≢ actor → IsFirstOf app.now notes.now p (IsOf actor) result }
-{
-    app.recall_faultless();
-    for (pc, instr) in code_of(app, actor).iter().enumerate() {
-        if let Some(side) = changing_side(instr) {
-            let mover = Point { actor, pc, side };
-            if let Some(found) = spoiler_at(app, notes, note, mover, instr) {
-                return Some(found);
-            }
-        }
-    }
-    None
-}
+use crate::disturbance::undisturbed;
+use fr_notes::Notes;
+use fr_program::App;
 
 /// The least number of a point whose steps disturb the note of the point with this number; None
 /// where no step of another actor does. The notes fit the application. Takes no memory.
@@ -71,14 +17,11 @@ pub fn spoiler(app: &App, notes: &Notes, number: usize) -> Option<usize>
     ensures { (p : Point) → slice_get (points_of app.now) number ≡ Some p →
         IsSpoiler app.now notes.now p result }
 {
+    app.recall_faultless();
     app.recall_numbered();
-    let point = app.point(number);
-    let note = notes.at(app, number);
-    for actor in 0..app.actors().len() {
-        if actor != point.actor.0 {
-            if let Some(found) = spoiler_of(app, notes, note, ActorId(actor)) {
-                return Some(found);
-            }
+    for other in app.changers() {
+        if !undisturbed(app, notes, number, *other) {
+            return Some(*other);
         }
     }
     None

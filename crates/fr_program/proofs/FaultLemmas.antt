@@ -5,7 +5,7 @@ use Rattle.std.specs.Option.{option_map}
 use Rattle.std.proofs.lemmas.Bool.{false≢true, not-true, not-false}
 use Rattle.std.proofs.lemmas.Option.{none-some, slice_get-map, slice_get-get_or}
 use Rattle.std.proofs.lemmas.Grind.{common_steps}
-use Rattle.std.proofs.lemmas.List.{get_or-map, get_or_default, length-map}
+use Rattle.std.proofs.lemmas.List.{get_or-map, length-map}
 use Rattle.std.proofs.lemmas.List.Elements.{All-map}
 use Rattle.std.proofs.lemmas.List.Quantifiers.{position-Some}
 use Rattle.std.proofs.lemmas.List.Sums.{fails_before_first}
@@ -18,7 +18,7 @@ use Rattle.fr_program.specs.declared.fault.CodeLine.{CodeLine}
 use Rattle.fr_program.specs.declared.fault.BuildFault.{BuildFault}
 use Rattle.fr_program.specs.declared.fault.BuildFault.TheVariants.{Memory, TooMany, BadRange, BadTarget, FallsOff, TwoShared, NotOwner, KindMismatch, FromIsrInTask, ResultRange, Operands, Names}
 use Rattle.fr_program.specs.Program.{Program, ActorOf}
-use Rattle.fr_program.specs.Lookup.{actor_at, no_actor}
+use Rattle.fr_program.specs.Lookup.{actor_at}
 use Rattle.fr_program.specs.Limits.{InstrInLimits, IsName, names_of}
 use Rattle.fr_program.specs.Uses.{TargetsBelow}
 use Rattle.fr_program.specs.Fault.{AtLine, SharesAtMostOne, MayUseAll, SuitsKind, SuitsActor, ResultsFit, OperandsFit, NamesThings, IsFreeOf, IsFaultless, Leaves, EndsWell}
@@ -26,7 +26,7 @@ use Rattle.fr_program.specs.InstrFault.{HasFault, HasFaultIn, IsCodeFaultless}
 use Rattle.fr_program.specs.ListFault.{leaves, ends_well, AreListsFaultless, AreNamesFaultless}
 use Rattle.fr_program.specs.View.{actor_of}
 use Rattle.fr_program.proofs.ListLemmas.{All-unmapped}
-use Rattle.fr_program.proofs.InstrLemmas.{All-slice_get, instr_at-within, code-from_places}
+use Rattle.fr_program.proofs.InstrLemmas.{All-slice_get}
 
 -- some element of a list that has one
 some_element : {X : Type 0} (xs : List X) (k : ℕ) → k < length xs → X

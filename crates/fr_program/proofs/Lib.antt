@@ -6,4 +6,5 @@ pub mod PairLemmas
 pub mod FaultLemmas
 pub mod PointLaws
 pub mod StartLemmas
+pub mod ChangerLemmas
 pub mod SpanLemmas

@@ -3,9 +3,11 @@ ghost use Rattle.std.specs.Prelude.{◌≡◌, ◌≢◌, ◌<◌, ◌+◌, ◌^
 ghost use Rattle.fr_program.specs.Lookup.{HasSide, IsPoint};
 ghost use Rattle.fr_program.specs.Points.{points_of, point_number, side_number};
 ghost use Rattle.fr_program.specs.PointNumbers.{starts_from, PointsAreNumbered};
+ghost use Rattle.fr_program.specs.Changers.{changers_of};
 ghost use Rattle.fr_program.specs.Fault.{IsFreeOf, IsFaultless};
 ghost use Rattle.fr_program.specs.View.{actor_of, program_of};
 
+use crate::changers::{changers_of, instr_of};
 use crate::check::check_parts;
 use crate::fault::BuildFault;
 use crate::ids::{ActorId, ObjId, Point, Side, VarId};
@@ -24,6 +26,8 @@ pub struct App {
     points: Vec<Point>,
     /// By actor and instruction, the number of the point before it.
     starts: Vec<Vec<usize>>,
+    /// The numbers of the points whose steps can change what the notes of other actors say.
+    changers: Vec<usize>,
 }
 
 impl Model for App {
@@ -46,7 +50,7 @@ impl App {
     ghost use Rattle.fr_program.specs.View.{variable_of, object_of};
 
     /// The application that the parts say: Ok exactly where no build fault is present and no
-    /// allocation was refused. The table of points and the list of names take memory. Names are
+    /// allocation was refused. The tables of points and the list of names take memory. Names are
     /// compared pair by pair, which is cheap since more than 160 are refused before.
     ///
     /// On a refusal the parts come back unchanged, with a fault that is present at the line or the
@@ -60,10 +64,11 @@ impl App {
         ensures returned { IfErr result (λ e. e.1 ≡ parts) }
     {
         match checked_table(alloc, &parts) {
-            Ok(Table { points, starts }) => Ok(App {
+            Ok((Table { points, starts }, changers)) => Ok(App {
                 parts,
                 points,
                 starts,
+                changers,
             }),
             Err(fault) => Err((fault, parts)),
         }
@@ -118,10 +123,15 @@ impl App {
     pub fn instr(&self, point: Point) -> Option<&Instr>
         ensures { option_copied result ≡ instr_of self.now point }
     {
-        match self.parts.actors.get(point.actor.0) {
-            Some(actor) => actor.code.get(point.pc),
-            None => None,
-        }
+        instr_of(&self.parts, point)
+    }
+
+    /// The numbers, rising, of the points whose steps can change something that the notes of other
+    /// actors say: a variable's number, or whether an object is live. Most points aren't among them.
+    pub fn changers(&self) -> &[usize]
+        ensures { result.now ≡ changers_of self.now }
+    {
+        &self.changers
     }
 
     /// What the object is, which is one of the application's.
@@ -198,15 +208,17 @@ fn number_from(start: usize, instr: Instr, side: Side) -> Option<usize>
     }
 }
 
-fn checked_table(alloc: Global, parts: &Parts) -> Result<Table, BuildFault>
-    ensures points { IfOk result (λ t. t.points.items ≡ points_of (program_of parts.now)) }
+fn checked_table(alloc: Global, parts: &Parts) -> Result<(Table, Vec<usize>), BuildFault>
+    ensures points { IfOk result (λ t. t.0.points.items ≡ points_of (program_of parts.now)) }
     ensures starts { IfOk result
-        (λ t. map (λ v. v.items) t.starts.items ≡ starts_from 0 (program_of parts.now).actors) }
+        (λ t. map (λ v. v.items) t.0.starts.items ≡ starts_from 0 (program_of parts.now).actors) }
+    ensures changers { IfOk result (λ t. t.1.items ≡ changers_of (program_of parts.now)) }
     ensures faultless { OnOk result (IsFaultless (program_of parts.now)) }
     ensures present { IfErr result
         (λ f. f ≢ BuildFault.Memory → IsFreeOf (program_of parts.now) f → ⊥) }
 {
     check_parts(alloc, parts)?;
     let table = table_of(alloc, &parts.actors)?;
-    Ok(table)
+    let changers = changers_of(alloc, parts, &table.points)?;
+    Ok((table, changers))
 }

@@ -4,6 +4,7 @@
 #![tactic(auto)]
 
 mod app;
+mod changers;
 mod check;
 mod fault;
 mod ids;

@@ -1,42 +1,55 @@
-use Rattle.std.proofs.Common.{◌≡◌, sym, ap, ◌∙◌, length, subst, arith, ⊎_elim}
+use Rattle.std.proofs.Common.{◌≡◌, ◌<◌, get_or, length, Some, sym, subst, arith, ⊎_elim}
+use Rattle.std.specs.Prelude.{slice_get}
 use Rattle.std.proofs.lemmas.Bool.{cases_lt}
-use Rattle.std.proofs.lemmas.List.{length-map}
-use Rattle.fr_program.specs.View.{actor_of}
-use Rattle.fr_notes.proofs.Seen.{point-there}
-use Rattle.fr_interfere.specs.Spoilers.{IsFirstOf, IsOf}
-use Rattle.fr_interfere.proofs.DisturbanceLaws.{numbered-point, same-point, undisturbed-own, same-actor}
-use Rattle.fr_interfere.proofs.SpoilerLaws.{first-of-all, not-some}
-use Rattle.fr_interfere.proofs.spoilers.spoiler.Goals.{then-actor-point+in_default, else-actor-point}
+use Rattle.fr_program.specs.Points.{points_of}
+use Rattle.fr_interfere.proofs.Changers.{high}
+use Rattle.fr_interfere.proofs.Lists.{get-there}
+use Rattle.fr_interfere.proofs.SpoilerLaws.{checked-point, earlier}
 use Rattle.fr_interfere.proofs.spoilers.spoiler.Goals as goal
 
-pub returns-in-Some : goal.returns-in-Some
-returns-in-Some c = λ p here.
-    let P = c.args.app.now in
-    let notes = c.args.notes.now in
-    let at = numbered-point P c.recall_numbered.ensures c.args.number p here in
-    let left = same-point P c.args.number c.point-point.result p c.point-point.ensures here in
-    first-of-all P notes p c.loop-actor.actor c.in-Some.found (c.loop-actor.invariant p here) (subst (λ o. IsFirstOf P notes p (IsOf (record { 0 = c.loop-actor.actor })) o) c.in-Some.is (c.spoiler_of.ensures p at (c.at-note.ensures.is p here) (λ e. c.if-actor-point.true (sym (ap (λ q. q.actor.0) left ∙ ap (λ a. a.0) e)))))
+pub loop-other-init : goal.loop-other-init
+loop-other-init c = λ p here j l q e. absurd (omega (arith, l))
 
-pub loop-actor-preserved : goal.loop-actor-preserved
-loop-actor-preserved c = λ p here q there less.
+pub undisturbed-requires-clause-other : goal.undisturbed-requires-clause-other
+undisturbed-requires-clause-other c =
+    let P = c.args.app.now in
+    let i = c.loop-other.other-index in
+    let same = c.changers-other-items.ensures in
+    let below = subst (λ xs. i < length xs) same c.loop-other-test.true in
+    let r = high P 0 (points_of P) i 0 below in
+    subst (λ xs. get_or xs i 0 < length (points_of P)) (sym same) (omega (arith, r))
+
+pub returns-then-not-undisturbed : goal.returns-then-not-undisturbed
+returns-then-not-undisturbed c = λ p here.
     let P = c.args.app.now in
     let notes = c.args.notes.now in
-    let at = numbered-point P c.recall_numbered.ensures c.args.number p here in
-    let left = same-point P c.args.number c.point-point.result p c.point-point.ensures here in
-    ⊎_elim (λ l. c.loop-actor.invariant p here q there l) (λ l.
-    let same : q.actor.0 ≡ c.loop-actor.actor = omega (arith, less, l) in
-    elim c.if-actor-point.branch [
-      | then-actor-point+in_default w ↦
-          let none = subst (λ o. IsFirstOf P notes p (IsOf (record { 0 = c.loop-actor.actor })) o) (not-some w.spoiler_of.result w.in_default.not-Some) (w.spoiler_of.ensures p at (c.at-note.ensures.is p here) (λ e. w.if-actor-point.true (sym (ap (λ q. q.actor.0) left ∙ ap (λ a. a.0) e)))) in
-          none q there (same-actor q.actor (record { 0 = c.loop-actor.actor }) same)
-      | else-actor-point w ↦
-          undisturbed-own P notes p q (sym (ap (λ q. q.actor.0) left) ∙ sym w.if-actor-point.false ∙ sym same)
-    ]) (cases_lt q.actor.0 c.loop-actor.actor)
+    let items = c.changers-other-items.result.now in
+    let i = c.loop-other.other-index in
+    let same = c.changers-other-items.ensures in
+    let numbered = c.recall_numbered.ensures in
+    let high = high P 0 (points_of P) i 0 (subst (λ xs. i < length xs) same c.loop-other-test.true) in
+    let below = subst (λ xs. get_or xs i 0 < length (points_of P)) (sym same) (omega (arith, high)) in
+    let q = get-there (points_of P) (get_or items i 0) below in
+    let at = numbered.listed (get_or items i 0) q.0 q.1 in (
+      q.0,
+      at.0,
+      at.1,
+      λ u.
+          let t = (c.undisturbed.ensures p q.0 here q.1).1 u in
+          let f = c.if-not-undisturbed.true in cc,
+      λ other there less. checked-point P c.recall_faultless.ensures numbered notes p items same i (c.loop-other.invariant p here) other there (λ j long is. earlier P c.recall_faultless.ensures numbered notes p items same j i long (omega (arith, is, less))),
+    )
+
+pub loop-other-preserved : goal.loop-other-preserved
+loop-other-preserved c = λ p here j l q e.
+    let P = c.args.app.now in
+    let items = c.changers-other-items.result.now in
+    let i = c.loop-other.other-index in
+    ⊎_elim (λ m. c.loop-other.invariant p here j m q e) (λ m.
+    let last : j ≡ i = omega (arith, l, m) in
+    (c.undisturbed.ensures p q here (subst (λ x. slice_get (points_of P) (get_or items x 0) ≡ Some q) last e)).0 c.if-not-undisturbed.false) (cases_lt j i)
 
 pub returns : goal.returns
 returns c = λ p here q there.
-    let P = c.args.app.now in
-    let below = point-there P q there in
-    let long = ap length c.actors-actor-end.ensures in
-    let map = length-map c.actors-actor-end.result.now actor_of in
-    c.loop-actor.invariant p here q there (omega (arith, below, long, map, c.loop-actor-test.false))
+    let items = c.changers-other-items.result.now in
+    checked-point c.args.app.now c.recall_faultless.ensures c.recall_numbered.ensures c.args.notes.now p items c.changers-other-items.ensures c.loop-other.other-index (c.loop-other.invariant p here) q there (λ j long is. omega (arith, long, c.loop-other-test.false))

@@ -1,4 +1,3 @@
-use Rattle.std.proofs.Common.{OnOk}
 use Rattle.fr_program.specs.View.{program_of}
 use Rattle.fr_program.proofs.FaultLemmas.{faultless, on_ok}
 use Rattle.fr_program.proofs.check.check_parts.Goals as goal
