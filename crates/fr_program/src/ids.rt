@@ -9,7 +9,7 @@ pub struct VarId(pub usize);
 pub struct ObjId(pub usize);
 
 /// An actor, by its place in the list of actors, from 0.
-#[derive(Clone, Copy, Debug, PartialEq, Eq)]
+#[derive(Clone, Copy, Debug, PartialEq, Eq, PartialOrd, Ord)]
 pub struct ActorId(pub usize);
 
 /// Before an instruction, or inside an object call: between its begin and its end.
