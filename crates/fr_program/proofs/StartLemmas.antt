@@ -57,6 +57,12 @@ start_at n (i ∷ code) (suc pc) d below =
 abbrev pub before : Program → ℕ → ℕ → ℕ
 before P a pc = sum_by count_of_actor (take a P.actors) + sum_by count_of_instr (take pc (actor_at P a).code)
 
+-- there is a row for each actor that has an instruction
+pub row_there : {X : Type 0} (P : Program) (f : X → List ℕ) (rows : List X) (a pc : ℕ) (i : Instr) → map f rows ≡ starts_from 0 P.actors →
+    instr_at P a pc ≡ Some i → a < length rows
+row_there P f rows a pc i are at =
+    omega (arith, length-map rows f, ap (λ xs. length xs) are, length_starts_from 0 P.actors, instr_at-within P a pc i at)
+
 -- the row of an actor that was read, and the start of an instruction in it
 pub row_read : {X : Type 0} (P : Program) (f : X → List ℕ) (rows : List X) (row : X) (a pc : ℕ) (i : Instr) → map f rows ≡ starts_from 0 P.actors →
     row ≡ get_or rows a row → instr_at P a pc ≡ Some i → (pc < length (f row)) × ((d : ℕ) → get_or (f row) pc d ≡ before P a pc)
@@ -64,10 +70,7 @@ row_read P f rows row a pc i are is at =
     let actors = P.actors in
     let within = instr_at-within P a pc i at in
     let inside = slice_get_within (actor_at P a).code pc i at in
-    let many = length-map rows f in
-    let same = ap (λ xs. length xs) are in
-    let size = length_starts_from 0 actors in
-    let here : a < length rows = omega (arith, many, same, size, within) in
+    let here = row_there P f rows a pc i are at in
     let read : f row ≡ starts_along (0 + sum_by count_of_actor (take a actors)) (actor_at P a).code =
     ap f is ∙ (sym (get_or-map f rows a row (f row) here) ∙ (ap (λ xs. get_or xs a (f row)) are ∙ row_at 0 actors a (f row) within)) in
     let first : 0 + sum_by count_of_actor (take a actors) ≡ sum_by count_of_actor (take a actors) = omega arith in

@@ -12,6 +12,6 @@ pub returns-clause-fits : goal.returns-clause-fits
 returns-clause-fits c =
     let P = c.args.app.now in
     let F = λ (n : Alternative). AlternativeFits P n in
-    let fits : AlternativeFits P (said P c.args.parts) = said-fits P c.args.parts c.recall_faultless.ensures.faultless (omega arith) (omega arith) c.in_ok-check_note.ensures.counts c.in_ok-check_note.ensures.spans in
+    let fits : AlternativeFits P (said P c.args.parts) = said-fits P c.args.parts c.recall_faultless.ensures (omega arith) (omega arith) c.in_ok-check_note.ensures.counts c.in_ok-check_note.ensures.spans in
     let note : c.push.new.self.items ≡ said P c.args.parts ∷ [] = grind (arith, common_steps) in
     subst (λ (xs : List Alternative). NoteFits P xs) (sym note) (omega arith, All-cons F (said P c.args.parts) [] fits (All-nil F))

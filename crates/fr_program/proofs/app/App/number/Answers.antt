@@ -3,9 +3,15 @@ use Rattle.std.proofs.Common.{◌≡◌, None, length, map, sym, subst, ap, ◌�
 use Rattle.fr_program.specs.Points.{points_of}
 use Rattle.fr_program.specs.PointNumbers.{starts_from}
 use Rattle.fr_program.proofs.PointLaws.{points_are_numbered}
-use Rattle.fr_program.proofs.StartLemmas.{row_read, some_number, no_number, number_below, inverse_of}
+use Rattle.fr_program.proofs.StartLemmas.{row_there, row_read, some_number, no_number, number_below, inverse_of}
 use Rattle.fr_program.proofs.app.App.number.Goals as goal
 use Rattle.std.proofs.lemmas.Option.{none-some}
+
+pub index-requires : goal.index-requires
+index-requires c =
+    let starts = subst (λ p. map (λ v. v.items) c.self.inside.starts.items ≡ starts_from 0 p.actors) c.self.view_is c.self.invariant.starts in
+    let there = row_there c.args.self.now (λ v. v.items) c.self.inside.starts.items c.args.point.actor.0 c.args.point.pc c.in-Some.instr.now starts (sym c.in-Some.ensures) in
+    omega (arith, there, c.self.inside.starts.ok.0)
 
 pub index-start-requires : goal.index-start-requires
 index-start-requires c =
