@@ -81,10 +81,12 @@ fn can_change(point: Point, instr: &Instr) -> bool {
                 Call::On {
                     action: Action::QueueReceive { .. }
                     | Action::Send {
-                        result: Some(_), ..
+                        result: Some(_),
+                        ..
                     }
                     | Action::Receive {
-                        result: Some(_), ..
+                        result: Some(_),
+                        ..
                     },
                     ..
                 },

@@ -2,7 +2,7 @@
 ghost use Rattle.fr_notes.specs.Fits.{AlternativeFits, NotesFit};
 ghost use Rattle.fr_finder.specs.Spots.{IsPlaced, IsSpot};
 
-use crate::spot::{Spot, spot};
+use crate::spot::{Spot, spot_at};
 use fr_calls::Way;
 use fr_notes::{Alternative, Change, Known, Notes, change_by};
 use fr_program::{ActorId, App, Instr, Point, Range, VarId};
@@ -79,7 +79,7 @@ fn reach_by(app: &App, alternative: &Alternative, point: Point, instr: &Instr, w
 }
 
 /// What a step from the point changes of other notes, where the alternative holds.
-fn reach(app: &App, alternative: &Alternative, point: Point, instr: &Instr) -> Reach
+fn reach_from(app: &App, alternative: &Alternative, point: Point, instr: &Instr) -> Reach
     requires placed { IsPlaced app.now point instr.now }
     requires fits { AlternativeFits app.now alternative.now }
 {
@@ -94,7 +94,7 @@ fn add_effects(app: &App, spot: Spot, effects: &mut Vec<Effect>) -> Result<(), A
     requires { IsSpot app.now spot.point spot.instr.now spot.note.now }
 {
     for (place, alternative) in spot.note.alternatives().iter().enumerate() {
-        let reach = reach(app, alternative, spot.point, spot.instr);
+        let reach = reach_from(app, alternative, spot.point, spot.instr);
         if !matches!(reach, Reach::Nothing) {
             effects.push(Effect {
                 actor: spot.point.actor,
@@ -118,7 +118,7 @@ pub fn effects(
 {
     let mut effects = Vec::new(alloc);
     for number in changers {
-        if let Some(spot) = spot(app, notes, *number) {
+        if let Some(spot) = spot_at(app, notes, *number) {
             add_effects(app, spot, &mut effects)?;
         }
     }

@@ -4,7 +4,7 @@ ghost use Rattle.fr_notes.specs.Fits.{NotesFit};
 ghost use Rattle.fr_ends.specs.Fits.{EndFits, EndsFit};
 ghost use Rattle.fr_ends.specs.View.{end_of};
 
-use crate::spot::{Spot, spot};
+use crate::spot::{Spot, spot_at};
 use fr_calls::End;
 use fr_ends::{EndGuard, EndName, Ends, Guard, is_listed};
 use fr_notes::{Alternative, Claim, Note, Notes};
@@ -52,7 +52,7 @@ fn insiders<'a>(
 {
     let mut insiders = Vec::new(alloc);
     for number in 0..app.points() {
-        if let Some(spot) = spot(app, notes, number) {
+        if let Some(spot) = spot_at(app, notes, number) {
             if is_inside(&spot, end) {
                 insiders.push(Insider {
                     actor: spot.point.actor,
@@ -128,10 +128,8 @@ fn number_in(alternative: &Alternative, variable: usize) -> Option<i64> {
 /// The one number that the variable can have, by a note.
 fn only_number(note: &Note, variable: usize) -> Option<i64> {
     let number = number_in(note.alternatives().first()?, variable)?;
-    if note
-        .alternatives()
-        .iter()
-        .all(|alternative| number_in(alternative, variable) == Some(number))
+    if note.alternatives().iter().all(|alternative| number_in(alternative, variable)
+        == Some(number))
     {
         Some(number)
     } else {

@@ -9,7 +9,7 @@ use crate::arrivals::{rows, target};
 use crate::effect::{Effect, Reach, effects};
 use crate::landing::{left_to_mover, left_to_other};
 use crate::merging::{Growth, merge};
-use crate::spot::{Spot, spot};
+use crate::spot::{Spot, spot_at};
 use fr_calls::Way;
 use fr_notes::{Alternative, Change, Known, Note, Notes, can_meet, change_by, keeps, spares};
 use fr_program::App;
@@ -151,7 +151,7 @@ fn arrive(
         return Ok(());
     };
     for source in sources {
-        if let Some(source) = spot(before.app, before.notes, *source) {
+        if let Some(source) = spot_at(before.app, before.notes, *source) {
             arrive_from(alloc, before, source, number, note)?;
         }
     }
@@ -244,7 +244,7 @@ fn spread_effect(
     requires note { NoteFits before.app.now note.old.items }
     ensures { NoteFits before.app.now note.new.items }
 {
-    let Some(mover) = spot(before.app, before.notes, effect.number) else {
+    let Some(mover) = spot_at(before.app, before.notes, effect.number) else {
         return Ok(());
     };
     match mover.note.alternatives().get(effect.place) {
@@ -324,7 +324,14 @@ fn next_note(alloc: Global, before: Before, number: usize) -> Result<Note, Alloc
     let mut note = copied_all(alloc, old)?;
     spread_all(alloc, before, 0, actor, old, &mut note)?;
     arrive(alloc, before, number, &mut note)?;
-    spread_all(alloc, before, actor.saturating_add(1), usize::MAX, old, &mut note)?;
+    spread_all(
+        alloc,
+        before,
+        actor.saturating_add(1),
+        usize::MAX,
+        old,
+        &mut note,
+    )?;
     Ok(Note::of(note))
 }
 

@@ -16,7 +16,7 @@ pub struct Spot<'a> {
 }
 
 /// The point with this number; None where the application has no such point.
-pub fn spot<'a>(app: &'a App, notes: &'a Notes, number: usize) -> Option<Spot<'a>>
+pub fn spot_at<'a>(app: &'a App, notes: &'a Notes, number: usize) -> Option<Spot<'a>>
     requires { NotesFit app.now notes.now }
     ensures { IfSome result (λ s. IsSpot app.now s.point s.instr.now s.note.now) }
 {
