@@ -15,4 +15,4 @@ pub record IsPlaced (P : Program) (p : Point) (i : Instr) : Type 0 where
 -- the application has the point, with this instruction, and the note fits
 pub record IsSpot (P : Program) (p : Point) (i : Instr) (note : Note) : Type 0 where
   pub placed : IsPlaced P p i
-  pub note : NoteFits P note
+  pub fits : NoteFits P note

@@ -1,7 +1,4 @@
 // Which points lead to which.
-ghost use Rattle.std.specs.Prelude.{◌≡◌, IfOk, length};
-ghost use Rattle.fr_program.specs.Points.{points_of};
-
 use fr_calls::{Landing, Way, lands_at};
 use fr_program::{Action, App, BufferKind, Call, Instr, Point, Side};
 use std::alloc::{AllocError, Global};
@@ -39,15 +36,30 @@ pub fn target(app: &App, point: Point, instr: &Instr, way: Way) -> Option<usize>
 }
 
 /// Puts a point among those that lead to its targets, once each.
-fn enlist(arrivals: &mut Vec<Vec<usize>>, number: usize, target: usize) -> Result<(), AllocError>
-    ensures { length arrivals.new.items ≡ length arrivals.old.items }
-{
+fn enlist(arrivals: &mut Vec<Vec<usize>>, number: usize, target: usize) -> Result<(), AllocError> {
     if let Some(sources) = arrivals.get_mut(target) {
         if sources.last() != Some(&number) {
             sources.push(number)?;
         }
     }
     Ok(())
+}
+
+/// Puts a point among those that its step by this row leads to.
+fn enlist_by(
+    app: &App,
+    arrivals: &mut Vec<Vec<usize>>,
+    number: usize,
+    point: Point,
+    way: Way,
+) -> Result<(), AllocError> {
+    let Some(instr) = app.instr(point) else {
+        return Ok(());
+    };
+    match target(app, point, instr, way) {
+        Some(target) => enlist(arrivals, number, target),
+        None => Ok(()),
+    }
 }
 
 /// For each point, by its number, the numbers of the points that lead to it, in their order.
@@ -58,13 +70,8 @@ pub fn arrivals(alloc: Global, app: &App) -> Result<Vec<Vec<usize>>, AllocError>
     }
     for number in 0..app.points() {
         let point = app.point(number);
-        if let Some(instr) = app.instr(point) {
-            for way in rows(instr) {
-                if let Some(target) = target(app, point, instr, way) {
-                    enlist(&mut arrivals, number, target)?;
-                }
-            }
-        }
+        enlist_by(app, &mut arrivals, number, point, Way::Then)?;
+        enlist_by(app, &mut arrivals, number, point, Way::Else)?;
     }
     Ok(arrivals)
 }

@@ -20,8 +20,8 @@ use std::thread::Threads;
 /// The most rounds that can be asked for.
 const MOST_ROUNDS: usize = 64;
 
-/// Whether so many rounds can be asked for.
-fn is_rounds(rounds: usize) -> bool
+/// Whether so many rounds can be asked for: 1 to 64.
+pub fn is_rounds(rounds: usize) -> bool
     ensures yes { OnTrue result (IsNoRounds rounds → ⊥) }
     ensures no { OnFalse result (IsNoRounds rounds) }
 {

@@ -233,6 +233,59 @@ fn add(app: &App, ends: &mut Vec<EndGuard>, guard: EndGuard) -> Result<(), Alloc
     Ok(())
 }
 
+/// Adds the guard of an end, where somebody can be inside.
+fn add_end(
+    alloc: Global,
+    app: &App,
+    notes: &Notes,
+    end: EndName,
+    ends: &mut Vec<EndGuard>,
+) -> Result<(), AllocError>
+    requires notes { NotesFit app.now notes.now }
+    requires ends { EndsFit app.now (map end_of ends.old.items) }
+    ensures { EndsFit app.now (map end_of ends.new.items) }
+{
+    match guard_at(alloc, app, notes, end)? {
+        Some(guard) => add(app, ends, guard),
+        None => Ok(()),
+    }
+}
+
+/// Adds the guards of both ends of a buffer, the writer's first.
+fn add_both(
+    alloc: Global,
+    app: &App,
+    notes: &Notes,
+    buffer: ObjId,
+    ends: &mut Vec<EndGuard>,
+) -> Result<(), AllocError>
+    requires notes { NotesFit app.now notes.now }
+    requires ends { EndsFit app.now (map end_of ends.old.items) }
+    ensures { EndsFit app.now (map end_of ends.new.items) }
+{
+    let (writer, reader) = (End::Writer, End::Reader);
+    add_end(
+        alloc,
+        app,
+        notes,
+        EndName {
+            buffer,
+            end: writer,
+        },
+        ends,
+    )?;
+    add_end(
+        alloc,
+        app,
+        notes,
+        EndName {
+            buffer,
+            end: reader,
+        },
+        ends,
+    )
+}
+
 /// The guards of all ends of buffers inside which somebody can be.
 pub fn ends(alloc: Global, app: &App, notes: &Notes) -> Result<Ends, AllocError>
     requires { NotesFit app.now notes.now }
@@ -240,15 +293,7 @@ pub fn ends(alloc: Global, app: &App, notes: &Notes) -> Result<Ends, AllocError>
 {
     let mut ends = Vec::new(alloc);
     for buffer in 0..app.objects().len() {
-        for end in [End::Writer, End::Reader] {
-            let end = EndName {
-                buffer: ObjId(buffer),
-                end,
-            };
-            if let Some(guard) = guard_at(alloc, app, notes, end)? {
-                add(app, &mut ends, guard)?;
-            }
-        }
+        add_both(alloc, app, notes, ObjId(buffer), &mut ends)?;
     }
     match Ends::build(alloc, app, ends) {
         Ok(ends) => Ok(ends),

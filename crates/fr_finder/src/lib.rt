@@ -14,4 +14,4 @@ mod spot;
 mod start;
 
 pub use fault::FindFault;
-pub use finding::find;
+pub use finding::{find, is_rounds};

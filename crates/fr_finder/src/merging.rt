@@ -1,5 +1,5 @@
 // Merging what a step leaves into a point's note.
-ghost use Rattle.std.specs.Prelude.{◌≤ℤ◌, ◌<◌, IfOk, length, vec_len};
+ghost use Rattle.std.specs.Prelude.{◌≤ℤ◌, ◌<◌, IfSome, length, vec_len};
 ghost use Rattle.fr_notes.specs.Fits.{AlternativeFits, NoteFits};
 
 use crate::landing::fitting;
@@ -49,22 +49,28 @@ fn common(claim: Claim, other: Claim) -> Claim {
     }
 }
 
+/// The lower end, moved down at least to what is needed.
+fn lower(lo: i128, needed: i128, most: i128) -> i128
+    ensures { result ≤ℤ lo }
+{
+    if needed < lo { lo.min(most) } else { lo }
+}
+
+/// The upper end, moved up at least to what is needed.
+fn upper(hi: i128, needed: i128, most: i128) -> i128
+    ensures { hi ≤ℤ result }
+{
+    if hi < needed { hi.max(most) } else { hi }
+}
+
 /// The range, grown so that it has the other one's numbers too.
 fn grown(range: Range, other: Range, declared: Range, growth: Growth) -> Range {
     let most = match growth {
         Growth::Exact => other,
         Growth::Whole => declared,
     };
-    let lo = if other.lo < range.lo {
-        range.lo.min(most.lo)
-    } else {
-        range.lo
-    };
-    let hi = if other.hi > range.hi {
-        range.hi.max(most.hi)
-    } else {
-        range.hi
-    };
+    let lo = lower(range.lo, other.lo, most.lo);
+    let hi = upper(range.hi, other.hi, most.hi);
     Range { lo, hi }
 }
 
@@ -119,9 +125,35 @@ fn merged(
 }
 
 /// The place of the first alternative that the other one can be merged into.
-fn place_for(note: &[Alternative], other: &Alternative) -> Option<usize> {
+fn place_for(note: &[Alternative], other: &Alternative) -> Option<usize>
+    ensures { IfSome result (λ place. place < length note.now) }
+{
     note.iter()
         .position(|alternative| can_be_one(alternative, other))
+}
+
+/// Puts an alternative in the place of another one.
+fn replace(app: &App, note: &mut Vec<Alternative>, place: usize, one: Alternative)
+    requires place { place < vec_len note.old }
+    requires note { NoteFits app.now note.old.items }
+    requires one { AlternativeFits app.now one }
+    ensures { NoteFits app.now note.new.items }
+{
+    let _ = app;
+    note[place] = one;
+}
+
+/// Adds an alternative, if there is room.
+fn add(app: &App, note: &mut Vec<Alternative>, other: Alternative) -> Result<(), AllocError>
+    requires note { NoteFits app.now note.old.items }
+    requires other { AlternativeFits app.now other }
+    ensures { NoteFits app.now note.new.items }
+{
+    let _ = app;
+    if note.len() < MOST_ALTERNATIVES {
+        note.push(other)?;
+    }
+    Ok(())
 }
 
 /// Merges an alternative into a note: into the first one with the same held mutexes and depths. Where
@@ -137,18 +169,12 @@ pub fn merge(
     requires other { AlternativeFits app.now other }
     ensures { NoteFits app.now note.new.items }
 {
-    match place_for(note, &other) {
-        Some(place) => {
-            let one = merged(alloc, app, &note[place], &other, growth)?;
-            if let Some(one) = fitting(app, one) {
-                note[place] = one;
-            }
-        }
-        None => {
-            if note.len() < MOST_ALTERNATIVES {
-                note.push(other)?;
-            }
-        }
+    let Some(place) = place_for(note, &other) else {
+        return add(app, note, other);
+    };
+    let one = merged(alloc, app, &note[place], &other, growth)?;
+    if let Some(one) = fitting(app, one) {
+        replace(app, note, place, one);
     }
     Ok(())
 }

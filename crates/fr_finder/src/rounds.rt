@@ -79,7 +79,7 @@ fn land(
     requires placed { IsPlaced before.app.now source.point source.instr.now }
     requires fits { AlternativeFits before.app.now alternative.now }
     requires note { NoteFits before.app.now note.old.items }
-    ensures { NoteFits before.app.now note.new.items }
+    ensures { NoteFits before.entry.app.now note.new.items }
 {
     let known = Known::alone(alternative);
     let Some(change) = change_by(before.app, &known, source.point, source.instr, way) else {
@@ -107,7 +107,7 @@ fn land_at(
     requires placed { IsPlaced before.app.now source.point source.instr.now }
     requires fits { AlternativeFits before.app.now alternative.now }
     requires note { NoteFits before.app.now note.old.items }
-    ensures { NoteFits before.app.now note.new.items }
+    ensures { NoteFits before.entry.app.now note.new.items }
 {
     if target(before.app, source.point, source.instr, way) == Some(number) {
         land(alloc, before, source, alternative, way, note)
@@ -126,7 +126,7 @@ fn arrive_from(
 ) -> Result<(), AllocError>
     requires spot { IsSpot before.app.now source.point source.instr.now source.note.now }
     requires note { NoteFits before.app.now note.old.items }
-    ensures { NoteFits before.app.now note.new.items }
+    ensures { NoteFits before.entry.app.now note.new.items }
 {
     let [first, second] = rows(source.instr);
     for alternative in source.note.alternatives() {
@@ -145,7 +145,7 @@ fn arrive(
 ) -> Result<(), AllocError>
     requires fit { NotesFit before.app.now before.notes.now }
     requires note { NoteFits before.app.now note.old.items }
-    ensures { NoteFits before.app.now note.new.items }
+    ensures { NoteFits before.entry.app.now note.new.items }
 {
     let Some(sources) = before.paths.arrivals.get(number) else {
         return Ok(());
@@ -172,7 +172,7 @@ fn spread(
     requires fits { KnownFits before.app.now known.now }
     requires other { known.now.other ≡ Some other.now }
     requires note { NoteFits before.app.now note.old.items }
-    ensures { NoteFits before.app.now note.new.items }
+    ensures { NoteFits before.entry.app.now note.new.items }
 {
     let Some(change) = change_by(before.app, known, mover.point, mover.instr, way) else {
         return Ok(());
@@ -199,7 +199,7 @@ fn spread_beside(
     requires alternative { AlternativeFits before.app.now alternative.now }
     requires other { AlternativeFits before.app.now other.now }
     requires note { NoteFits before.app.now note.old.items }
-    ensures { NoteFits before.app.now note.new.items }
+    ensures { NoteFits before.entry.app.now note.new.items }
 {
     if !can_meet(alternative, other) {
         return Ok(());
@@ -223,7 +223,7 @@ fn spread_to_each(
     requires alternative { AlternativeFits before.app.now alternative.now }
     requires old { NoteFits before.app.now old.now }
     requires note { NoteFits before.app.now note.old.items }
-    ensures { NoteFits before.app.now note.new.items }
+    ensures { NoteFits before.entry.app.now note.new.items }
 {
     for other in old.alternatives() {
         spread_beside(alloc, before, mover, alternative, other, note)?;
@@ -242,7 +242,7 @@ fn spread_effect(
     requires fit { NotesFit before.app.now before.notes.now }
     requires old { NoteFits before.app.now old.now }
     requires note { NoteFits before.app.now note.old.items }
-    ensures { NoteFits before.app.now note.new.items }
+    ensures { NoteFits before.entry.app.now note.new.items }
 {
     let Some(mover) = spot_at(before.app, before.notes, effect.number) else {
         return Ok(());
@@ -279,7 +279,7 @@ fn spread_all(
     requires fit { NotesFit before.app.now before.notes.now }
     requires old { NoteFits before.app.now old.now }
     requires note { NoteFits before.app.now note.old.items }
-    ensures { NoteFits before.app.now note.new.items }
+    ensures { NoteFits before.entry.app.now note.new.items }
 {
     for effect in before.effects {
         let actor = effect.actor.0;
@@ -317,7 +317,7 @@ fn copied_all(alloc: Global, note: &Note) -> Result<Vec<Alternative>, AllocError
 fn next_note(alloc: Global, before: Before, number: usize) -> Result<Note, AllocError>
     requires number { number < length (points_of before.app.now) }
     requires fit { NotesFit before.app.now before.notes.now }
-    ensures { IfOk result (λ note. NoteFits before.app.now note) }
+    ensures { IfOk result (λ note. NoteFits before.entry.app.now note) }
 {
     let actor = before.app.point(number).actor.0;
     let old = before.notes.at(before.app, number);
@@ -342,8 +342,8 @@ fn next_notes<R: Threads + Sync>(
     before: Before,
 ) -> Result<Vec<Note>, AllocError>
     requires { NotesFit before.app.now before.notes.now }
-    ensures points { IfOk result (λ notes. length notes.items ≡ length (points_of before.app.now)) }
-    ensures fit { IfOk result (λ notes. All (λ note. NoteFits before.app.now note) notes.items) }
+    ensures points { IfOk result (λ notes. length notes.items ≡ length (points_of before.entry.app.now)) }
+    ensures fit { IfOk result (λ notes. All (λ note. NoteFits before.entry.app.now note) notes.items) }
 {
     let notes: Result<Vec<Note>, AllocError> = (0..before.app.points())
         .into_par_iter()
@@ -352,7 +352,7 @@ fn next_notes<R: Threads + Sync>(
             |number: usize| -> Result<Note, AllocError>
                 requires number { number < length (points_of before.app.now) }
                 requires fit { NotesFit before.app.now before.notes.now }
-                ensures { IfOk result (λ note. NoteFits before.app.now note) }
+                ensures { IfOk result (λ note. NoteFits before.entry.app.now note) }
             { next_note(alloc, before, number) },
         )
         .collect(rt, alloc)?;
