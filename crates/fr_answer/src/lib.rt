@@ -7,10 +7,12 @@ mod answer;
 mod check;
 mod fault;
 mod file;
+mod found;
 
 pub use answer::{answer_check, answer_fault};
 pub use check::{check_to, check_with};
 pub use fault::{CheckFault, fault_line, status};
 pub use file::{LoadFault, load};
+pub use found::{Found, find_bytes};
 pub use fr_cert::MOST_BYTES as MOST_CERTIFICATE_BYTES;
 pub use fr_reader::MOST_BYTES as MOST_APP_BYTES;

@@ -10,10 +10,11 @@ mod words;
 
 use clap::error::ErrorKind;
 use fr_answer::{
-    CheckFault, MOST_APP_BYTES, MOST_CERTIFICATE_BYTES, answer_check, answer_fault, load,
+    CheckFault, Found, MOST_APP_BYTES, MOST_CERTIFICATE_BYTES, answer_check, answer_fault,
+    find_bytes, load,
 };
 use fr_parallel::Open;
-use std::fs::File;
+use std::fs::{self, File};
 use std::process::ExitCode;
 use std::sync::Wait;
 use std::thread::Threads;
@@ -63,6 +64,41 @@ fn check<R: Threads + Wait + Sync>(
     ))
 }
 
+/// Writes the file, in place of what it held before.
+fn write_file(rt: &HostRuntime, path: &str, text: &str) -> Result<(), CheckFault> {
+    match fs::write(rt, path, text.as_bytes()) {
+        Ok(()) => Ok(()),
+        Err(error) if is_memory(&error) => Err(CheckFault::Memory),
+        Err(_) => Err(CheckFault::Write),
+    }
+}
+
+/// Prints a line, and answers the exit status.
+fn say(rt: &HostRuntime, line: &str, status: u8) -> Result<u8, CheckFault> {
+    match println!(rt; "{line}") {
+        Ok(()) => Ok(status),
+        Err(_) => Err(CheckFault::Write),
+    }
+}
+
+/// Finds a certificate and writes it to the file `out`. Where none is found no file is written.
+fn find<R: Threads + Wait + Sync>(
+    rt: &HostRuntime,
+    threads: &R,
+    app: &str,
+    out: &str,
+    rounds: u16,
+) -> Result<u8, CheckFault> {
+    let app = file_bytes(rt, app, MOST_APP_BYTES)?;
+    match find_bytes(threads, rt.alloc(), &app, usize::from(rounds))? {
+        Found::Text(text) => {
+            write_file(rt, out, text.as_str())?;
+            say(rt, "found", 0)
+        }
+        Found::NotFound => say(rt, "not found", 1),
+    }
+}
+
 /// Refuses words that the usage message can't be printed for.
 fn refuse_words(rt: &HostRuntime) -> Result<u8, CheckFault> {
     match eprintln!(rt; "refused: words") {
@@ -99,6 +135,7 @@ fn answer<R: Threads + Wait + Sync>(rt: &HostRuntime, threads: &R) -> Result<u8,
                     workers,
                 },
             ) => check(rt, threads, app, certificate, workers),
+            Some(Request::Find { app, out, rounds }) => find(rt, threads, app, out, rounds),
             None => refuse_words(rt),
         },
         Err(error) => explain(rt, &error),

@@ -19,6 +19,9 @@ fn answer_to(alloc: Global, line: &str) -> Result<String, AllocError> {
                     workers,
                 },
             ) => format!(in alloc; "{app} {certificate} {workers}"),
+            Some(Request::Find { app, out, rounds }) => {
+                format!(in alloc; "find {app} {out} {rounds}")
+            }
             None => String::from_str(alloc, "nothing"),
         },
         Err(error) => format!(in alloc; "{} {error}", error.exit_code()),
@@ -30,6 +33,16 @@ fn words_and_what_is_said_to_them(rt: HostRuntime) {
     let cases = [
         ("fr_check check A C --workers 64", "A C 64"),
         ("fr_check check A C", "A C 4"),
+        ("fr_check find A O --rounds 64", "find A O 64"),
+        ("fr_check find A O", "find A O 64"),
+        (
+            "fr_check find A O --rounds 0",
+            "2 error: invalid value '0'",
+        ),
+        (
+            "fr_check find A O --rounds 65",
+            "2 error: invalid value '65'",
+        ),
         (
             "fr_check check A C --workers 0",
             "2 error: invalid value '0'",

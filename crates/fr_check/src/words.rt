@@ -11,6 +11,12 @@ const STATUSES: &str = "Exit status:
   2  The words, the application or the certificate are refused
   3  The machine failed: no memory, no thread, or a file that can't be read or written";
 
+const FIND_STATUSES: &str = "Exit status:
+  0  A certificate is found and written
+  1  None is found, and no file is written
+  2  The words or the application are refused
+  3  The machine failed: no memory, or a file that can't be read or written";
+
 /// What the command line asks for.
 #[derive(Clone, Copy)]
 pub enum Request<'a> {
@@ -19,6 +25,13 @@ pub enum Request<'a> {
         app: &'a str,
         certificate: &'a str,
         workers: u16,
+    },
+    /// A certificate for the application in this file, found in at most so many rounds, for this
+    /// file.
+    Find {
+        app: &'a str,
+        out: &'a str,
+        rounds: u16,
     },
 }
 
@@ -39,6 +52,15 @@ fn workers_arg<'a>(alloc: Global) -> Arg<'a> {
         .help("Threads that judge, 1 to 64")
 }
 
+fn rounds_arg<'a>(alloc: Global) -> Arg<'a> {
+    Arg::new(alloc, "rounds")
+        .long("rounds")
+        .value_name("N")
+        .value_parser(value_parser!(u16).range(1..=64))
+        .default_value("64")
+        .help("Rounds of guessing, 1 to 64")
+}
+
 fn check_command<'a>(alloc: Global) -> Result<Command<'a>, AllocError> {
     Command::new(alloc, "check")
         .display_name(NAME)?
@@ -49,6 +71,16 @@ fn check_command<'a>(alloc: Global) -> Result<Command<'a>, AllocError> {
         .arg(workers_arg(alloc))
 }
 
+fn find_command<'a>(alloc: Global) -> Result<Command<'a>, AllocError> {
+    Command::new(alloc, "find")
+        .display_name(NAME)?
+        .about("Finds a certificate for an application and writes it")
+        .after_help(FIND_STATUSES)
+        .arg(file_arg(alloc, "APP", "The application, in TOML"))?
+        .arg(file_arg(alloc, "OUT", "The file for the certificate"))?
+        .arg(rounds_arg(alloc))
+}
+
 fn command<'a>(alloc: Global) -> Result<Command<'a>, AllocError> {
     Command::new(alloc, NAME)
         .version("0.1.0")
@@ -57,7 +89,8 @@ fn command<'a>(alloc: Global) -> Result<Command<'a>, AllocError> {
         .after_help(STATUSES)
         .subcommand_required(true)
         .arg_required_else_help(true)
-        .subcommand(check_command(alloc)?)
+        .subcommand(check_command(alloc)?)?
+        .subcommand(find_command(alloc)?)
 }
 
 /// What the words match, or `clap`'s own text of what is wrong with them.
@@ -74,6 +107,13 @@ pub fn asked<'a>(matches: &ArgMatches<'a>) -> Option<Request<'a>> {
                 app: words.get_str("APP")?,
                 certificate: words.get_str("CERT")?,
                 workers: words.get_one::<u16>("workers")?,
+            })
+        }
+        "find" => {
+            Some(Request::Find {
+                app: words.get_str("APP")?,
+                out: words.get_str("OUT")?,
+                rounds: words.get_one::<u16>("rounds")?,
             })
         }
         _ => None,
