@@ -1,6 +1,7 @@
 // What answers a command, from the bytes of the files to the report, the exit status and a refusal's line. `load` reads a
 // file, `check_with` judges and writes the report, and `answer_check` is the whole of it: the program and the worked
-// rows both call it, and its contract says what an exit status means.
+// rows both call it, and its contract says what an exit status means. `answer_run` is the same of a run, whose words
+// `words_of` reads.
 #![tactic(auto)]
 
 mod answer;
@@ -8,6 +9,8 @@ mod check;
 mod fault;
 mod file;
 mod found;
+mod running;
+mod words;
 
 pub use answer::{answer_check, answer_fault};
 pub use check::{check_to, check_with};
@@ -16,3 +19,5 @@ pub use file::{LoadFault, load};
 pub use found::{Found, find_bytes};
 pub use fr_cert::MOST_BYTES as MOST_CERTIFICATE_BYTES;
 pub use fr_reader::MOST_BYTES as MOST_APP_BYTES;
+pub use running::{answer_run, run_to};
+pub use words::{WordsFault, answer_words, words_of};

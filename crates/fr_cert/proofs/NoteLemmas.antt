@@ -20,7 +20,7 @@ use Rattle.fr_notes.specs.declared.fault.NoteFault.{NoteFault}
 use Rattle.fr_notes.specs.declared.fault.NoteFault.TheVariants.{Memory, Count, Lives, Span}
 use Rattle.fr_notes.specs.Note.{Alternative}
 use Rattle.fr_notes.specs.Fits.{CanClaim, most_depth}
-use Rattle.fr_notes.specs.Parts.{said, claim_by, claim_said, count_in, names, is_live_said, range_in, range_by, range_said, IsCount, Stands}
+use Rattle.fr_notes.specs.Parts.{said, claim_by, claim_said, count_in, names, is_live_said, range_in, range_by, range_said, IsCount, HasFault}
 use Rattle.fr_cert.specs.Meaning.{NoteTextFits, IsInside, count_for, has, claim_at, range_at, note_said}
 use Rattle.fr_cert.specs.Views.{named_of, count_of, number_of, text_of}
 
@@ -106,7 +106,6 @@ all_or_any Q decide xs none k d within =
       | inr not ↦ absurd (none (k, get_or xs k d, within, get_or_default xs k (get_or xs k d) d within, not))
     ]
 
-
 claim_or : (kind : Kind) (n : ℕ) → CanClaim kind (HeldTimes n) ⊎ (CanClaim kind (HeldTimes n) → ⊥)
 claim_or Mutex n =
     elim (cases_lt n 1) [
@@ -136,7 +135,7 @@ all_not_any : {A : Type 0} (Q : A → Type 0) (xs : List A) → All Q xs → Any
 all_not_any Q xs all s = s.4 (subst Q s.3 (all s.0 s.1 s.2))
 
 -- parts without a fault are those of a note
-pub fits_from : (P : Program) (parts : NoteParts) → ((f : NoteFault) → Stands P parts f → ⊥) → NoteTextFits P (text_of parts)
+pub fits_from : (P : Program) (parts : NoteParts) → ((f : NoteFault) → HasFault P parts f → ⊥) → NoteTextFits P (text_of parts)
 fits_from P parts free = record {
   held = All-map (λ h. (h.0 < length P.objects) × CanClaim (kind_of P h.0) (HeldTimes h.1)) count_of parts.held.items (all_or_any (IsCount P) (count_or P) parts.held.items (free Count));
   apart = All-map (λ o. IsTrue (has (text_of parts).live o || is_some (count_for (text_of parts).held o)) → ⊥) number_of parts.dead.items
@@ -145,7 +144,7 @@ fits_from P parts free = record {
 }
 
 -- parts with a fault are those of no note
-pub unfit : (P : Program) (parts : NoteParts) (f : NoteFault) → Stands P parts f → NoteTextFits P (text_of parts) → ⊥
+pub unfit : (P : Program) (parts : NoteParts) (f : NoteFault) → HasFault P parts f → NoteTextFits P (text_of parts) → ⊥
 unfit P parts Memory s fit = s
 unfit P parts Count s fit = all_not_any (IsCount P) parts.held.items (all_of_map (λ h. (h.0 < length P.objects) × CanClaim (kind_of P h.0) (HeldTimes h.1)) count_of parts.held.items fit.held) s
 unfit P parts Lives s fit =

@@ -43,7 +43,7 @@ key_text Range = codes "range"
 abbrev pub spells : List ℕ → Key → Bool
 spells text k = bytes_eq text (key_text k)
 
--- a key that the whole certificate, an end, each kind of guard, or a note may have; a plain note is one of today's code
+-- a key that the whole certificate, an end, each kind of guard, or a note may have
 abbrev pub is_key_of : Place → List ℕ → Bool
 is_key_of place.Certificate t = spells t Version || spells t Ends || spells t Notes
 is_key_of place.End t = spells t Buffer || spells t End || spells t Guard
@@ -51,7 +51,6 @@ is_key_of place.Sole t = spells t Sole
 is_key_of place.Mutex t = spells t Mutex
 is_key_of place.Turn t = spells t Turn || spells t Values
 is_key_of place.Note t = spells t Held || spells t Crit || spells t Susp || spells t Live || spells t Dead || spells t Range
-is_key_of place.PlainNote t = spells t Crit || spells t Range
 
 -- each key of the object is known there
 abbrev pub AreKnown : Place → Members → Type 0

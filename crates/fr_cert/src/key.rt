@@ -61,8 +61,6 @@ pub(crate) enum Place {
     /// A guard of whose turn it is.
     Turn,
     Note,
-    /// A note as it can be read today.
-    PlainNote,
 }
 
 // Whether a note's object may have this key.
@@ -88,6 +86,5 @@ pub(crate) fn is_key_of(place: Place, key: &str) -> bool
         Place::Mutex => key == "mutex",
         Place::Turn => key == "turn" || key == "values",
         Place::Note => is_key_of_note(key),
-        Place::PlainNote => key == "crit" || key == "range",
     }
 }

@@ -1,9 +1,8 @@
 // Certificates as files: `read_cert` gives the certificate that the bytes of a JSON text (RFC 8259) mean, for an
 // application, or a fault that is present in them. The text is read by the crate `serde_json`, its objects key by key
-// here, and its notes are built by `fr_notes`. `specs/Meaning.antt` says what bytes mean, and `specs/Present.antt` which
-// fault is present in them; `one_meaning` and `no_meaning` are the laws of both. `write_cert` gives the bytes of
-// `specs/Written.antt`, which mean the certificate again. What today's code doesn't take of the format,
-// `specs/NotYet.antt` says. The crates above rely on `read_cert`'s contract.
+// here, and its notes and guards are built by `fr_notes` and `fr_ends`. `specs/Meaning.antt` says what bytes mean, and
+// `specs/Present.antt` which fault is present in them; `one_meaning` and `no_meaning` are the laws of both. The
+// crates above rely on the contract of `read_cert`.
 #![tactic(auto)]
 
 mod end;

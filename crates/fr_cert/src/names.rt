@@ -59,7 +59,7 @@ fn actor_names<'a>(alloc: Global, actors: &'a [Actor]) -> Result<Vec<&'a str>, A
 pub(crate) fn names_of(alloc: Global, app: &App) -> Result<Names, AllocError>
     ensures { IfOk result (λ names. names ≡ names_in app.now) }
 {
-    app.is_faultless();
+    app.recall_faultless();
     let variables = variable_names(alloc, app.variables())?;
     let objects = object_names(alloc, app.objects())?;
     let actors = actor_names(alloc, app.actors())?;

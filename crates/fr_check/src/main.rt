@@ -4,17 +4,20 @@
 ghost use Rattle.std.specs.Prelude.{◌≤◌};
 ghost use Rattle.fr_answer.specs.Checked.{most_bytes};
 
+mod finding;
+mod running;
 #[cfg(test)]
 mod tests;
 mod words;
 
 use clap::error::ErrorKind;
+use finding::find;
 use fr_answer::{
-    CheckFault, Found, MOST_APP_BYTES, MOST_CERTIFICATE_BYTES, answer_check, answer_fault,
-    find_bytes, load,
+    CheckFault, MOST_APP_BYTES, MOST_CERTIFICATE_BYTES, answer_check, answer_fault, load,
 };
 use fr_parallel::Open;
-use std::fs::{self, File};
+use running::run;
+use std::fs::File;
 use std::process::ExitCode;
 use std::sync::Wait;
 use std::thread::Threads;
@@ -64,41 +67,6 @@ fn check<R: Threads + Wait + Sync>(
     ))
 }
 
-/// Writes the file, in place of what it held before.
-fn write_file(rt: &HostRuntime, path: &str, text: &str) -> Result<(), CheckFault> {
-    match fs::write(rt, path, text.as_bytes()) {
-        Ok(()) => Ok(()),
-        Err(error) if is_memory(&error) => Err(CheckFault::Memory),
-        Err(_) => Err(CheckFault::Write),
-    }
-}
-
-/// Prints a line, and answers the exit status.
-fn say(rt: &HostRuntime, line: &str, status: u8) -> Result<u8, CheckFault> {
-    match println!(rt; "{line}") {
-        Ok(()) => Ok(status),
-        Err(_) => Err(CheckFault::Write),
-    }
-}
-
-/// Finds a certificate and writes it to the file `out`. Where none is found no file is written.
-fn find<R: Threads + Wait + Sync>(
-    rt: &HostRuntime,
-    threads: &R,
-    app: &str,
-    out: &str,
-    rounds: u16,
-) -> Result<u8, CheckFault> {
-    let app = file_bytes(rt, app, MOST_APP_BYTES)?;
-    match find_bytes(threads, rt.alloc(), &app, usize::from(rounds))? {
-        Found::Text(text) => {
-            write_file(rt, out, text.as_str())?;
-            say(rt, "found", 0)
-        }
-        Found::NotFound => say(rt, "not found", 1),
-    }
-}
-
 /// Refuses words that the usage message can't be printed for.
 fn refuse_words(rt: &HostRuntime) -> Result<u8, CheckFault> {
     match eprintln!(rt; "refused: words") {
@@ -135,7 +103,8 @@ fn answer<R: Threads + Wait + Sync>(rt: &HostRuntime, threads: &R) -> Result<u8,
                     workers,
                 },
             ) => check(rt, threads, app, certificate, workers),
-            Some(Request::Find { app, out, rounds }) => find(rt, threads, app, out, rounds),
+            Some(Request::Find(asked)) => find(rt, threads, asked),
+            Some(Request::Run(asked)) => run(rt, threads, asked),
             None => refuse_words(rt),
         },
         Err(error) => explain(rt, &error),

@@ -19,8 +19,13 @@ fn answer_to(alloc: Global, line: &str) -> Result<String, AllocError> {
                     workers,
                 },
             ) => format!(in alloc; "{app} {certificate} {workers}"),
-            Some(Request::Find { app, out, rounds }) => {
-                format!(in alloc; "find {app} {out} {rounds}")
+            Some(Request::Find(find)) => {
+                let (app, out, rounds) = (find.app, find.out, find.rounds);
+                format!(in alloc; "{app} {out} {rounds}")
+            }
+            Some(Request::Run(run)) => {
+                let (app, certificate, polls) = (run.app, run.certificate, run.polls);
+                format!(in alloc; "{app} {certificate} {polls} {:?}", run.words)
             }
             None => String::from_str(alloc, "nothing"),
         },
@@ -33,12 +38,9 @@ fn words_and_what_is_said_to_them(rt: HostRuntime) {
     let cases = [
         ("fr_check check A C --workers 64", "A C 64"),
         ("fr_check check A C", "A C 4"),
-        ("fr_check find A O --rounds 64", "find A O 64"),
-        ("fr_check find A O", "find A O 64"),
-        (
-            "fr_check find A O --rounds 0",
-            "2 error: invalid value '0'",
-        ),
+        ("fr_check find A O --rounds 64", "A O 64"),
+        ("fr_check find A O", "A O 64"),
+        ("fr_check find A O --rounds 0", "2 error: invalid value '0'"),
         (
             "fr_check find A O --rounds 65",
             "2 error: invalid value '65'",
@@ -53,6 +55,20 @@ fn words_and_what_is_said_to_them(rt: HostRuntime) {
         ),
         (
             "fr_check check A",
+            "2 error: the following required arguments",
+        ),
+        (
+            "fr_check run A C --polls 1000000 --words 8,x",
+            "A C 1000000 Some(\"8,x\")",
+        ),
+        ("fr_check run A C --polls 0", "A C 0 None"),
+        ("fr_check run A C --polls 1 --words ", "A C 1 Some(\"\")"),
+        (
+            "fr_check run A C --polls 1000001",
+            "2 error: invalid value '1000001'",
+        ),
+        (
+            "fr_check run A C",
             "2 error: the following required arguments",
         ),
         ("fr_check", "2 Checks that a multicore FreeRTOS application"),

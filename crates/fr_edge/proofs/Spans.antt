@@ -1,6 +1,6 @@
 -- Whether the span of what a `set` computes is in the target's declared range.
-use Rattle.std.proofs.Common.{◌≡◌, arith, inl, inr}
-use Rattle.std.specs.Prelude.{ℤ, ◌≤ℤ◌}
+use Rattle.std.proofs.Common.{arith, inl, inr}
+use Rattle.std.specs.Prelude.{◌≤ℤ◌}
 use Rattle.std.proofs.lemmas.Int.{ints, by_lt_z}
 use Rattle.fr_program.specs.declared.ids.Side.TheVariants.{Before}
 use Rattle.fr_program.specs.declared.ids.VarId.{VarId}

@@ -1,6 +1,6 @@
 -- Where steps by a row go: to one point at the most, whose note holds after them exactly where each alternative goes
 -- well.
-use Rattle.std.proofs.Common.{◌≡◌, ℕ, ◌<◌, List, length, Some, None, Option, sym, ap, ◌∙◌, subst, arith, ⊎_elim, min}
+use Rattle.std.proofs.Common.{◌≡◌, ℕ, List, Some, None, Option, sym, ap, ◌∙◌, subst, arith, ⊎_elim, min}
 use Rattle.std.specs.Prelude.{ℤ, ◌↔◌, All, Contains}
 use Rattle.std.proofs.lemmas.Bool.{cases_lt}
 use Rattle.fr_program.specs.declared.instr.Instr.{Instr}

@@ -9,7 +9,7 @@ use crate::entry::enters;
 use crate::failure::Own;
 use crate::rules::least_rule;
 use crate::steps::least_missed;
-use fr_notes::{Notes, recall_faultless};
+use fr_notes::Notes;
 use fr_program::App;
 
 /// The first of the own obligations of the point with this number that fails: its entry, the least
@@ -22,7 +22,7 @@ pub fn own(app: &App, notes: &Notes, number: usize) -> Option<Own>
         IsFirstOwn app.now notes.now p result }
 {
     let point = app.point(number);
-    recall_faultless(app);
+    app.recall_faultless();
     app.recall_numbered();
     let note = notes.get(number)?;
     let instr = app.instr(point)?;

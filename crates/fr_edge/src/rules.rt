@@ -10,9 +10,7 @@ ghost use Rattle.fr_notes.specs.Reckoning.{HasNumbersIn};
 ghost use Rattle.fr_edge.specs.Alternatives.{RuleOutcome, NoteOutcome, AnyRule, IsDecided, IsUndecided, gives_unheld, uses_dead, creates_live, StaysIn, IsOutBy, lesser_of};
 
 use fr_calls::{Rule, first_forbidden};
-use fr_notes::{
-    Alternative, Holding, Known, Note, condition_at, is_given_unheld, recall_faultless,
-};
+use fr_notes::{Alternative, Holding, Known, Note, condition_at, is_given_unheld};
 use fr_program::{Action, App, Call, Instr, Kind, ObjId, Point, Range, Side, VarId};
 
 /// The least of the rules that the actor's condition decides, before an instruction.
@@ -22,7 +20,7 @@ fn decided_rule(app: &App, alternative: &Alternative, point: Point, instr: &Inst
     requires fits { AlternativeFits app.now alternative.now }
     ensures { RuleOutcome app.now point alternative.now IsDecided result }
 {
-    recall_faultless(app);
+    app.recall_faultless();
     let known = Known::alone(alternative);
     match point.side {
         Side::Before => first_forbidden(app, condition_at(app, &known, point), instr),
@@ -135,7 +133,7 @@ fn undecided_rule(app: &App, alternative: &Alternative, point: Point, instr: &In
     requires fits { AlternativeFits app.now alternative.now }
     ensures { RuleOutcome app.now point alternative.now IsUndecided result }
 {
-    recall_faultless(app);
+    app.recall_faultless();
     let known = Known::alone(alternative);
     if gives_unheld(app, &known, instr) {
         return Some(Rule::GivenByHolder);

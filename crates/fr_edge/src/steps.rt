@@ -9,7 +9,7 @@ ghost use Rattle.fr_edge.specs.Alternatives.{GoesWell, WayOutcome, GoesOutcome};
 ghost use Rattle.fr_notes.specs.Note.{Alternative as AlternativeOf};
 
 use fr_calls::{Landing, Way, lands_at};
-use fr_notes::{Alternative, Change, Known, Note, Notes, change_by, keeps, recall_faultless};
+use fr_notes::{Alternative, Change, Known, Note, Notes, change_by, keeps};
 use fr_program::{App, Instr, Point};
 
 /// Whether some alternative of a note holds of the mover after each step that makes this change.
@@ -80,7 +80,7 @@ fn missed(
     requires note { note.now ≡ note_at app.now notes.now point }
     ensures { WayOutcome app.now notes.now point way result }
 {
-    recall_faultless(app);
+    app.recall_faultless();
     app.recall_numbered();
     let Landing::At(target) = lands_at(point, point.pc + 1, instr, way) else {
         return None;

@@ -1,3 +1,4 @@
+pub mod GuardLaws
 pub mod NearLaws
 pub mod TurnLemmas
 pub mod TwiceLemmas

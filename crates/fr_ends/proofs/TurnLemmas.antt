@@ -2,7 +2,7 @@
 use Rattle.std.proofs.Common.{◌≡◌, ◌<◌, ◌↔◌, ◌||◌, ◌&&◌, ◌≤ℤ◌, ℕ, ℤ, pos, negsuc, T, zero, suc, List, [], ◌∷◌, Bool, true, false, not, IsTrue, Some, None, All, cond, nat_eq, nat_lt, length, get_or, map, Ordering, Less, refl, sym, ap, ◌∙◌, subst, arith}
 use Rattle.std.specs.List.{list_all}
 use Rattle.std.specs.List.Sorted.{IsStrictlySortedBy}
-use Rattle.std.specs.Map.{keys_of}
+use Rattle.std.specs.Map.{keys_of, lookup}
 use Rattle.std.specs.Ordering.{int_eq}
 use Rattle.std.specs.Int.Signed.{le_z, le_z_yes}
 use Rattle.std.proofs.lemmas.Bool.{false≢true}
@@ -86,6 +86,15 @@ found (w ∷ vs) a v e = go (nat_eq w.0 a) refl e (λ later. found vs a v later)
     go : (b : Bool) → nat_eq w.0 a ≡ b → cond b (Some w.1) (value_for vs a) ≡ Some v → (value_for vs a ≡ Some v → Found vs a v) → Found (w ∷ vs) a v
     go true is h rest = (0, omega arith, (λ d. (Decides-eqb w.0 a).0 is), (λ d. same_Some w.1 v h))
     go false is h rest = let r = rest h in (suc r.0, omega (arith, r.1), r.2, r.3)
+
+-- the value at an actor's key in the map is the one that is listed for the actor
+pub looked-up : (test : ActorId → Bool) (a : ℕ) → ((k : ActorId) → test k ≡ nat_eq k.0 a) → (es : List (ActorId × ℤ)) → lookup test es ≡ value_for (map value_of es) a
+looked-up test a same [] = refl
+looked-up test a same (e ∷ es) = rw (same e.0) (go (nat_eq e.0.0 a) (looked-up test a same es))
+  where
+    go : (b : Bool) → lookup test es ≡ value_for (map value_of es) a → cond b (Some e.1) (lookup test es) ≡ cond b (Some e.1) (value_for (map value_of es) a)
+    go true rest = refl
+    go false rest = rest
 
 -- ---- tests over entries
 

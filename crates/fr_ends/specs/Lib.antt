@@ -2,6 +2,8 @@ pub mod Guard
 pub mod Certificate
 pub mod Fits
 pub mod Guarded
+pub mod FirstEnd
+pub mod Implied
 pub mod Nearness
 pub mod Refused
 pub mod View

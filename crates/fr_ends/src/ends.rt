@@ -3,7 +3,7 @@ ghost use Rattle.std.specs.Prelude.{◌≡◌, ◌↔◌, [], IsTrue, IfOk, IfEr
 
 use crate::fault::EndsFault;
 use crate::fits::refusal;
-use crate::guard::EndGuard;
+use crate::guard::{EndGuard, Guard};
 use fr_calls::End;
 use fr_program::{App, ObjId};
 use std::alloc::Global;
@@ -33,9 +33,11 @@ impl Model for Ends {
 }
 
 impl Ends {
+    ghost use Rattle.std.specs.Option.{option_map, option_copied};
+    ghost use Rattle.fr_ends.specs.Certificate.{guard_for};
     ghost use Rattle.fr_ends.specs.Fits.{EndsFit};
     ghost use Rattle.fr_ends.specs.Refused.{IsPresent};
-    ghost use Rattle.fr_ends.specs.View.{end_of};
+    ghost use Rattle.fr_ends.specs.View.{guard_of, end_of};
 
     /// No guard at all. Takes no memory.
     pub fn none(alloc: Global) -> Ends
@@ -78,6 +80,18 @@ impl Ends {
         ensures { map end_of result.now ≡ self.now }
     {
         &self.listed
+    }
+
+    /// The guard that is listed for an end, or None. Takes no memory.
+    pub fn guard(&self, end: EndName) -> Option<&Guard>
+        ensures { option_map guard_of (option_copied result) ≡ guard_for self.now end.buffer.0 end.end }
+    {
+        for listed in &self.listed {
+            if listed.end == end {
+                return Some(&listed.guard);
+            }
+        }
+        None
     }
 
     /// Whether each guard fits the application, and no end is listed twice. Takes no memory.

@@ -6,6 +6,7 @@ mod ends;
 mod fault;
 mod fits;
 mod guard;
+mod guarding;
 mod nearness;
 
 pub use certificate::Certificate;
@@ -13,4 +14,5 @@ pub use ends::{EndName, Ends};
 pub use fault::EndsFault;
 pub use fits::is_listed;
 pub use guard::{EndGuard, Guard};
+pub use guarding::guarded;
 pub use nearness::near;

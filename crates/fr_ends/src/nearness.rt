@@ -1,7 +1,6 @@
 // Deletes of an object while another actor is inside a call on it.
 ghost use Rattle.std.specs.Prelude.{◌≡◌, ◌<◌, ◌↔◌, IsTrue, Some, length, slice_get};
 ghost use Rattle.fr_program.specs.declared.ids.Point.{Point};
-ghost use Rattle.fr_program.specs.Fault.{IsFaultless};
 ghost use Rattle.fr_program.specs.Lookup.{instr_of};
 ghost use Rattle.fr_program.specs.Points.{points_of};
 ghost use Rattle.fr_notes.specs.Fits.{NotesFit};
@@ -10,13 +9,6 @@ ghost use Rattle.fr_ends.specs.Nearness.{used_inside, deleted_before, deletes_us
 
 use fr_notes::{Notes, together};
 use fr_program::{App, Call, Instr, ObjId, Point, Side};
-
-/// Recalls that an application has no build fault, whatever is judged today.
-fn recall_faultless(app: &App)
-    ensures { IsFaultless app.now }
-{
-    app.recall_faultless();
-}
 
 /// The object of the call that the point is inside.
 fn used_inside(app: &App, point: Point) -> Option<ObjId>
@@ -58,7 +50,7 @@ pub fn near(app: &App, notes: &Notes, number: usize, other: usize) -> bool
     ensures { (p q : Point) → slice_get (points_of app.now) number ≡ Some p →
         slice_get (points_of app.now) other ≡ Some q → (IsTrue result ↔ Near app.now notes.now p q) }
 {
-    recall_faultless(app);
+    app.recall_faultless();
     app.recall_numbered();
     let (point, other_point) = (app.point(number), app.point(other));
     if point.actor.0 == other_point.actor.0 {

@@ -1,43 +1,51 @@
 -- What a step leaves decides whether it disturbs a note.
-use Rattle.std.proofs.Common.{◌≡◌, ◌≢◌, List, Option, Some, None, sym, ap, subst}
-use Rattle.std.specs.Prelude.{◌↔◌, Contains}
+use Rattle.std.proofs.Common.{◌≡◌, ◌≢◌, ℕ, List, Option, Some, sym, ap, ◌∙◌, subst}
+use Rattle.std.specs.Prelude.{◌↔◌, Bool, IsTrue, IfSome, Contains, slice_get}
+use Rattle.std.proofs.lemmas.Option.{same_Some}
 use Rattle.fr_program.specs.declared.ids.ActorId.{ActorId}
 use Rattle.fr_program.specs.declared.ids.Point.{Point}
 use Rattle.fr_program.specs.Program.{Program}
 use Rattle.fr_program.specs.Lookup.{IsPoint}
+use Rattle.fr_program.specs.Points.{points_of}
+use Rattle.fr_program.specs.PointNumbers.{PointsAreNumbered}
 use Rattle.fr_calls.specs.declared.way.Way.{Way}
 use Rattle.fr_calls.specs.declared.way.Way.TheVariants.{Then, Else}
 use Rattle.fr_notes.specs.declared.change.Change.{Change}
 use Rattle.fr_notes.specs.Note.{Alternative, Note}
 use Rattle.fr_notes.specs.Noted.{note_at}
 use Rattle.fr_notes.specs.Fits.{AlternativeFits, NoteFits}
-use Rattle.fr_notes.specs.Known.{AreCompatible, IsLeft, NeverSteps, Spares, beside}
+use Rattle.fr_notes.specs.Known.{Known, AllLeave, IsLeft, IsOther, LeavesSome, Spares, beside}
+use Rattle.fr_notes.specs.Pairs.{CanMeet}
 use Rattle.fr_notes.proofs.KnownUses.{undisturbed-both}
-use Rattle.fr_notes.proofs.PairLaws.{compatible-from}
-use Rattle.fr_interfere.specs.Disturbance.{IsSparedByRow, IsSparedByRows}
+use Rattle.fr_notes.proofs.PairLaws.{compatible-from, compatible-meet}
+use Rattle.fr_interfere.specs.Disturbance.{SparesSome, IsSparedByRow, IsSparedByRows}
 use Rattle.fr_interfere.specs.Undisturbed.{Undisturbed}
+use Rattle.fr_interfere.proofs.Lists.{contained-fits}
 
-module _ (P : Program) (p q : Point) (at : IsPoint P p) (ne : p.actor ≢ q.actor) (n m : Alternative) (note : Note) (fits : NoteFits P note) where
-  fits-in : (k : Alternative) → Contains note k → AlternativeFits P k
-  fits-in k i = subst (λ (x : Alternative). AlternativeFits P x) i.2 (fits.1 i.0 k i.1)
+-- two actors with one number are one actor
+pub same-actor : (a b : ActorId) → a.0 ≡ b.0 → a ≡ b
+same-actor a b e = let f : ℕ → ActorId = λ k. record { 0 = k } in ap f e
 
-  -- a row that no state has disturbs nothing
-  pub never-spares : (way : Way) → NeverSteps P (beside m n) q way → IsSparedByRow P p n q m way note
-  never-spares way never = λ can. absurd (never p (at, ne) can)
+-- a row that leaves a change leaves an alternative of the note where that is spared, and only there
+pub left-spares : (P : Program) (k : Known) (n : Alternative) → k.other ≡ Some n → (q : Point) (way : Way) (change : Change) → IsLeft P k q way change → (p : Point) → IsOther P k q p → (note : Note) → NoteFits P note → (SparesSome k n change note ↔ LeavesSome P k q p way p.actor.0 note)
+left-spares P k n e q way change left p other note fits = (
+  λ s can. (s.0, s.1, (exact s.0 s.1).0 s.2),
+  λ leaves.
+      let s = leaves (left.can p other) in (s.0, s.1, (exact s.0 s.1).1 s.2),
+)
+  where
+    exact : (m : Alternative) → Contains note m → (Spares k n change m ↔ AllLeave P k q p way p.actor.0 m)
+    exact m i =
+        subst (λ (o : Option Alternative). IfSome o (λ n. (m : Alternative) → AlternativeFits P m → (Spares k n change m ↔ AllLeave P k q p way p.actor.0 m))) e (left.spares p other) m (contained-fits P note fits m i)
 
-  -- a row that leaves a change leaves an alternative of the note where that is spared, and only there
-  pub left-spares : (way : Way) (change : Change) → IsLeft P (beside m n) q way change → (((k : Alternative) × Contains note k × Spares (beside m n) n change k) ↔ IsSparedByRow P p n q m way note)
-  left-spares way change left = (
-    λ s can. (s.0, s.1, (left.spares p (at, ne) s.0 (fits-in s.0 s.1)).0 s.2),
-    λ spared.
-        let s = spared (left.can p (at, ne)) in
-        (s.0, s.1, (left.spares p (at, ne) s.0 (fits-in s.0 s.1)).1 s.2),
-  )
-
-  -- alternatives that exclude each other are in no state together
-  pub apart-spares : (way : Way) → (AreCompatible m n → ⊥) → IsSparedByRow P p n q m way note
-  apart-spares way none = λ can.
-      absurd (none (compatible-from q.actor.0 p.actor.0 (λ e. ne (let f : _ → ActorId = λ k. record { 0 = k } in ap f e)) m n can.0 can.3.mover.holds can.3.other.holds))
+-- alternatives that exclude each other are in no state together
+pub unmet-spares : (P : Program) (p q : Point) → p.actor ≢ q.actor → (n m : Alternative) → AlternativeFits P n → AlternativeFits P m → (note : Note) → (CanMeet m n → ⊥) → IsSparedByRows P p n q m note
+unmet-spares P p q ne n m fits others note none = (by_way Then, by_way Else)
+  where
+    by_way : (way : Way) → IsSparedByRow P p n q m way note
+    by_way way can =
+        let c = compatible-from q.actor.0 p.actor.0 (λ e. ne (same-actor p.actor q.actor e)) m n can.0 can.3.mover.holds can.3.other.holds in
+        absurd (none (compatible-meet P m n others fits c))
 
 -- a point is undisturbed exactly where each pair of alternatives is spared by both rows
 pub undisturbed-spared : (P : Program) (notes : List Note) (p q : Point) → IsPoint P q → q.actor ≢ p.actor → (((n m : Alternative) → Contains (note_at P notes p) n → Contains (note_at P notes q) m → IsSparedByRows P p n q m (note_at P notes p)) ↔ Undisturbed P notes p q)
@@ -51,5 +59,25 @@ undisturbed-spared P notes p q there ne =
     by_way n m s Then = s.0
     by_way n m s Else = s.1
 
+-- the same, as the code tells it of both notes
+pub each-undisturbed : (P : Program) (notes : List Note) (p q : Point) → IsPoint P q → q.actor ≢ p.actor → (note others : Note) → note ≡ note_at P notes p → others ≡ note_at P notes q → (result : Bool) → (IsTrue result ↔ ((n m : Alternative) → Contains note n → Contains others m → IsSparedByRows P p n q m note)) → (IsTrue result ↔ Undisturbed P notes p q)
+each-undisturbed P notes p q there ne note others is are result both =
+    let b = undisturbed-spared P notes p q there ne in
+    let k = subst (λ (x : Note). IsTrue result ↔ ((n m : Alternative) → Contains (note_at P notes p) n → Contains x m → IsSparedByRows P p n q m (note_at P notes p))) are (subst (λ (x : Note). IsTrue result ↔ ((n m : Alternative) → Contains x n → Contains others m → IsSparedByRows P p n q m x)) is both) in
+    (λ t. b.0 (k.0 t), λ u. k.1 (b.1 u))
+
+-- one row, of what is known where p's actor has the alternative n and q's the alternative m
+pub by-row : (P : Program) (p q : Point) (n m : Alternative) (note : Note) (way : Way) (k : Known) → k ≡ beside m n → (result : Bool) → ((p : Point) → IsOther P k q p → (IsTrue result ↔ LeavesSome P k q p way p.actor.0 note)) → IsPoint P p → p.actor ≢ q.actor → (IsTrue result ↔ IsSparedByRow P p n q m way note)
+by-row P p q n m note way k e result both at ne =
+    subst (λ x. (p : Point) → IsOther P x q p → (IsTrue result ↔ LeavesSome P x q p way p.actor.0 note)) e both p (at, ne)
+
+-- points of one actor don't disturb each other
 pub undisturbed-own : (P : Program) (notes : List Note) (p q : Point) → p.actor.0 ≡ q.actor.0 → Undisturbed P notes p q
-undisturbed-own P notes p q e = λ there ne. absurd (ne (let f : _ → ActorId = λ k. record { 0 = k } in ap f (sym e)))
+undisturbed-own P notes p q e = λ there ne. absurd (ne (same-actor q.actor p.actor (sym e)))
+
+-- a point by its number
+pub numbered-point : (P : Program) → PointsAreNumbered P → (k : ℕ) (p : Point) → slice_get (points_of P) k ≡ Some p → IsPoint P p
+numbered-point P numbered k p e = (numbered.listed k p e).0
+
+pub same-point : (P : Program) (k : ℕ) (p q : Point) → slice_get (points_of P) k ≡ Some p → slice_get (points_of P) k ≡ Some q → p ≡ q
+same-point P k p q e f = same_Some p q (sym e ∙ f)

@@ -1,1 +1,2 @@
 pub mod DisturbanceLaws
+pub mod Lists

@@ -1,43 +1,25 @@
 // Whether another actor's steps leave a point's note holding.
-ghost use Rattle.std.specs.Prelude.{◌≡◌, ◌≢◌, ◌<◌, ◌↔◌, IsTrue, Some, All, Contains, length, slice_get};
+ghost use Rattle.std.specs.Prelude.{◌≡◌, ◌≢◌, ◌<◌, ◌↔◌, IsTrue, Some, Contains, length, slice_get};
 ghost use Rattle.fr_program.specs.declared.ids.Point.{Point};
-ghost use Rattle.fr_program.specs.Fault.{IsFaultless};
 ghost use Rattle.fr_program.specs.Lookup.{IsPoint, instr_of};
 ghost use Rattle.fr_program.specs.Points.{points_of};
 ghost use Rattle.fr_notes.specs.Fits.{AlternativeFits, NoteFits, NotesFit};
-ghost use Rattle.fr_notes.specs.Known.{KnownFits, IsOther, LeavesSome, Spares};
+ghost use Rattle.fr_notes.specs.Known.{IsPossible, KnownFits, IsOther, LeavesSome};
 ghost use Rattle.fr_notes.specs.Note.{Alternative as AlternativeOf};
-ghost use Rattle.fr_interfere.specs.Disturbance.{IsSparedByRows, IsSpoiler};
+ghost use Rattle.fr_interfere.specs.Disturbance.{SparesSome, IsSparedByRows, IsSpoiler};
 ghost use Rattle.fr_interfere.specs.Undisturbed.{Undisturbed};
 
 use fr_calls::Way;
 use fr_notes::{Alternative, Change, Known, Note, Notes, can_meet, change_by, spares};
 use fr_program::{App, Instr, Point};
 
-/// Recalls that an application has no build fault, whatever is judged today.
-fn recall_faultless(app: &App)
-    ensures { IsFaultless app.now }
-{
-    app.recall_faultless();
-}
-
 /// Whether some alternative of the note holds of the other actor after each step that makes this
 /// change, where this one held before.
-fn some_spared(
-    app: &App,
-    known: &Known,
-    alternative: &Alternative,
-    change: &Change,
-    note: &Note,
-) -> bool
-    requires fits { KnownFits app.now known.now }
+fn some_spared(known: &Known, alternative: &Alternative, change: &Change, note: &Note) -> bool
+    requires possible { IsPossible known.now }
     requires other { known.now.other ≡ Some alternative.now }
-    ensures kept { IsTrue result →
-        ((k : AlternativeOf) × Contains note.now k × Spares known.now alternative.now change.now k) }
-    ensures missed { ((k : AlternativeOf) × Contains note.now k × Spares known.now alternative.now change.now k) →
-        IsTrue result }
+    ensures { IsTrue result ↔ SparesSome known.now alternative.now change.now note.now }
 {
-    let _ = app;
     for next in note.alternatives() {
         if spares(known, alternative, change, next) {
             return true;
@@ -64,9 +46,8 @@ fn is_spared_by_row(
     ensures { (p : Point) → IsOther app.now known.now mover p →
         (IsTrue result ↔ LeavesSome app.now known.now mover p way p.actor.0 note.now) }
 {
-    recall_faultless(app);
     match change_by(app, known, mover, instr, way) {
-        Some(change) => some_spared(app, known, alternative, &change, note),
+        Some(change) => some_spared(known, alternative, &change, note),
         None => true,
     }
 }

@@ -1,12 +1,9 @@
 -- How the verdict comes of the points in their order: those before the first that fails keep every part.
-use Rattle.std.proofs.Common.{◌≡◌, ℕ, ◌<◌, ◌+◌, length, Some, ap, subst, ⊎_elim, arith}
+use Rattle.std.proofs.Common.{◌≡◌, ℕ, length, Some, ap, arith}
 use Rattle.std.specs.Prelude.{slice_get}
-use Rattle.std.proofs.lemmas.Option.{slice_get_within}
-use Rattle.std.proofs.lemmas.Bool.{cases_lt}
 use Rattle.fr_program.specs.declared.ids.Point.{Point}
 use Rattle.fr_program.specs.Program.{Program}
-use Rattle.fr_program.specs.Lookup.{IsPoint}
-use Rattle.fr_program.specs.Points.{points_of, point_number}
+use Rattle.fr_program.specs.Points.{points_of}
 use Rattle.fr_program.specs.PointNumbers.{PointsAreNumbered}
 use Rattle.fr_program.specs.Fault.{IsFaultless}
 use Rattle.fr_calls.specs.Run.{IsSafe}
@@ -17,22 +14,16 @@ use Rattle.fr_judge.specs.declared.part.Verdict.TheVariants.{Yes as TellsYes, No
 use Rattle.fr_judge.specs.Verdict.{Yes, No, KeepsAll, IsCertified}
 use Rattle.fr_judge.specs.Told.{TellsFirst, TellsVerdict}
 use Rattle.fr_judge.proofs.Induction.{certified-safe}
+use Rattle.fr_judge.proofs.Walks.{IsSoBelow, at-each}
 use Rattle.fr_judge.proofs.Telling.{fitting-distinct}
 
 -- every part is kept at each point with a number below this one
 abbrev pub KeepsBelow : Program → Certificate → ℕ → Type 0
-KeepsBelow P C n = (p : Point) → IsPoint P p → point_number P p < n → KeepsAll P C p
+KeepsBelow P C n = IsSoBelow P (λ p. KeepsAll P C p) n
 
 module _ (P : Program) (C : Certificate) (numbered : PointsAreNumbered P) where
-  pub one-more : (n : ℕ) → KeepsBelow P C n → ((p : Point) → slice_get (points_of P) n ≡ Some p → KeepsAll P C p) → KeepsBelow P C (n + 1)
-  one-more n below here q is lt =
-      ⊎_elim
-      (λ l. below q is l)
-      (λ h. let same : point_number P q ≡ n = omega (arith, h, lt) in here q (subst (λ k. slice_get (points_of P) k ≡ Some q) same (numbered.at q is)))
-      (cases_lt (point_number P q) n)
-
   pub all-keep : KeepsBelow P C (length (points_of P)) → IsCertified P C
-  all-keep below p is = below p is (slice_get_within (points_of P) (point_number P p) p (numbered.at p is))
+  all-keep below = at-each P numbered (λ p. KeepsAll P C p) below
 
   pub first-failure : (n : ℕ) (p : Point) (told : Told) → KeepsBelow P C n → slice_get (points_of P) n ≡ Some p → TellsFirst P C p (Some told) → TellsVerdict P C (TellsNo p told)
   first-failure n p told below e first =

@@ -11,7 +11,8 @@ pub mod WorkedParts
 pub mod WorkedFaultless
 pub mod WritersFaultless
 pub mod Telling
+pub mod Walks
 pub mod Judging
-pub mod OwnParts
+pub mod Firsts
 pub mod OneAnswer
 pub mod Theorem

@@ -1,13 +1,9 @@
--- What is told of a point is of the application, and what an application of today's kind can't fail: it has one task and
--- no object, so no point is inside an object call, and no other actor has a point.
-use Rattle.std.proofs.Common.{◌≡◌, ℕ, ◌<◌, ◌≤◌, List, length, ap, subst, arith}
+-- What is told of a point is of the application.
+use Rattle.std.proofs.Common.{◌<◌, ◌≤◌, List, length, subst, arith}
 use Rattle.std.specs.Prelude.{IsTrue, All}
-use Rattle.fr_program.specs.declared.ids.ActorId.{ActorId}
 use Rattle.fr_program.specs.declared.ids.Point.{Point}
 use Rattle.fr_program.specs.Program.{Program}
-use Rattle.fr_program.specs.Lookup.{IsPoint}
-use Rattle.fr_program.specs.Fault.{IsFaultless, IsJudgedYet}
-use Rattle.fr_calls.specs.declared.buffer_end.End.{End}
+use Rattle.fr_program.specs.Fault.{IsFaultless}
 use Rattle.fr_calls.specs.declared.rules.Rule.{Rule}
 use Rattle.fr_calls.specs.declared.rules.Rule.TheVariants.{OneWriter, OneReader}
 use Rattle.fr_calls.specs.Rule.{number_of}
@@ -15,12 +11,9 @@ use Rattle.fr_edge.specs.Own.{is_own}
 use Rattle.fr_ends.specs.Guard.{EndGuard, Guard, Sole, ByMutex, InCritical, Turn}
 use Rattle.fr_ends.specs.Certificate.{Certificate, HasDistinctTurns, AllHaveDistinctTurns}
 use Rattle.fr_ends.specs.Fits.{GuardFits, EndFits}
-use Rattle.fr_ends.specs.Guarded.{Guarded, Near}
-use Rattle.fr_interfere.specs.Undisturbed.{Undisturbed}
 use Rattle.fr_judge.specs.Part.{Part, EntryPart, RulePart, GoesPart, GuardPart, NearPart, SpoiledPart, IsKept}
 use Rattle.fr_judge.specs.Told.{told_part, IsOf}
 use Rattle.fr_judge.proofs.Failing.{failing-owed}
-use Rattle.fr_judge.proofs.Numbers.{actor-below}
 
 -- a rule that a point owes by itself is none of 1 and 2
 own-number : (i : _) (rule : Rule) → IsTrue (is_own i rule) → 3 ≤ number_of rule
@@ -39,22 +32,6 @@ module _ (P : Program) (faultless : IsFaultless P) (C : Certificate) (p : Point)
       subst (λ b. b < length P.objects) o.1.1 (faultless.names.things _ _ _ o.1.3).1
   failing-is-of (NearPart q) h = (failing-owed P C p (NearPart q) h).0
   failing-is-of (SpoiledPart q) h = (failing-owed P C p (SpoiledPart q) h).0
-
-module _ (P : Program) (judged : IsJudgedYet P) (C : Certificate) (p : Point) (is : IsPoint P p) where
-  -- all points are of one actor
-  one-actor : (q : Point) → IsPoint P q → q.actor ≡ p.actor
-  one-actor q i =
-      let f : ℕ → ActorId = λ n. record { 0 = n } in
-      ap f (omega (arith, judged.one, actor-below P _ _ _ is.1, actor-below P _ _ _ i.1))
-
-  pub keeps-guard : (buffer : ℕ) (end : End) → Guarded P C p buffer end
-  keeps-guard buffer end action inside at = absurd (judged.code _ _ _ inside.3)
-
-  pub keeps-near : (q : Point) → Near P C.notes p q
-  keeps-near q i other = absurd (other (one-actor q i))
-
-  pub keeps-undisturbed : (q : Point) → Undisturbed P C.notes p q
-  keeps-undisturbed q i other = absurd (other (one-actor q i))
 
 -- guards that fit have distinct turns
 guard-distinct : (P : Program) (g : Guard) → GuardFits P g → HasDistinctTurns g

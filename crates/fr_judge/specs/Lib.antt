@@ -6,6 +6,7 @@ pub mod WorkedVerdicts
 pub mod WorkedWriters
 pub mod WorkedParts
 pub mod Told
+pub mod Deleter
 pub mod Texts
 pub mod Approved
 pub mod Theorem

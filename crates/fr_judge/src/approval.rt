@@ -2,7 +2,7 @@
 ghost use Rattle.std.specs.Prelude.{◌≡◌, ◌≢◌, IfOk, IfErr, OnOk};
 ghost use Rattle.fr_calls.specs.Run.{IsSafe};
 ghost use Rattle.fr_ends.specs.Fits.{CertificateFits};
-ghost use Rattle.fr_judge.specs.Told.{TellsVerdict};
+ghost use Rattle.fr_judge.specs.Told.{TellsVerdict, Speaks};
 ghost use Rattle.fr_judge.specs.Verdict.{IsCertified};
 ghost use Rattle.fr_judge.specs.Sound.{Certified};
 
@@ -40,6 +40,7 @@ impl Passed {
         ensures safe { OnOk result (IsSafe app) }
         ensures returned { IfErr result (λ r. (r.0 ≡ app) × (r.1 ≡ certificate)) }
         ensures no { IfErr result (λ r. (r.2 ≢ Verdict.Yes) × TellsVerdict app certificate r.2) }
+        ensures speaks { IfErr result (λ r. Speaks app r.2) }
     {
         match judge(&app, &certificate) {
             Verdict::Yes => Ok(Passed { app, certificate }),

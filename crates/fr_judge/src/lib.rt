@@ -5,6 +5,7 @@
 #![tactic(auto)]
 
 mod approval;
+mod deletion;
 mod laws;
 mod part;
 mod text;

@@ -7,9 +7,11 @@ ghost use Rattle.fr_edge.specs.declared.failure.Own.{Own as OwnPart};
 ghost use Rattle.fr_ends.specs.Fits.{CertificateFits};
 ghost use Rattle.fr_judge.specs.Told.{TellsFirst, TellsVerdict, IsOf, Speaks, part_of_own};
 
+use crate::deletion::deleter;
 use crate::part::{Part, Verdict};
 use fr_edge::{Own, own};
-use fr_ends::Certificate;
+use fr_ends::{Certificate, guarded};
+use fr_interfere::spoiler;
 use fr_program::App;
 
 /// The part that an own obligation is.
@@ -23,10 +25,10 @@ fn part_of_own(failing: Own) -> Part
     }
 }
 
-/// The first part that fails at the point with this number, or None where all are kept there. The
+/// The first part that fails at the point with this number, or None where all are kept there: its
+/// own obligations, the guards of the ends that it is inside a call at, the deletes of what it uses,
+/// and the steps of other actors, in this order; within one kind the least rule, end or point. The
 /// number is below that of the points, and the certificate fits the application. Takes no memory.
-///
-/// Applications have one task and no object today, so no part fails but the point's own.
 pub fn job(app: &App, certificate: &Certificate, number: usize) -> Option<Part>
     requires number { number < length (points_of app.now) }
     requires fits { CertificateFits app.now certificate.now }
@@ -37,8 +39,17 @@ pub fn job(app: &App, certificate: &Certificate, number: usize) -> Option<Part>
     app.recall_faultless();
     app.recall_numbered();
     let _point = app.point(number);
-    match own(app, &certificate.notes, number) {
-        Some(failing) => Some(part_of_own(failing)),
+    if let Some(failing) = own(app, &certificate.notes, number) {
+        return Some(part_of_own(failing));
+    }
+    if let Some(end) = guarded(app, certificate, number) {
+        return Some(Part::Guard(end));
+    }
+    if let Some(other) = deleter(app, &certificate.notes, number) {
+        return Some(Part::Near(other));
+    }
+    match spoiler(app, &certificate.notes, number) {
+        Some(other) => Some(Part::Spoiled(app.point(other))),
         None => None,
     }
 }

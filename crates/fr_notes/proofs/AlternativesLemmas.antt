@@ -1,10 +1,10 @@
 -- The alternatives of notes, joined one note after another.
-use Rattle.std.proofs.Common.{◌≡◌, ◌<◌, ◌≤◌, ◌+◌, ℕ, List, [], ◌∷◌, ◌++◌, All, IsTrue, true, false, take, drop, length, get_or, refl, sym, ap, ◌∙◌, subst, append_assoc, append-nil, arith, length-append}
+use Rattle.std.proofs.Common.{◌≡◌, ◌<◌, ◌≤◌, ◌+◌, ℕ, List, [], ◌∷◌, ◌++◌, All, IsTrue, false, take, drop, length, get_or, refl, sym, ap, ◌∙◌, subst, append_assoc, append-nil, arith, length-append}
 use Rattle.std.proofs.lemmas.Bool.{false≢true}
 use Rattle.std.proofs.lemmas.List.{take_more, take-append-drop}
 use Rattle.std.proofs.lemmas.List.Elements.{All-head, All-tail, All-nil, All-append}
 use Rattle.fr_program.specs.Program.{Program}
-use Rattle.fr_notes.specs.Note.{Alternative, Note}
+use Rattle.fr_notes.specs.Note.{Note}
 use Rattle.fr_notes.specs.Fits.{AlternativeFits, NoteFits}
 use Rattle.fr_notes.specs.Alternatives.{joined}
 

@@ -1,5 +1,5 @@
 -- The ends of sends to stream and message buffers, of receives from them, and of resets.
-use Rattle.std.proofs.Common.{◌≡◌, ◌≢◌, ℕ, zero, suc, ◌+◌, ◌-◌, ◌<◌, ◌≤◌, List, [], ◌∷◌, ◌++◌, length, Option, Some, None, Bool, true, false, refl, sym, ap, ◌∙◌, subst, arith, ⊎_elim, eq-eqb}
+use Rattle.std.proofs.Common.{◌≡◌, ℕ, ◌+◌, ◌-◌, ◌<◌, ◌≤◌, List, [], ◌∷◌, ◌++◌, length, Option, Some, None, Bool, true, false, refl, sym, ap, ◌∙◌, subst, arith, ⊎_elim, eq-eqb}
 use Rattle.std.specs.Prelude.{ℤ, pos, negsuc, ◌≤ℤ◌, ◌<ℤ◌, IsTrue, IfSome, All, int_le, nat_lt, nat_eq, sum, if◌then◌else◌}
 use Rattle.std.specs.Int.{int_min}
 use Rattle.std.proofs.lemmas.Int.{ints, clamps}
@@ -19,27 +19,26 @@ use Rattle.fr_program.specs.declared.instr.BufferKind.{BufferKind}
 use Rattle.fr_program.specs.declared.instr.BufferKind.TheVariants.{Stream as OfStream, Message as OfMessage}
 use Rattle.fr_program.specs.declared.instr.Timing.{Timing}
 use Rattle.fr_program.specs.declared.parts.Kind.{Kind}
-use Rattle.fr_program.specs.declared.parts.Kind.TheVariants.{Queue, Binary, Counting, Mutex, Recursive, Stream, Message}
+use Rattle.fr_program.specs.declared.parts.Kind.TheVariants.{Stream, Message}
 use Rattle.fr_program.specs.declared.range.Range.{Range}
 use Rattle.fr_program.specs.Program.{Program}
 use Rattle.fr_program.specs.Limits.{KindInLimits}
-use Rattle.fr_program.specs.Uses.{acts_on, is_buffer, option_list}
-use Rattle.fr_calls.specs.declared.way.Way.{Way}
+use Rattle.fr_program.specs.Uses.{is_buffer, option_list}
 use Rattle.fr_calls.specs.declared.way.Way.TheVariants.{Then, Else}
-use Rattle.fr_calls.specs.State.{State, Content, Dead, Values, Count, Free, Held, Bytes, Lengths, CanHave, new_content, content_of, kind_of, becomes}
-use Rattle.fr_calls.specs.Step.{Completes, Moves, Puts, sent_bytes, received_bytes, sent_message, received_message, with_result, transition}
+use Rattle.fr_calls.specs.State.{State, Content, Bytes, Lengths, CanHave, new_content, content_of, kind_of, becomes}
+use Rattle.fr_calls.specs.Step.{Completes, Moves, sent_bytes, received_bytes, sent_message, received_message, with_result, transition}
 use Rattle.fr_notes.specs.Note.{Within}
 use Rattle.fr_notes.specs.View.{ends_of}
 use Rattle.fr_notes.specs.Known.{Known, IsOther, IsLeft, NeverSteps}
-use Rattle.fr_notes.specs.Holding.{Holding, Living, holding, living, mover_claim}
+use Rattle.fr_notes.specs.Holding.{Holding, Living, holding, mover_claim}
 use Rattle.fr_notes.specs.Results.{IsSpan}
 use Rattle.fr_notes.specs.Spot.{IsEnd, claiming, resulting}
 use Rattle.fr_notes.proofs.Shown.{new-live}
-use Rattle.fr_notes.proofs.Holdings.{IsIn, HoldingFits, new-unheld}
+use Rattle.fr_notes.proofs.Holdings.{IsIn, new-unheld}
 use Rattle.fr_notes.proofs.Left.{end_of}
 use Rattle.fr_notes.proofs.ObjectRows.{same-content}
-use Rattle.fr_notes.proofs.EndRows.{Follows, end-left, end-never, end-names}
-use Rattle.fr_notes.proofs.Ends.{at, b, end-fits, end-limits, living-follows, some-content, stay-left, puts-left}
+use Rattle.fr_notes.proofs.EndRows.{end-left, end-never, end-names}
+use Rattle.fr_notes.proofs.Ends.{b, end-fits, end-limits, living-follows, some-content, stay-left, puts-left}
 use Rattle.fr_notes.proofs.QueueRows.{acts-on, can_be_held, living-only}
 
 pub bytes-in : (a b n : ℕ) → IsIn a b Living (Bytes n)

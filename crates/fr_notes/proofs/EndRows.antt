@@ -1,7 +1,6 @@
 -- The ends of object calls: from what an end makes of a content to what it leaves.
-use Rattle.std.proofs.Common.{◌≡◌, ◌≢◌, ℕ, ◌<◌, ◌≤◌, length, Option, Some, None, Bool, true, false, refl, sym, ap, ◌∙◌, subst, arith}
-use Rattle.std.specs.Prelude.{ℤ, pos, IfSome, All}
-use Rattle.std.proofs.lemmas.Int.{ints}
+use Rattle.std.proofs.Common.{◌≡◌, ◌≢◌, ℕ, ◌<◌, length, Option, Some, Bool, true, false, refl, sym, ap, ◌∙◌, subst, arith}
+use Rattle.std.specs.Prelude.{ℤ, IfSome, All}
 use Rattle.std.proofs.lemmas.Option.{same_Some}
 use Rattle.std.proofs.lemmas.Bool.{false≢true}
 use Rattle.fr_program.specs.declared.ids.ObjId.{ObjId}
@@ -13,27 +12,27 @@ use Rattle.fr_program.specs.declared.instr.Instr.{Instr}
 use Rattle.fr_program.specs.declared.instr.Instr.TheVariants.{Call as Calls}
 use Rattle.fr_program.specs.declared.instr.Call.TheVariants.{On}
 use Rattle.fr_program.specs.declared.instr.Action.{Action}
-use Rattle.fr_program.specs.declared.instr.Action.TheVariants.{QueueSend, QueueReceive, Take, Give, Send, Receive, Reset}
-use Rattle.fr_program.specs.declared.instr.GiveForm.TheVariants.{Plain as PlainGive, Recursive as RecursiveGive, FromIsr as GiveFromIsr}
+use Rattle.fr_program.specs.declared.instr.Action.TheVariants.{Give}
+use Rattle.fr_program.specs.declared.instr.GiveForm.TheVariants.{Plain as PlainGive, Recursive as RecursiveGive}
 use Rattle.fr_program.specs.declared.parts.Kind.{Kind}
-use Rattle.fr_program.specs.declared.parts.Kind.TheVariants.{Queue, Binary, Counting, Mutex, Recursive, Stream, Message}
+use Rattle.fr_program.specs.declared.parts.Kind.TheVariants.{Mutex, Recursive}
 use Rattle.fr_program.specs.declared.range.Range.{Range}
 use Rattle.fr_program.specs.Program.{Program}
 use Rattle.fr_program.specs.Uses.{action_variables}
 use Rattle.fr_calls.specs.declared.way.Way.{Way}
-use Rattle.fr_calls.specs.State.{State, Content, Dead, Held, CanHave, content_of, kind_of, becomes, count_held}
+use Rattle.fr_calls.specs.State.{State, Content, Dead, CanHave, content_of, kind_of, becomes, count_held}
 use Rattle.fr_calls.specs.declared.rules.Rule.TheVariants.{IsLive}
-use Rattle.fr_calls.specs.Rule.{GivesUnheld, UsesDead, used_object}
+use Rattle.fr_calls.specs.Rule.{GivesUnheld, used_object}
 use Rattle.fr_calls.specs.Step.{Completes, IsFree, transition, with_result}
 use Rattle.fr_calls.proofs.Free.{inside-free, live-use}
 use Rattle.fr_notes.specs.Note.{Within, HeldTimes}
 use Rattle.fr_notes.specs.View.{ends_of}
 use Rattle.fr_notes.specs.Known.{Known, IsOther, IsLeft, NeverSteps, taught}
 use Rattle.fr_notes.specs.Holding.{Holding, Unheld, Living, Lifeless, Own, Others, holding, living, mover_claim, other_claim, is_given_unheld}
-use Rattle.fr_notes.specs.Spot.{IsSpot, IsEnd, resulting}
+use Rattle.fr_notes.specs.Spot.{IsEnd, resulting}
 use Rattle.fr_notes.proofs.Shown.{depth_for-same}
-use Rattle.fr_notes.proofs.Holdings.{IsIn, IsUnheldBy, live-count, unheld-count, others-free}
-use Rattle.fr_notes.proofs.Seen.{Site, mover, other, IsKnown, contents-in, apart}
+use Rattle.fr_notes.proofs.Holdings.{IsIn, live-count, unheld-count, others-free}
+use Rattle.fr_notes.proofs.Seen.{Site, mover, other, IsKnown, contents-in}
 use Rattle.fr_notes.proofs.Left.{end_of}
 use Rattle.fr_notes.proofs.Rows.{row-never, site}
 use Rattle.fr_notes.proofs.ObjectRows.{object-left}

@@ -1,5 +1,5 @@
 -- Two forms that most ends have: the state stays, or the object gets what a function makes of its content.
-use Rattle.std.proofs.Common.{◌≡◌, ◌≢◌, ℕ, ◌<◌, ◌≤◌, length, Option, Some, None, Bool, true, false, refl, sym, ap, ◌∙◌, subst, arith}
+use Rattle.std.proofs.Common.{◌≡◌, ℕ, ◌<◌, length, Option, Some, None, refl, ap, ◌∙◌, subst, arith}
 use Rattle.std.specs.Prelude.{ℤ, pos, ◌≤ℤ◌}
 use Rattle.std.proofs.lemmas.Int.{ints}
 use Rattle.std.proofs.lemmas.Option.{same_Some}
@@ -21,12 +21,12 @@ use Rattle.fr_calls.specs.Step.{Completes, Puts, transition}
 use Rattle.fr_calls.proofs.Built.{is-built}
 use Rattle.fr_notes.specs.Known.{Known, IsOther, IsLeft, NeverSteps}
 use Rattle.fr_notes.specs.Holding.{Holding, Unheld, Living, Lifeless, Own, Others, holding, living, mover_claim}
-use Rattle.fr_notes.specs.Spot.{IsSpot, IsEnd, claiming}
+use Rattle.fr_notes.specs.Spot.{IsEnd, claiming}
 use Rattle.fr_notes.proofs.Holdings.{IsIn, HoldingFits, content_in, content-in, content-can}
-use Rattle.fr_notes.proofs.Seen.{Site, mover, other, IsKnown, known-fits}
+use Rattle.fr_notes.proofs.Seen.{Site, other, known-fits}
 use Rattle.fr_notes.proofs.Rows.{site}
 use Rattle.fr_notes.proofs.ObjectRows.{same-content}
-use Rattle.fr_notes.proofs.EndRows.{Follows, IsEndRow, end-left, end-never, end-names}
+use Rattle.fr_notes.proofs.EndRows.{Follows, end-left, end-never, end-names}
 
 -- where there is no result, any range does
 pub no_range : Range

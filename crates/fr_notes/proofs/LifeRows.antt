@@ -1,12 +1,9 @@
 -- Creates, deletes, and the begins of object calls.
-use Rattle.std.proofs.Common.{◌≡◌, ◌≢◌, ℕ, ◌<◌, ◌≤◌, length, Option, Some, None, Bool, true, false, refl, sym, ap, ◌∙◌, subst, arith}
-use Rattle.std.specs.Prelude.{ℤ, pos, ◌≤ℤ◌}
-use Rattle.std.proofs.lemmas.Int.{ints}
-use Rattle.std.proofs.lemmas.Option.{same_Some}
+use Rattle.std.proofs.Common.{◌≡◌, ◌≢◌, ℕ, ◌<◌, length, Option, Some, None, true, false, refl, sym, ◌∙◌, subst}
+use Rattle.std.specs.Prelude.{pos}
 use Rattle.fr_program.specs.declared.ids.ObjId.{ObjId}
 use Rattle.fr_program.specs.declared.ids.Point.{Point}
-use Rattle.fr_program.specs.declared.ids.Side.{Side}
-use Rattle.fr_program.specs.declared.ids.Side.TheVariants.{Before, Inside}
+use Rattle.fr_program.specs.declared.ids.Side.TheVariants.{Before}
 use Rattle.fr_program.specs.declared.instr.Instr.{Instr}
 use Rattle.fr_program.specs.declared.instr.Instr.TheVariants.{Call as Calls}
 use Rattle.fr_program.specs.declared.instr.Call.TheVariants.{Create, Delete, On}
@@ -16,22 +13,20 @@ use Rattle.fr_program.specs.declared.instr.Action.{Action}
 use Rattle.fr_program.specs.Program.{Program}
 use Rattle.fr_calls.specs.declared.way.Way.{Way}
 use Rattle.fr_calls.specs.declared.way.Way.TheVariants.{Then, Else}
-use Rattle.fr_calls.specs.State.{State, Content, Dead, CanHave, content_of, kind_of, becomes, new_content}
-use Rattle.fr_calls.specs.Rule.{used_object, GivesUnheld}
-use Rattle.fr_calls.specs.Step.{Row, IsFree, transition}
+use Rattle.fr_calls.specs.State.{Content, Dead, content_of, kind_of, new_content}
 use Rattle.fr_calls.proofs.Built.{is-built}
 use Rattle.fr_calls.proofs.Free.{no-use, live-use}
 use Rattle.fr_notes.specs.Note.{Alive, Gone}
-use Rattle.fr_notes.specs.Known.{Known, IsOther, IsLeft, NeverSteps, taught}
+use Rattle.fr_notes.specs.Known.{Known, IsLeft, NeverSteps, taught}
 use Rattle.fr_notes.specs.Holding.{Holding, Unheld, Living, Lifeless, Own, Others, holding, can_be_dead, living, mover_claim, other_claim, is_given_unheld}
 use Rattle.fr_notes.specs.Spot.{IsSpot, IsUnforbidden, claiming}
 use Rattle.fr_notes.proofs.Shown.{new-live}
-use Rattle.fr_notes.proofs.Holdings.{IsIn, HoldingFits, content_in, content-in, content-can, new-unheld, live-count}
-use Rattle.fr_notes.proofs.Seen.{Site, mover, other, IsKnown, contents-in, known-fits}
+use Rattle.fr_notes.proofs.Holdings.{IsIn, content_in, content-in, content-can, new-unheld, live-count}
+use Rattle.fr_notes.proofs.Seen.{other, contents-in, known-fits}
 use Rattle.fr_notes.proofs.Rows.{row-never, site}
 use Rattle.fr_notes.proofs.PlainRows.{free-before}
-use Rattle.fr_notes.proofs.ObjectRows.{IsObjectRow, object-left, same-content}
-use Rattle.fr_notes.proofs.EndRows.{Follows, follows-taught, living-in, in-living, living-live, gives-held, free-live}
+use Rattle.fr_notes.proofs.ObjectRows.{object-left, same-content}
+use Rattle.fr_notes.proofs.EndRows.{follows-taught, living-in, in-living, living-live, gives-held, free-live}
 use Rattle.fr_notes.proofs.Ends.{no_range, no-range-in, living-follows, living-fits}
 
 -- nothing is known of the object, or that it is dead

@@ -1,7 +1,6 @@
 -- Where there is no step at all, whatever the row: a rule stops the mover.
-use Rattle.std.proofs.Common.{◌≡◌, ◌≢◌, ℕ, ◌<◌, List, [], ◌∷◌, length, Option, Some, None, Bool, true, false, refl, sym, ap, ◌∙◌, subst, arith}
-use Rattle.std.specs.Prelude.{ℤ, ◌≤ℤ◌, IsTrue, IfSome, All, find, nat_eq, if◌then◌else◌}
-use Rattle.std.proofs.lemmas.Int.{ints}
+use Rattle.std.proofs.Common.{◌≡◌, ℕ, List, [], ◌∷◌, Some, None, Bool, true, false, refl, sym, ap, ◌∙◌, subst}
+use Rattle.std.specs.Prelude.{ℤ, IsTrue, All, find, nat_eq, if◌then◌else◌}
 use Rattle.std.proofs.lemmas.Option.{same_Some}
 use Rattle.std.proofs.lemmas.Bool.{false≢true}
 use Rattle.std.proofs.lemmas.List.Elements.{All-nil, All-cons, All-head, All-tail}
@@ -18,14 +17,14 @@ use Rattle.fr_program.specs.Program.{Program}
 use Rattle.fr_calls.specs.declared.way.Way.{Way}
 use Rattle.fr_calls.specs.declared.rules.Rule.{Rule}
 use Rattle.fr_calls.specs.declared.rules.Rule.TheVariants.{GivenByHolder, AllowedInCritical, AllowedSuspended, AllowedInInterrupt, SuitsSemaphore, DepthAboveZero, EndsInOrder}
-use Rattle.fr_calls.specs.State.{State, Dead, content_of, kind_of}
+use Rattle.fr_calls.specs.State.{State, content_of, kind_of}
 use Rattle.fr_calls.specs.Rule.{Breaches, IsForbidden, condition_of, forbids, first_forbidden, decided_rules, used_object, is_unsuited}
 use Rattle.fr_calls.specs.Step.{Row, IsFree, stops, transition}
-use Rattle.fr_notes.specs.Known.{Known, IsOther, NeverSteps}
+use Rattle.fr_notes.specs.Known.{Known, NeverSteps}
 use Rattle.fr_notes.specs.Holding.{Holding, Unheld, Living, Lifeless, Own, Others, holding, living, is_given_unheld}
-use Rattle.fr_notes.specs.Spot.{IsSpot, IsUnforbidden, condition_known}
+use Rattle.fr_notes.specs.Spot.{IsSpot, condition_known}
 use Rattle.fr_notes.proofs.Holdings.{IsIn}
-use Rattle.fr_notes.proofs.Seen.{mover, other, IsKnown, contents-in, apart}
+use Rattle.fr_notes.proofs.Seen.{other, contents-in, apart}
 use Rattle.fr_notes.proofs.Rows.{row-never, site}
 use Rattle.fr_notes.proofs.PlainRows.{condition-known}
 use Rattle.fr_notes.proofs.EndRows.{living-in, free-live, unheld-gives}

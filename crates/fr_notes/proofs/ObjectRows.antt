@@ -2,10 +2,9 @@
 --
 -- Such a row leaves the object with a content of its own, and all else as it was. It gives one content before it for each
 -- end of the results' range; where there is no result, one content would do.
-use Rattle.std.proofs.Common.{◌≡◌, ◌≢◌, ℕ, ◌<◌, length, get_or, Option, Some, None, Bool, true, false, refl, sym, ap, ◌∙◌, subst, arith, get_or-set_other}
-use Rattle.std.specs.Prelude.{ℤ, pos, IfSome, All}
+use Rattle.std.proofs.Common.{◌≡◌, ◌≢◌, ◌<◌, length, Option, Some, None, Bool, false, refl, sym, ap, ◌∙◌, subst, arith, get_or-set_other}
+use Rattle.std.specs.Prelude.{ℤ, pos, IfSome}
 use Rattle.std.proofs.Math.ListN.{length-set}
-use Rattle.std.proofs.lemmas.Int.{ints}
 use Rattle.std.proofs.lemmas.List.{get_or-set_same, set-get_or}
 use Rattle.fr_program.specs.declared.ids.ObjId.{ObjId}
 use Rattle.fr_program.specs.declared.ids.VarId.{VarId}
@@ -17,15 +16,14 @@ use Rattle.fr_program.specs.declared.range.Range.{Range}
 use Rattle.fr_calls.specs.declared.way.Way.{Way}
 use Rattle.fr_calls.specs.State.{State, Content, Dead, CanHave, content_of, value_of, kind_of, becomes, write}
 use Rattle.fr_calls.specs.Step.{Row, IsFree, transition, with_result}
-use Rattle.fr_notes.specs.declared.change.Change.{Change}
 use Rattle.fr_notes.specs.Note.{Within}
 use Rattle.fr_notes.specs.View.{ends_of}
 use Rattle.fr_notes.specs.Known.{Known, IsOther, IsLeft, taught}
 use Rattle.fr_notes.specs.Holding.{Holding, Unheld, holding, mover_claim, other_claim}
 use Rattle.fr_notes.specs.Spot.{IsSpot, resulting}
-use Rattle.fr_notes.proofs.Shown.{instead, instead-same, instead-other}
+use Rattle.fr_notes.proofs.Shown.{instead-same, instead-other}
 use Rattle.fr_notes.proofs.Holdings.{IsIn}
-use Rattle.fr_notes.proofs.Seen.{Site, mover, other, IsKnown, Choice, drawn, IsChosen, drawn-known, drawn-content, drawn-values, usual, usual-chosen, valued, filled, filled-chosen}
+use Rattle.fr_notes.proofs.Seen.{Site, mover, other, IsKnown, Choice, drawn, IsChosen, drawn-known, drawn-content, drawn-values, usual, usual-chosen, filled, filled-chosen}
 use Rattle.fr_notes.proofs.Left.{end_of, left-from}
 use Rattle.fr_notes.proofs.Rows.{Attains, IsAfter, IsRow, site, row-exact}
 

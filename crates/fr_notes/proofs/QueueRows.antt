@@ -1,8 +1,8 @@
 -- The ends of queue sends and receives.
-use Rattle.std.proofs.Common.{◌≡◌, ◌≢◌, ℕ, ◌<◌, ◌≤◌, List, [], ◌∷◌, ◌++◌, length, Option, Some, None, Bool, true, false, refl, sym, ap, ◌∙◌, subst, arith}
-use Rattle.std.specs.Prelude.{ℤ, pos, ◌≤ℤ◌, IsTrue, IfSome, All, int_lt, if◌then◌else◌, slice_get}
+use Rattle.std.proofs.Common.{◌≡◌, ℕ, ◌<◌, List, [], ◌∷◌, ◌++◌, length, Option, Some, Bool, true, false, refl, sym, subst, arith}
+use Rattle.std.specs.Prelude.{ℤ, pos, ◌≤ℤ◌, IsTrue, IfSome, int_lt}
 use Rattle.std.proofs.lemmas.Int.{ints}
-use Rattle.std.proofs.lemmas.Option.{same_Some, cond_some, slice_get-get_or}
+use Rattle.std.proofs.lemmas.Option.{cond_some, slice_get-get_or}
 use Rattle.std.proofs.lemmas.List.Elements.{All-nil, All-cons, All-head}
 use Rattle.fr_program.specs.declared.ids.ObjId.{ObjId}
 use Rattle.fr_program.specs.declared.ids.VarId.{VarId}
@@ -21,9 +21,9 @@ use Rattle.fr_program.specs.Lookup.{no_object}
 use Rattle.fr_program.specs.Limits.{KindInLimits}
 use Rattle.fr_program.specs.Uses.{acts_on}
 use Rattle.fr_calls.specs.declared.way.Way.TheVariants.{Then, Else}
-use Rattle.fr_calls.specs.State.{State, Content, Dead, Values, Count, Free, Held, Bytes, Lengths, CanHave, content_of, kind_of, becomes}
+use Rattle.fr_calls.specs.State.{Content, Values, CanHave, kind_of}
 use Rattle.fr_calls.specs.Rule.{operand_of}
-use Rattle.fr_calls.specs.Step.{Completes, queued, can_time_out, transition}
+use Rattle.fr_calls.specs.Step.{queued, can_time_out}
 use Rattle.fr_notes.specs.Note.{Within}
 use Rattle.fr_notes.specs.View.{ends_of}
 use Rattle.fr_notes.specs.Known.{Known, IsLeft, NeverSteps}
@@ -32,8 +32,8 @@ use Rattle.fr_notes.specs.Results.{HasValues}
 use Rattle.fr_notes.specs.Spot.{IsEnd, claiming, resulting}
 use Rattle.fr_notes.proofs.Holdings.{IsIn, HoldingFits}
 use Rattle.fr_notes.proofs.Left.{end_of}
-use Rattle.fr_notes.proofs.EndRows.{Follows, end-left, end-never, end-names}
-use Rattle.fr_notes.proofs.Ends.{at, b, end-fits, end-limits, living-follows, some-content, stay-left, puts-left, puts-never}
+use Rattle.fr_notes.proofs.EndRows.{end-left, end-never, end-names}
+use Rattle.fr_notes.proofs.Ends.{b, end-fits, end-limits, living-follows, some-content, stay-left, puts-left}
 use Rattle.fr_notes.proofs.SemaphoreContents.{never-unheld, never-lifeless}
 
 -- what a call acts on is of a kind that it is for

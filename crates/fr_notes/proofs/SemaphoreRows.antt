@@ -1,6 +1,6 @@
 -- The ends of takes and gives.
-use Rattle.std.proofs.Common.{◌≡◌, ◌≢◌, ℕ, ◌<◌, ◌≤◌, length, Option, Some, None, Bool, true, false, refl, sym, ap, ◌∙◌, subst, arith}
-use Rattle.std.specs.Prelude.{ℤ, pos, negsuc, IsTrue, nat_le, ◌-◌, if◌then◌else◌}
+use Rattle.std.proofs.Common.{◌≡◌, ℕ, Option, Some, None, Bool, true, false, refl, sym, subst, arith}
+use Rattle.std.specs.Prelude.{pos, negsuc, IsTrue, nat_le, ◌-◌, if◌then◌else◌}
 use Rattle.std.proofs.lemmas.Int.{ints}
 use Rattle.std.proofs.lemmas.Bool.Decides.{Decides-int_eq}
 use Rattle.fr_program.specs.declared.ids.ObjId.{ObjId}
@@ -14,7 +14,7 @@ use Rattle.fr_program.specs.declared.parts.Kind.TheVariants.{Queue, Binary, Coun
 use Rattle.fr_program.specs.Program.{Program}
 use Rattle.fr_program.specs.Limits.{KindInLimits}
 use Rattle.fr_calls.specs.declared.way.Way.TheVariants.{Then, Else}
-use Rattle.fr_calls.specs.State.{State, Content, Count, CanHave, content_of, kind_of}
+use Rattle.fr_calls.specs.State.{Content, Count, CanHave, content_of, kind_of}
 use Rattle.fr_calls.specs.Rule.{is_unsuited}
 use Rattle.fr_calls.specs.Step.{taken, given, is_full, take_can_time_out}
 use Rattle.fr_notes.specs.Known.{Known, IsLeft, NeverSteps}

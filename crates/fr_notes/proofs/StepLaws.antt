@@ -17,7 +17,7 @@ use Rattle.fr_program.specs.Limits.{IsNumber}
 use Rattle.fr_program.specs.Fault.{IsFaultless, NamesThings}
 use Rattle.fr_notes.specs.Note.{Alternative, range_of}
 use Rattle.fr_notes.specs.Fits.{AlternativeFits}
-use Rattle.fr_notes.specs.Known.{Known, KnownFits, AreCompatible, IsPossible, joint_range, meet_of}
+use Rattle.fr_notes.specs.Known.{Known, KnownFits, AreCompatible, IsPossible, joint_range}
 use Rattle.fr_notes.specs.Reckoning.{HasNumbersIn}
 
 -- every range lies in a declared one, whose ends have 64 bits

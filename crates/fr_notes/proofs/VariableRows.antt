@@ -1,6 +1,6 @@
 -- The rows that read or write variables and touch no object: `set`, `pick` and `if`. A state to show for an end of a
 -- range is the usual one with numbers for the operands that lead there.
-use Rattle.std.proofs.Common.{◌≡◌, ◌≢◌, ℕ, ◌<◌, length, Option, Some, None, Bool, true, false, refl, sym, ap, ◌∙◌, subst, arith, get_or-set_other, length-set}
+use Rattle.std.proofs.Common.{◌≡◌, ◌≢◌, ℕ, ◌<◌, length, Some, Bool, true, false, refl, sym, ap, ◌∙◌, subst, arith, get_or-set_other, length-set}
 use Rattle.std.specs.Prelude.{ℤ, pos, ◌≤ℤ◌, IfSome}
 use Rattle.std.proofs.lemmas.Int.{ints}
 use Rattle.std.proofs.lemmas.List.{get_or-set_same}
@@ -8,7 +8,6 @@ use Rattle.fr_program.specs.declared.ids.VarId.{VarId}
 use Rattle.fr_program.specs.declared.ids.Point.{Point}
 use Rattle.fr_program.specs.declared.ids.Side.TheVariants.{Before}
 use Rattle.fr_program.specs.declared.instr.Comparison.{Comparison}
-use Rattle.fr_program.specs.declared.instr.Instr.{Instr}
 use Rattle.fr_program.specs.declared.instr.Instr.TheVariants.{Set, If, Pick}
 use Rattle.fr_program.specs.declared.instr.Operand.{Operand}
 use Rattle.fr_program.specs.declared.instr.Operand.TheVariants.{Number, Variable}
@@ -28,9 +27,9 @@ use Rattle.fr_notes.specs.Change.{Turns, narrowed_to}
 use Rattle.fr_notes.specs.Known.{Known, IsLeft, NeverSteps, joint_range}
 use Rattle.fr_notes.specs.Holding.{Unheld}
 use Rattle.fr_notes.specs.Spot.{IsSpot, IsUnforbidden, unchanged}
-use Rattle.fr_notes.specs.Reckoning.{operand_in, CanBeIn, IsNamed, IsSpanIn, IsBranchIn, NoBranchIn}
+use Rattle.fr_notes.specs.Reckoning.{CanBeIn, IsNamed, IsSpanIn, IsBranchIn, NoBranchIn}
 use Rattle.fr_notes.proofs.Shown.{instead, instead-same, instead-other}
-use Rattle.fr_notes.proofs.Seen.{Site, mover, other, IsKnown, Choice, drawn, IsChosen, drawn-known, drawn-value, usual, usual-chosen, valued, valued-chosen, filled, values-within}
+use Rattle.fr_notes.proofs.Seen.{Site, mover, IsKnown, Choice, drawn, IsChosen, drawn-known, drawn-value, usual, usual-chosen, valued, valued-chosen, filled, values-within}
 use Rattle.fr_notes.proofs.Left.{end_of}
 use Rattle.fr_notes.proofs.Rows.{IsAfter, Attains, IsRow, MissesVariable, row-left, row-never, site}
 use Rattle.fr_notes.proofs.PlainRows.{free-before}

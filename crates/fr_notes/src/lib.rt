@@ -39,5 +39,5 @@ pub use laws::fitting_can_hold;
 pub use note::{Alternative, Note, NoteParts};
 pub use notes::Notes;
 pub use pairs::{can_meet, together};
-pub use steps::{change_by, condition_at, recall_faultless};
+pub use steps::{change_by, condition_at};
 pub use worked::{notes_as_worked, parts_as_worked};

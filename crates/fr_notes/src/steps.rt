@@ -28,13 +28,6 @@ pub fn condition_at(app: &App, known: &Known, point: Point) -> Condition
     }
 }
 
-/// Recalls that an application has no build fault, whatever is judged today.
-pub fn recall_faultless(app: &App)
-    ensures { IsFaultless app.now }
-{
-    app.recall_faultless();
-}
-
 /// The rows of a call that works: its only step, or its begin.
 fn called(app: &App, known: &Known, call: &Call) -> Option<Change>
     requires { NamesThings app.now (Instr.Call call.now) }
@@ -109,7 +102,7 @@ pub fn change_by(app: &App, known: &Known, point: Point, instr: &Instr, way: Way
     ensures some { IfSome result (λ change. IsLeft app.now known.now point way change) }
     ensures none { IfNone result (NeverSteps app.now known.now point way) }
 {
-    recall_faultless(app);
+    app.recall_faultless();
     match point.side {
         Side::Before => {
             let condition = condition_at(app, known, point);

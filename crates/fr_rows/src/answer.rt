@@ -2,8 +2,10 @@
 ghost use Rattle.std.specs.Prelude.{◌≤◌};
 ghost use Rattle.fr_answer.specs.Checked.{most_bytes};
 
+use crate::row::Asked;
 use fr_answer::{
-    CheckFault, MOST_APP_BYTES, MOST_CERTIFICATE_BYTES, answer_check, answer_fault, load,
+    CheckFault, MOST_APP_BYTES, MOST_CERTIFICATE_BYTES, WordsFault, answer_check, answer_fault,
+    answer_run, answer_words, load, words_of,
 };
 use fr_parallel::Open;
 use std::alloc::{AllocError, Global};
@@ -41,28 +43,95 @@ fn both(
     Ok((app, file_bytes(alloc, certificate, MOST_CERTIFICATE_BYTES)?))
 }
 
+/// What `check` writes and answers to these files.
+fn check<R: Threads + Wait + Sync>(
+    threads: &R,
+    alloc: Global,
+    files: (Option<&[u8]>, Option<&[u8]>),
+    workers: usize,
+    stdout: &mut Vec<u8>,
+    stderr: &mut Vec<u8>,
+) -> u8 {
+    match &both(alloc, files.0, files.1) {
+        Ok((app, certificate)) => answer_check(
+            threads,
+            alloc,
+            app,
+            certificate,
+            workers,
+            &Open,
+            stdout,
+            stderr,
+        ),
+        Err(fault) => answer_fault(alloc, fault, stderr),
+    }
+}
+
+/// The words of a run, none where no text is given.
+fn words_in(alloc: Global, text: Option<&str>) -> Result<Vec<u64>, WordsFault> {
+    match text {
+        Some(text) => words_of(alloc, text),
+        None => Ok(Vec::new(alloc)),
+    }
+}
+
+/// What `run` writes and answers to these files.
+fn run<R: Threads + Wait + Sync>(
+    threads: &R,
+    alloc: Global,
+    files: (Option<&[u8]>, Option<&[u8]>),
+    polls: u64,
+    words: Option<&str>,
+    stdout: &mut Vec<u8>,
+    stderr: &mut Vec<u8>,
+) -> u8 {
+    let words = match words_in(alloc, words) {
+        Ok(words) => words,
+        Err(fault) => return answer_words(fault, stderr),
+    };
+    match &both(alloc, files.0, files.1) {
+        Ok((app, certificate)) => answer_run(
+            threads,
+            alloc,
+            app,
+            certificate,
+            polls,
+            &words,
+            &Open,
+            stdout,
+            stderr,
+        ),
+        Err(fault) => answer_fault(alloc, fault, stderr),
+    }
+}
+
 impl Answer {
-    /// What `check` answers to these files; None is a file that is missing.
+    /// What the program answers to what is asked of these files; None is a file that is missing.
     pub fn to_files<R: Threads + Wait + Sync>(
         threads: &R,
         alloc: Global,
         app: Option<&[u8]>,
         certificate: Option<&[u8]>,
-        workers: usize,
+        asked: &Asked,
     ) -> Answer {
         let (mut stdout, mut stderr) = (Vec::new(alloc), Vec::new(alloc));
-        let status = match &both(alloc, app, certificate) {
-            Ok((app, certificate)) => answer_check(
-                threads,
-                alloc,
-                app,
-                certificate,
-                workers,
-                &Open,
-                &mut stdout,
-                &mut stderr,
-            ),
-            Err(fault) => answer_fault(alloc, fault, &mut stderr),
+        let files = (app, certificate);
+        let status = match asked {
+            Asked::Check { workers } => {
+                check(threads, alloc, files, *workers, &mut stdout, &mut stderr)
+            }
+            Asked::Run { polls, words } => {
+                let words = words.as_deref();
+                run(
+                    threads,
+                    alloc,
+                    files,
+                    *polls,
+                    words,
+                    &mut stdout,
+                    &mut stderr,
+                )
+            }
         };
         Answer {
             stdout,

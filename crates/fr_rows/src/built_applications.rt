@@ -129,7 +129,7 @@ fn lengths_have_limits(rt: HostRuntime) -> Result<(), Fail> {
     }
     for length in [1, 65535] {
         let parts = parts(alloc, send(length), "x", None, true)?;
-        refused(&rt, alloc, parts, BuildFault::NotYet);
+        assert_eq!(rt; answer(alloc, parts), None);
     }
     Ok(())
 }
@@ -161,18 +161,16 @@ fn names_stand_once_and_are_words(rt: HostRuntime) -> Result<(), Fail> {
 }
 
 #[test]
-fn not_judged_yet(rt: HostRuntime) -> Result<(), Fail> {
+fn whole_applications_are_taken(rt: HostRuntime) -> Result<(), Fail> {
     let alloc = rt.alloc();
     for instr in [pick(0), Instr::Call(Call::Yield)] {
         let parts = parts(alloc, instr, "x", None, false)?;
-        refused(&rt, alloc, parts, BuildFault::NotYet);
+        assert_eq!(rt; answer(alloc, parts), None);
     }
-    let with_object = parts(alloc, BACK, "x", None, true)?;
-    refused(&rt, alloc, with_object, BuildFault::NotYet);
-    let mut with_interrupt = parts(alloc, BACK, "x", None, false)?;
+    let mut with_interrupt = parts(alloc, BACK, "x", None, true)?;
     let isr = actor(alloc, "isr", ActorKind::Interrupt, BACK)?;
     with_interrupt.actors.push(isr)?;
-    refused(&rt, alloc, with_interrupt, BuildFault::NotYet);
+    assert_eq!(rt; answer(alloc, with_interrupt), None);
     Ok(())
 }
 
@@ -224,9 +222,7 @@ fn sized(
 #[test]
 fn greatest_sizes_are_taken(rt: HostRuntime) -> Result<(), Fail> {
     let alloc = rt.alloc();
-    assert_eq!(rt; answer(alloc, sized(alloc, 64, 0, 1, 512)?), None);
-    let greatest = sized(alloc, 64, 64, 32, 512)?;
-    refused(&rt, alloc, greatest, BuildFault::NotYet);
+    assert_eq!(rt; answer(alloc, sized(alloc, 64, 64, 32, 512)?), None);
     let too_many = BuildFault::TooMany;
     refused(&rt, alloc, sized(alloc, 65, 0, 1, 1)?, too_many);
     refused(&rt, alloc, sized(alloc, 0, 65, 1, 1)?, too_many);

@@ -17,6 +17,8 @@ mod certificates;
 mod faults;
 mod files;
 #[cfg(test)]
+mod guards;
+#[cfg(test)]
 mod lines;
 #[cfg(test)]
 mod own_obligations;
@@ -24,7 +26,13 @@ mod own_obligations;
 mod passing;
 #[cfg(test)]
 mod plain_notes;
+#[cfg(test)]
+mod polled_machine;
 mod row;
+#[cfg(test)]
+mod run_words;
+#[cfg(test)]
+mod runs;
 #[cfg(test)]
 mod want_of_memory;
 #[cfg(test)]
@@ -50,7 +58,7 @@ fn is_kept<R: Threads + Wait + Sync>(
 ) -> io::Result<bool> {
     let alloc = rt.alloc();
     let (app, certificate) = (row.app(cut), row.certificate(cut));
-    let answer = Answer::to_files(threads, alloc, app, certificate, row.workers);
+    let answer = Answer::to_files(threads, alloc, app, certificate, &row.asked);
     if answer.is_same(&row.expected) {
         return Ok(true);
     }

@@ -3,7 +3,7 @@
 // about        what the row shows (for a reader)
 // app.toml     the application; the file may be missing, as any that the program reads
 // cert.json    the certificate
-// args         the words, one a line: a check of both files, by so many workers
+// args         the words, one a line: a check of both files, by so many workers, or a run of so many polls with these words
 // stdout       what has to be written to standard output
 // stderr       what has to be written to standard error
 // status       the exit status
@@ -34,13 +34,22 @@ pub struct Cut {
     pub length: usize,
 }
 
+/// What a row asks of its files.
+#[derive(Drop)]
+pub enum Asked {
+    /// The verdict, by so many workers.
+    Check { workers: usize },
+    /// A run of so many polls, with the words of this text, where there is one.
+    Run { polls: u64, words: Option<String> },
+}
+
 /// The files of a row, and the answer that they have to get.
 #[derive(Drop)]
 pub struct Row {
     pub name: String,
     app: Option<Vec<u8>>,
     certificate: Option<Vec<u8>>,
-    pub workers: usize,
+    pub asked: Asked,
     pub cuts: Vec<Cut>,
     pub expected: Answer,
 }
@@ -95,23 +104,51 @@ fn byte(word: Option<&str>) -> io::Result<u8> {
     }
 }
 
-/// The number of workers that the words ask for, which are those of a check.
-fn workers_in(words: &str) -> io::Result<usize> {
-    let mut words = words.lines();
-    let is_check = words.next() == Some("check")
-        && words.next() == Some(APP)
-        && words.next() == Some(CERTIFICATE);
-    if !is_check {
-        return Err(wrong("the words are not those of a check"));
+/// An error where there are words beyond those that a command has.
+fn check_end(word: Option<&str>) -> io::Result<()> {
+    match word {
+        None => Ok(()),
+        Some(_) => Err(wrong("there are more words than those of the command")),
     }
+}
+
+/// The rest of a check's words: the number of workers.
+fn check_asked<'a, I: Iterator<Item = &'a str>>(words: &mut I) -> io::Result<Asked> {
     let workers = match words.next() {
-        None => return Ok(DEFAULT_WORKERS),
+        None => DEFAULT_WORKERS,
         Some("--workers") => number(words.next())?,
         Some(_) => return Err(wrong("the words are not those of a check")),
     };
-    match words.next() {
-        None => Ok(workers),
-        Some(_) => Err(wrong("there are more words than those of a check")),
+    check_end(words.next())?;
+    Ok(Asked::Check { workers })
+}
+
+/// The rest of a run's words: the number of polls, and the text of its words.
+fn run_asked<'a, I: Iterator<Item = &'a str>>(alloc: Global, words: &mut I) -> io::Result<Asked> {
+    if words.next() != Some("--polls") {
+        return Err(wrong("the words are not those of a run"));
+    }
+    let polls = number(words.next())? as u64;
+    let text = match words.next() {
+        None => None,
+        Some("--words") => Some(String::from_str(alloc, words.next().unwrap_or(""))?),
+        Some(_) => return Err(wrong("the words are not those of a run")),
+    };
+    check_end(words.next())?;
+    Ok(Asked::Run { polls, words: text })
+}
+
+/// What the words ask of both files.
+fn asked_in(alloc: Global, words: &str) -> io::Result<Asked> {
+    let mut words = words.lines();
+    let command = words.next();
+    if words.next() != Some(APP) || words.next() != Some(CERTIFICATE) {
+        return Err(wrong("the words name other files than app.toml and cert.json"));
+    }
+    match command {
+        Some("check") => check_asked(&mut words),
+        Some("run") => run_asked(alloc, &mut words),
+        _ => Err(wrong("the words are not those of a check or a run")),
     }
 }
 
@@ -192,7 +229,7 @@ impl Row {
             name: String::from_str(rt.alloc(), name)?,
             app: bytes_of(rt, folder, APP)?,
             certificate: bytes_of(rt, folder, CERTIFICATE)?,
-            workers: workers_in(words.as_str())?,
+            asked: asked_in(rt.alloc(), words.as_str())?,
             cuts: cuts_in(rt.alloc(), sweep.as_deref())?,
             expected: expected(rt, folder)?,
         };

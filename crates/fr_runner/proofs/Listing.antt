@@ -7,7 +7,7 @@ use Rattle.fr_program.specs.Program.{Program}
 use Rattle.fr_calls.specs.State.{State}
 use Rattle.fr_calls.specs.declared.moves.Moves.{Moves}
 use Rattle.fr_calls.specs.declared.moves.Moves.TheVariants.{None as NoMove, Span, Pair}
-use Rattle.fr_calls.specs.Choices.{CanStep, IsAmong, IsRising}
+use Rattle.fr_calls.specs.Choices.{CanChoose, IsAmong, IsRising}
 use Rattle.fr_runner.specs.Listed.{numbers_from, listed}
 use Rattle.fr_runner.specs.Trace.{AreChoices}
 
@@ -83,7 +83,7 @@ listed-rises (Span lo hi) r = numbers-rise lo (nat_abs (hi -ℤ lo) + 1)
 listed-rises (Pair a b) r = pair-rises a b r
 
 -- so it has an actor's choices, where the set is exactly these
-pub are-choices : (P : Program) (S : State) (a : ℕ) (moves : Moves) → IsRising moves → ((c : ℤ) → (IsAmong moves c ↔ CanStep P S a c)) → AreChoices P S a (listed moves)
+pub are-choices : (P : Program) (S : State) (a : ℕ) (moves : Moves) → IsRising moves → ((c : ℤ) → (IsAmong moves c ↔ CanChoose P S a c)) → AreChoices P S a (listed moves)
 are-choices P S a moves r exact =
     record {
       rising = listed-rises moves r;

@@ -10,7 +10,7 @@ use Rattle.fr_program.specs.declared.ids.Point.{Point}
 use Rattle.fr_program.specs.Program.{Program}
 use Rattle.fr_program.specs.Points.{point_number}
 use Rattle.fr_calls.specs.State.{State, Content, Held, count_held, kind_of, content_of}
-use Rattle.fr_calls.specs.Choices.{CanStep, IsShallow}
+use Rattle.fr_calls.specs.Choices.{CanChoose, IsShallow}
 use Rattle.fr_program.specs.declared.ids.ActorId.{ActorId}
 use Rattle.fr_notes.specs.declared.claim.Claim.{Claim}
 use Rattle.fr_notes.specs.declared.claim.Claim.TheVariants.{NotHeld, Alive, Gone, HeldTimes}
@@ -57,5 +57,5 @@ shallow P C S p fits keeps at =
     }
 
 -- the same of an actor that has a step
-pub shallow-stepper : (P : Program) (C : Certificate) (S : State) (a : ActorId) (c : ℤ) → CertificateFits P C → KeepsNotes P C S → CanStep P S a.0 c → IsShallow S a.0
+pub shallow-stepper : (P : Program) (C : Certificate) (S : State) (a : ActorId) (c : ℤ) → CertificateFits P C → KeepsNotes P C S → CanChoose P S a.0 c → IsShallow S a.0
 shallow-stepper P C S a c fits keeps (T, (way, t)) = shallow P C S (record { actor = a; pc = t.pc; side = t.side }) fits keeps t.at

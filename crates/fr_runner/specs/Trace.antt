@@ -16,7 +16,7 @@ use Rattle.fr_program.specs.declared.ids.ActorId.{ActorId}
 use Rattle.fr_program.specs.Program.{Program}
 use Rattle.fr_calls.specs.State.{State, Done, place_of, start}
 use Rattle.fr_calls.specs.Step.{Step}
-use Rattle.fr_calls.specs.Choices.{CanStep}
+use Rattle.fr_calls.specs.Choices.{CanChoose}
 pub use Rattle.fr_runner.specs.declared.trace.Entry.{Entry}
 pub use Rattle.fr_runner.specs.declared.trace.Entry.TheVariants.{Stepped, Blocked}
 
@@ -27,7 +27,7 @@ word_at words number = slice_index words (number % length words)
 -- the list has exactly the choices of the actor's steps, in rising order
 pub record AreChoices (P : Program) (S : State) (a : ℕ) (choices : List ℤ) : Type 0 where
   pub rising : AllPairs (λ x y. x <ℤ y) choices
-  pub exact : (c : ℤ) → (Contains choices c ↔ CanStep P S a c)
+  pub exact : (c : ℤ) → (Contains choices c ↔ CanChoose P S a c)
 
 -- of the actor's choices in rising order this is the one whose place, from 0, is what is left of the word when it is
 -- divided by their number
@@ -42,7 +42,7 @@ actor_of (Blocked a) = a
 -- the entry is true: the actor steps from S to S' by the choice that the word picks, or it has no step in S, which stays
 abbrev pub IsEntry : Program → ℕ → State → Entry → State → Type 0
 IsEntry P word S (Stepped a c) S' = IsChosen P S a.0 word c × Step P S a.0 c S'
-IsEntry P word S (Blocked a) S' = (a.0 < length P.actors) × ((c : ℤ) → CanStep P S a.0 c → ⊥) × (S' ≡ S)
+IsEntry P word S (Blocked a) S' = (a.0 < length P.actors) × ((c : ℤ) → CanChoose P S a.0 c → ⊥) × (S' ≡ S)
 
 -- the entries, before which there were so many others, lead from S to S'
 abbrev pub Replays : Program → List ℕ → ℕ → State → List Entry → State → Type 0

@@ -11,7 +11,7 @@ build-requires-clause-names c =
     let vs = variable_texts P c.variables.result.now _ c.variables.ensures (ap texts c.deref.ensures.value ∙ c.in_ok-variables.ensures) in
     let os = object_texts P c.objects.result.now _ c.objects.ensures (ap texts c.deref-2.ensures.value ∙ c.in_ok-objects.ensures) in
     let as_ = actor_texts P c.actors.result.now _ c.actors.ensures (ap texts c.deref-3.ensures.value ∙ c.in_ok-actors.ensures) in
-    subst (All IsName) (sym (all_three P _ _ _ vs os as_)) c.is_faultless.ensures.faultless.names.names
+    subst (All IsName) (sym (all_three P _ _ _ vs os as_)) c.recall_faultless.ensures.names.names
 
 pub build-requires-clause-once : goal.build-requires-clause-once
 build-requires-clause-once c =
@@ -19,7 +19,7 @@ build-requires-clause-once c =
     let vs = variable_texts P c.variables.result.now _ c.variables.ensures (ap texts c.deref.ensures.value ∙ c.in_ok-variables.ensures) in
     let os = object_texts P c.objects.result.now _ c.objects.ensures (ap texts c.deref-2.ensures.value ∙ c.in_ok-objects.ensures) in
     let as_ = actor_texts P c.actors.result.now _ c.actors.ensures (ap texts c.deref-3.ensures.value ∙ c.in_ok-actors.ensures) in
-    subst (AllPairs (λ x y. x ≢ y)) (sym (all_three P _ _ _ vs os as_)) c.is_faultless.ensures.faultless.names.once
+    subst (AllPairs (λ x y. x ≢ y)) (sym (all_three P _ _ _ vs os as_)) c.recall_faultless.ensures.names.once
 
 pub returns : goal.returns
 returns c =

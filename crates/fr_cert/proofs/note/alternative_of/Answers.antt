@@ -3,7 +3,7 @@ use Rattle.std.proofs.lemmas.Result.{err_from_is_err_and}
 use Rattle.serde_json.specs.View.{members_view}
 use Rattle.fr_notes.specs.declared.fault.NoteFault.{NoteFault}
 use Rattle.fr_notes.specs.declared.fault.NoteFault.TheVariants.{Memory, Count, Lives, Span}
-use Rattle.fr_notes.specs.Parts.{Stands}
+use Rattle.fr_notes.specs.Parts.{HasFault}
 use Rattle.fr_program.specs.Program.{Program}
 use Rattle.serde_json.specs.Data.{Members}
 use Rattle.fr_notes.specs.declared.note.NoteParts.{NoteParts}
@@ -15,7 +15,7 @@ use Rattle.fr_cert.specs.Views.{text_of, refused_as}
 use Rattle.fr_cert.proofs.NoteLemmas.{said_same, fits_from, unfit}
 use Rattle.fr_cert.proofs.note.alternative_of.Goals as goal
 
-refused : (P : Program) (ms : Members) (parts : NoteParts) (f : NoteFault) → IsNoteText (names_in P) ms (text_of parts) → (f ≢ Memory → Stands P parts f) → Standing (InAlternative P ms) (refused_as f)
+refused : (P : Program) (ms : Members) (parts : NoteParts) (f : NoteFault) → IsNoteText (names_in P) ms (text_of parts) → (f ≢ Memory → HasFault P parts f) → Standing (InAlternative P ms) (refused_as f)
 refused P ms parts Memory text h named = absurd (true≢false named)
 refused P ms parts Count text h named = inr (text_of parts, text, unfit P parts Count (h (λ e. cc)), refl)
 refused P ms parts Lives text h named = inr (text_of parts, text, unfit P parts Lives (h (λ e. cc)), refl)

@@ -8,8 +8,7 @@ use Rattle.fr_cert.proofs.note.objects_at.Goals as goal
 
 pub returns-in-Err-clause-err : goal.returns-in-Err-clause-err
 returns-in-Err-clause-err c named =
-    let d = view c.in-Some.value.now in
-    (
+    let d = view c.in-Some.value.now in (
       d,
       sym c.in-Some.ensures,
       within_of (key (key_text c.args.key)) (InList (InNames c.args.names.now.objects) d) c.in-Err.fault c.within_key.result c.in-Err.ensures.err named

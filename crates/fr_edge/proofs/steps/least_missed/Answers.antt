@@ -1,4 +1,4 @@
-use Rattle.std.proofs.Common.{Some, None, sym, subst}
+use Rattle.std.proofs.Common.{Some, sym, subst}
 use Rattle.fr_calls.specs.declared.way.Way.TheVariants.{Then, Else}
 use Rattle.fr_edge.specs.Alternatives.{WayOutcome, GoesOutcome}
 use Rattle.fr_edge.proofs.Targets.{both-miss, then-misses, else-outcome}

@@ -1,11 +1,9 @@
-use Rattle.std.proofs.Common.{◌≡◌, get_or, [], sym, ◌∙◌, ap, subst, arith}
+use Rattle.std.proofs.Common.{get_or, [], sym, ◌∙◌, ap, subst, arith}
 use Rattle.std.specs.Prelude.{All, Contains}
 use Rattle.fr_program.specs.Points.{point_number}
 use Rattle.fr_notes.specs.Fits.{AlternativeFits}
-use Rattle.fr_notes.specs.Noted.{note_at}
-use Rattle.fr_edge.specs.Alternatives.{GoesWell}
 use Rattle.fr_edge.proofs.Firsts.{pc-small, get-at, get-none, note-there, note-fits, landed}
-use Rattle.fr_edge.proofs.Targets.{no-target, no-landing, others, all-go, missing}
+use Rattle.fr_edge.proofs.Targets.{no-target, others, all-go, missing}
 use Rattle.fr_edge.proofs.steps.missed.Goals as goal
 
 pub overflow_add-point : goal.overflow_add-point

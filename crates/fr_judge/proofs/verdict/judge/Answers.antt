@@ -15,5 +15,5 @@ returns-clause-verdict c =
 
 pub returns-clause-safe : goal.returns-clause-safe
 returns-clause-safe c e =
-    yes-safe c.args.app.now c.args.certificate.now c.recall_faultless.ensures.faultless c.requires.fits
+    yes-safe c.args.app.now c.args.certificate.now c.recall_faultless.ensures c.requires.fits
     (Yes, refl, all-keep c.args.app.now c.args.certificate.now c.recall_numbered.ensures (λ p is lt. c.loop-number.invariant p is (omega (arith, lt, c.points-number-end.ensures, c.loop-number-test.false))))

@@ -1,5 +1,4 @@
-use Rattle.std.proofs.Common.{◌≡◌, ◌+◌, length, take, ap, sym, ◌∙◌, arith}
-use Rattle.fr_notes.specs.Alternatives.{joined}
+use Rattle.std.proofs.Common.{◌≡◌, ◌+◌, length, ap, ◌∙◌, arith}
 use Rattle.fr_notes.proofs.AlternativesLemmas.{count_more, too_many}
 use Rattle.fr_notes.proofs.alternatives.are_few.Goals as goal
 

@@ -1,4 +1,4 @@
-use Rattle.std.proofs.Common.{sym, ap, ◌∙◌, subst}
+use Rattle.std.proofs.Common.{sym, subst}
 use Rattle.fr_program.specs.declared.instr.Instr.TheVariants.{If}
 use Rattle.fr_notes.specs.Change.{narrowed_to}
 use Rattle.fr_notes.specs.Spot.{Leaves}

@@ -1,4 +1,4 @@
-use Rattle.std.proofs.Common.{Some, sym, ◌∙◌, rules}
+use Rattle.std.proofs.Common.{Some, rules}
 use Rattle.fr_program.specs.declared.instr.Instr.TheVariants.{Pick}
 use Rattle.std.proofs.lemmas.List.Elements.{All-head}
 use Rattle.std.proofs.Common.{[], length, ◌<◌}

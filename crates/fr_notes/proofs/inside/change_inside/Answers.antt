@@ -5,7 +5,6 @@ use Rattle.fr_program.specs.declared.instr.Call.TheVariants.{On}
 use Rattle.fr_calls.specs.Rule.{is_unsuited}
 use Rattle.fr_notes.specs.Holding.{living, is_given_unheld}
 use Rattle.fr_notes.specs.Spot.{Leaves}
-use Rattle.fr_notes.proofs.EndLaws.{living-small}
 use Rattle.fr_notes.proofs.Never.{dead-never, unheld-never, unsuited-never}
 use Rattle.fr_notes.proofs.inside.change_inside.Goals as goal
 

@@ -1,7 +1,7 @@
 use Rattle.std.proofs.Common.{arith, ap, ◌∙◌}
 use Rattle.fr_program.specs.declared.instr.BufferKind.TheVariants.{Stream}
 use Rattle.fr_notes.specs.Spot.{resulting}
-use Rattle.fr_notes.proofs.EndLaws.{stream-send-then, stream-receive-then, stream-send-else, stream-receive-else, send-span-none, receive-span-none}
+use Rattle.fr_notes.proofs.EndLaws.{stream-send-then, stream-receive-then, send-span-none, receive-span-none}
 use Rattle.fr_notes.proofs.inside.stream.Goals as goal
 
 pub returns-in_ok-range-in-Then-clause-sends : goal.returns-in_ok-range-in-Then-clause-sends

@@ -1,10 +1,6 @@
-use Rattle.std.proofs.Common.{Some, sym, subst}
-use Rattle.fr_program.specs.declared.instr.Instr.TheVariants.{Goto, Return}
 use Rattle.fr_calls.specs.declared.way.Way.TheVariants.{Then}
-use Rattle.fr_notes.specs.Spot.{LeavesBefore}
 use Rattle.fr_notes.proofs.PlainRows.{goto-left, return-left}
 use Rattle.fr_notes.proofs.BeforeLaws.{as-made}
-use Rattle.fr_notes.proofs.StepLaws.{has-numbers, are-possible}
 use Rattle.fr_notes.proofs.steps.change_before.Goals as goal
 
 pub returns-in-Goto-Then : goal.returns-in-Goto-Then

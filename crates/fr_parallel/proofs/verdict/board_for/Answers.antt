@@ -31,4 +31,4 @@ returns-in-Err-Seats-clause-fault c =
 pub unreachable-requires : goal.unreachable-requires
 unreachable-requires c =
     let fault : FaultStands Jobs c.points.result c.args.workers = subst (λ f. FaultStands f c.points.result c.args.workers) c.in-Err-Jobs.field-0-is c.in-Err-Jobs.ensures.fault in
-    omega (arith, fault.1, c.points.ensures, points-few c.args.app.now c.recall_faultless.ensures.faultless.small)
+    omega (arith, fault.1, c.points.ensures, points-few c.args.app.now c.recall_faultless.ensures.small)

@@ -31,4 +31,4 @@ pub returns-clause-safe : goal.returns-clause-safe
 returns-clause-safe g c is_yes =
     let P = c.args.app.now in
     let C = c.args.certificate.now in
-    yes-safe P C c.recall_faultless.ensures.faultless c.requires.fits (subst (λ (v : Verdict). TellsVerdict P C v) is_yes c.verdict_at.ensures.verdict)
+    yes-safe P C c.recall_faultless.ensures c.requires.fits (subst (λ (v : Verdict). TellsVerdict P C v) is_yes c.verdict_at.ensures.verdict)

@@ -11,7 +11,7 @@ use Rattle.fr_calls.specs.State.{State}
 use Rattle.fr_calls.specs.declared.rules.Rule.TheVariants.{InRange}
 use Rattle.fr_calls.specs.Rule.{Breach}
 use Rattle.fr_calls.specs.Step.{Step}
-use Rattle.fr_calls.specs.Choices.{IsAmong, IsRising, CanStep}
+use Rattle.fr_calls.specs.Choices.{IsAmong, IsRising, CanChoose}
 use Rattle.fr_runner.specs.Listed.{listed}
 use Rattle.fr_runner.specs.Trace.{AreChoices, IsChosen}
 use Rattle.fr_runner.proofs.Listing.{are-choices, contains-at}
@@ -24,12 +24,12 @@ pub record Picked (P : Program) (S : State) (a word : ℕ) (c : ℤ) : Type 0 wh
   pub choices : List ℤ
   pub all : AreChoices P S a choices
   pub at : slice_get choices (word % length choices) ≡ Some c
-  pub can : CanStep P S a c
+  pub can : CanChoose P S a c
 
 -- the choice that the turn takes
-picked : (P Q : Program) (S : State) (a word : ℕ) (moves : Moves) (c : ℤ) → Q ≡ P → IsRising moves → ((x : ℤ) → (IsAmong moves x ↔ CanStep Q S a x)) → slice_get (listed moves) (word % length (listed moves)) ≡ Some c → Picked P S a word c
+picked : (P Q : Program) (S : State) (a word : ℕ) (moves : Moves) (c : ℤ) → Q ≡ P → IsRising moves → ((x : ℤ) → (IsAmong moves x ↔ CanChoose Q S a x)) → slice_get (listed moves) (word % length (listed moves)) ≡ Some c → Picked P S a word c
 picked P Q S a word moves c same rising exact e =
-    let all = are-choices P S a moves rising (subst (λ R. (x : ℤ) → (IsAmong moves x ↔ CanStep R S a x)) same exact) in
+    let all = are-choices P S a moves rising (subst (λ R. (x : ℤ) → (IsAmong moves x ↔ CanChoose R S a x)) same exact) in
     record { choices = listed moves; all = all; at = e; can = (all.exact c).0 (contains-at (listed moves) (word % length (listed moves)) c e) }
 
 here : (c : In-Some) → Picked c.args.passed.now.app c.args.state.now c.args.actor.0 c.args.word c.in-Some.choice
@@ -42,7 +42,7 @@ returns-in_default-clause-entry c = (
       let Q = c.app-app.result.now in
       let S = c.args.state.now in
       let a = c.args.actor.0 in
-      let among = (c.moves.ensures.exact x).1 (subst (λ R. CanStep R S a x) (sym c.app-app.ensures) can) in
+      let among = (c.moves.ensures.exact x).1 (subst (λ R. CanChoose R S a x) (sym c.app-app.ensures) can) in
       subst (λ m. IsAmong m x) (c.in_default.ensures.none) among),
   refl,
 )
@@ -53,8 +53,8 @@ fits c = let narrow : SFits w64 c.in-Some.choice = search rules in to_z-of_z w64
 pub apply-requires-clause-choice : goal.apply-requires-clause-choice
 apply-requires-clause-choice c =
     let at = (goal.at.apply-requires-clause-choice c).In-Some in
-    subst (λ z. CanStep c.app-app.result.now c.args.state.now c.args.actor.0 z) (sym (fits at))
-    (subst (λ R. CanStep R c.args.state.now c.args.actor.0 c.in-Some.choice) (sym c.app-app.ensures) (here at).can)
+    subst (λ z. CanChoose c.app-app.result.now c.args.state.now c.args.actor.0 z) (sym (fits at))
+    (subst (λ R. CanChoose R c.args.state.now c.args.actor.0 c.in-Some.choice) (sym c.app-app.ensures) (here at).can)
 
 pub apply-requires-clause-in_range : goal.apply-requires-clause-in_range
 apply-requires-clause-in_range c =

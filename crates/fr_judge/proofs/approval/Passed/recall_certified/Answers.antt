@@ -8,4 +8,4 @@ pub returns-clause-certified : goal.returns-clause-certified
 returns-clause-certified c =
     let inside = c.self.inside in
     subst (λ a. Certified a.app a.certificate) c.self.view_is
-    (record { faultless = c.recall_faultless.ensures.faultless; turns = fitting-distinct inside.app inside.certificate.ends c.self.invariant.fits.1.0; kept = c.self.invariant.certified })
+    (record { faultless = c.recall_faultless.ensures; turns = fitting-distinct inside.app inside.certificate.ends c.self.invariant.fits.1.0; kept = c.self.invariant.certified })

@@ -1,0 +1,185 @@
+// Running the application that bytes mean, where it passes with its certificate.
+ghost use Rattle.std.specs.Prelude.{◌≡◌, ◌≢◌, ◌<◌, ◌≤◌, ℕ, List, IfOk, IfErr, Err, string_bytes};
+ghost use Rattle.fr_calls.specs.Run.{IsSafe};
+ghost use Rattle.fr_reader.specs.Meaning.{Means as AppMeans};
+ghost use Rattle.fr_cert.specs.Meaning.{Means as CertMeans};
+ghost use Rattle.fr_ends.specs.Fits.{CertificateFits};
+ghost use Rattle.fr_answer.specs.Checked.{IsSafeText};
+ghost use Rattle.fr_answer.specs.Ran.{
+  CanRefuseRun,
+  IsOutput,
+  IsOutputFor,
+  IsRunAnswer,
+  IsRunTold,
+  most_polls,
+  run_fault,
+};
+
+use crate::answer::answer_fault;
+use crate::fault::CheckFault;
+use fr_cert::read_cert;
+use fr_ends::Certificate;
+use fr_judge::Passed;
+use fr_parallel::Gate;
+use fr_program::App;
+use fr_reader::read_app;
+use fr_report::{report, trace_text};
+use fr_runner::{RunFault, run};
+use std::alloc::Global;
+use std::io::Write;
+use std::sync::Wait;
+use std::thread::Threads;
+
+/// The most polls that a run may have.
+const MOST_POLLS: u64 = 1_000_000;
+
+/// The fault of a command whose run gave no trace. That no poll is left and that there is no such
+/// actor are faults of single polls, and no run has them.
+fn run_fault(fault: RunFault) -> CheckFault
+    ensures { result ≡ run_fault fault }
+{
+    match fault {
+        RunFault::Polls => CheckFault::Polls,
+        RunFault::Threads => CheckFault::Thread,
+        RunFault::Memory | RunFault::Spent | RunFault::NoActor => CheckFault::Memory,
+    }
+}
+
+/// The application that the first bytes mean, and the certificate for it that the second ones mean.
+fn read_both(
+    alloc: Global,
+    app: &[u8],
+    certificate: &[u8],
+) -> Result<(App, Certificate), CheckFault>
+    ensures app { IfOk result (λ r. AppMeans app.now r.0) }
+    ensures certificate { IfOk result (λ r. CertMeans r.0 certificate.now r.1) }
+    ensures fits { IfOk result (λ r. CertificateFits r.0 r.1) }
+    ensures refused { IfErr result (λ f. (polls : ℕ) → CanRefuseRun app.now certificate.now polls f) }
+{
+    let app = match read_app(alloc, app) {
+        Ok(app) => app,
+        Err(fault) if fault.is_memory() => return Err(CheckFault::Memory),
+        Err(fault) => return Err(CheckFault::App(fault)),
+    };
+    match read_cert(alloc, &app, certificate) {
+        Ok(certificate) => Ok((app, certificate)),
+        Err(fault) if fault.is_memory() => Err(CheckFault::Memory),
+        Err(fault) => Err(CheckFault::Cert(fault)),
+    }
+}
+
+/// Runs the application, and gives the text of the trace.
+fn run_text<R: Threads + Wait + Sync, G: Gate>(
+    rt: &R,
+    alloc: Global,
+    passed: &Passed,
+    polls: u64,
+    words: &[u64],
+    gate: &G,
+) -> Result<String, CheckFault>
+    ensures output { IfOk result
+        (λ text. IsOutput passed.now.app Verdict.Yes polls words.now (string_bytes text)) }
+    ensures refused { IfErr result
+        (λ f. (app certificate : List ℕ) → CanRefuseRun app certificate polls f) }
+{
+    match run(rt, alloc, passed, polls, words, gate) {
+        Ok(trace) => Ok(trace_text(alloc, passed.app(), &trace)?),
+        Err(fault) => Err(run_fault(fault)),
+    }
+}
+
+/// What has to be written for the application, with the exit status: the text of a run where the
+/// verdict is yes, and the report where it is no.
+fn output<R: Threads + Wait + Sync, G: Gate>(
+    rt: &R,
+    alloc: Global,
+    app: App,
+    certificate: Certificate,
+    polls: u64,
+    words: &[u64],
+    gate: &G,
+) -> Result<(u8, String), CheckFault>
+    requires fits { CertificateFits app certificate }
+    ensures output { IfOk result
+        (λ r. IsOutputFor app certificate polls words.now r.0 (string_bytes r.1)) }
+    ensures safe { IfOk result (λ r. r.0 ≡ 0 → IsSafe app) }
+    ensures refused { IfErr result
+        (λ f. (app certificate : List ℕ) → CanRefuseRun app certificate polls f) }
+{
+    match Passed::check(app, certificate) {
+        Ok(passed) => Ok((0, run_text(rt, alloc, &passed, polls, words, gate)?)),
+        Err((app, _, verdict)) => Ok((1, report(alloc, &app, &verdict)?)),
+    }
+}
+
+/// Judges the certificate for the application. Where the verdict is yes, it runs the application for
+/// so many polls, each actor in a thread of its own, picks choices by the words, writes the trace,
+/// one line an entry, and answers the exit status 0. Where the verdict is no, it writes the report
+/// and answers 1.
+///
+/// # Errors
+///
+/// `Polls` exactly where there are more than 1,000,000, before anything is read; `App` and `Cert`
+/// name a fault that is present in the bytes; `Memory` and `Thread` say that the machine refused an
+/// allocation or a thread. Nothing is written then. `Write` says that the writer failed; what was
+/// written then is open.
+pub fn run_to<R: Threads + Wait + Sync, G: Gate, W: Write>(
+    rt: &R,
+    alloc: Global,
+    app: &[u8],
+    certificate: &[u8],
+    polls: u64,
+    words: &[u64],
+    gate: &G,
+    writer: &mut W,
+) -> Result<u8, CheckFault>
+    ensures answer { IfOk result
+        (λ status. IsRunAnswer app.now certificate.now polls words.now status (W.contents writer.old) (W.contents writer.new)) }
+    ensures safe { IfOk result (λ status. status ≡ 0 → IsSafeText app.now) }
+    ensures polls { most_polls < polls → result ≡ Err CheckFault.Polls }
+    ensures refused { IfErr result (CanRefuseRun app.now certificate.now polls) }
+    ensures kept { IfErr result (λ fault. fault ≢ CheckFault.Write → writer.new ≡ writer.old) }
+{
+    if polls > MOST_POLLS {
+        return Err(CheckFault::Polls);
+    }
+    let (app, certificate) = read_both(alloc, app, certificate)?;
+    let (status, text) = output(rt, alloc, app, certificate, polls, words, gate)?;
+    match writer.write_all(text.as_bytes()) {
+        Ok(()) => Ok(status),
+        Err(_) => Err(CheckFault::Write),
+    }
+}
+
+/// Runs the application as `run_to` does, writes the trace or the report to `out`, or the line of a
+/// refusal or of a machine fault to `err`, and answers the exit status.
+///
+/// It is 0 only where the verdict is `Yes` and the text of a true trace was written to `out`, and 1
+/// only where the verdict is `No` and its report was: each with nothing written to `err`. It is 2
+/// only where the bytes or the number of polls are refused, with nothing written to `out`, and the
+/// fault's line and a newline to `err`. Else it is 3: the machine failed, and what was written then
+/// is open.
+pub fn answer_run<R: Threads + Wait + Sync, G: Gate, O: Write, E: Write>(
+    rt: &R,
+    alloc: Global,
+    app: &[u8],
+    certificate: &[u8],
+    polls: u64,
+    words: &[u64],
+    gate: &G,
+    out: &mut O,
+    err: &mut E,
+) -> u8
+    ensures yes { result ≡ 0 → IsRunAnswer app.now certificate.now polls words.now 0 (O.contents out.old) (O.contents out.new) }
+    ensures safe { result ≡ 0 → IsSafeText app.now }
+    ensures no { result ≡ 1 → IsRunAnswer app.now certificate.now polls words.now 1 (O.contents out.old) (O.contents out.new) }
+    ensures quiet { result ≤ 1 → err.new ≡ err.old }
+    ensures refused { result ≡ 2 → IsRunTold app.now certificate.now polls (E.contents err.old) (E.contents err.new) }
+    ensures kept { result ≡ 2 → out.new ≡ out.old }
+    ensures most { result ≤ 3 }
+{
+    match run_to(rt, alloc, app, certificate, polls, words, gate, out) {
+        Ok(status) => status,
+        Err(fault) => answer_fault(alloc, &fault, err),
+    }
+}

@@ -1,0 +1,94 @@
+// The command `run`: its words, and what the program does for it.
+use crate::file_bytes;
+use crate::words::{NAME, file_arg};
+use clap::{Arg, ArgAction, ArgMatches, Command, value_parser};
+use fr_answer::{
+    CheckFault, MOST_APP_BYTES, MOST_CERTIFICATE_BYTES, answer_run, answer_words, words_of,
+};
+use fr_parallel::Open;
+use std::alloc::{AllocError, Global};
+use std::sync::Wait;
+use std::thread::Threads;
+
+const STATUSES: &str = "Exit status:
+  0  The verdict is yes, and the lines of the run were printed
+  1  The verdict is no, and the report was printed
+  2  The words, the application or the certificate are refused
+  3  The machine failed: no memory, no thread, or a file that can't be read or written";
+
+/// A run that the command line asks for.
+#[derive(Clone, Copy)]
+pub struct RunRequest<'a> {
+    pub app: &'a str,
+    pub certificate: &'a str,
+    pub polls: u32,
+    /// The text of the words that choices are picked by, where it is given.
+    pub words: Option<&'a str>,
+}
+
+fn polls_arg<'a>(alloc: Global) -> Arg<'a> {
+    Arg::new(alloc, "polls")
+        .long("polls")
+        .value_name("N")
+        .required(true)
+        .value_parser(value_parser!(u32).range(0..=1_000_000))
+        .help("Turns of actors in all, 0 to 1000000")
+}
+
+fn words_arg<'a>(alloc: Global) -> Arg<'a> {
+    Arg::new(alloc, "words")
+        .long("words")
+        .value_name("W,W,..")
+        .action(ArgAction::Set)
+        .help("Numbers below 2^64, over and over, that pick each turn's choice; 0 without them")
+}
+
+pub fn run_command<'a>(alloc: Global) -> Result<Command<'a>, AllocError> {
+    Command::new(alloc, "run")
+        .display_name(NAME)?
+        .about("Runs an application that passes with its certificate, and prints each step")
+        .after_help(STATUSES)
+        .arg(file_arg(alloc, "APP", "The application, in TOML"))?
+        .arg(file_arg(alloc, "CERT", "The certificate, in JSON"))?
+        .arg(polls_arg(alloc))?
+        .arg(words_arg(alloc))
+}
+
+/// The run that the matched words ask for. None can't be where the words were matched.
+pub fn asked_run<'a>(words: &ArgMatches<'a>) -> Option<RunRequest<'a>> {
+    Some(RunRequest {
+        app: words.get_str("APP")?,
+        certificate: words.get_str("CERT")?,
+        polls: words.get_one::<u32>("polls")?,
+        words: words.get_str("words"),
+    })
+}
+
+/// Runs the application in the file. The list of words is refused before a file is read.
+pub fn run<R: Threads + Wait + Sync>(
+    rt: &HostRuntime,
+    threads: &R,
+    asked: RunRequest,
+) -> Result<u8, CheckFault> {
+    let words = match asked.words {
+        None => Ok(Vec::new(rt.alloc())),
+        Some(text) => words_of(rt.alloc(), text),
+    };
+    let words = match words {
+        Ok(words) => words,
+        Err(fault) => return Ok(answer_words(fault, &mut rt.stderr())),
+    };
+    let app = file_bytes(rt, asked.app, MOST_APP_BYTES)?;
+    let certificate = file_bytes(rt, asked.certificate, MOST_CERTIFICATE_BYTES)?;
+    Ok(answer_run(
+        threads,
+        rt.alloc(),
+        &app,
+        &certificate,
+        u64::from(asked.polls),
+        &words,
+        &Open,
+        &mut rt.stdout(),
+        &mut rt.stderr(),
+    ))
+}

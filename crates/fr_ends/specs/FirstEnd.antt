@@ -1,0 +1,16 @@
+-- The first end whose guard a point's note doesn't imply.
+use Rattle.std.specs.Prelude.{◌≡◌, ℕ, Option, None, Some}
+use Rattle.fr_program.specs.declared.ids.Point.{Point}
+use Rattle.fr_program.specs.Program.{Program}
+use Rattle.fr_calls.specs.declared.buffer_end.End.{End}
+use Rattle.fr_calls.specs.declared.buffer_end.End.TheVariants.{Writer, Reader}
+use Rattle.fr_ends.specs.declared.ends.EndName.{EndName}
+use Rattle.fr_ends.specs.Certificate.{Certificate}
+use Rattle.fr_ends.specs.Guarded.{Guarded}
+
+-- the point is guarded at each end of each buffer, or it isn't at this one. A writer's end comes before each reader's
+-- end: where a reader's end is named, the point is guarded at each writer's end
+abbrev pub IsFirstEnd : Program → Certificate → Point → Option EndName → Type 0
+IsFirstEnd P C p None = (buffer : ℕ) (end : End) → Guarded P C p buffer end
+IsFirstEnd P C p (Some e) =
+    (Guarded P C p e.buffer.0 e.end → ⊥) × (e.end ≡ Reader → (buffer : ℕ) → Guarded P C p buffer Writer)
