@@ -1,11 +1,10 @@
 -- Plain notes that the entries of a list mean, and the alternatives that they are together.
-use Rattle.std.proofs.Common.{◌≡◌, ◌∙◌, ◌≤◌, ℕ, zero, suc, List, [], ◌∷◌, ◌++◌, All, length, refl, sym, ap, subst, arith}
+use Rattle.std.proofs.Common.{◌≡◌, List, [], ◌∷◌, ◌++◌, All, length, sym, ap, subst}
 use Rattle.std.proofs.lemmas.List.Elements.{All-cons, All-nil}
 use Rattle.serde_json.specs.Data.{Data, Items, no_items, item}
-use Rattle.serde_json.specs.Events.{items_len}
 use Rattle.fr_program.specs.Program.{Program}
 use Rattle.fr_notes.specs.Alternatives.{joined}
-use Rattle.fr_notes.specs.Note.{Alternative, Note}
+use Rattle.fr_notes.specs.Note.{Note}
 use Rattle.fr_cert.specs.Shapes.{EachEntry}
 use Rattle.fr_cert.specs.Meaning.{IsPlainNote}
 use Rattle.fr_cert.specs.Views.{IsOneOf}

@@ -1,6 +1,6 @@
 -- Bytes in which a fault is present mean no certificate: at each level, a value that means something has no fault of
 -- that level.
-use Rattle.std.proofs.Common.{◌≡◌, ◌<◌, ◌≤◌, ◌<ℤ◌, ◌≤ℤ◌, ℕ, ℤ, zero, suc, pos, List, [], ◌∷◌, Option, Some, None, All, codes, length, get_or, refl, sym, ap, ◌∙◌, subst, arith, inl, inr}
+use Rattle.std.proofs.Common.{◌≡◌, ◌<◌, ◌≤◌, ◌<ℤ◌, ◌≤ℤ◌, ℕ, ℤ, zero, suc, pos, List, [], ◌∷◌, Some, None, All, codes, length, get_or, refl, sym, ap, ◌∙◌, subst, arith, inl, inr}
 use Rattle.std.proofs.lemmas.Bool.{false≢true}
 use Rattle.std.proofs.lemmas.Int.{ints}
 use Rattle.std.proofs.lemmas.List.Elements.{All-head, All-tail}
@@ -12,15 +12,15 @@ use Rattle.fr_program.specs.Program.{Program}
 use Rattle.fr_program.specs.Limits.{IsNumber}
 use Rattle.fr_program.specs.Points.{points_of}
 use Rattle.fr_instr.specs.Names.{NamesOf, place_of}
-use Rattle.fr_notes.specs.Note.{Alternative, Note}
+use Rattle.fr_notes.specs.Note.{Note}
 use Rattle.fr_ends.specs.Certificate.{Certificate}
-use Rattle.fr_ends.specs.Guard.{Guard, Sole, ByMutex, InCritical, Turn, EndGuard}
-use Rattle.fr_ends.specs.Fits.{EndFits, EndsFit, AreOfOneEnd}
-use Rattle.fr_cert.specs.Keys.{AreKnown, key_text, field, integer_of, end_at, names_in}
+use Rattle.fr_ends.specs.Guard.{Sole, ByMutex, InCritical, Turn, EndGuard}
+use Rattle.fr_ends.specs.Fits.{EndFits, EndsFit}
+use Rattle.fr_cert.specs.Keys.{AreKnown, field, integer_of, end_at, names_in}
 use Rattle.fr_cert.specs.Shapes.{At, OrDefault, IsObject, IsList, EachEntry, EachMember, Names, AreNames, IsDepth, AreEnds, IsSpan}
-use Rattle.fr_cert.specs.Meaning.{NoteText, IsNoteText, NoteTextFits, IsTurnNumber, IsHeldCount, IsRange, IsTurnValue, AreTurnValues, IsAlternative, IsPlainNote, IsNote, IsGuardObject, IsGuard, IsEndName, IsEnd, IsVersion, IsCertificate, IsTree, Means}
-use Rattle.fr_cert.specs.Faults.{InKeys, InField, InNeeded, InObject, InList, InEntries, InMembers, InNamed, InInteger, InDepth, InName, InNames, InEnds, InSpan}
-use Rattle.fr_cert.specs.Present.{InKeysOfNote, InAlternative, InAlternatives, InNote, InNotes, Has, InTurnValue, InTurn, InGuardObject, InGuard, InEndName, InKeysOfEnd, InEnd, InAllEnds, InVersion, InCertificate, InTree, InBytes, IsPresent}
+use Rattle.fr_cert.specs.Meaning.{NoteText, IsNoteText, NoteTextFits, IsTurnNumber, IsHeldCount, IsRange, IsTurnValue, AreTurnValues, IsAlternative, IsPlainNote, IsNote, IsGuardObject, IsGuard, IsEndName, IsEnd, IsVersion, IsCertificate, Means}
+use Rattle.fr_cert.specs.Faults.{InKeys, InField, InNeeded, InObject, InList, InEntries, InMembers, InNamed, InDepth, InName, InNames, InEnds, InSpan}
+use Rattle.fr_cert.specs.Present.{InKeysOfNote, InAlternative, InAlternatives, InNote, InNotes, InTurnValue, InGuardObject, InGuard, InEndName, InKeysOfEnd, InEnd, InAllEnds, InVersion, InCertificate, InTree, InBytes, IsPresent}
 use Rattle.fr_cert.specs.declared.key.Key.{Key}
 use Rattle.fr_cert.specs.declared.key.Key.TheVariants as key
 use Rattle.fr_cert.specs.declared.key.Place.{Place}

@@ -1,5 +1,5 @@
 -- A text means one certificate at the most: at each level, a value means one thing.
-use Rattle.std.proofs.Common.{◌≡◌, ◌<◌, ◌+◌, ℕ, ℤ, zero, suc, pos, List, [], ◌∷◌, Bool, true, false, Option, Some, None, AllPairs, bytes_eq, codes, cond, nat_eq, length, get_or, refl, sym, ap, ◌∙◌, subst, inl, inr, arith}
+use Rattle.std.proofs.Common.{◌≡◌, ◌<◌, ℕ, ℤ, suc, pos, List, [], ◌∷◌, Bool, true, false, Option, Some, None, bytes_eq, codes, nat_eq, refl, sym, ap, ◌∙◌, subst, inl, inr, arith}
 use Rattle.std.proofs.lemmas.Bool.{false≢true}
 use Rattle.std.proofs.lemmas.Bool.Decides.{Decides-eqb}
 use Rattle.std.proofs.lemmas.Option.{same_Some}
@@ -11,12 +11,12 @@ use Rattle.fr_program.specs.Program.{Program}
 use Rattle.fr_instr.specs.Names.{NamesOf, place_of}
 use Rattle.fr_calls.specs.declared.buffer_end.End.{End as BufferEnd}
 use Rattle.fr_calls.specs.declared.buffer_end.End.TheVariants.{Writer, Reader}
-use Rattle.fr_notes.specs.Note.{Alternative, Note}
+use Rattle.fr_notes.specs.Note.{Note}
 use Rattle.fr_ends.specs.Certificate.{Certificate, value_for}
 use Rattle.fr_ends.specs.Guard.{Guard, Sole, ByMutex, InCritical, Turn, EndGuard}
 use Rattle.fr_ends.proofs.TurnLemmas.{RisesFrom, rises_whole, none_below, first_value, later_value}
 use Rattle.fr_cert.specs.Keys.{AreKnown, is_key_of, key_text, field, integer_of, end_at, names_in}
-use Rattle.fr_cert.specs.Shapes.{At, OrDefault, IsObject, IsList, EachEntry, EachMember, Names, AreNames, IsDepth, AreEnds, IsSpan}
+use Rattle.fr_cert.specs.Shapes.{At, OrDefault, IsObject, IsList, EachEntry, EachMember, Names, AreNames, IsDepth, AreEnds}
 use Rattle.fr_cert.specs.Meaning.{NoteText, IsHeldCount, IsRange, IsNoteText, note_said, IsAlternative, IsPlainNote, IsNote, IsTurnValue, AreTurnValues, IsGuardObject, IsGuard, IsEndName, IsEnd, IsVersion, IsCertificate, IsTree, Means}
 use Rattle.fr_cert.specs.declared.key.Key.{Key}
 use Rattle.fr_cert.specs.declared.key.Key.TheVariants as key

@@ -1,5 +1,5 @@
 -- The names of an application, as lists of texts.
-use Rattle.std.proofs.Common.{◌≡◌, ◌++◌, ◌∙◌, ℕ, List, [], ◌∷◌, Result, Ok, Err, IfOk, Bor, map, string_bytes, refl, sym, ap}
+use Rattle.std.proofs.Common.{◌≡◌, ◌++◌, ◌∙◌, ℕ, List, [], ◌∷◌, Result, Ok, Err, IfOk, map, string_bytes, refl, ap}
 use Rattle.fr_program.specs.declared.parts.Variable.{Variable}
 use Rattle.fr_program.specs.declared.parts.Object.{Object}
 use Rattle.fr_program.specs.declared.parts.Actor.{Actor}

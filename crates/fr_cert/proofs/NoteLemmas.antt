@@ -1,6 +1,6 @@
 -- What the parts of a note say, beside what an object has to say for them.
-use Rattle.std.proofs.Common.{◌≡◌, ◌≢◌, ◌⊎◌, ◌||◌, true≢false, ℕ, ℤ, zero, suc, ◌+◌, ◌<◌, ◌≤◌, ◌≤ℤ◌, List, [], ◌∷◌, Bool, true, false, IsTrue, Option, Some, is_some, option_map, length, get_or, cond, find, map, nat_eq, T, All, Any, unwrap_or, refl, sym, ap, ◌∙◌, subst, arith, inl, inr}
-use Rattle.std.specs.List.{list_any, range_with_len}
+use Rattle.std.proofs.Common.{◌≡◌, ◌⊎◌, ◌||◌, ℕ, ℤ, ◌<◌, ◌≤ℤ◌, List, [], ◌∷◌, Bool, true, false, IsTrue, Option, Some, is_some, option_map, length, get_or, cond, find, map, nat_eq, T, All, Any, unwrap_or, refl, sym, ap, ◌∙◌, subst, arith, inl, inr}
+use Rattle.std.specs.List.{range_with_len}
 use Rattle.std.proofs.lemmas.Bool.{cases_lt}
 use Rattle.std.proofs.lemmas.List.{get_or_default, get_or-map, length-map}
 use Rattle.std.specs.Int.Signed.{le_z, le_z_yes}
@@ -8,19 +8,19 @@ use Rattle.std.proofs.lemmas.List.Elements.{All-map}
 use Rattle.fr_program.specs.declared.ids.ObjId.{ObjId}
 use Rattle.fr_program.specs.declared.ids.VarId.{VarId}
 use Rattle.fr_program.specs.declared.parts.Kind.{Kind}
-use Rattle.fr_program.specs.declared.parts.Kind.TheVariants.{Queue, Binary, Counting, Mutex, Recursive, Stream, Message}
+use Rattle.fr_program.specs.declared.parts.Kind.TheVariants.{Mutex, Recursive}
 use Rattle.fr_program.specs.declared.range.Range.{Range}
 use Rattle.fr_program.specs.Program.{Program}
 use Rattle.fr_program.specs.Lookup.{variable_at}
 use Rattle.fr_calls.specs.State.{kind_of}
 use Rattle.fr_notes.specs.declared.claim.Claim.{Claim}
-use Rattle.fr_notes.specs.declared.claim.Claim.TheVariants.{HeldTimes, Gone, Alive, NotHeld}
+use Rattle.fr_notes.specs.declared.claim.Claim.TheVariants.{HeldTimes}
 use Rattle.fr_notes.specs.declared.note.NoteParts.{NoteParts}
 use Rattle.fr_notes.specs.declared.fault.NoteFault.{NoteFault}
 use Rattle.fr_notes.specs.declared.fault.NoteFault.TheVariants.{Memory, Count, Lives, Span}
 use Rattle.fr_notes.specs.Note.{Alternative}
-use Rattle.fr_notes.specs.Fits.{CanClaim, most_depth}
-use Rattle.fr_notes.specs.Parts.{said, claim_by, claim_said, count_in, names, is_live_said, range_in, range_by, range_said, IsCount, HasFault}
+use Rattle.fr_notes.specs.Fits.{CanClaim}
+use Rattle.fr_notes.specs.Parts.{said, claim_said, count_in, names, is_live_said, range_in, range_by, range_said, IsCount, HasFault}
 use Rattle.fr_cert.specs.Meaning.{NoteTextFits, IsInside, count_for, has, claim_at, range_at, note_said}
 use Rattle.fr_cert.specs.Views.{named_of, count_of, number_of, text_of}
 

@@ -1,5 +1,5 @@
 -- The values of a turn, read one member after another: the names of an object differ, so each actor is given once.
-use Rattle.std.proofs.Common.{◌≡◌, ◌<◌, ◌++◌, ◌∙◌, ℕ, ℤ, List, [], ◌∷◌, Bool, true, false, Option, Some, None, String, Global, string_bytes, Ordering, Less, Equal, Greater, nat_cmp, nat_eq, nat_lt, bytes_eq, cond, get_or, map, refl, sym, ap, subst, arith}
+use Rattle.std.proofs.Common.{◌≡◌, ◌<◌, ◌++◌, ◌∙◌, ℕ, ℤ, List, [], ◌∷◌, Bool, true, false, Some, None, string_bytes, Ordering, Less, Equal, Greater, nat_cmp, nat_eq, nat_lt, bytes_eq, cond, get_or, map, refl, sym, ap, subst, arith}
 use Rattle.std.specs.BTreeMap.{BTreeMap, is_at, get, IsOrdered}
 use Rattle.std.specs.Cmp.{tied_itself}
 use Rattle.std.specs.Cmp.Lexicographic.{slice_cmp}
@@ -17,7 +17,6 @@ use Rattle.std.proofs.lemmas.Slice.Eq.{bytes_eq-Decides}
 use Rattle.fr_program.specs.declared.ids.ActorId.{ActorId}
 use Rattle.fr_instr.specs.Names.{NamesOf, place_of}
 use Rattle.fr_ends.specs.Certificate.{value_for}
-use Rattle.fr_ends.specs.Fits.{AreRising}
 use Rattle.fr_ends.specs.View.{value_of, values_of}
 use Rattle.fr_ends.proofs.TurnLemmas.{rising}
 use Rattle.serde_json.specs.View.{members_view, view}

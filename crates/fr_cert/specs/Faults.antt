@@ -14,7 +14,7 @@
 -- | IsUnknown, InName          | a name is none; a value is no text, or such a name                               |
 -- | IsNamedTwice, InNames      | a name is there twice; the fault is in a list of names                           |
 -- | InEnds, InSpan             | a list is not two integers in order; a value is no such list                     |
-use Rattle.std.specs.Prelude.{◌≡◌, ◌⊎◌, ◌<◌, ◌≤◌, ◌<ℤ◌, ℕ, ℤ, pos, List, [], ◌∷◌, Option, Bool, true, false, Some, None, string_bytes}
+use Rattle.std.specs.Prelude.{◌≡◌, ◌⊎◌, ◌<◌, ◌≤◌, ◌<ℤ◌, ℕ, ℤ, pos, List, [], ◌∷◌, Bool, true, false, Some, None, string_bytes}
 use Rattle.serde_json.specs.Data.{Data, Items, Members, no_members, member}
 use Rattle.serde_json.specs.Find.{get_member, get_item, as_array, as_object, as_str}
 use Rattle.fr_notes.specs.Fits.{most_depth}

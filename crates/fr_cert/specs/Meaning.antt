@@ -16,10 +16,10 @@
 -- | IsCertificate, IsTree               | an object means a certificate, key by key; a value is such an object   |
 -- | IsTreeText                          | the bytes are the text of this value                                   |
 -- | Means                               | the bytes mean a certificate of this application                       |
-use Rattle.std.specs.Prelude.{◌≡◌, ◌<◌, ◌≤◌, ◌≤ℤ◌, ◌⊎◌, ℕ, ℤ, pos, List, [], ◌∷◌, Bool, ◌||◌, IsTrue, if◌then◌else◌, Option, Some, None, is_some, option_map, unwrap_or, All, IsUtf8, codes, find, length, map, nat_eq}
+use Rattle.std.specs.Prelude.{◌≡◌, ◌<◌, ◌≤◌, ◌≤ℤ◌, ◌⊎◌, ℕ, ℤ, pos, List, [], ◌∷◌, Bool, ◌||◌, IsTrue, if◌then◌else◌, Option, Some, is_some, option_map, unwrap_or, All, IsUtf8, codes, find, length, map, nat_eq}
 use Rattle.std.specs.List.{list_any, range_with_len}
-use Rattle.serde_json.specs.Data.{Data, Items, Members}
-use Rattle.serde_json.specs.Find.{as_array, as_str}
+use Rattle.serde_json.specs.Data.{Data, Members}
+use Rattle.serde_json.specs.Find.{as_str}
 use Rattle.serde_json.specs.Read.{read}
 use Rattle.fr_program.specs.Program.{Program}
 use Rattle.fr_program.specs.Lookup.{variable_at}

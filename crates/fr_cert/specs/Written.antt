@@ -24,7 +24,7 @@ use Rattle.fr_program.specs.Program.{Program, VariableOf, ObjectOf}
 use Rattle.fr_program.specs.Lookup.{variable_at, object_at, actor_at}
 use Rattle.fr_calls.specs.BufferEnd.{end_text}
 use Rattle.fr_notes.specs.declared.claim.Claim.{Claim}
-use Rattle.fr_notes.specs.declared.claim.Claim.TheVariants.{NotHeld, Alive, Gone, HeldTimes}
+use Rattle.fr_notes.specs.declared.claim.Claim.TheVariants.{Alive, Gone, HeldTimes}
 use Rattle.fr_notes.specs.Note.{Alternative, Note}
 use Rattle.fr_ends.specs.Guard.{Guard, Sole, ByMutex, InCritical, Turn, EndGuard}
 use Rattle.fr_ends.specs.Certificate.{Certificate}

@@ -14,6 +14,8 @@ mod built_notes;
 #[cfg(test)]
 mod certificates;
 #[cfg(test)]
+mod certificates_whole;
+#[cfg(test)]
 mod faults;
 mod files;
 #[cfg(test)]

@@ -21,6 +21,13 @@ const FIRST_NOTES: &[u8] =
 const DELAYED_NOTES: &[u8] =
     br#"{"version":1,"ends":[],"notes":[{},{"crit":1},{"crit":1},{"crit":1},{}]}"#;
 
+const TURNS: &[u8] = br#"variable = [{name="turn", lo=0, hi=1, init=0}]
+object = [{name="m", kind="mutex", live=true}, {name="sb", kind="stream", size=16, live=true}]
+actor = [{name="t", kind="task", code=["goto 0"]}]
+"#;
+
+const TURNS_NOTES: &str = r#"{"ends":[{"buffer":"sb","end":"writer","guard":{"turn":"turn","values":{"t":1}}}],"notes":[[{"dead":["sb"],"live":["m"]},{"held":{"m":1},"range":{"turn":[1,1]}}]],"version":2}"#;
+
 /// Whether an allocation was refused.
 fn is_memory(fault: &TextFault) -> bool {
     match fault {
@@ -79,6 +86,26 @@ fn written_texts(rt: HostRuntime) {
         r#"{"ends":[],"notes":[{},{"crit":1},{"crit":1,"range":{"x":[1,1]}},{},{}],"version":1}"#;
     let kept = match &texts(rt.alloc()) {
         Some((written, line)) => written.as_str() == certificate && line.as_str() == "yes\n",
+        None => true,
+    };
+    assert!(rt; kept);
+}
+
+/// What is written for a certificate with a guard, objects and alternatives, or the fault by which it
+/// is refused; None where there is no memory.
+fn rewritten(alloc: Global) -> Option<String> {
+    let app = read_app(alloc, TURNS).ok()?;
+    match &read_cert(alloc, &app, TURNS_NOTES.as_bytes()) {
+        Ok(certificate) => write_cert(alloc, &app, certificate).ok(),
+        Err(CertFault::Memory) => None,
+        Err(fault) => String::from_str(alloc, fault.text()).ok(),
+    }
+}
+
+#[test]
+fn whole_certificates(rt: HostRuntime) {
+    let kept = match &rewritten(rt.alloc()) {
+        Some(text) => text.as_str() == TURNS_NOTES,
         None => true,
     };
     assert!(rt; kept);

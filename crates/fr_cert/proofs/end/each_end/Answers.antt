@@ -1,6 +1,5 @@
-use Rattle.std.proofs.Common.{◌≡◌, ◌+◌, ◌++◌, ◌∷◌, [], Some, map, take, sym, ap, ◌∙◌, subst, inl, inr, ◌↔◌, IsTrue, Any, List}
+use Rattle.std.proofs.Common.{◌≡◌, ◌+◌, ◌++◌, ◌∷◌, [], map, take, sym, ap, ◌∙◌, subst, inl, inr, ◌↔◌, IsTrue, Any}
 use Rattle.serde_json.specs.View.{items_view, view}
-use Rattle.fr_ends.specs.declared.guard.EndGuard.{EndGuard}
 use Rattle.fr_ends.specs.Fits.{EndsFit}
 use Rattle.fr_ends.specs.View.{end_of}
 use Rattle.fr_cert.specs.Keys.{names_in}

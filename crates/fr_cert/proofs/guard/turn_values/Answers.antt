@@ -1,4 +1,4 @@
-use Rattle.std.proofs.Common.{◌≡◌, ◌<◌, List, [], ◌∷◌, ◌++◌, ℕ, Some, string_bytes, append_assoc, append-nil, sym, ap, ◌∙◌, subst, inl, inr, rules, to_z-of_z}
+use Rattle.std.proofs.Common.{◌≡◌, List, [], ◌∷◌, ◌++◌, Some, string_bytes, append_assoc, append-nil, sym, ap, ◌∙◌, subst, inl, inr, rules, to_z-of_z}
 use Rattle.std.proofs.lemmas.Result.{err_from_is_err_and}
 use Rattle.std.specs.List.Sorted.{IsStrictlySortedBy}
 use Rattle.std.specs.Map.{keys_of}
@@ -7,7 +7,6 @@ use Rattle.std.specs.String.{string_cmp}
 use Rattle.std.proofs.lemmas.Map.Iter.{rest_more, rest_all}
 use Rattle.serde_json.specs.View.{members_view, view}
 use Rattle.serde_json.proofs.Views.{Entry}
-use Rattle.fr_program.specs.declared.ids.ActorId.{ActorId}
 use Rattle.fr_ends.specs.View.{values_of}
 use Rattle.fr_instr.specs.Names.{place_of}
 use Rattle.fr_cert.specs.Path.{key}

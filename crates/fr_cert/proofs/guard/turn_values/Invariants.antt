@@ -1,8 +1,6 @@
-use Rattle.std.proofs.Common.{◌≡◌, ℕ, ℤ, List, ◌++◌, map}
+use Rattle.std.proofs.Common.{◌≡◌, List, ◌++◌}
 use Rattle.serde_json.specs.View.{members_view}
 use Rattle.serde_json.proofs.Views.{Entry}
-use Rattle.fr_ends.specs.Certificate.{value_for}
-use Rattle.fr_ends.specs.Fits.{AreRising}
 use Rattle.fr_ends.specs.View.{values_of}
 use Rattle.fr_cert.specs.Meaning.{AreTurnValues}
 use Rattle.fr_cert.proofs.guard.turn_values.Given as goal

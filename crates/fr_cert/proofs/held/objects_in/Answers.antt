@@ -1,11 +1,9 @@
-use Rattle.std.proofs.Common.{◌≡◌, ◌∷◌, [], ℕ, List, Some, AllPairs, map, nat_eq, ◌+◌, ◌++◌, take, get_or, sym, ap, ◌∙◌, subst, inl, inr, true, false}
+use Rattle.std.proofs.Common.{◌≡◌, ◌∷◌, [], map, nat_eq, ◌+◌, ◌++◌, take, sym, ap, ◌∙◌, subst, inl, inr, false}
 use Rattle.std.specs.List.{list_any}
 use Rattle.fr_program.specs.declared.ids.ObjId.{ObjId}
-use Rattle.serde_json.specs.Data.{Data}
-use Rattle.serde_json.specs.Find.{get_item}
 use Rattle.serde_json.specs.View.{items_view, view}
 use Rattle.fr_cert.specs.Path.{at}
-use Rattle.fr_cert.specs.Shapes.{EachEntry, Names, AreNames}
+use Rattle.fr_cert.specs.Shapes.{Names, AreNames}
 use Rattle.fr_cert.specs.Faults.{InName, deeper}
 use Rattle.fr_cert.specs.Views.{number_of}
 use Rattle.fr_cert.specs.declared.fault.CertFault.TheVariants as fault

@@ -1,6 +1,5 @@
-use Rattle.std.proofs.Common.{◌≡◌, ◌≢◌, ◌++◌, ◌∙◌, ℕ, List, All, AllPairs, map, string_bytes, sym, ap, subst}
-use Rattle.std.proofs.lemmas.Result.{IfOk-weaker}
-use Rattle.fr_program.specs.Limits.{IsName, names_of}
+use Rattle.std.proofs.Common.{◌≢◌, ◌∙◌, All, AllPairs, sym, ap, subst}
+use Rattle.fr_program.specs.Limits.{IsName}
 use Rattle.fr_instr.specs.Views.{texts}
 use Rattle.fr_cert.proofs.NamesLemmas.{all_three, variable_texts, object_texts, actor_texts, three_names}
 use Rattle.fr_cert.proofs.names.names_of.Goals as goal

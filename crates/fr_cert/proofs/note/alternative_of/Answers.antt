@@ -1,4 +1,4 @@
-use Rattle.std.proofs.Common.{◌≡◌, ◌≢◌, ◌∙◌, ◌∷◌, [], sym, ap, subst, inl, inr, refl, true≢false, false}
+use Rattle.std.proofs.Common.{◌≢◌, ◌∙◌, ◌∷◌, [], ap, subst, inl, inr, refl, true≢false}
 use Rattle.std.proofs.lemmas.Result.{err_from_is_err_and}
 use Rattle.serde_json.specs.View.{members_view}
 use Rattle.fr_notes.specs.declared.fault.NoteFault.{NoteFault}

@@ -1,4 +1,4 @@
-use Rattle.std.proofs.Common.{sym, inr, ap, ◌∙◌}
+use Rattle.std.proofs.Common.{sym, ap, ◌∙◌}
 use Rattle.serde_json.specs.View.{view}
 use Rattle.fr_cert.specs.Path.{key}
 use Rattle.fr_cert.specs.Keys.{key_text}

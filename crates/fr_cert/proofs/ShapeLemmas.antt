@@ -1,0 +1,212 @@
+-- What is written has no float, and nests six deep at the most, so that its text is read again.
+use Rattle.std.proofs.Common.{◌≡◌, ◌≤◌, ◌||◌, ℕ, zero, suc, max, ℤ, pos, negsuc, List, [], ◌∷◌, Bool, true, false, cond, Less, Equal, Greater, nat_cmp, codes, refl, sym, arith}
+use Rattle.std.specs.Cmp.Lexicographic.{slice_cmp}
+use Rattle.std.specs.Ordering.{match_ordering}
+use Rattle.std.proofs.Math.Nat.{max-le, le-max_left, le-max_right}
+use Rattle.std.proofs.lemmas.Bool.{false≢true}
+use Rattle.serde_json.specs.Data.{Data, number, unsigned, string, array, object, Items, no_items, item, Members, no_members, member, put, depth, items_depth, members_depth}
+use Rattle.serde_json.specs.Find.{of_integer}
+use Rattle.serde_json.specs.Read.{max_depth}
+use Rattle.serde_json.specs.Written.{has_float, items_have_float, members_have_float}
+use Rattle.fr_program.specs.Program.{Program, VariableOf, ObjectOf}
+use Rattle.fr_program.specs.Lookup.{actor_at, object_at, variable_at}
+use Rattle.fr_calls.specs.BufferEnd.{end_text}
+use Rattle.fr_notes.specs.declared.claim.Claim.{Claim}
+use Rattle.fr_notes.specs.declared.claim.Claim.TheVariants.{NotHeld, Alive, Gone, HeldTimes}
+use Rattle.fr_notes.specs.Note.{Alternative, Note}
+use Rattle.fr_ends.specs.Guard.{Guard, Sole, ByMutex, InCritical, Turn, EndGuard}
+use Rattle.fr_ends.specs.Certificate.{Certificate}
+use Rattle.fr_cert.specs.Keys.{key_text}
+use Rattle.fr_cert.specs.declared.key.Key.{Key}
+use Rattle.fr_cert.specs.declared.key.Key.TheVariants as key
+use Rattle.fr_cert.specs.Written.{range_tree, is_declared, with_named, with_ranges, with_count, with_counts, is_alive, is_gone, names_where, with_depth, with_list, with_object, alternative_tree, alternatives_tree, note_tree, notes_tree, with_values, guard_tree, end_tree, ends_tree, version_of, cert_tree}
+
+-- no float, and nested so deep at the most
+record IsPlain (b : ℕ) (d : Data) : Type 0 where
+  floats : has_float d ≡ false
+  deep : depth d ≤ b
+
+record ArePlain (b : ℕ) (ms : Members) : Type 0 where
+  floats : members_have_float ms ≡ false
+  deep : members_depth ms ≤ b
+
+record ItemsPlain (b : ℕ) (ds : Items) : Type 0 where
+  floats : items_have_float ds ≡ false
+  deep : items_depth ds ≤ b
+
+both_false : (a b : Bool) → (a || b) ≡ false → (a ≡ false) × (b ≡ false)
+both_false true b h = absurd (false≢true (sym h))
+both_false false b h = (refl, h)
+
+either : (a b : Bool) → a ≡ false → b ≡ false → (a || b) ≡ false
+either a b p q = rw (p, q) refl
+
+left_most : (x y b : ℕ) → max x y ≤ b → x ≤ b
+left_most x y b h = omega (arith, h, le-max_left x y)
+
+right_most : (x y b : ℕ) → max x y ≤ b → y ≤ b
+right_most x y b h = omega (arith, h, le-max_right x y)
+
+-- ---- one member, one entry more
+
+plain_member : (b : ℕ) (k : List ℕ) (d : Data) (ms : Members) → IsPlain b d → ArePlain b ms → ArePlain b (member k d ms)
+plain_member b k d ms p q = record { floats = either (has_float d) (members_have_float ms) p.floats q.floats; deep = max-le p.deep q.deep }
+
+plain_item : (b : ℕ) (d : Data) (ds : Items) → IsPlain b d → ItemsPlain b ds → ItemsPlain b (item d ds)
+plain_item b d ds p q = record { floats = either (has_float d) (items_have_float ds) p.floats q.floats; deep = max-le p.deep q.deep }
+
+no_more : (b : ℕ) → ArePlain b no_members
+no_more b = record { floats = refl; deep = omega arith }
+
+no_other : (b : ℕ) → ItemsPlain b no_items
+no_other b = record { floats = refl; deep = omega arith }
+
+plain_object : (b : ℕ) (ms : Members) → ArePlain b ms → IsPlain (suc b) (object ms)
+plain_object b ms h = record { floats = h.floats; deep = omega (arith, h.deep) }
+
+plain_array : (b : ℕ) (ds : Items) → ItemsPlain b ds → IsPlain (suc b) (array ds)
+plain_array b ds h = record { floats = h.floats; deep = omega (arith, h.deep) }
+
+plain_string : (b : ℕ) (s : List ℕ) → IsPlain b (string s)
+plain_string b s = record { floats = refl; deep = omega arith }
+
+plain_count : (b n : ℕ) → IsPlain b (number (unsigned n))
+plain_count b n = record { floats = refl; deep = omega arith }
+
+plain_integer : (b : ℕ) (z : ℤ) → IsPlain b (number (of_integer z))
+plain_integer b (pos n) = record { floats = refl; deep = omega arith }
+plain_integer b (negsuc n) = record { floats = refl; deep = omega arith }
+
+plain_put : (b : ℕ) (k : List ℕ) (d : Data) (ms : Members) → IsPlain b d → ArePlain b ms → ArePlain b (put k d ms)
+plain_put b k d no_members p q = plain_member b k d no_members p q
+plain_put b k d (member l e ms) p q =
+    let floats = both_false (has_float e) (members_have_float ms) q.floats in
+    let first : IsPlain b e = record { floats = floats.0; deep = left_most (depth e) (members_depth ms) b q.deep } in
+    let rest : ArePlain b ms = record { floats = floats.1; deep = right_most (depth e) (members_depth ms) b q.deep } in
+    elim (slice_cmp nat_cmp k l) as (λ o. ArePlain b (match_ordering o (member k d (member l e ms)) (member l d ms) (member l e (put k d ms)))) [
+      | Less ↦ plain_member b k d (member l e ms) p q
+      | Equal ↦ plain_member b l d ms p rest
+      | Greater ↦ plain_member b l e (put k d ms) first (plain_put b k d ms p rest)
+    ]
+
+-- ---- notes
+
+plain_range : (r : ℤ × ℤ) → IsPlain 1 (range_tree r)
+plain_range r = plain_array 0 _ (plain_item 0 (number (of_integer r.0)) _ (plain_integer 0 r.0) (plain_item 0 (number (of_integer r.1)) no_items (plain_integer 0 r.1) (no_other 0)))
+
+plain_named : (v : VariableOf) (r : ℤ × ℤ) (ms : Members) → ArePlain 1 ms → ArePlain 1 (with_named v r ms)
+plain_named v r ms h = go (is_declared v r)
+  where
+    go : (b : Bool) → ArePlain 1 (cond b ms (put v.name (range_tree r) ms))
+    go true = h
+    go false = plain_put 1 v.name (range_tree r) ms (plain_range r) h
+
+plain_ranges : (vs : List VariableOf) (rs : List (ℤ × ℤ)) (ms : Members) → ArePlain 1 ms → ArePlain 1 (with_ranges vs rs ms)
+unfolding with_ranges
+plain_ranges [] rs ms h = h
+plain_ranges (v ∷ vs) [] ms h = h
+plain_ranges (v ∷ vs) (r ∷ rs) ms h = plain_ranges vs rs (with_named v r ms) (plain_named v r ms h)
+
+plain_with_count : (o : ObjectOf) (c : Claim) (ms : Members) → ArePlain 1 ms → ArePlain 1 (with_count o c ms)
+plain_with_count o (HeldTimes count) ms h = plain_put 1 o.name (number (unsigned count)) ms (plain_count 1 count) h
+plain_with_count o NotHeld ms h = h
+plain_with_count o Alive ms h = h
+plain_with_count o Gone ms h = h
+
+plain_counts : (os : List ObjectOf) (cs : List Claim) (ms : Members) → ArePlain 1 ms → ArePlain 1 (with_counts os cs ms)
+unfolding with_counts
+plain_counts [] cs ms h = h
+plain_counts (o ∷ os) [] ms h = h
+plain_counts (o ∷ os) (c ∷ cs) ms h = plain_counts os cs (with_count o c ms) (plain_with_count o c ms h)
+
+plain_names : (test : Claim → Bool) (os : List ObjectOf) (cs : List Claim) → ItemsPlain 0 (names_where test os cs)
+unfolding names_where
+plain_names test [] cs = no_other 0
+plain_names test (o ∷ os) [] = no_other 0
+plain_names test (o ∷ os) (c ∷ cs) = go (test c) (plain_names test os cs)
+  where
+    go : (b : Bool) → ItemsPlain 0 (names_where test os cs) → ItemsPlain 0 (cond b (item (string o.name) (names_where test os cs)) (names_where test os cs))
+    go true rest = plain_item 0 (string o.name) (names_where test os cs) (plain_string 0 o.name) rest
+    go false rest = rest
+
+plain_depth : (k : Key) (n : ℕ) (ms : Members) → ArePlain 2 ms → ArePlain 2 (with_depth k n ms)
+plain_depth k zero ms h = h
+plain_depth k (suc n) ms h = plain_member 2 (key_text k) (number (unsigned (suc n))) ms (plain_count 2 (suc n)) h
+
+plain_list : (k : Key) (ds : Items) (ms : Members) → ItemsPlain 0 ds → ArePlain 2 ms → ArePlain 2 (with_list k ds ms)
+plain_list k no_items ms p h = h
+plain_list k (item d ds) ms p h = plain_member 2 (key_text k) (array (item d ds)) ms (record { floats = p.floats; deep = omega (arith, p.deep) }) h
+
+plain_inner : (k : Key) (os ms : Members) → ArePlain 1 os → ArePlain 2 ms → ArePlain 2 (with_object k os ms)
+plain_inner k no_members ms p h = h
+plain_inner k (member name d more) ms p h = plain_member 2 (key_text k) (object (member name d more)) ms (plain_object 1 (member name d more) p) h
+
+plain_alternative : (P : Program) (n : Alternative) → IsPlain 3 (alternative_tree P n)
+unfolding alternative_tree
+plain_alternative P n =
+    plain_object 2 _
+    (plain_depth key.Crit n.critical _
+    (plain_list key.Dead (names_where is_gone P.objects n.claims) _ (plain_names is_gone P.objects n.claims)
+    (plain_inner key.Held (with_counts P.objects n.claims no_members) _ (plain_counts P.objects n.claims no_members (no_more 1))
+    (plain_list key.Live (names_where is_alive P.objects n.claims) _ (plain_names is_alive P.objects n.claims)
+    (plain_inner key.Range (with_ranges P.variables n.ranges no_members) _ (plain_ranges P.variables n.ranges no_members (no_more 1))
+    (plain_depth key.Susp n.suspended no_members (no_more 2)))))))
+
+plain_alternatives : (P : Program) (note : List Alternative) → ItemsPlain 3 (alternatives_tree P note)
+plain_alternatives P [] = no_other 3
+plain_alternatives P (n ∷ more) = plain_item 3 (alternative_tree P n) (alternatives_tree P more) (plain_alternative P n) (plain_alternatives P more)
+
+plain_note : (P : Program) (note : Note) → IsPlain 4 (note_tree P note)
+plain_note P [] = plain_string 4 (codes "never")
+plain_note P (n ∷ []) = let h = plain_alternative P n in record { floats = h.floats; deep = omega (arith, h.deep) }
+plain_note P (n ∷ m ∷ more) = plain_array 3 (alternatives_tree P (n ∷ m ∷ more)) (plain_alternatives P (n ∷ m ∷ more))
+
+plain_notes : (P : Program) (notes : List Note) → ItemsPlain 4 (notes_tree P notes)
+plain_notes P [] = no_other 4
+plain_notes P (note ∷ notes) = plain_item 4 (note_tree P note) (notes_tree P notes) (plain_note P note) (plain_notes P notes)
+
+-- ---- guards
+
+plain_values : (P : Program) (vs : List (ℕ × ℤ)) (ms : Members) → ArePlain 0 ms → ArePlain 0 (with_values P vs ms)
+unfolding with_values
+plain_values P [] ms h = h
+plain_values P (v ∷ vs) ms h = plain_values P vs (put (actor_at P v.0).name (number (of_integer v.1)) ms) (plain_put 0 (actor_at P v.0).name (number (of_integer v.1)) ms (plain_integer 0 v.1) h)
+
+plain_guard : (P : Program) (g : Guard) → IsPlain 2 (guard_tree P g)
+plain_guard P (Sole actor) = plain_object 1 _ (plain_member 1 (key_text key.Sole) (string (actor_at P actor).name) no_members (plain_string 1 (actor_at P actor).name) (no_more 1))
+plain_guard P (ByMutex mutex) = plain_object 1 _ (plain_member 1 (key_text key.Mutex) (string (object_at P mutex).name) no_members (plain_string 1 (object_at P mutex).name) (no_more 1))
+plain_guard P InCritical = plain_string 2 (codes "critical")
+plain_guard P (Turn x values) =
+    let named = plain_object 0 (with_values P values no_members) (plain_values P values no_members (no_more 0)) in
+    plain_object 1 _
+    (plain_member 1 (key_text key.Turn) (string (variable_at P x).name) _ (plain_string 1 (variable_at P x).name)
+    (plain_member 1 (key_text key.Values) (object (with_values P values no_members)) no_members named (no_more 1)))
+
+plain_end : (P : Program) (e : EndGuard) → IsPlain 3 (end_tree P e)
+plain_end P e =
+    plain_object 2 _
+    (plain_member 2 (key_text key.Buffer) (string (object_at P e.buffer).name) _ (plain_string 2 (object_at P e.buffer).name)
+    (plain_member 2 (key_text key.End) (string (end_text e.end)) _ (plain_string 2 (end_text e.end))
+    (plain_member 2 (key_text key.Guard) (guard_tree P e.guard) no_members (plain_guard P e.guard) (no_more 2))))
+
+plain_ends : (P : Program) (es : List EndGuard) → ItemsPlain 3 (ends_tree P es)
+plain_ends P [] = no_other 3
+plain_ends P (e ∷ es) = plain_item 3 (end_tree P e) (ends_tree P es) (plain_end P e) (plain_ends P es)
+
+-- ---- the certificate
+
+plain_tree : (P : Program) (C : Certificate) → IsPlain 6 (cert_tree P C)
+unfolding cert_tree
+plain_tree P C =
+    let ends = plain_array 3 (ends_tree P C.ends) (plain_ends P C.ends) in
+    let notes = plain_array 4 (notes_tree P C.notes) (plain_notes P C.notes) in
+    plain_object 5 _
+    (plain_member 5 (key_text key.Ends) (array (ends_tree P C.ends)) _ (record { floats = ends.floats; deep = omega (arith, ends.deep) })
+    (plain_member 5 (key_text key.Notes) (array (notes_tree P C.notes)) _ notes
+    (plain_member 5 (key_text key.Version) (number (unsigned (version_of C.notes))) no_members (plain_count 5 (version_of C.notes)) (no_more 5))))
+
+pub no_float : (P : Program) (C : Certificate) → has_float (cert_tree P C) ≡ false
+no_float P C = (plain_tree P C).floats
+
+pub tree_depth : (P : Program) (C : Certificate) → depth (cert_tree P C) ≤ max_depth
+tree_depth P C = let h = (plain_tree P C).deep in omega (arith, h)
