@@ -33,6 +33,25 @@ fn text_of(alloc: Global, app: &App, certificate: &Certificate) -> Result<Found,
     Ok(Found::Text(write_cert(alloc, app, certificate)?))
 }
 
+// What is found for an application in so many rounds, which is 1 to 64 of them.
+fn found_for<R: Threads + Sync>(
+    rt: &R,
+    alloc: Global,
+    app: &App,
+    rounds: usize,
+) -> Result<Found, CheckFault>
+    requires { IsNoRounds rounds → ⊥ }
+    ensures found { IfOk result (λ found. IsWrittenFor app.now found) }
+    ensures refused { IfErr result (λ fault. fault ≡ Memory) }
+{
+    match find(rt, alloc, app, rounds) {
+        Ok(certificate) => text_of(alloc, app, &certificate),
+        Err(FindFault::NotStable) => Ok(Found::NotFound),
+        Err(FindFault::Memory) => Err(CheckFault::Memory),
+        Err(FindFault::Rounds) => unreachable!(),
+    }
+}
+
 /// Finds a certificate for an application, in at most so many rounds, and writes it.
 ///
 /// `Text` is the text of a certificate that fits the application that the bytes mean; whether it
@@ -60,10 +79,5 @@ pub fn find_bytes<R: Threads + Sync>(
         Ok(app) => app,
         Err(fault) => return Err(CheckFault::of_bytes(BytesFault::App(fault))),
     };
-    match find(rt, alloc, &app, rounds) {
-        Ok(certificate) => text_of(alloc, &app, &certificate),
-        Err(FindFault::NotStable) => Ok(Found::NotFound),
-        Err(FindFault::Rounds) => Err(CheckFault::Rounds),
-        Err(FindFault::Memory) => Err(CheckFault::Memory),
-    }
+    found_for(rt, alloc, &app, rounds)
 }
