@@ -1,2 +1,6 @@
+pub mod BearLaws
 pub mod DisturbanceLaws
+pub mod EffectLaws
 pub mod Lists
+pub mod Order
+pub mod SpoilerLaws

@@ -1,7 +1,8 @@
 -- The first alternatives of a note, one more at a time.
-use Rattle.std.proofs.Common.{◌≡◌, ℕ, zero, suc, ◌+◌, ◌<◌, List, [], ◌∷◌, length, get_or, Some, refl, sym, ◌∙◌, subst, arith, ⊎_elim}
+use Rattle.std.proofs.Common.{◌≡◌, ℕ, zero, suc, ◌+◌, ◌<◌, List, [], ◌∷◌, length, get_or, Some, refl, sym, ap, ◌∙◌, subst, arith, ⊎_elim}
 use Rattle.std.specs.Prelude.{Contains, slice_get}
 use Rattle.std.proofs.lemmas.Bool.{cases_lt}
+use Rattle.std.proofs.lemmas.Option.{same_Some}
 use Rattle.fr_program.specs.Program.{Program}
 use Rattle.fr_notes.specs.Fits.{AlternativeFits, NoteFits}
 use Rattle.fr_notes.specs.Note.{Alternative, Note}
@@ -38,3 +39,14 @@ pub get-there : {A : Type 0} (xs : List A) (k : ℕ) → k < length xs → (x : 
 get-there [] k l = absurd (omega arith)
 get-there (x ∷ xs) zero l = (x, refl)
 get-there (x ∷ xs) (suc k) l = get-there xs k (omega arith)
+
+pub get-at : {A : Type 0} (xs : List A) (k : ℕ) (d x : A) → slice_get xs k ≡ Some x → get_or xs k d ≡ x
+get-at [] k d x e = cc
+get-at (y ∷ xs) zero d x e = same_Some _ _ e
+get-at (y ∷ xs) (suc k) d x e = get-at xs k d x e
+
+-- what is read at a place is there
+pub at-get : {A : Type 0} (xs : List A) (k : ℕ) (x : A) → k < length xs → x ≡ get_or xs k x → slice_get xs k ≡ Some x
+at-get [] k x l e = absurd (omega arith)
+at-get (y ∷ xs) zero x l e = ap (λ z. Some z) (sym e)
+at-get (y ∷ xs) (suc k) x l e = at-get xs k x (omega arith) e

@@ -1,2 +1,4 @@
 pub mod Undisturbed
 pub mod Disturbance
+pub mod Effects
+pub mod Spoilers

@@ -6,9 +6,11 @@ ghost use Rattle.fr_program.specs.Points.{points_of};
 ghost use Rattle.fr_notes.specs.Fits.{AlternativeFits, NoteFits, NotesFit};
 ghost use Rattle.fr_notes.specs.Known.{IsPossible, KnownFits, IsOther, LeavesSome};
 ghost use Rattle.fr_notes.specs.Note.{Alternative as AlternativeOf};
-ghost use Rattle.fr_interfere.specs.Disturbance.{SparesSome, IsSparedByRows, IsSpoiler};
+ghost use Rattle.fr_interfere.specs.Disturbance.{SparesSome, IsSparedByRows};
+ghost use Rattle.fr_interfere.specs.Effects.{effect_of};
 ghost use Rattle.fr_interfere.specs.Undisturbed.{Undisturbed};
 
+use crate::effects::{Effect, all_bear, effect_of};
 use fr_calls::Way;
 use fr_notes::{Alternative, Change, Known, Note, Notes, can_meet, change_by, spares};
 use fr_program::{App, Instr, Point};
@@ -120,6 +122,28 @@ fn is_each_spared(app: &App, note: &Note, others: &Note, mover: Point, instr: &I
     true
 }
 
+/// Whether no step from the mover's point disturbs the note: where each alternative bears what the
+/// instruction can change, nothing else is asked.
+pub fn is_left(
+    app: &App,
+    effect: Effect,
+    note: &Note,
+    others: &Note,
+    mover: Point,
+    instr: &Instr,
+) -> bool
+    requires effect { effect ≡ effect_of app.now mover.side instr.now }
+    requires note { NoteFits app.now note.now }
+    requires others { NoteFits app.now others.now }
+    requires point { IsPoint app.now mover }
+    requires instr { instr_of app.now mover ≡ Some instr.now }
+    ensures { (p : Point) → IsPoint app.now p → p.actor ≢ mover.actor →
+        (IsTrue result ↔ ((n m : AlternativeOf) → Contains note.now n → Contains others.now m → IsSparedByRows app.now p n mover m note.now)) }
+{
+    app.recall_faultless();
+    all_bear(app, effect, others, note) || is_each_spared(app, note, others, mover, instr)
+}
+
 /// Whether no step of another actor from the point with the other number disturbs the note of the
 /// point with this one. Between points of one actor none does. The notes fit the application. Takes
 /// no memory.
@@ -130,6 +154,7 @@ pub fn undisturbed(app: &App, notes: &Notes, number: usize, other: usize) -> boo
     ensures { (p q : Point) → slice_get (points_of app.now) number ≡ Some p →
         slice_get (points_of app.now) other ≡ Some q → (IsTrue result ↔ Undisturbed app.now notes.now p q) }
 {
+    app.recall_faultless();
     app.recall_numbered();
     let (point, mover) = (app.point(number), app.point(other));
     if point.actor.0 == mover.actor.0 {
@@ -137,29 +162,10 @@ pub fn undisturbed(app: &App, notes: &Notes, number: usize, other: usize) -> boo
     }
     match app.instr(mover) {
         None => true,
-        Some(instr) => is_each_spared(
-            app,
-            notes.at(app, number),
-            notes.at(app, other),
-            mover,
-            instr,
-        ),
-    }
-}
-
-/// The least number of a point whose steps disturb the note of the point with this number; None
-/// where no step of another actor does. The notes fit the application. Takes no memory.
-pub fn spoiler(app: &App, notes: &Notes, number: usize) -> Option<usize>
-    requires number { number < length (points_of app.now) }
-    requires fit { NotesFit app.now notes.now }
-    ensures { (p : Point) → slice_get (points_of app.now) number ≡ Some p →
-        IsSpoiler app.now notes.now p result }
-{
-    app.recall_numbered();
-    for other in 0..app.points() {
-        if !undisturbed(app, notes, number, other) {
-            return Some(other);
+        Some(instr) => {
+            let effect = effect_of(app, mover.side, instr);
+            let (note, others) = (notes.at(app, number), notes.at(app, other));
+            is_left(app, effect, note, others, mover, instr)
         }
     }
-    None
 }

@@ -12,6 +12,7 @@ pub mod WorkedFaultless
 pub mod WritersFaultless
 pub mod Telling
 pub mod Walks
+pub mod Deletes
 pub mod Judging
 pub mod Firsts
 pub mod OneAnswer

@@ -1,0 +1,137 @@
+-- An alternative that bears what a step can change holds after the step.
+use Rattle.std.proofs.Common.{◌≡◌, ◌≢◌, ℕ, length, Option, Some, None, sym, ap, ◌∙◌, subst, arith, ⊎_elim}
+use Rattle.std.specs.Prelude.{ℤ, ◌↔◌, Bool, IsTrue, IfSome, Contains}
+use Rattle.std.proofs.lemmas.Int.{ints}
+use Rattle.std.proofs.lemmas.Option.{slice_get-get_or}
+use Rattle.fr_program.specs.declared.ids.ObjId.{ObjId}
+use Rattle.fr_program.specs.declared.ids.Point.{Point}
+use Rattle.fr_program.specs.declared.ids.Side.{Side}
+use Rattle.fr_program.specs.declared.ids.Side.TheVariants.{Before, Inside}
+use Rattle.fr_program.specs.declared.instr.Instr.{Instr}
+use Rattle.fr_program.specs.declared.instr.Instr.TheVariants.{Set, Pick, Call as Calls}
+use Rattle.fr_program.specs.declared.instr.Call.{Call}
+use Rattle.fr_program.specs.declared.instr.Call.TheVariants.{Create, Delete, On}
+use Rattle.fr_program.specs.declared.instr.Action.{Action}
+use Rattle.fr_program.specs.declared.instr.Action.TheVariants.{QueueReceive, Send, Receive, Reset}
+use Rattle.fr_program.specs.declared.instr.BufferKind.{BufferKind}
+use Rattle.fr_program.specs.declared.instr.Operand.{Operand}
+use Rattle.fr_program.specs.declared.instr.Operand.TheVariants.{Number, Variable}
+use Rattle.fr_program.specs.declared.instr.Operator.{Operator}
+use Rattle.fr_program.specs.declared.instr.Operator.TheVariants.{Times}
+use Rattle.fr_program.specs.declared.ids.VarId.{VarId}
+use Rattle.fr_program.specs.declared.parts.Kind.{Kind}
+use Rattle.fr_program.specs.declared.parts.Kind.TheVariants.{Queue}
+use Rattle.fr_program.specs.declared.range.Range.{Range}
+use Rattle.fr_program.specs.Spans.{IsIn}
+use Rattle.fr_program.specs.Program.{Program}
+use Rattle.fr_program.specs.Lookup.{instr_of, no_object}
+use Rattle.fr_program.specs.Uses.{is_buffer}
+use Rattle.fr_program.specs.Fault.{IsFaultless, OperandsFit}
+use Rattle.fr_calls.specs.State.{State, kind_of}
+use Rattle.fr_calls.specs.Rule.{operand_of, result_of}
+use Rattle.fr_calls.specs.declared.way.Way.{Way}
+use Rattle.fr_calls.specs.declared.way.Way.TheVariants.{Then, Else}
+use Rattle.fr_calls.specs.Step.{StepBy}
+use Rattle.fr_calls.proofs.Rows.{row-of-step, landing-of-step, free-to-step}
+use Rattle.fr_notes.specs.declared.claim.Claim.TheVariants.{NotHeld}
+use Rattle.fr_notes.specs.Note.{Alternative, Note, HoldsOne, Within, claim_of, range_of}
+use Rattle.fr_notes.specs.Reckoning.{CanBeIn, IsSpanIn}
+use Rattle.fr_notes.specs.View.{ends_of}
+use Rattle.fr_notes.specs.Known.{Known, HasKnown, alone, beside, joint_range}
+use Rattle.fr_interfere.specs.declared.effects.Effect.{Effect}
+use Rattle.fr_interfere.specs.declared.effects.Effect.TheVariants.{Life, Gives, Sets}
+use Rattle.fr_interfere.specs.Disturbance.{IsSparedByRow, IsSparedByRows}
+use Rattle.fr_interfere.specs.Effects.{effect_inside, effect_of, IsMade, IsWritten, IsSeen, Bears, AllBear, IsComputable}
+use Rattle.fr_interfere.proofs.DisturbanceLaws.{same-actor}
+use Rattle.fr_interfere.proofs.EffectLaws.{row-seen}
+
+-- an operand's number is one that it can be
+can-be : (m : Alternative) (a : ℕ) (S : State) → HoldsOne m a S → (operand : Operand) → CanBeIn (range_of m) operand (operand_of S operand)
+can-be m a S holds (Number z) = (omega (arith, ints), omega (arith, ints))
+can-be m a S holds (Variable x) = holds.variables x.0
+
+module _ (m n : Alternative) where
+  bears-claim : (effect : Effect) (o : ℕ) → Bears effect m n → IsMade effect o → claim_of n o ≡ NotHeld
+  bears-claim (Life k) o bears made = subst (λ j. claim_of n j ≡ NotHeld) made bears
+  bears-claim effect o bears made = absurd made
+
+  bears-value : (effect : Effect) (a : ℕ) (S : State) (x : ℕ) (v : ℤ) → HoldsOne m a S → Bears effect m n → IsWritten effect S x v → Within (range_of n x) v
+  bears-value (Gives k lo hi) a S x v holds bears w =
+      subst (λ j. Within (range_of n j) v) w.0 (omega (arith, ints, bears.0, w.1), omega (arith, ints, bears.1, w.2))
+  bears-value (Sets k l op r) a S x v holds bears w =
+      subst (λ j. Within (range_of n j) v) w.0 (subst (λ u. Within (range_of n k.0) u) (sym w.1) (bears (operand_of S l) (operand_of S r) (can-be m a S holds l) (can-be m a S holds r)))
+  bears-value effect a S x v holds bears w = absurd w
+
+  bears-holds : (effect : Effect) (a b : ℕ) (S T : State) → Bears effect m n → HoldsOne m a S → HoldsOne n b S → IsSeen effect b S T → HoldsOne n b T
+  bears-holds effect a b S T bears holds h seen = record {
+    critical = seen.critical ∙ h.critical;
+    suspended = seen.suspended ∙ h.suspended;
+    objects = λ o. seen.objects o (claim_of n o) (λ made. bears-claim effect o bears made) (h.objects o);
+    variables = λ x. ⊎_elim (λ same. subst (λ v. Within (range_of n x) v) (sym same) (h.variables x)) (λ written. bears-value effect a S x _ holds bears written) (seen.values x);
+  }
+
+-- a reset is of a buffer
+reset-suits : (P : Program) → IsFaultless P → (a pc : ℕ) (i : Instr) (q : Point) → instr_of P q ≡ Some i → (o : ObjId) (buffer : BufferKind) (e : Option ℕ) → i ≡ Calls (On o (Reset buffer e)) → IsTrue (is_buffer buffer (kind_of P o.0))
+reset-suits P free a pc i q is o buffer e same =
+    let at = is ∙ ap (λ x. Some x) same in
+    let l = (free.names.things q.actor.0 q.pc (Calls (On o (Reset buffer e))) at).1 in
+    let h = free.kinds q.actor.0 q.pc (Calls (On o (Reset buffer e))) at in
+    subst (λ x. IfSome x (λ object. IsTrue (is_buffer buffer object.kind))) (slice_get-get_or P.objects o.0 no_object l) h
+
+module _ (P : Program) (free : IsFaultless P) (p q : Point) (ne : p.actor ≢ q.actor) (i : Instr) (is : instr_of P q ≡ Some i) where
+  -- after each step the alternative of the actor that doesn't move holds still
+  bears-left : (n m : Alternative) (way : Way) → Bears (effect_of P q.side i) m n → (S : State) (c : ℤ) (T : State) → HasKnown P (beside m n) q p S → StepBy P way S q.actor.0 c T → HoldsOne n p.actor.0 T
+  bears-left n m way bears S c T known step =
+      let at = known.mover.at in
+      let row = row-of-step P S q.actor.0 q.pc q.side i way c T at is step in
+      let freely = free-to-step P S q.actor.0 q.pc q.side i at is c (T, (way, step)) in
+      let seen = row-seen P S step.mid q.actor.0 p.actor.0 (λ e. ne (same-actor p.actor q.actor e)) known.mover.formed c q.side i way (reset-suits P free q.actor.0 q.pc i q is) freely row in
+      let holds = bears-holds m n (effect_of P q.side i) q.actor.0 p.actor.0 S step.mid bears known.mover.holds known.other.holds seen in
+      subst (λ U. HoldsOne n p.actor.0 U) (sym (landing-of-step P S q.actor.0 q.pc q.side i way c T at is step)) (record { critical = holds.critical; suspended = holds.suspended; objects = holds.objects; variables = holds.variables })
+
+  -- so where each alternative bears it, whichever one the mover has, each is left by every step
+  pub borne-spared : (note others : Note) → AllBear (effect_of P q.side i) others note → (n m : Alternative) → Contains note n → Contains others m → IsSparedByRows P p n q m note
+  borne-spared note others borne n m one other = (by_way Then, by_way Else)
+    where
+      by_way : (way : Way) → IsSparedByRow P p n q m way note
+      by_way way can = (n, one, λ S c T known step. bears-left n m way (borne m other n one) S c T known step)
+
+-- what a call gives needs no product
+inside-computable : (kind : Kind) (action : Action) → IsComputable (effect_inside kind action)
+inside-computable (Queue size lo hi) (QueueReceive into timing e) = tt
+inside-computable kind (QueueReceive into timing e) = tt
+inside-computable kind (Send buffer length timing None) = tt
+inside-computable kind (Send buffer length timing (Some x)) = tt
+inside-computable kind (Receive buffer length timing None) = tt
+inside-computable kind (Receive buffer length timing (Some x)) = tt
+inside-computable kind action = tt
+
+-- a `set` of an application has a number among the factors of its product
+pub computable : (P : Program) (side : Side) (i : Instr) → OperandsFit i → IsComputable (effect_of P side i)
+computable P Before (Set x l Times r) fits = fits
+computable P Before (Set x l op r) fits = tt
+computable P Before (Calls call) fits = by_call call
+  where
+    by_call : (call : Call) → IsComputable (effect_of P Before (Calls call))
+    by_call (Create kind o e) = tt
+    by_call (Delete kind o) = tt
+    by_call call = tt
+computable P Before (Pick x lo hi) fits = tt
+computable P Inside (Calls (On o action)) fits = inside-computable (kind_of P o.0) action
+computable P side i fits = tt
+
+-- the exact span of what a `set` computes lies in a range exactly where all of it does
+pub set-bears : (m n : Alternative) (k j : Known) → k ≡ alone m → j ≡ alone n → (x : VarId) (l : Operand) (op : Operator) (r : Operand) (span range : Range) → IsSpanIn (joint_range k) op l r span → ends_of range ≡ joint_range j x.0 → (result : Bool) → (IsTrue result ↔ ((z : ℤ) → IsIn span z → IsIn range z)) → (IsTrue result ↔ Bears (Sets x l op r) m n)
+set-bears m n k j one other x l op r span range computed ends result both = (
+  λ t u v left right. subst (λ e. Within e (result_of op u v)) is (both.0 t (result_of op u v) (s.inside u v left right)),
+  λ bears.
+      let lo = subst (λ e. Within e span.lo) (sym is) (subst (λ v. Within (range_of n x.0) v) s.lo.4 (bears s.lo.0 s.lo.1 s.lo.2 s.lo.3)) in
+      let hi = subst (λ e. Within e span.hi) (sym is) (subst (λ v. Within (range_of n x.0) v) s.hi.4 (bears s.hi.0 s.hi.1 s.hi.2 s.hi.3)) in
+      both.1 (λ z inside. (omega (arith, ints, lo.0, inside.0), omega (arith, ints, hi.1, inside.1))),
+)
+  where
+    s : IsSpanIn (range_of m) op l r span
+    s = subst (λ e. IsSpanIn (joint_range e) op l r span) one computed
+
+    is : ends_of range ≡ range_of n x.0
+    is = ends ∙ ap (λ e. joint_range e x.0) other

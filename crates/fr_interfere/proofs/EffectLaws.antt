@@ -1,0 +1,301 @@
+-- What a step changes of what the notes of other actors say, row by row. The actor a moves, and b is another one.
+use Rattle.std.proofs.Common.{◌≡◌, ◌≢◌, ℕ, suc, ◌+◌, ◌-◌, ◌≤◌, [], ◌∷◌, ◌++◌, length, Option, Some, None, Bool, true, false, refl, sym, ap, ◌∙◌, subst, arith, inl, inr}
+use Rattle.std.specs.Prelude.{ℤ, pos, ◌⊎◌, IsTrue, IsFalse, IfSome, nat_eq, nat_lt, int_lt, int_le, if◌then◌else◌, sum}
+use Rattle.std.proofs.lemmas.Int.{ints}
+use Rattle.std.proofs.lemmas.Bool.{eqb-true}
+use Rattle.std.proofs.lemmas.Option.{same_Some, cond_some}
+use Rattle.fr_program.specs.declared.ids.ObjId.{ObjId}
+use Rattle.fr_program.specs.declared.ids.VarId.{VarId}
+use Rattle.fr_program.specs.declared.ids.Side.{Side}
+use Rattle.fr_program.specs.declared.ids.Side.TheVariants.{Before, Inside}
+use Rattle.fr_program.specs.declared.instr.Instr.{Instr}
+use Rattle.fr_program.specs.declared.instr.Instr.TheVariants.{Set, If, Goto, Pick, Call as Calls, Return}
+use Rattle.fr_program.specs.declared.instr.Call.{Call}
+use Rattle.fr_program.specs.declared.instr.Call.TheVariants.{EnterCritical, ExitCritical, SuspendAll, ResumeAll, Yield, Delay, DeleteSelf, Create, Delete, On}
+use Rattle.fr_program.specs.declared.instr.Action.{Action}
+use Rattle.fr_program.specs.declared.instr.Action.TheVariants.{QueueSend, QueueReceive, Take, Give, Send, Receive, Reset}
+use Rattle.fr_program.specs.declared.instr.BufferKind.{BufferKind}
+use Rattle.fr_program.specs.declared.instr.BufferKind.TheVariants.{Stream as OfStream, Message as OfMessage}
+use Rattle.fr_program.specs.declared.instr.GiveForm.{GiveForm}
+use Rattle.fr_program.specs.declared.instr.GiveForm.TheVariants.{Plain as PlainGive, Recursive as RecursiveGive, FromIsr as GiveFromIsr}
+use Rattle.fr_program.specs.declared.parts.Kind.{Kind}
+use Rattle.fr_program.specs.declared.parts.Kind.TheVariants.{Queue, Binary, Counting, Mutex, Recursive, Stream, Message}
+use Rattle.fr_program.specs.Program.{Program}
+use Rattle.fr_program.specs.Uses.{is_buffer}
+use Rattle.fr_calls.specs.State.{State, Content, Dead, Values, Count, Free, Held, Bytes, Lengths, CanHave, IsWellFormed, content_of, value_of, depth_in, depth_of, suspension_of, count_held, kind_of, new_content, write, becomes, suspend_at, held_at}
+use Rattle.fr_calls.specs.declared.rules.Rule.TheVariants.{GivenByHolder, IsLive, DepthAboveZero}
+use Rattle.fr_calls.specs.Rule.{GivesUnheld, is_unsuited, operand_of}
+use Rattle.fr_calls.specs.declared.way.Way.{Way}
+use Rattle.fr_calls.specs.declared.way.Way.TheVariants.{Then, Else}
+use Rattle.fr_calls.specs.Step.{Row, Does, Completes, Puts, Moves, IsFree, with_result, transition, taken, given, queued, sent_bytes, received_bytes, sent_message, received_message}
+use Rattle.fr_calls.proofs.Contents.{set_case}
+use Rattle.fr_notes.specs.declared.claim.Claim.{Claim}
+use Rattle.fr_notes.specs.declared.claim.Claim.TheVariants.{NotHeld, Alive, Gone, HeldTimes}
+use Rattle.fr_notes.specs.Note.{Meets}
+use Rattle.fr_notes.proofs.Shown.{depth_for-other, held_at-other}
+use Rattle.fr_interfere.specs.declared.effects.Effect.{Effect}
+use Rattle.fr_interfere.specs.declared.effects.Effect.TheVariants.{Nothing, Life, Gives, Sets}
+use Rattle.fr_interfere.specs.Effects.{received, moved, effect_inside, effect_of, IsMade, IsWritten, IsSeen}
+
+-- ---- contents
+
+-- a live content that this actor doesn't hold
+abbrev IsOthers : ℕ → Content → Type 0
+IsOthers b Dead = ⊥
+IsOthers b (Held holder n) = holder ≢ b
+IsOthers b content = Unit {0}
+
+others-unheld : (b : ℕ) (content : Content) → IsOthers b content → count_held b content ≡ 0
+others-unheld b Dead h = absurd h
+others-unheld b (Held holder n) h = depth_for-other holder n b (λ e. h (sym e))
+others-unheld b (Values vs) h = refl
+others-unheld b (Count n) h = refl
+others-unheld b Free h = refl
+others-unheld b (Bytes n) h = refl
+others-unheld b (Lengths ls) h = refl
+
+others-live : (b : ℕ) (content : Content) → IsOthers b content → content ≢ Dead
+others-live b Dead h e = h
+others-live b (Held holder n) h e = cc
+others-live b (Values vs) h e = cc
+others-live b (Count n) h e = cc
+others-live b Free h e = cc
+others-live b (Bytes n) h e = cc
+others-live b (Lengths ls) h e = cc
+
+others-apart : (b : ℕ) (content : Content) (n : ℕ) → IsOthers b content → content ≡ Held b n → ⊥
+others-apart b content n h e = let k : IsOthers b (Held b n) = subst (λ c. IsOthers b c) e h in k refl
+
+-- from one such content to another, each claim stays true
+others-alike : (b : ℕ) (old new : Content) → IsOthers b old × IsOthers b new → (claim : Claim) → Meets b claim old → Meets b claim new
+others-alike b old new o NotHeld m = others-unheld b new o.1
+others-alike b old new o Alive m = (others-live b new o.1, others-unheld b new o.1)
+others-alike b old new o Gone m = absurd (others-live b old o.0 m)
+others-alike b old new o (HeldTimes n) m = absurd (others-apart b old n o.0 m)
+
+new-others : (b : ℕ) (kind : Kind) → IsOthers b (new_content kind)
+new-others b (Queue size lo hi) = tt
+new-others b Binary = tt
+new-others b (Counting size first) = tt
+new-others b Mutex = tt
+new-others b Recursive = tt
+new-others b (Stream size) = tt
+new-others b (Message size) = tt
+
+module _ (a b : ℕ) (ne : b ≢ a) where
+  taken-others : (kind : Kind) (content new : Content) → taken kind a content ≡ Some new → IsOthers b content × IsOthers b new
+  taken-others Mutex Free new e = (tt, subst (λ c. IsOthers b c) (same_Some _ _ e) (λ h. ne (sym h)))
+  taken-others Recursive Free new e = (tt, subst (λ c. IsOthers b c) (same_Some _ _ e) (λ h. ne (sym h)))
+  taken-others Recursive (Held holder n) new e =
+      let f = cond_some (nat_eq holder a) (Held a (n + 1)) new e in
+      let mine = eqb-true holder a f.0 in
+      ((λ h. ne (sym h ∙ mine)), subst (λ c. IsOthers b c) f.1 (λ h. ne (sym h)))
+  taken-others Binary (Count (suc n)) new e = (tt, subst (λ c. IsOthers b c) (same_Some _ _ e) tt)
+  taken-others (Counting size first) (Count (suc n)) new e = (tt, subst (λ c. IsOthers b c) (same_Some _ _ e) tt)
+  taken-others kind content new e = cc
+
+module _ (b : ℕ) where
+  -- what is left of a recursive mutex
+  back-others : (holder n : ℕ) (last : Bool) → holder ≢ b → IsOthers b (if last then Free else Held holder (n - 1))
+  back-others holder n true apart = tt
+  back-others holder n false apart = apart
+
+  given-others : (kind : Kind) (content new : Content) → ((holder n : ℕ) → content ≡ Held holder n → holder ≢ b) → given kind content ≡ Some new → IsOthers b content × IsOthers b new
+  given-others Mutex (Held holder n) new own e = (own holder n refl, subst (λ c. IsOthers b c) (same_Some _ _ e) tt)
+  given-others Recursive (Held holder n) new own e =
+      (own holder n refl, subst (λ c. IsOthers b c) (same_Some _ _ e) (back-others holder n (nat_eq n 1) (own holder n refl)))
+  given-others Binary (Count n) new own e = (tt, subst (λ c. IsOthers b c) (cond_some (nat_lt n 1) (Count (n + 1)) new e).1 tt)
+  given-others (Counting size first) (Count n) new own e = (tt, subst (λ c. IsOthers b c) (cond_some (int_lt (pos n) size) (Count (n + 1)) new e).1 tt)
+  given-others kind content new own e = cc
+
+  queued-others : (v : ℤ) (kind : Kind) (content new : Content) → queued v kind content ≡ Some new → IsOthers b content × IsOthers b new
+  queued-others v (Queue size lo hi) (Values vs) new e =
+      (tt, subst (λ c. IsOthers b c) (cond_some (int_lt (pos (length vs)) size) (Values (vs ++ v ∷ [])) new e).1 tt)
+  queued-others v kind content new e = cc
+
+  sent-bytes-others : (k : ℕ) (kind : Kind) (content new : Content) → sent_bytes k kind content ≡ Some new → IsOthers b content × IsOthers b new
+  sent-bytes-others k (Stream size) (Bytes n) new e =
+      (tt, subst (λ c. IsOthers b c) (cond_some (int_le (pos (n + k)) size) (Bytes (n + k)) new e).1 tt)
+  sent-bytes-others k kind content new e = cc
+
+  received-bytes-others : (k : ℕ) (content new : Content) → received_bytes k content ≡ Some new → IsOthers b content × IsOthers b new
+  received-bytes-others k (Bytes n) new e = less (nat_lt n k) e
+    where
+      less : (d : Bool) → (if d then None else Some (Bytes (n - k))) ≡ Some new → IsOthers b (Bytes n) × IsOthers b new
+      less true f = cc
+      less false f = (tt, subst (λ c. IsOthers b c) (same_Some _ _ f) tt)
+  received-bytes-others k content new e = cc
+
+  sent-message-others : (n : ℕ) (kind : Kind) (content new : Content) → sent_message n kind content ≡ Some new → IsOthers b content × IsOthers b new
+  sent-message-others n (Message size) (Lengths ls) new e =
+      (tt, subst (λ c. IsOthers b c) (cond_some (int_le (pos (sum ls + n)) size) (Lengths (ls ++ n ∷ [])) new e).1 tt)
+  sent-message-others n kind content new e = cc
+
+  received-message-others : (k : ℕ) (content new : Content) → received_message k content ≡ Some new → IsOthers b content × IsOthers b new
+  received-message-others k (Lengths (l ∷ ls)) new e =
+      (tt, subst (λ c. IsOthers b c) (cond_some (nat_eq l k) (Lengths ls) new e).1 tt)
+  received-message-others k content new e = cc
+
+  reset-others : (P : Program) (buffer : BufferKind) (kind : Kind) (content : Content) → IsTrue (is_buffer buffer kind) → CanHave P kind content → content ≢ Dead → IsOthers b content
+  reset-others P OfStream (Stream size) (Bytes n) t can live = tt
+  reset-others P OfMessage (Message size) (Lengths ls) t can live = tt
+  reset-others P buffer kind Dead t can live = absurd (live refl)
+  reset-others P OfStream (Stream size) content t can live = absurd can
+  reset-others P OfMessage (Message size) content t can live = absurd can
+  reset-others P buffer kind content t can live = cc
+
+-- a mutex that is given is the giver's
+module _ (P : Program) (S : State) (a b : ℕ) (ne : b ≢ a) (o : ObjId) (e : Option ℕ) where
+  not-others : (holder n : ℕ) → content_of S o.0 ≡ Held holder n → (count_held a (content_of S o.0) ≡ 0 → ⊥) → holder ≢ b
+  not-others holder n has held same =
+      held (ap (λ c. count_held a c) has ∙ depth_for-other holder n a (λ f. ne (sym same ∙ sym f)))
+
+  giver-holds : (form : GiveForm) (kind : Kind) → kind_of P o.0 ≡ kind → (GivesUnheld P S a (Calls (On o (Give form e))) → ⊥) → IsFalse (is_unsuited kind (Give form e)) → CanHave P kind (content_of S o.0) → (holder n : ℕ) → content_of S o.0 ≡ Held holder n → holder ≢ b
+  giver-holds PlainGive Mutex is gives suits can holder n has = not-others holder n has (λ none. gives (is, none))
+  giver-holds RecursiveGive Recursive is gives suits can holder n has =
+      not-others holder n has (λ none. gives (is, none))
+  giver-holds RecursiveGive Mutex is gives suits can holder n has = cc
+  giver-holds GiveFromIsr Mutex is gives suits can holder n has = cc
+  giver-holds PlainGive Recursive is gives suits can holder n has = cc
+  giver-holds GiveFromIsr Recursive is gives suits can holder n has = cc
+  giver-holds form kind is gives suits can holder n has = absurd (subst (λ c. CanHave P kind c) has can)
+
+-- ---- states
+
+module _ (effect : Effect) (b : ℕ) (S : State) where
+  same-seen : (T : State) → T ≡ S → IsSeen effect b S T
+  same-seen T e = subst (λ U. IsSeen effect b S U) (sym e) (record { critical = refl; suspended = refl; objects = λ o claim free m. m; values = λ x. inl refl })
+
+  critical-seen : (c : Option (ℕ × ℕ)) → depth_in c b ≡ depth_of S b → IsSeen effect b S (record S { critical = c })
+  critical-seen c same =
+      record { critical = same; suspended = refl; objects = λ o claim free m. m; values = λ x. inl refl }
+
+  suspend-seen : (a depth : ℕ) → b ≢ a → IsSeen effect b S (suspend_at a depth S)
+  suspend-seen a depth ne = record {
+    critical = refl;
+    suspended = set_case S.suspended a b depth 0 (λ d. d ≡ suspension_of S b) refl (λ e. absurd (ne e));
+    objects = λ o claim free m. m;
+    values = λ x. inl refl;
+  }
+
+  becomes-seen : (o : ℕ) (new : Content) → ((claim : Claim) → (IsMade effect o → claim ≡ NotHeld) → Meets b claim (content_of S o) → Meets b claim new) → IsSeen effect b S (becomes o new S)
+  becomes-seen o new keeps = record {
+    critical = refl;
+    suspended = refl;
+    objects = λ k claim free m.
+        set_case S.objects o k new Dead (λ c. Meets b claim c) m (λ e. keeps claim (subst (λ j. IsMade effect j → claim ≡ NotHeld) e free) (subst (λ j. Meets b claim (content_of S j)) e m));
+    values = λ x. inl refl;
+  }
+
+  others-seen : (o : ℕ) (new : Content) → IsOthers b (content_of S o) × IsOthers b new → IsSeen effect b S (becomes o new S)
+  others-seen o new others =
+      becomes-seen o new (λ claim free m. others-alike b (content_of S o) new others claim m)
+
+  write-seen : (x : ℕ) (v : ℤ) (T : State) → IsSeen effect b S T → IsWritten effect S x v → IsSeen effect b S (write x v T)
+  write-seen x v T seen written = record {
+    critical = seen.critical;
+    suspended = seen.suspended;
+    objects = seen.objects;
+    values = λ y. set_case T.values x y v (pos 0) (λ u. (u ≡ value_of S y) ⊎ IsWritten effect S y u) (seen.values y) (λ e. inr (subst (λ j. IsWritten effect S j v) (sym e) written));
+  }
+
+  puts-seen : (o : ℕ) (new : Option Content) (T : State) → ((c : Content) → new ≡ Some c → IsOthers b (content_of S o) × IsOthers b c) → Puts o new S T → IsSeen effect b S T
+  puts-seen o new T others put =
+      subst (λ U. IsSeen effect b S U) (sym put.2) (others-seen o put.0 (others put.0 put.1))
+
+-- a call's result goes to its variable
+result-seen : (b : ℕ) (S T : State) (result : Option VarId) (n k : ℕ) (c : ℤ) → c ≡ pos k → k ≤ n → IsSeen (moved result n) b S T → IsSeen (moved result n) b S (with_result result c T)
+result-seen b S T None n k c is l seen = seen
+result-seen b S T (Some x) n k c is l seen = write-seen (Gives x (pos 0) (pos n)) b S x.0 c T seen (refl, omega (arith, ints, is), omega (arith, ints, is, l))
+
+moves-seen : (b : ℕ) (S T : State) (o : ℕ) (new : Option Content) (result : Option VarId) (n k : ℕ) (c : ℤ) → c ≡ pos k → k ≤ n → ((d : Content) → new ≡ Some d → IsOthers b (content_of S o) × IsOthers b d) → Moves o new result c S T → IsSeen (moved result n) b S T
+moves-seen b S T o new result n k c is l others (mid, put, same) =
+    subst (λ U. IsSeen (moved result n) b S U) (sym same) (result-seen b S mid result n k c is l (puts-seen (moved result n) b S o new mid others put))
+
+-- an actor that is alone in the critical section is the only one with a depth
+none-in : (a b : ℕ) → b ≢ a → (c : Option (ℕ × ℕ)) → IfSome c (λ h. h.0 ≡ a) → depth_in c b ≡ 0
+none-in a b ne None h = refl
+none-in a b ne (Some c) h = depth_for-other c.0 c.1 b (λ e. ne (e ∙ h))
+
+own-section : (a : ℕ) (c : Option (ℕ × ℕ)) → (IsTrue (nat_eq (depth_in c a) 0) → ⊥) → IfSome c (λ h. h.0 ≡ a)
+own-section a None deep = tt
+own-section a (Some c) deep = go (nat_eq c.0 a) refl
+  where
+    go : (t : Bool) → nat_eq c.0 a ≡ t → c.0 ≡ a
+    go true e = eqb-true c.0 a e
+    go false e = absurd (deep (ap (λ t. nat_eq (if t then c.1 else 0) 0) e))
+
+module _ (P : Program) (S T : State) (a b : ℕ) (ne : b ≢ a) (w : IsWellFormed P S) (c : ℤ) where
+  does-seen : (call : Call) (way : Way) → IsFree P S a Before (Calls call) → Does P (transition S a c T) call way → IsSeen (effect_of P Before (Calls call)) b S T
+  does-seen (EnterCritical form) Then free h =
+      subst (λ U. IsSeen Nothing b S U) (sym h.2) (critical-seen Nothing b S (Some (a, depth_of S a + 1)) (depth_for-other a (depth_of S a + 1) b ne ∙ sym (none-in a b ne S.critical h.1)))
+  does-seen (ExitCritical form) Then free h =
+      let alone = own-section a S.critical (free.0 DepthAboveZero refl) in
+      subst (λ U. IsSeen Nothing b S U) (sym h.1) (critical-seen Nothing b S (held_at a (depth_of S a - 1)) (held_at-other a (depth_of S a - 1) b ne ∙ sym (none-in a b ne S.critical alone)))
+  does-seen SuspendAll Then free h = subst (λ U. IsSeen Nothing b S U) (sym h.1) (suspend-seen Nothing b S a _ ne)
+  does-seen ResumeAll Then free h = subst (λ U. IsSeen Nothing b S U) (sym h.1) (suspend-seen Nothing b S a _ ne)
+  does-seen Yield Then free h = same-seen Nothing b S T h.1
+  does-seen (Delay ticks) Then free h = same-seen Nothing b S T h.1
+  does-seen DeleteSelf Then free h = same-seen Nothing b S T h.1
+  does-seen (Create kind o e) Then free h =
+      subst (λ U. IsSeen (Life o) b S U) (sym h.2) (becomes-seen (Life o) b S o.0 (new_content (kind_of P o.0)) (λ claim none m.
+      subst (λ d. Meets b d (new_content (kind_of P o.0))) (sym (none refl)) (others-unheld b (new_content (kind_of P o.0)) (new-others b (kind_of P o.0)))))
+  does-seen (Create kind o e) Else free h = same-seen (Life o) b S T h.2
+  does-seen (Delete kind o) Then free h =
+      subst (λ U. IsSeen (Life o) b S U) (sym h.1) (becomes-seen (Life o) b S o.0 Dead (λ claim none m. subst (λ d. Meets b d Dead) (sym (none refl)) refl))
+  does-seen (On o action) Then free h = same-seen Nothing b S T h.1
+  does-seen call Else free h = elim h [ ]
+
+  ends-seen : (o : ObjId) (action : Action) (way : Way) → ((buffer : BufferKind) (e : Option ℕ) → action ≡ Reset buffer e → IsTrue (is_buffer buffer (kind_of P o.0))) → IsFree P S a Inside (Calls (On o action)) → Completes P (transition S a c T) o.0 action way → IsSeen (effect_inside (kind_of P o.0) action) b S T
+  ends-seen o (QueueSend value timing e) Then suits free h =
+      puts-seen Nothing b S o.0 _ T (λ new q. queued-others b (operand_of S value) (kind_of P o.0) (content_of S o.0) new q) h.1
+  ends-seen o (QueueSend value timing e) Else suits free h = same-seen Nothing b S T h.2
+  ends-seen o (QueueReceive into timing e) Then suits free h =
+      got (kind_of P o.0) (subst (λ d. CanHave P (kind_of P o.0) d) h.3 (w.contents o.0))
+    where
+      got : (kind : Kind) → CanHave P kind (Values (h.1 ∷ h.2)) → IsSeen (received into kind) b S T
+      got (Queue size lo hi) can =
+          let first = can.1 0 h.1 (omega arith) in
+          subst (λ U. IsSeen (Gives into lo hi) b S U) (sym h.4) (write-seen (Gives into lo hi) b S into.0 h.1 _ (others-seen (Gives into lo hi) b S o.0 (Values h.2) (subst (λ d. IsOthers b d) (sym h.3) tt, tt)) (refl, first.0, first.1))
+      got kind can = absurd can
+  ends-seen o (QueueReceive into timing e) Else suits free h = same-seen (received into (kind_of P o.0)) b S T h.2
+  ends-seen o (Take form e) Then suits free h =
+      puts-seen Nothing b S o.0 _ T (λ new q. taken-others a b ne (kind_of P o.0) (content_of S o.0) new q) h.1
+  ends-seen o (Take form e) Else suits free h = same-seen Nothing b S T h.2
+  ends-seen o (Give form e) Then suits free h =
+      let own = giver-holds P S a b ne o e form (kind_of P o.0) refl (free.0 GivenByHolder refl) free.1 (w.contents o.0) in
+      puts-seen Nothing b S o.0 _ T (λ new q. given-others b (kind_of P o.0) (content_of S o.0) new own q) h.1
+  ends-seen o (Give form e) Else suits free h = same-seen Nothing b S T h.2
+  ends-seen o (Send OfStream n timing result) Then suits free h =
+      moves-seen b S T o.0 _ result n h.0 c h.1 h.2 (λ new q. sent-bytes-others b h.0 (kind_of P o.0) (content_of S o.0) new q) h.3
+  ends-seen o (Send OfStream n timing result) Else suits free h = elim h [ ]
+  ends-seen o (Receive OfStream n timing result) Then suits free h =
+      moves-seen b S T o.0 _ result n h.0 c h.1 h.2 (λ new q. received-bytes-others b h.0 (content_of S o.0) new q) h.3
+  ends-seen o (Receive OfStream n timing result) Else suits free h = elim h [ ]
+  ends-seen o (Send OfMessage n timing result) Then suits free h =
+      moves-seen b S T o.0 _ result n n c h.0 (omega arith) (λ new q. sent-message-others b n (kind_of P o.0) (content_of S o.0) new q) h.1
+  ends-seen o (Send OfMessage n timing result) Else suits free h =
+      subst (λ U. IsSeen (moved result n) b S U) (sym h.1) (result-seen b S S result n 0 c h.0 (omega arith) (same-seen (moved result n) b S S refl))
+  ends-seen o (Receive OfMessage n timing result) Then suits free h =
+      moves-seen b S T o.0 _ result n h.0 c h.1 h.2 (λ new q. received-message-others b h.0 (content_of S o.0) new q) h.3
+  ends-seen o (Receive OfMessage n timing result) Else suits free h =
+      subst (λ U. IsSeen (moved result n) b S U) (sym h.1) (result-seen b S S result n 0 c h.0 (omega arith) (same-seen (moved result n) b S S refl))
+  ends-seen o (Reset buffer e) Then suits free h =
+      let live : content_of S o.0 ≢ Dead = λ dead. free.0 IsLive refl (o.0, refl, dead) in
+      subst (λ U. IsSeen Nothing b S U) (sym h.1) (others-seen Nothing b S o.0 (new_content (kind_of P o.0)) (reset-others b P buffer (kind_of P o.0) (content_of S o.0) (suits buffer e refl) (w.contents o.0) live, new-others b (kind_of P o.0)))
+  ends-seen o (Reset buffer e) Else suits free h = same-seen Nothing b S T h.1
+
+  -- what a row changes is the effect of its instruction; a reset is of a buffer
+  pub row-seen : (side : Side) (i : Instr) (way : Way) → ((o : ObjId) (buffer : BufferKind) (e : Option ℕ) → i ≡ Calls (On o (Reset buffer e)) → IsTrue (is_buffer buffer (kind_of P o.0))) → IsFree P S a side i → Row P (transition S a c T) side i way → IsSeen (effect_of P side i) b S T
+  row-seen Before (Set x l op r) Then suits free h =
+      subst (λ U. IsSeen (Sets x l op r) b S U) (sym h.1) (write-seen (Sets x l op r) b S x.0 _ S (same-seen (Sets x l op r) b S S refl) (refl, refl))
+  row-seen Before (If l comparison r target) Then suits free h = same-seen Nothing b S T h.2
+  row-seen Before (If l comparison r target) Else suits free h = same-seen Nothing b S T h.2
+  row-seen Before (Goto target) Then suits free h = same-seen Nothing b S T h.1
+  row-seen Before (Pick x lo hi) Then suits free h =
+      subst (λ U. IsSeen (Gives x lo hi) b S U) (sym h.2) (write-seen (Gives x lo hi) b S x.0 c S (same-seen (Gives x lo hi) b S S refl) (refl, h.0, h.1))
+  row-seen Before Return Then suits free h = same-seen Nothing b S T h.1
+  row-seen Before (Calls call) way suits free h = does-seen call way free h
+  row-seen Inside (Calls (On o action)) way suits free h =
+      ends-seen o action way (λ buffer e is. suits o buffer e (ap (λ x. Calls (On o x)) is)) free h
+  row-seen side i way suits free h = elim h [ ]

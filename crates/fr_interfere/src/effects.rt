@@ -1,0 +1,184 @@
+// What a step can change of what the notes of other actors say.
+ghost use Rattle.std.specs.Prelude.{◌≡◌, ◌⊎◌, ◌<◌, ◌↔◌, IsTrue, length};
+ghost use Rattle.fr_program.specs.Fault.{IsConstant, NamesThings};
+ghost use Rattle.fr_calls.specs.State.{kind_of};
+ghost use Rattle.fr_notes.specs.Fits.{AlternativeFits, NoteFits};
+ghost use Rattle.fr_interfere.specs.Effects.{received, moved, effect_inside, effect_of, IsComputable, Bears, EachBears, AllBear};
+
+use fr_notes::{Alternative, Claim, Known, Note};
+use fr_program::{Action, App, Call, Instr, Kind, ObjId, Operand, Operator, Side, VarId};
+
+/// What the steps from a side of an instruction can change of what the notes of other actors say.
+#[derive(Clone, Copy)]
+pub enum Effect {
+    /// Nothing.
+    Nothing,
+    /// Whether the object is live.
+    Life(ObjId),
+    /// The variable, which gets a number from `lo` to `hi`.
+    Gives {
+        into: VarId,
+        lo: i64,
+        hi: i64,
+    },
+    /// The variable, which gets what a `set` computes.
+    Sets {
+        target: VarId,
+        left: Operand,
+        operator: Operator,
+        right: Operand,
+    },
+}
+
+impl Effect {
+    /// Whether nothing can change.
+    pub fn is_nothing(self) -> bool
+        ensures { IsTrue result ↔ self ≡ Effect.Nothing }
+    {
+        matches!(self, Effect::Nothing)
+    }
+}
+
+/// A receive from an object of this kind gives the variable a value of the queue.
+fn received(into: VarId, kind: Kind) -> Effect
+    ensures { result ≡ received into kind }
+{
+    match kind {
+        Kind::Queue { lo, hi, .. } => Effect::Gives { into, lo, hi },
+        _ => Effect::Nothing,
+    }
+}
+
+/// A call that moves up to so many bytes gives its variable, where it has one, their number.
+fn moved(into: Option<VarId>, length: u32) -> Effect
+    ensures { result ≡ moved into length }
+{
+    match into {
+        None => Effect::Nothing,
+        Some(into) => Effect::Gives {
+            into,
+            lo: 0,
+            hi: i64::from(length),
+        },
+    }
+}
+
+/// What the end of an object call can change.
+fn effect_inside(app: &App, object: ObjId, action: &Action) -> Effect
+    requires { object.0 < length app.now.objects }
+    ensures { result ≡ effect_inside (kind_of app.now object.0) action.now }
+{
+    match action {
+        Action::QueueReceive { into, .. } => received(*into, app.kind(object)),
+        Action::Send { length, result, .. } => moved(*result, *length),
+        Action::Receive { length, result, .. } => moved(*result, *length),
+        _ => Effect::Nothing,
+    }
+}
+
+/// What the steps from this side of an instruction can change. Calls that take or give a mutex change
+/// nothing: while another actor's note says that it holds one, nobody else takes or gives it.
+pub fn effect_of(app: &App, side: Side, instr: &Instr) -> Effect
+    requires { NamesThings app.now instr.now }
+    ensures { result ≡ effect_of app.now side instr.now }
+{
+    match (side, instr) {
+        (
+            Side::Before,
+            Instr::Set {
+                target,
+                left,
+                operator,
+                right,
+            },
+        ) => Effect::Sets {
+            target: *target,
+            left: *left,
+            operator: *operator,
+            right: *right,
+        },
+        (Side::Before, Instr::Pick { target, lo, hi }) => Effect::Gives {
+            into: *target,
+            lo: *lo,
+            hi: *hi,
+        },
+        (Side::Before, Instr::Call(Call::Create { object, .. })) => Effect::Life(*object),
+        (Side::Before, Instr::Call(Call::Delete { object, .. })) => Effect::Life(*object),
+        (Side::Inside, Instr::Call(Call::On { object, action })) => {
+            effect_inside(app, *object, action)
+        }
+        _ => Effect::Nothing,
+    }
+}
+
+/// Whether the alternative's range of the variable has all that a `set` computes where the mover's
+/// alternative holds.
+fn bears_set(
+    app: &App,
+    mover: &Alternative,
+    alternative: &Alternative,
+    target: VarId,
+    left: Operand,
+    operator: Operator,
+    right: Operand,
+) -> bool
+    requires mover { AlternativeFits app.now mover.now }
+    requires product { operator ≡ Operator.Times → IsConstant left ⊎ IsConstant right }
+    ensures { IsTrue result ↔ Bears (Effect.Sets target left operator right) mover.now alternative.now }
+{
+    app.recall_faultless();
+    let span = Known::alone(mover).result(operator, left, right);
+    span.within(Known::alone(alternative).range(target.0))
+}
+
+/// Whether the alternative holds after the effect where it held before, if the mover's alternative
+/// holds before too.
+fn bears(app: &App, effect: Effect, mover: &Alternative, alternative: &Alternative) -> bool
+    requires mover { AlternativeFits app.now mover.now }
+    requires computable { IsComputable effect }
+    ensures { IsTrue result ↔ Bears effect mover.now alternative.now }
+{
+    let known = Known::alone(alternative);
+    match effect {
+        Effect::Nothing => true,
+        Effect::Life(object) => matches!(known.claim(object.0), Claim::NotHeld),
+        Effect::Gives { into, lo, hi } => {
+            let range = known.range(into.0);
+            range.lo <= i128::from(lo) && i128::from(hi) <= range.hi
+        }
+        Effect::Sets {
+            target,
+            left,
+            operator,
+            right,
+        } => bears_set(app, mover, alternative, target, left, operator, right),
+    }
+}
+
+/// Whether each alternative of the note holds after the effect where it held before.
+fn each_bears(app: &App, effect: Effect, mover: &Alternative, note: &Note) -> bool
+    requires mover { AlternativeFits app.now mover.now }
+    requires computable { IsComputable effect }
+    ensures { IsTrue result ↔ EachBears effect mover.now note.now }
+{
+    for alternative in note.alternatives() {
+        if !bears(app, effect, mover, alternative) {
+            return false;
+        }
+    }
+    true
+}
+
+/// Whether that is so whichever alternative the mover has.
+pub fn all_bear(app: &App, effect: Effect, others: &Note, note: &Note) -> bool
+    requires others { NoteFits app.now others.now }
+    requires computable { IsComputable effect }
+    ensures { IsTrue result ↔ AllBear effect others.now note.now }
+{
+    for mover in others.alternatives() {
+        if !each_bears(app, effect, mover, note) {
+            return false;
+        }
+    }
+    true
+}
