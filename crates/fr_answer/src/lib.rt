@@ -8,6 +8,7 @@ mod answer;
 mod check;
 mod fault;
 mod file;
+mod found;
 mod running;
 mod words;
 
@@ -15,6 +16,7 @@ pub use answer::{answer_check, answer_fault};
 pub use check::{check_to, check_with};
 pub use fault::{CheckFault, fault_line, status};
 pub use file::{LoadFault, load};
+pub use found::{Found, find_bytes};
 pub use fr_cert::MOST_BYTES as MOST_CERTIFICATE_BYTES;
 pub use fr_reader::MOST_BYTES as MOST_APP_BYTES;
 pub use running::{answer_run, run_to};
