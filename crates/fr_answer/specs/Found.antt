@@ -5,7 +5,9 @@
 -- | IsWrittenFor   | the text of a certificate that fits the application                                  |
 -- | IsFound        | the same of the application that the bytes mean, or nothing that is found for it     |
 -- | CanRefuseFind  | this fault can be the answer to the bytes and the number of rounds                   |
-use Rattle.std.specs.Prelude.{◌≡◌, ℕ, List, [], false, string_bytes}
+-- | found_status   | the exit status for what is found                                                    |
+-- | found_line     | the line for what is found, with its newline                                         |
+use Rattle.std.specs.Prelude.{◌≡◌, ℕ, List, [], false, codes, string_bytes}
 use Rattle.fr_program.specs.Program.{Program}
 use Rattle.fr_reader.specs.Meaning.{Means}
 use Rattle.fr_reader.specs.Faults.{is_memory as app_is_memory}
@@ -35,3 +37,13 @@ CanRefuseFind app rounds (App f) = (app_is_memory f ≡ false) × FaultStands ap
 CanRefuseFind app rounds Rounds = IsNoRounds rounds
 CanRefuseFind app rounds Memory = Unit {0}
 CanRefuseFind app rounds fault = ⊥
+
+-- 0 where a certificate is found, and 1 where none is
+abbrev pub found_status : Found → ℕ
+found_status (Text text) = 0
+found_status NotFound = 1
+
+-- the line for standard output
+abbrev pub found_line : Found → List ℕ
+found_line (Text text) = codes "found\n"
+found_line NotFound = codes "not found\n"

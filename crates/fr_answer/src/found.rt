@@ -1,9 +1,16 @@
 // Finding a certificate for the bytes of an application.
 ghost use Rattle.std.specs.Prelude.{◌≡◌, ◌↔◌, IfOk, IfErr, IsErrOf};
+ghost use Rattle.std.specs.Io.KnownBytes.{Appends};
 ghost use Rattle.fr_finder.specs.Found.{IsNoRounds};
 ghost use Rattle.fr_ends.specs.Fits.{CertificateFits};
 ghost use Rattle.fr_answer.specs.declared.fault.CheckFault.TheVariants.{Memory};
-ghost use Rattle.fr_answer.specs.Found.{IsFound, IsWrittenFor, CanRefuseFind};
+ghost use Rattle.fr_answer.specs.Found.{
+  IsFound,
+  IsWrittenFor,
+  CanRefuseFind,
+  found_status,
+  found_line,
+};
 
 use crate::fault::CheckFault;
 use fr_cert::write_cert;
@@ -13,6 +20,7 @@ use fr_parallel::BytesFault;
 use fr_program::App;
 use fr_reader::read_app;
 use std::alloc::Global;
+use std::io::Write;
 use std::thread::Threads;
 
 /// What is found for an application.
@@ -24,7 +32,7 @@ pub enum Found {
     NotFound,
 }
 
-// The certificate's text.
+/// The certificate's text.
 fn text_of(alloc: Global, app: &App, certificate: &Certificate) -> Result<Found, CheckFault>
     requires { CertificateFits app.now certificate.now }
     ensures found { IfOk result (λ found. IsWrittenFor app.now found) }
@@ -33,7 +41,7 @@ fn text_of(alloc: Global, app: &App, certificate: &Certificate) -> Result<Found,
     Ok(Found::Text(write_cert(alloc, app, certificate)?))
 }
 
-// What is found for an application in so many rounds, which is 1 to 64 of them.
+/// What is found for an application in so many rounds, which is 1 to 64 of them.
 fn found_for<R: Threads + Sync>(
     rt: &R,
     alloc: Global,
@@ -80,4 +88,25 @@ pub fn find_bytes<R: Threads + Sync>(
         Err(fault) => return Err(CheckFault::of_bytes(BytesFault::App(fault))),
     };
     found_for(rt, alloc, &app, rounds)
+}
+
+/// Writes `found` where a certificate is found, otherwise `not found`, with a newline, and answers the
+/// exit status: 0 or 1.
+///
+/// # Errors
+///
+/// `Write` where the writer failed; what was written then is open.
+pub fn tell_found<W: Write>(found: &Found, writer: &mut W) -> Result<u8, CheckFault>
+    ensures status { IfOk result (λ status. status ≡ found_status found.now) }
+    ensures told { IfOk result (λ status. Appends (W.contents writer.old) (W.contents writer.new) (found_line found.now)) }
+    ensures refused { IfErr result (λ fault. fault ≡ CheckFault.Write) }
+{
+    let (line, status) = match found {
+        Found::Text(_) => (b"found\n".as_slice(), 0),
+        Found::NotFound => (b"not found\n".as_slice(), 1),
+    };
+    match writer.write_all(line) {
+        Ok(()) => Ok(status),
+        Err(_) => Err(CheckFault::Write),
+    }
 }

@@ -2,10 +2,9 @@
 use crate::words::{NAME, file_arg};
 use crate::{file_bytes, is_memory};
 use clap::{Arg, ArgMatches, Command, value_parser};
-use fr_answer::{CheckFault, Found, MOST_APP_BYTES, find_bytes};
+use fr_answer::{CheckFault, Found, MOST_APP_BYTES, find_bytes, tell_found};
 use std::alloc::{AllocError, Global};
 use std::fs;
-use std::sync::Wait;
 use std::thread::Threads;
 
 const STATUSES: &str = "Exit status:
@@ -60,27 +59,17 @@ fn write_file(rt: &HostRuntime, path: &str, text: &str) -> Result<(), CheckFault
     }
 }
 
-/// Prints a line, and answers the exit status.
-fn say(rt: &HostRuntime, line: &str, status: u8) -> Result<u8, CheckFault> {
-    match println!(rt; "{line}") {
-        Ok(()) => Ok(status),
-        Err(_) => Err(CheckFault::Write),
-    }
-}
-
 /// Finds a certificate for the application in the file, and writes it to the other file. Where none
 /// is found, that file stays as it is.
-pub fn find<R: Threads + Wait + Sync>(
+pub fn find<R: Threads + Sync>(
     rt: &HostRuntime,
     threads: &R,
     asked: FindRequest,
 ) -> Result<u8, CheckFault> {
     let app = file_bytes(rt, asked.app, MOST_APP_BYTES)?;
-    match find_bytes(threads, rt.alloc(), &app, usize::from(asked.rounds))? {
-        Found::Text(text) => {
-            write_file(rt, asked.out, text.as_str())?;
-            say(rt, "found", 0)
-        }
-        Found::NotFound => say(rt, "not found", 1),
+    let found = find_bytes(threads, rt.alloc(), &app, usize::from(asked.rounds))?;
+    if let Found::Text(text) = &found {
+        write_file(rt, asked.out, text.as_str())?;
     }
+    tell_found(&found, &mut rt.stdout())
 }

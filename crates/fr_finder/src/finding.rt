@@ -29,10 +29,10 @@ pub fn is_rounds(rounds: usize) -> bool
 }
 
 fn is_same_alternative(one: &Alternative, other: &Alternative) -> bool {
-    one.crit == other.crit
-        && one.susp == other.susp
-        && one.claims.as_slice() == other.claims.as_slice()
-        && one.ranges.as_slice() == other.ranges.as_slice()
+    one.critical() == other.critical()
+        && one.suspended() == other.suspended()
+        && one.claims() == other.claims()
+        && one.ranges() == other.ranges()
 }
 
 fn is_same_note(one: &Note, other: &Note) -> bool {

@@ -73,7 +73,7 @@ fn fitting(app: &App, end: EndName, guard: Guard) -> Option<EndGuard>
 }
 
 fn holds(alternative: &Alternative, mutex: usize) -> bool {
-    matches!(alternative.claims.get(mutex), Some(Claim::HeldTimes(_)))
+    matches!(alternative.claim(ObjId(mutex)), Claim::HeldTimes(_))
 }
 
 /// Whether each of them holds the mutex.
@@ -94,7 +94,7 @@ fn are_critical(insiders: &[Insider]) -> bool {
             .note
             .alternatives()
             .iter()
-            .all(|alternative| alternative.crit > 0)
+            .all(|alternative| alternative.critical() > 0)
     })
 }
 
@@ -115,7 +115,7 @@ fn common_mutex(app: &App, insiders: &[Insider]) -> Option<ObjId> {
 
 /// The one number that the variable can have, by an alternative.
 fn number_in(alternative: &Alternative, variable: usize) -> Option<i64> {
-    let range = alternative.ranges.get(variable)?;
+    let range = alternative.range(VarId(variable));
     if range.lo != range.hi {
         return None;
     }

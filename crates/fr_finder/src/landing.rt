@@ -3,22 +3,9 @@ ghost use Rattle.std.specs.Prelude.{IfOk, IfSome};
 ghost use Rattle.fr_notes.specs.Fits.{AlternativeFits};
 ghost use Rattle.fr_notes.specs.Known.{IsPossible};
 
-use fr_notes::{
-    Alternative, Change, Claim, Known, alternative_fits, claim_after, new_range, other_after,
-};
+use fr_notes::{Alternative, Change, Claim, Known, claim_after, new_range, other_after};
 use fr_program::{App, Range, VarId};
 use std::alloc::{AllocError, Global};
-
-/// The alternative, if it fits the application.
-pub fn fitting(app: &App, alternative: Alternative) -> Option<Alternative>
-    ensures { IfSome result (λ n. AlternativeFits app.now n) }
-{
-    if alternative_fits(app, &alternative) {
-        Some(alternative)
-    } else {
-        None
-    }
-}
 
 /// Each variable's range after a change, without what is out of its declared range; None where
 /// nothing is left of one.
@@ -90,13 +77,7 @@ pub fn left_to_mover(
         return Ok(None);
     };
     let claims = claims_left(alloc, app, known, change)?;
-    let left = Alternative {
-        crit,
-        susp,
-        claims,
-        ranges,
-    };
-    Ok(fitting(app, left))
+    Ok(Alternative::fitting(app, crit, susp, claims, ranges))
 }
 
 /// What a change leaves of what is known, for the other actor, of which this alternative held
@@ -115,11 +96,6 @@ pub fn left_to_other(
         return Ok(None);
     };
     let claims = claims_spared(alloc, app, known, change)?;
-    let left = Alternative {
-        crit: other.crit,
-        susp: other.susp,
-        claims,
-        ranges,
-    };
-    Ok(fitting(app, left))
+    let (crit, susp) = (other.critical(), other.suspended());
+    Ok(Alternative::fitting(app, crit, susp, claims, ranges))
 }

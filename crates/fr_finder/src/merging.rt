@@ -1,8 +1,7 @@
 // Merging what a step leaves into a point's note.
-ghost use Rattle.std.specs.Prelude.{◌≤ℤ◌, ◌<◌, IfSome, length, vec_len};
+ghost use Rattle.std.specs.Prelude.{◌≤ℤ◌, ◌<◌, IfOk, IfSome, length, vec_len};
 ghost use Rattle.fr_notes.specs.Fits.{AlternativeFits, NoteFits};
 
-use crate::landing::fitting;
 use fr_notes::{Alternative, Claim};
 use fr_program::{App, Range, VarId};
 use std::alloc::{AllocError, Global};
@@ -35,9 +34,9 @@ fn hold_the_same(claims: &[Claim], others: &[Claim]) -> bool {
 
 /// Whether both alternatives have the same held mutexes and depths, so that they can be one.
 fn can_be_one(alternative: &Alternative, other: &Alternative) -> bool {
-    alternative.crit == other.crit
-        && alternative.susp == other.susp
-        && hold_the_same(&alternative.claims, &other.claims)
+    alternative.critical() == other.critical()
+        && alternative.suspended() == other.suspended()
+        && hold_the_same(alternative.claims(), other.claims())
 }
 
 /// What both claims say.
@@ -87,41 +86,38 @@ fn common_claims(
     Ok(merged)
 }
 
-/// The ranges, grown by those of another alternative.
+/// The ranges of an alternative, grown by those of another one.
 fn grown_ranges(
     alloc: Global,
     app: &App,
-    ranges: &[Range],
-    others: &[Range],
+    alternative: &Alternative,
+    other: &Alternative,
     growth: Growth,
 ) -> Result<Vec<Range>, AllocError> {
-    let mut merged = Vec::with_capacity(alloc, ranges.len())?;
-    for (variable, declared) in app.variables().iter().enumerate() {
-        let _name = &declared.name;
-        let (Some(range), Some(other)) = (ranges.get(variable), others.get(variable)) else {
-            return Ok(merged);
-        };
-        merged.push(grown(*range, *other, app.range(VarId(variable)), growth))?;
+    let variables = app.variables().len();
+    let mut merged = Vec::with_capacity(alloc, variables)?;
+    for variable in 0..variables {
+        let variable = VarId(variable);
+        let (range, declared) = (alternative.range(variable), app.range(variable));
+        merged.push(grown(range, other.range(variable), declared, growth))?;
     }
     Ok(merged)
 }
 
-/// Both alternatives as one.
+/// Both alternatives as one, with the depths of the first.
 fn merged(
     alloc: Global,
     app: &App,
     alternative: &Alternative,
     other: &Alternative,
     growth: Growth,
-) -> Result<Alternative, AllocError> {
-    let claims = common_claims(alloc, &alternative.claims, &other.claims)?;
-    let ranges = grown_ranges(alloc, app, &alternative.ranges, &other.ranges, growth)?;
-    Ok(Alternative {
-        crit: alternative.crit,
-        susp: alternative.susp,
-        claims,
-        ranges,
-    })
+) -> Result<Option<Alternative>, AllocError>
+    ensures { IfOk result (λ one. IfSome one (λ n. AlternativeFits app.now n)) }
+{
+    let claims = common_claims(alloc, alternative.claims(), other.claims())?;
+    let ranges = grown_ranges(alloc, app, alternative, other, growth)?;
+    let (crit, susp) = (alternative.critical(), alternative.suspended());
+    Ok(Alternative::fitting(app, crit, susp, claims, ranges))
 }
 
 /// The place of the first alternative that the other one can be merged into.
@@ -172,8 +168,7 @@ pub fn merge(
     let Some(place) = place_for(note, &other) else {
         return add(app, note, other);
     };
-    let one = merged(alloc, app, &note[place], &other, growth)?;
-    if let Some(one) = fitting(app, one) {
+    if let Some(one) = merged(alloc, app, &note[place], &other, growth)? {
         replace(app, note, place, one);
     }
     Ok(())

@@ -258,12 +258,10 @@ fn is_allowed(effect: &Effect, note: &Note) -> bool {
     match effect.reach {
         Reach::Nothing => true,
         Reach::Objects => note.alternatives().is_empty(),
-        Reach::Writes(variable, range) => note.alternatives().iter().all(|alternative| {
-            match alternative.ranges.get(variable.0) {
-                Some(allowed) => range.within(*allowed),
-                None => true,
-            }
-        }),
+        Reach::Writes(variable, range) => note
+            .alternatives()
+            .iter()
+            .all(|alternative| range.within(alternative.range(variable))),
     }
 }
 
@@ -290,25 +288,13 @@ fn spread_all(
     Ok(())
 }
 
-/// The alternative once more.
-fn copied(alloc: Global, alternative: &Alternative) -> Result<Alternative, AllocError>
-    ensures { IfOk result (λ copy. copy ≡ alternative.now) }
-{
-    Ok(Alternative {
-        crit: alternative.crit,
-        susp: alternative.susp,
-        claims: Vec::from_slice(alloc, &alternative.claims)?,
-        ranges: Vec::from_slice(alloc, &alternative.ranges)?,
-    })
-}
-
 /// The note's alternatives once more.
 fn copied_all(alloc: Global, note: &Note) -> Result<Vec<Alternative>, AllocError>
     ensures { IfOk result (λ copy. copy.items ≡ note.now) }
 {
     let mut copy = Vec::new(alloc);
     for alternative in note.alternatives() {
-        copy.push(copied(alloc, alternative)?)?;
+        copy.push(alternative.copied(alloc)?)?;
     }
     Ok(copy)
 }

@@ -1,9 +1,8 @@
 // The first round: what each point's note is before any step.
-ghost use Rattle.std.specs.Prelude.{◌≡◌, ◌<◌, IfOk, length};
+ghost use Rattle.std.specs.Prelude.{◌≡◌, ◌<◌, IfOk, IfSome, length};
 ghost use Rattle.fr_program.specs.Points.{points_of};
-ghost use Rattle.fr_notes.specs.Fits.{NoteFits, NotesFit};
+ghost use Rattle.fr_notes.specs.Fits.{AlternativeFits, NoteFits, NotesFit};
 
-use crate::landing::fitting;
 use fr_notes::{Alternative, Claim, Note, Notes};
 use fr_program::{App, Object, Point, Range, Side, Variable};
 use std::alloc::{AllocError, Global};
@@ -24,22 +23,30 @@ fn range_at_start(variable: &Variable) -> Range {
     }
 }
 
-/// What every actor has when the scheduler starts.
-fn alternative_at_start(alloc: Global, app: &App) -> Result<Alternative, AllocError> {
+fn claims_at_start(alloc: Global, app: &App) -> Result<Vec<Claim>, AllocError> {
     let mut claims = Vec::with_capacity(alloc, app.objects().len())?;
     for object in app.objects() {
         claims.push(claim_at_start(object))?;
     }
+    Ok(claims)
+}
+
+fn ranges_at_start(alloc: Global, app: &App) -> Result<Vec<Range>, AllocError> {
     let mut ranges = Vec::with_capacity(alloc, app.variables().len())?;
     for variable in app.variables() {
         ranges.push(range_at_start(variable))?;
     }
-    Ok(Alternative {
-        crit: 0,
-        susp: 0,
-        claims,
-        ranges,
-    })
+    Ok(ranges)
+}
+
+/// What every actor has when the scheduler starts: objects that are live or dead as declared, and
+/// variables at their first numbers.
+fn alternative_at_start(alloc: Global, app: &App) -> Result<Option<Alternative>, AllocError>
+    ensures { IfOk result (λ first. IfSome first (λ n. AlternativeFits app.now n)) }
+{
+    let claims = claims_at_start(alloc, app)?;
+    let ranges = ranges_at_start(alloc, app)?;
+    Ok(Alternative::fitting(app, 0, 0, claims, ranges))
 }
 
 /// The point's note before any step: its actor starts there, or is never there.
@@ -52,7 +59,7 @@ fn note_at_start(alloc: Global, app: &App, point: Point) -> Result<Note, AllocEr
     if !matches!(point.side, Side::Before) {
         return Ok(Note::never(alloc));
     }
-    let Some(first) = fitting(app, alternative_at_start(alloc, app)?) else {
+    let Some(first) = alternative_at_start(alloc, app)? else {
         return Ok(Note::never(alloc));
     };
     let mut alternatives = Vec::with_capacity(alloc, 1)?;

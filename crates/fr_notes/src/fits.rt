@@ -49,7 +49,6 @@ fn ranges_fit(app: &App, ranges: &[Range]) -> bool
     true
 }
 
-/// Whether the alternative could have been built for the application. Takes no memory.
 pub fn alternative_fits(app: &App, alternative: &Alternative) -> bool
     ensures { IsTrue result ↔ AlternativeFits app.now alternative.now }
 {

@@ -29,6 +29,60 @@ impl Model for Alternative {
     ghost view = { alternative_of };
 }
 
+impl Alternative {
+    ghost use Rattle.std.specs.Prelude.{map};
+    ghost use Rattle.fr_notes.specs.Note.{claim_of, range_of};
+    ghost use Rattle.fr_notes.specs.View.{ends_of};
+
+    /// The actor's depth in the critical section, 0 where it isn't in it.
+    pub fn critical(&self) -> u8
+        ensures { result ≡ self.now.critical }
+    {
+        self.crit
+    }
+
+    /// How often the actor has suspended the scheduler.
+    pub fn suspended(&self) -> u8
+        ensures { result ≡ self.now.suspended }
+    {
+        self.susp
+    }
+
+    /// What is said of an object; of one past the last, that it isn't held.
+    pub fn claim(&self, object: ObjId) -> Claim
+        ensures { result ≡ claim_of self.now object.0 }
+    {
+        match self.claims.get(object.0) {
+            Some(claim) => *claim,
+            None => Claim::NotHeld,
+        }
+    }
+
+    /// What is said of each object, by their numbers.
+    pub fn claims(&self) -> &[Claim]
+        ensures { result.now ≡ self.now.claims }
+    {
+        &self.claims
+    }
+
+    /// The numbers that a variable can have; of one past the last, 0.
+    pub fn range(&self, variable: VarId) -> Range
+        ensures { ends_of result ≡ range_of self.now variable.0 }
+    {
+        match self.ranges.get(variable.0) {
+            Some(range) => *range,
+            None => Range { lo: 0, hi: 0 },
+        }
+    }
+
+    /// The numbers that each variable can have, by their numbers.
+    pub fn ranges(&self) -> &[Range]
+        ensures { map ends_of result.now ≡ self.now.ranges }
+    {
+        &self.ranges
+    }
+}
+
 /// What a certificate says of an actor at a point: one of these alternatives holds. With none of
 /// them it is the note `Never`, which says that the actor never stands there.
 #[derive(Debug, Drop)]
