@@ -159,11 +159,17 @@ impl Call {
         let files = (app, certificate);
         let (status, written) = match asked {
             Asked::Check { workers } => {
-                (check(threads, alloc, files, *workers, &mut out, &mut err), None)
+                (
+                    check(threads, alloc, files, *workers, &mut out, &mut err),
+                    None,
+                )
             }
             Asked::Run { polls, words } => {
                 let words = words.as_deref();
-                (run(threads, alloc, files, *polls, words, &mut out, &mut err), None)
+                (
+                    run(threads, alloc, files, *polls, words, &mut out, &mut err),
+                    None,
+                )
             }
             Asked::Find { rounds } => find(threads, alloc, app, *rounds, &mut out, &mut err),
         };
