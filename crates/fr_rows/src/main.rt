@@ -21,6 +21,8 @@ mod files;
 #[cfg(test)]
 mod guards;
 #[cfg(test)]
+mod guesses;
+#[cfg(test)]
 mod interference;
 #[cfg(test)]
 mod lines;
