@@ -243,7 +243,7 @@ fn then_expected(rt: &HostRuntime, folder: &str) -> io::Result<Answer> {
 }
 
 /// The second command, where there is one.
-fn second(rt: &HostRuntime, folder: &str) -> io::Result<Option<Second>> {
+fn second_in(rt: &HostRuntime, folder: &str) -> io::Result<Option<Second>> {
     match text_of(rt, folder, "then-args")? {
         Some(words) => Ok(Some(Second {
             asked: asked_in(rt.alloc(), words.as_str(), OUT)?,
@@ -254,7 +254,7 @@ fn second(rt: &HostRuntime, folder: &str) -> io::Result<Option<Second>> {
 }
 
 /// What has to be in the file for the certificate.
-fn written(rt: &HostRuntime, folder: &str) -> io::Result<Written> {
+fn written_in(rt: &HostRuntime, folder: &str) -> io::Result<Written> {
     if let Some(bytes) = bytes_of(rt, folder, "written.json")? {
         return Ok(Written::Text(bytes));
     }
@@ -320,8 +320,8 @@ impl Row {
             asked: asked_in(rt.alloc(), words.as_str(), CERTIFICATE)?,
             cuts: cuts_in(rt.alloc(), sweep.as_deref())?,
             expected: expected(rt, folder)?,
-            written: written(rt, folder)?,
-            second: second(rt, folder)?,
+            written: written_in(rt, folder)?,
+            second: second_in(rt, folder)?,
         };
         if let Some(lines) = text_of(rt, folder, "grow")? {
             row.grow(lines.as_str())?;
