@@ -1,4 +1,4 @@
-"""Small applications at random, of up to three actors, three variables and three objects. """
+"""Small applications at random, of up to three actors, three variables and three objects."""
 import json
 
 KINDS = ["queue", "binary", "counting", "mutex", "recursive", "stream", "message"]
