@@ -4,12 +4,14 @@
 ghost use Rattle.std.specs.Prelude.{◌≤◌};
 ghost use Rattle.fr_answer.specs.Checked.{most_bytes};
 
+mod finding;
 mod running;
 #[cfg(test)]
 mod tests;
 mod words;
 
 use clap::error::ErrorKind;
+use finding::find;
 use fr_answer::{
     CheckFault, MOST_APP_BYTES, MOST_CERTIFICATE_BYTES, answer_check, answer_fault, load,
 };
@@ -101,6 +103,7 @@ fn answer<R: Threads + Wait + Sync>(rt: &HostRuntime, threads: &R) -> Result<u8,
                     workers,
                 },
             ) => check(rt, threads, app, certificate, workers),
+            Some(Request::Find(asked)) => find(rt, threads, asked),
             Some(Request::Run(asked)) => run(rt, threads, asked),
             None => refuse_words(rt),
         },

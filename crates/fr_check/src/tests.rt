@@ -19,6 +19,10 @@ fn answer_to(alloc: Global, line: &str) -> Result<String, AllocError> {
                     workers,
                 },
             ) => format!(in alloc; "{app} {certificate} {workers}"),
+            Some(Request::Find(find)) => {
+                let (app, out, rounds) = (find.app, find.out, find.rounds);
+                format!(in alloc; "{app} {out} {rounds}")
+            }
             Some(Request::Run(run)) => {
                 let (app, certificate, polls) = (run.app, run.certificate, run.polls);
                 format!(in alloc; "{app} {certificate} {polls} {:?}", run.words)
@@ -34,6 +38,13 @@ fn words_and_what_is_said_to_them(rt: HostRuntime) {
     let cases = [
         ("fr_check check A C --workers 64", "A C 64"),
         ("fr_check check A C", "A C 4"),
+        ("fr_check find A O --rounds 64", "A O 64"),
+        ("fr_check find A O", "A O 64"),
+        ("fr_check find A O --rounds 0", "2 error: invalid value '0'"),
+        (
+            "fr_check find A O --rounds 65",
+            "2 error: invalid value '65'",
+        ),
         (
             "fr_check check A C --workers 0",
             "2 error: invalid value '0'",

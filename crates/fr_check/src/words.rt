@@ -1,4 +1,5 @@
 // The words of the command line.
+use crate::finding::{FindRequest, asked_find, find_command};
 use crate::running::{RunRequest, asked_run, run_command};
 use clap::{Arg, ArgAction, ArgMatches, Command, Error, value_parser};
 use std::alloc::{AllocError, Global};
@@ -21,6 +22,8 @@ pub enum Request<'a> {
         certificate: &'a str,
         workers: u16,
     },
+    /// A certificate for an application.
+    Find(FindRequest<'a>),
     /// A run of the application.
     Run(RunRequest<'a>),
 }
@@ -61,6 +64,7 @@ fn command<'a>(alloc: Global) -> Result<Command<'a>, AllocError> {
         .subcommand_required(true)
         .arg_required_else_help(true)
         .subcommand(check_command(alloc)?)?
+        .subcommand(find_command(alloc)?)?
         .subcommand(run_command(alloc)?)
 }
 
@@ -80,6 +84,7 @@ pub fn asked<'a>(matches: &ArgMatches<'a>) -> Option<Request<'a>> {
                 workers: words.get_one::<u16>("workers")?,
             })
         }
+        "find" => Some(Request::Find(asked_find(&words)?)),
         "run" => Some(Request::Run(asked_run(&words)?)),
         _ => None,
     }

@@ -49,7 +49,7 @@ fn ranges_fit(app: &App, ranges: &[Range]) -> bool
     true
 }
 
-fn alternative_fits(app: &App, alternative: &Alternative) -> bool
+pub fn alternative_fits(app: &App, alternative: &Alternative) -> bool
     ensures { IsTrue result ↔ AlternativeFits app.now alternative.now }
 {
     // Depths have a byte each, so that they fit.

@@ -24,7 +24,7 @@ fn range_after(new: Option<(VarId, Range)>, variable: usize, range: Range) -> Ra
 }
 
 /// The range of a variable after a change.
-fn new_range(change: &Change, variable: usize, range: Range) -> Range
+pub fn new_range(change: &Change, variable: usize, range: Range) -> Range
     ensures { ends_of result ≡ new_range change.now variable (ends_of range) }
 {
     range_after(
@@ -35,7 +35,7 @@ fn new_range(change: &Change, variable: usize, range: Range) -> Range
 }
 
 /// The mover's claim of an object after a change.
-fn claim_after(change: &Change, object: usize, claim: Claim) -> Claim
+pub fn claim_after(change: &Change, object: usize, claim: Claim) -> Claim
     ensures { result ≡ claim_after change.now.claim object claim }
 {
     match change.claim {
@@ -57,7 +57,7 @@ fn taught(new: Claim, before: Claim) -> Claim
 }
 
 /// The other actor's claim of an object after a change.
-fn other_after(change: &Change, object: usize, claim: Claim) -> Claim
+pub fn other_after(change: &Change, object: usize, claim: Claim) -> Claim
     ensures { result ≡ other_after change.now.claim object claim }
 {
     match change.claim {

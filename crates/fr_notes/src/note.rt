@@ -173,7 +173,7 @@ impl Note {
     }
 
     /// The note with these alternatives.
-    pub(crate) fn of(alternatives: Vec<Alternative>) -> Note
+    pub fn of(alternatives: Vec<Alternative>) -> Note
         ensures { result ≡ alternatives.items }
     {
         Note { alternatives }

@@ -4,8 +4,8 @@ ghost use Rattle.fr_answer.specs.Checked.{most_bytes};
 
 use crate::row::Asked;
 use fr_answer::{
-    CheckFault, MOST_APP_BYTES, MOST_CERTIFICATE_BYTES, WordsFault, answer_check, answer_fault,
-    answer_run, answer_words, load, words_of,
+    CheckFault, Found, MOST_APP_BYTES, MOST_CERTIFICATE_BYTES, WordsFault, answer_check,
+    answer_fault, answer_run, answer_words, find_bytes, load, tell_found, words_of,
 };
 use fr_parallel::Open;
 use std::alloc::{AllocError, Global};
@@ -18,6 +18,13 @@ pub struct Answer {
     pub stdout: Vec<u8>,
     pub stderr: Vec<u8>,
     pub status: u8,
+}
+
+/// What a command answers, and the text of the certificate that it writes, where it writes one.
+#[derive(Drop)]
+pub struct Call {
+    pub answer: Answer,
+    pub written: Option<String>,
 }
 
 /// The file's bytes, at most one more than the limit; None is a file that is missing.
@@ -105,41 +112,96 @@ fn run<R: Threads + Wait + Sync>(
     }
 }
 
-impl Answer {
-    /// What the program answers to what is asked of these files; None is a file that is missing.
-    pub fn to_files<R: Threads + Wait + Sync>(
+/// What is found for the application in this file.
+fn found_for<R: Threads + Sync>(
+    threads: &R,
+    alloc: Global,
+    app: Option<&[u8]>,
+    rounds: usize,
+) -> Result<Found, CheckFault> {
+    let app = file_bytes(alloc, app, MOST_APP_BYTES)?;
+    find_bytes(threads, alloc, &app, rounds)
+}
+
+/// What `find` writes and answers to this file, with the text of the certificate that it writes.
+fn find<R: Threads + Sync>(
+    threads: &R,
+    alloc: Global,
+    app: Option<&[u8]>,
+    rounds: usize,
+    stdout: &mut Vec<u8>,
+    stderr: &mut Vec<u8>,
+) -> (u8, Option<String>) {
+    let found = match found_for(threads, alloc, app, rounds) {
+        Ok(found) => found,
+        Err(fault) => return (answer_fault(alloc, &fault, stderr), None),
+    };
+    let status = match tell_found(&found, stdout) {
+        Ok(status) => status,
+        Err(fault) => answer_fault(alloc, &fault, stderr),
+    };
+    match found {
+        Found::Text(text) => (status, Some(text)),
+        Found::NotFound => (status, None),
+    }
+}
+
+impl Call {
+    /// What the program answers and writes to what is asked of these files; None is a file that is missing.
+    pub fn on_files<R: Threads + Wait + Sync>(
         threads: &R,
         alloc: Global,
         app: Option<&[u8]>,
         certificate: Option<&[u8]>,
         asked: &Asked,
-    ) -> Answer {
-        let (mut stdout, mut stderr) = (Vec::new(alloc), Vec::new(alloc));
+    ) -> Call {
+        let (mut out, mut err) = (Vec::new(alloc), Vec::new(alloc));
         let files = (app, certificate);
-        let status = match asked {
+        let (status, written) = match asked {
             Asked::Check { workers } => {
-                check(threads, alloc, files, *workers, &mut stdout, &mut stderr)
+                (
+                    check(threads, alloc, files, *workers, &mut out, &mut err),
+                    None,
+                )
             }
             Asked::Run { polls, words } => {
                 let words = words.as_deref();
-                run(
-                    threads,
-                    alloc,
-                    files,
-                    *polls,
-                    words,
-                    &mut stdout,
-                    &mut stderr,
+                (
+                    run(threads, alloc, files, *polls, words, &mut out, &mut err),
+                    None,
                 )
             }
+            Asked::Find { rounds } => find(threads, alloc, app, *rounds, &mut out, &mut err),
         };
-        Answer {
-            stdout,
-            stderr,
-            status,
+        Call {
+            answer: Answer {
+                stdout: out,
+                stderr: err,
+                status,
+            },
+            written,
         }
     }
 
+    /// The bytes of the certificate that it writes.
+    pub fn written_bytes(&self) -> Option<&[u8]> {
+        match &self.written {
+            Some(text) => Some(text.as_bytes()),
+            None => None,
+        }
+    }
+
+    /// The answer on one line, with the certificate that it writes.
+    pub fn text(&self, alloc: Global) -> Result<String, AllocError> {
+        let answer = self.answer.text(alloc)?;
+        match &self.written {
+            Some(text) => format!(in alloc; "{answer}, out.json {text}"),
+            None => Ok(answer),
+        }
+    }
+}
+
+impl Answer {
     pub fn is_same(&self, other: &Answer) -> bool {
         self.status == other.status
             && self.stdout.as_slice() == other.stdout.as_slice()

@@ -1,5 +1,5 @@
 // Each fault's line and exit status, numbers of workers that are refused, and readers and writers that fail.
-use crate::answer::Answer;
+use crate::answer::Call;
 use crate::row::Asked;
 use fr_answer::{CheckFault, LoadFault, answer_check, answer_fault, check_to, load};
 use fr_parallel::Open;
@@ -73,15 +73,15 @@ fn lines_of_faults(rt: HostRuntime) {
 #[test]
 fn numbers_of_workers_that_are_refused(rt: HostRuntime) {
     for workers in [0, 65] {
-        let answer = Answer::to_files(
+        let call = Call::on_files(
             &rt,
             rt.alloc(),
             Some(b"["),
             Some(b"["),
             &Asked::Check { workers },
         );
-        assert!(rt; answer.status == 2 && answer.stdout.is_empty());
-        assert!(rt; answer.stderr.as_slice() == b"refused: workers\n".as_slice());
+        assert!(rt; call.answer.status == 2 && call.answer.stdout.is_empty());
+        assert!(rt; call.answer.stderr.as_slice() == b"refused: workers\n".as_slice());
     }
 }
 

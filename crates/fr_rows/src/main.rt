@@ -21,6 +21,8 @@ mod files;
 #[cfg(test)]
 mod guards;
 #[cfg(test)]
+mod guesses;
+#[cfg(test)]
 mod interference;
 #[cfg(test)]
 mod lines;
@@ -46,7 +48,7 @@ mod want_of_memory;
 #[cfg(test)]
 mod workers;
 
-use answer::Answer;
+use answer::{Answer, Call};
 use files::names_in;
 use row::{Cut, Row};
 use std::env;
@@ -57,20 +59,16 @@ use std::thread::Threads;
 
 const MACHINE: u8 = 3;
 
-/// Whether the row is answered as its files say, and if not, prints it with both answers.
-fn is_kept<R: Threads + Wait + Sync>(
+/// Prints the row with the answer that it has to get and the one that it got.
+fn tell_difference(
     rt: &HostRuntime,
-    threads: &R,
     row: &Row,
     cut: Option<Cut>,
-) -> io::Result<bool> {
+    expected: &Answer,
+    got: &Call,
+) -> io::Result<()> {
     let alloc = rt.alloc();
-    let (app, certificate) = (row.app(cut), row.certificate(cut));
-    let answer = Answer::to_files(threads, alloc, app, certificate, &row.asked);
-    if answer.is_same(&row.expected) {
-        return Ok(true);
-    }
-    let (expected, got) = (row.expected.text(alloc)?, answer.text(alloc)?);
+    let (expected, got) = (expected.text(alloc)?, got.text(alloc)?);
     let length = match cut {
         Some(cut) => format!(in alloc; ", a file cut to {} bytes", cut.length)?,
         None => String::new(alloc),
@@ -78,7 +76,42 @@ fn is_kept<R: Threads + Wait + Sync>(
     println!(rt;
         "{}{length}: differs\n  expected {expected}\n  got {got}",
         row.name
-    )?;
+    )
+}
+
+/// Whether the row's second command, if it has one, is answered as its files say, where the first call wrote the
+/// certificate; and if not, prints it.
+fn is_second_kept<R: Threads + Wait + Sync>(
+    rt: &HostRuntime,
+    threads: &R,
+    row: &Row,
+    first: &Call,
+) -> io::Result<bool> {
+    let Some(second) = &row.second else {
+        return Ok(true);
+    };
+    let (app, certificate) = (row.app(None), first.written_bytes());
+    let call = Call::on_files(threads, rt.alloc(), app, certificate, &second.asked);
+    if call.answer.is_same(&second.expected) {
+        return Ok(true);
+    }
+    tell_difference(rt, row, None, &second.expected, &call)?;
+    Ok(false)
+}
+
+/// Whether the row is answered as its files say, and if not, prints it with both answers.
+fn is_kept<R: Threads + Wait + Sync>(
+    rt: &HostRuntime,
+    threads: &R,
+    row: &Row,
+    cut: Option<Cut>,
+) -> io::Result<bool> {
+    let (app, certificate) = (row.app(cut), row.certificate(cut));
+    let call = Call::on_files(threads, rt.alloc(), app, certificate, &row.asked);
+    if row.is_kept_by(&call) {
+        return is_second_kept(rt, threads, row, &call);
+    }
+    tell_difference(rt, row, cut, &row.expected, &call)?;
     Ok(false)
 }
 

@@ -3,13 +3,18 @@
 // about        what the row shows (for a reader)
 // app.toml     the application; the file may be missing, as any that the program reads
 // cert.json    the certificate
-// args         the words, one a line: a check of both files, by so many workers, or a run of so many polls with these words
+// args         the words, one a line: a check of both files, by so many workers; a run of so many polls with these words; or a
+//              search, in so many rounds, for a certificate that goes to out.json
 // stdout       what has to be written to standard output
 // stderr       what has to be written to standard error
 // status       the exit status
 // grow         lines `FILE BYTE LENGTH`: the file is filled up with that byte to that length
 // sweep        lines `cut FILE FROM TO`: the answer is the same with the file cut to each of these lengths
-use crate::answer::Answer;
+// written.json what has to be in out.json afterwards
+// unwritten    the file that must not be there afterwards, which is out.json
+// then-args, then-stdout, then-stderr, then-status
+//              a second command, of app.toml and out.json, and what it has to answer
+use crate::answer::{Answer, Call};
 use crate::files::{bytes_of, names_in, text_of, wrong};
 use std::alloc::Global;
 use std::io;
@@ -19,7 +24,11 @@ const APP: &str = "app.toml";
 
 const CERTIFICATE: &str = "cert.json";
 
+const OUT: &str = "out.json";
+
 const DEFAULT_WORKERS: usize = 4;
+
+const DEFAULT_ROUNDS: usize = 64;
 
 /// A file that the program reads.
 #[derive(Clone, Copy)]
@@ -42,6 +51,24 @@ pub enum Asked {
     Check { workers: usize },
     /// A run of so many polls, with the words of this text, where there is one.
     Run { polls: u64, words: Option<String> },
+    /// A certificate, in at most so many rounds.
+    Find { rounds: usize },
+}
+
+/// What has to be in the file for the certificate afterwards.
+#[derive(Drop)]
+enum Written {
+    Anything,
+    Nothing,
+    Text(Vec<u8>),
+}
+
+/// A second command, of the application and of the certificate that the first one wrote, and the answer that it has to
+/// get.
+#[derive(Drop)]
+pub struct Second {
+    pub asked: Asked,
+    pub expected: Answer,
 }
 
 /// The files of a row, and the answer that they have to get.
@@ -53,6 +80,8 @@ pub struct Row {
     pub asked: Asked,
     pub cuts: Vec<Cut>,
     pub expected: Answer,
+    written: Written,
+    pub second: Option<Second>,
 }
 
 fn is_file_of_a_row(name: &str) -> bool {
@@ -67,6 +96,12 @@ fn is_file_of_a_row(name: &str) -> bool {
             | "status"
             | "grow"
             | "sweep"
+            | "written.json"
+            | "unwritten"
+            | "then-args"
+            | "then-stdout"
+            | "then-stderr"
+            | "then-status"
     )
 }
 
@@ -139,17 +174,30 @@ fn run_asked(alloc: Global, words: &mut Lines) -> io::Result<Asked> {
     Ok(Asked::Run { polls, words: text })
 }
 
-/// What the words ask of both files.
-fn asked_in(alloc: Global, words: &str) -> io::Result<Asked> {
+/// The rest of a search's words: the number of rounds.
+fn find_asked(words: &mut Lines) -> io::Result<Asked> {
+    let rounds = match words.next() {
+        None => DEFAULT_ROUNDS,
+        Some("--rounds") => number(words.next())?,
+        Some(_) => return Err(wrong("the words are not those of a search")),
+    };
+    check_end(words.next())?;
+    Ok(Asked::Find { rounds })
+}
+
+/// What the words ask of the application and of the certificate in the file with this name.
+fn asked_in(alloc: Global, words: &str, certificate: &str) -> io::Result<Asked> {
     let mut words = words.lines();
     let command = words.next();
-    if words.next() != Some(APP) || words.next() != Some(CERTIFICATE) {
-        return Err(wrong("the words name other files than app.toml and cert.json"));
+    if words.next() != Some(APP) {
+        return Err(wrong("the words name another application than app.toml"));
     }
+    let second = words.next();
     match command {
-        Some("check") => check_asked(&mut words),
-        Some("run") => run_asked(alloc, &mut words),
-        _ => Err(wrong("the words are not those of a check or a run")),
+        Some("find") if second == Some(OUT) => find_asked(&mut words),
+        Some("check") if second == Some(certificate) => check_asked(&mut words),
+        Some("run") if second == Some(certificate) => run_asked(alloc, &mut words),
+        _ => Err(wrong("the words are not those of a command and its files")),
     }
 }
 
@@ -166,16 +214,55 @@ fn needed(
     }
 }
 
+/// The exit status in a file's text.
+fn status_in(text: Option<&str>) -> io::Result<u8> {
+    match text {
+        Some(text) => byte(Some(text.trim())),
+        None => Err(wrong("status is missing")),
+    }
+}
+
 /// The answer that the files have to get.
 fn expected(rt: &HostRuntime, folder: &str) -> io::Result<Answer> {
-    let Some(status) = text_of(rt, folder, "status")? else {
-        return Err(wrong("status is missing"));
-    };
+    let status = text_of(rt, folder, "status")?;
     Ok(Answer {
         stdout: needed(rt, folder, "stdout", "stdout is missing")?,
         stderr: needed(rt, folder, "stderr", "stderr is missing")?,
-        status: byte(Some(status.as_str().trim()))?,
+        status: status_in(status.as_deref())?,
     })
+}
+
+/// The answer that the second command has to get.
+fn then_expected(rt: &HostRuntime, folder: &str) -> io::Result<Answer> {
+    let status = text_of(rt, folder, "then-status")?;
+    Ok(Answer {
+        stdout: needed(rt, folder, "then-stdout", "then-stdout is missing")?,
+        stderr: needed(rt, folder, "then-stderr", "then-stderr is missing")?,
+        status: status_in(status.as_deref())?,
+    })
+}
+
+/// The second command, where there is one.
+fn second_in(rt: &HostRuntime, folder: &str) -> io::Result<Option<Second>> {
+    match text_of(rt, folder, "then-args")? {
+        Some(words) => Ok(Some(Second {
+            asked: asked_in(rt.alloc(), words.as_str(), OUT)?,
+            expected: then_expected(rt, folder)?,
+        })),
+        None => Ok(None),
+    }
+}
+
+/// What has to be in the file for the certificate.
+fn written_in(rt: &HostRuntime, folder: &str) -> io::Result<Written> {
+    if let Some(bytes) = bytes_of(rt, folder, "written.json")? {
+        return Ok(Written::Text(bytes));
+    }
+    match text_of(rt, folder, "unwritten")? {
+        Some(name) if name.as_str().trim() == OUT => Ok(Written::Nothing),
+        Some(_) => Err(wrong("unwritten names another file than out.json")),
+        None => Ok(Written::Anything),
+    }
 }
 
 /// Adds the cuts that a line `cut FILE FROM TO` tells.
@@ -230,9 +317,11 @@ impl Row {
             name: String::from_str(rt.alloc(), name)?,
             app: bytes_of(rt, folder, APP)?,
             certificate: bytes_of(rt, folder, CERTIFICATE)?,
-            asked: asked_in(rt.alloc(), words.as_str())?,
+            asked: asked_in(rt.alloc(), words.as_str(), CERTIFICATE)?,
             cuts: cuts_in(rt.alloc(), sweep.as_deref())?,
             expected: expected(rt, folder)?,
+            written: written_in(rt, folder)?,
+            second: second_in(rt, folder)?,
         };
         if let Some(lines) = text_of(rt, folder, "grow")? {
             row.grow(lines.as_str())?;
@@ -253,6 +342,16 @@ impl Row {
             }
         }
         Ok(())
+    }
+
+    /// Whether this is the answer that the row has to get, with what has to be written.
+    pub fn is_kept_by(&self, call: &Call) -> bool {
+        let is_written = match (&self.written, &call.written) {
+            (Written::Anything, _) | (Written::Nothing, None) => true,
+            (Written::Text(expected), Some(text)) => expected.as_slice() == text.as_bytes(),
+            (_, _) => false,
+        };
+        is_written && call.answer.is_same(&self.expected)
     }
 
     /// The application's bytes, cut where it is this file that is cut; None where the file is missing.

@@ -1,0 +1,75 @@
+// The command `find`: its words, and what the program does for it.
+use crate::words::{NAME, file_arg};
+use crate::{file_bytes, is_memory};
+use clap::{Arg, ArgMatches, Command, value_parser};
+use fr_answer::{CheckFault, Found, MOST_APP_BYTES, find_bytes, tell_found};
+use std::alloc::{AllocError, Global};
+use std::fs;
+use std::thread::Threads;
+
+const STATUSES: &str = "Exit status:
+  0  A certificate was found and written
+  1  None was found, and no file was written
+  2  The words or the application are refused
+  3  The machine failed: no memory, or a file that can't be read or written";
+
+/// A certificate that the command line asks for.
+#[derive(Clone, Copy)]
+pub struct FindRequest<'a> {
+    pub app: &'a str,
+    /// The file for the certificate.
+    pub out: &'a str,
+    pub rounds: u16,
+}
+
+fn rounds_arg<'a>(alloc: Global) -> Arg<'a> {
+    Arg::new(alloc, "rounds")
+        .long("rounds")
+        .value_name("N")
+        .value_parser(value_parser!(u16).range(1..=64))
+        .default_value("64")
+        .help("Rounds of guessing, 1 to 64")
+}
+
+pub fn find_command<'a>(alloc: Global) -> Result<Command<'a>, AllocError> {
+    Command::new(alloc, "find")
+        .display_name(NAME)?
+        .about("Finds a certificate for an application, and writes it to a file")
+        .after_help(STATUSES)
+        .arg(file_arg(alloc, "APP", "The application, in TOML"))?
+        .arg(file_arg(alloc, "OUT", "The file for the certificate"))?
+        .arg(rounds_arg(alloc))
+}
+
+/// The certificate that the matched words ask for. None can't be where the words were matched.
+pub fn asked_find<'a>(words: &ArgMatches<'a>) -> Option<FindRequest<'a>> {
+    Some(FindRequest {
+        app: words.get_str("APP")?,
+        out: words.get_str("OUT")?,
+        rounds: words.get_one::<u16>("rounds")?,
+    })
+}
+
+/// Writes the file, in place of what it held before.
+fn write_file(rt: &HostRuntime, path: &str, text: &str) -> Result<(), CheckFault> {
+    match fs::write(rt, path, text.as_bytes()) {
+        Ok(()) => Ok(()),
+        Err(error) if is_memory(&error) => Err(CheckFault::Memory),
+        Err(_) => Err(CheckFault::Write),
+    }
+}
+
+/// Finds a certificate for the application in the file, and writes it to the other file. Where none
+/// is found, that file stays as it is.
+pub fn find<R: Threads + Sync>(
+    rt: &HostRuntime,
+    threads: &R,
+    asked: FindRequest,
+) -> Result<u8, CheckFault> {
+    let app = file_bytes(rt, asked.app, MOST_APP_BYTES)?;
+    let found = find_bytes(threads, rt.alloc(), &app, usize::from(asked.rounds))?;
+    if let Found::Text(text) = &found {
+        write_file(rt, asked.out, text.as_str())?;
+    }
+    tell_found(&found, &mut rt.stdout())
+}

@@ -1,0 +1,2 @@
+pub mod EndLists
+pub mod Items

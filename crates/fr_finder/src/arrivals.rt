@@ -1,0 +1,118 @@
+// Which points lead to which.
+use fr_calls::{Landing, Way, lands_at};
+use fr_program::{Action, App, BufferKind, Call, Instr, Point, Side};
+use std::alloc::{AllocError, Global};
+
+/// The rows of an instruction in their order: those that work before those that fail, but for a
+/// message call, which moves nothing by its first row.
+pub fn rows(instr: &Instr) -> [Way; 2] {
+    match instr {
+        Instr::Call(
+            Call::On {
+                action: Action::Send {
+                    kind: BufferKind::Message,
+                    ..
+                }
+                | Action::Receive {
+                    kind: BufferKind::Message,
+                    ..
+                },
+                ..
+            },
+        ) => [Way::Else, Way::Then],
+        _ => [Way::Then, Way::Else],
+    }
+}
+
+/// Where a step from the point by this row leads: the number of a point.
+pub fn target(app: &App, point: Point, instr: &Instr, way: Way) -> Option<usize> {
+    if point.pc == usize::MAX {
+        return None;
+    }
+    match lands_at(point, point.pc + 1, instr, way) {
+        Landing::At(next) => app.number(next),
+        Landing::Done => None,
+    }
+}
+
+/// Puts a point among those that lead to its targets, once each.
+fn enlist(arrivals: &mut Vec<Vec<usize>>, number: usize, target: usize) -> Result<(), AllocError> {
+    if let Some(sources) = arrivals.get_mut(target) {
+        if sources.last() != Some(&number) {
+            sources.push(number)?;
+        }
+    }
+    Ok(())
+}
+
+/// Puts a point among those that its step by this row leads to.
+fn enlist_by(
+    app: &App,
+    arrivals: &mut Vec<Vec<usize>>,
+    number: usize,
+    point: Point,
+    way: Way,
+) -> Result<(), AllocError> {
+    let Some(instr) = app.instr(point) else {
+        return Ok(());
+    };
+    match target(app, point, instr, way) {
+        Some(target) => enlist(arrivals, number, target),
+        None => Ok(()),
+    }
+}
+
+/// For each point, by its number, the numbers of the points that lead to it, in their order.
+pub fn arrivals(alloc: Global, app: &App) -> Result<Vec<Vec<usize>>, AllocError> {
+    let mut arrivals = Vec::with_capacity(alloc, app.points())?;
+    for _ in 0..app.points() {
+        arrivals.push(Vec::new(alloc))?;
+    }
+    for number in 0..app.points() {
+        let point = app.point(number);
+        enlist_by(app, &mut arrivals, number, point, Way::Then)?;
+        enlist_by(app, &mut arrivals, number, point, Way::Else)?;
+    }
+    Ok(arrivals)
+}
+
+/// Whether a step from the point can change what another actor's note says: a variable's value, or
+/// whether an object is live.
+fn can_change(point: Point, instr: &Instr) -> bool {
+    match (point.side, instr) {
+        (Side::Before, Instr::Set { .. } | Instr::Pick { .. }) => true,
+        (Side::Before, Instr::Call(Call::Create { .. } | Call::Delete { .. })) => true,
+        (
+            Side::Inside,
+            Instr::Call(
+                Call::On {
+                    action: Action::QueueReceive { .. }
+                    | Action::Send {
+                        result: Some(_),
+                        ..
+                    }
+                    | Action::Receive {
+                        result: Some(_),
+                        ..
+                    },
+                    ..
+                },
+            ),
+        ) => true,
+        _ => false,
+    }
+}
+
+/// The numbers of the points whose steps can change what other actors' notes say, in their order.
+pub fn changers(alloc: Global, app: &App) -> Result<Vec<usize>, AllocError> {
+    let mut changers = Vec::new(alloc);
+    for number in 0..app.points() {
+        let point = app.point(number);
+        if let Some(instr) = app.instr(point) {
+            if can_change(point, instr) {
+                changers.push(number)?;
+            }
+        }
+    }
+    Ok(changers)
+}

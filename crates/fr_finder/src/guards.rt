@@ -1,0 +1,302 @@
+// The guards of the ends of buffers, from the notes.
+ghost use Rattle.std.specs.Prelude.{◌<◌, IfOk, IfSome, length, map};
+ghost use Rattle.fr_notes.specs.Fits.{NotesFit};
+ghost use Rattle.fr_ends.specs.Fits.{EndFits, EndsFit};
+ghost use Rattle.fr_ends.specs.View.{end_of};
+
+use crate::spot::{Spot, spot_at};
+use fr_calls::End;
+use fr_ends::{EndGuard, EndName, Ends, Guard, is_listed};
+use fr_notes::{Alternative, Claim, Note, Notes};
+use fr_program::{Action, ActorId, App, Call, Instr, ObjId, Side, VarId};
+use std::alloc::{AllocError, Global};
+use std::collections::BTreeMap;
+
+/// An actor that can be inside an end of a buffer, with its note there.
+#[derive(Clone, Copy)]
+struct Insider<'a> {
+    actor: ActorId,
+    note: &'a Note,
+}
+
+/// Whether an actor inside a call of this action is at this end of the buffer.
+fn is_at(action: &Action, end: End) -> bool {
+    match (action, end) {
+        (Action::Send { .. } | Action::Reset { .. }, End::Writer) => true,
+        (Action::Receive { .. } | Action::Reset { .. }, End::Reader) => true,
+        _ => false,
+    }
+}
+
+/// Whether some actor can be at the point, inside this end.
+fn is_inside(spot: &Spot, end: EndName) -> bool {
+    if spot.note.alternatives().is_empty() {
+        return false;
+    }
+    match (spot.point.side, spot.instr) {
+        (Side::Inside, Instr::Call(Call::On { object, action })) => {
+            object.0 == end.buffer.0 && is_at(action, end.end)
+        }
+        _ => false,
+    }
+}
+
+/// All actors that can be inside this end, with their notes there.
+fn insiders<'a>(
+    alloc: Global,
+    app: &'a App,
+    notes: &'a Notes,
+    end: EndName,
+) -> Result<Vec<Insider<'a>>, AllocError>
+    requires { NotesFit app.now notes.now }
+{
+    let mut insiders = Vec::new(alloc);
+    for number in 0..app.points() {
+        if let Some(spot) = spot_at(app, notes, number) {
+            if is_inside(&spot, end) {
+                insiders.push(Insider {
+                    actor: spot.point.actor,
+                    note: spot.note,
+                })?;
+            }
+        }
+    }
+    Ok(insiders)
+}
+
+/// The end's guard, if it fits the application.
+fn fitting(app: &App, end: EndName, guard: Guard) -> Option<EndGuard>
+    ensures { IfSome result (λ g. EndFits app.now (end_of g)) }
+{
+    let guard = EndGuard { end, guard };
+    if guard.fits(app) { Some(guard) } else { None }
+}
+
+fn holds(alternative: &Alternative, mutex: usize) -> bool {
+    matches!(alternative.claim(ObjId(mutex)), Claim::HeldTimes(_))
+}
+
+/// Whether each of them holds the mutex.
+fn all_hold(insiders: &[Insider], mutex: usize) -> bool {
+    insiders.iter().all(|insider| {
+        insider
+            .note
+            .alternatives()
+            .iter()
+            .all(|alternative| holds(alternative, mutex))
+    })
+}
+
+/// Whether each of them is in the critical section.
+fn are_critical(insiders: &[Insider]) -> bool {
+    insiders.iter().all(|insider| {
+        insider
+            .note
+            .alternatives()
+            .iter()
+            .all(|alternative| alternative.critical() > 0)
+    })
+}
+
+/// Whether all of them are one actor.
+fn are_one(insiders: &[Insider], actor: ActorId) -> bool {
+    insiders.iter().all(|insider| insider.actor.0 == actor.0)
+}
+
+/// The mutex with the least number that each of them holds.
+fn common_mutex(app: &App, insiders: &[Insider]) -> Option<ObjId> {
+    for mutex in 0..app.objects().len() {
+        if all_hold(insiders, mutex) {
+            return Some(ObjId(mutex));
+        }
+    }
+    None
+}
+
+/// The one number that the variable can have, by an alternative.
+fn number_in(alternative: &Alternative, variable: usize) -> Option<i64> {
+    let range = alternative.range(VarId(variable));
+    if range.lo != range.hi {
+        return None;
+    }
+    match i64::try_from(range.lo) {
+        Ok(number) => Some(number),
+        Err(_) => None,
+    }
+}
+
+/// The one number that the variable can have, by a note.
+fn only_number(note: &Note, variable: usize) -> Option<i64> {
+    let number = number_in(note.alternatives().first()?, variable)?;
+    if note.alternatives().iter().all(|alternative| number_in(alternative, variable)
+        == Some(number))
+    {
+        Some(number)
+    } else {
+        None
+    }
+}
+
+/// Adds an actor's value; whether it has no other one.
+fn add_value(
+    values: &mut BTreeMap<ActorId, i64>,
+    actor: ActorId,
+    value: i64,
+) -> Result<bool, AllocError> {
+    match values.get(&actor) {
+        Some(earlier) => Ok(*earlier == value),
+        None => {
+            values.insert(actor, value)?;
+            Ok(true)
+        }
+    }
+}
+
+/// The variable's one value for each of them.
+fn turn_values(
+    alloc: Global,
+    insiders: &[Insider],
+    variable: usize,
+) -> Result<Option<BTreeMap<ActorId, i64>>, AllocError> {
+    let mut values = BTreeMap::new(alloc);
+    for insider in insiders {
+        let Some(value) = only_number(insider.note, variable) else {
+            return Ok(None);
+        };
+        if !add_value(&mut values, insider.actor, value)? {
+            return Ok(None);
+        }
+    }
+    Ok(Some(values))
+}
+
+/// The turn of the variable with the least number that has one value for each of them, another one
+/// for each actor.
+fn common_turn(
+    alloc: Global,
+    app: &App,
+    insiders: &[Insider],
+    end: EndName,
+) -> Result<Option<EndGuard>, AllocError>
+    ensures { IfOk result (λ found. IfSome found (λ g. EndFits app.now (end_of g))) }
+{
+    for variable in 0..app.variables().len() {
+        if let Some(values) = turn_values(alloc, insiders, variable)? {
+            if let Some(guard) = fitting(app, end, Guard::Turn(VarId(variable), values)) {
+                return Ok(Some(guard));
+            }
+        }
+    }
+    Ok(None)
+}
+
+/// The guard of an end that the notes inside it imply: one actor alone, a mutex, the critical section
+/// or a turn, and where they imply none, the first actor alone. None where nobody can be inside.
+fn guard_at(
+    alloc: Global,
+    app: &App,
+    notes: &Notes,
+    end: EndName,
+) -> Result<Option<EndGuard>, AllocError>
+    requires { NotesFit app.now notes.now }
+    ensures { IfOk result (λ found. IfSome found (λ g. EndFits app.now (end_of g))) }
+{
+    let insiders = insiders(alloc, app, notes, end)?;
+    let Some(first) = insiders.first() else {
+        return Ok(None);
+    };
+    if are_one(&insiders, first.actor) {
+        return Ok(fitting(app, end, Guard::Sole(first.actor)));
+    }
+    if let Some(mutex) = common_mutex(app, &insiders) {
+        return Ok(fitting(app, end, Guard::Mutex(mutex)));
+    }
+    if are_critical(&insiders) {
+        return Ok(fitting(app, end, Guard::Critical));
+    }
+    if let Some(turn) = common_turn(alloc, app, &insiders, end)? {
+        return Ok(Some(turn));
+    }
+    Ok(fitting(app, end, Guard::Sole(first.actor)))
+}
+
+/// Adds a guard, unless the end has one.
+fn add(app: &App, ends: &mut Vec<EndGuard>, guard: EndGuard) -> Result<(), AllocError>
+    requires ends { EndsFit app.now (map end_of ends.old.items) }
+    requires guard { EndFits app.now (end_of guard) }
+    ensures { EndsFit app.now (map end_of ends.new.items) }
+{
+    let _ = app;
+    if !is_listed(ends, guard.end) {
+        ends.push(guard)?;
+    }
+    Ok(())
+}
+
+/// Adds the guard of an end, where somebody can be inside.
+fn add_end(
+    alloc: Global,
+    app: &App,
+    notes: &Notes,
+    end: EndName,
+    ends: &mut Vec<EndGuard>,
+) -> Result<(), AllocError>
+    requires notes { NotesFit app.now notes.now }
+    requires ends { EndsFit app.now (map end_of ends.old.items) }
+    ensures { EndsFit app.now (map end_of ends.new.items) }
+{
+    match guard_at(alloc, app, notes, end)? {
+        Some(guard) => add(app, ends, guard),
+        None => Ok(()),
+    }
+}
+
+/// Adds the guards of both ends of a buffer, the writer's first.
+fn add_both(
+    alloc: Global,
+    app: &App,
+    notes: &Notes,
+    buffer: ObjId,
+    ends: &mut Vec<EndGuard>,
+) -> Result<(), AllocError>
+    requires notes { NotesFit app.now notes.now }
+    requires ends { EndsFit app.now (map end_of ends.old.items) }
+    ensures { EndsFit app.now (map end_of ends.new.items) }
+{
+    let (writer, reader) = (End::Writer, End::Reader);
+    add_end(
+        alloc,
+        app,
+        notes,
+        EndName {
+            buffer,
+            end: writer,
+        },
+        ends,
+    )?;
+    add_end(
+        alloc,
+        app,
+        notes,
+        EndName {
+            buffer,
+            end: reader,
+        },
+        ends,
+    )
+}
+
+/// The guards of all ends of buffers inside which somebody can be.
+pub fn ends(alloc: Global, app: &App, notes: &Notes) -> Result<Ends, AllocError>
+    requires { NotesFit app.now notes.now }
+    ensures { IfOk result (λ ends. EndsFit app.now ends) }
+{
+    let mut ends = Vec::new(alloc);
+    for buffer in 0..app.objects().len() {
+        add_both(alloc, app, notes, ObjId(buffer), &mut ends)?;
+    }
+    match Ends::build(alloc, app, ends) {
+        Ok(ends) => Ok(ends),
+        Err(_) => unreachable!(),
+    }
+}

@@ -1,0 +1,53 @@
+// Alternatives that are made of their parts, and copies of them.
+ghost use Rattle.std.specs.Prelude.{◌≡◌, IfOk, IfSome, map};
+
+use crate::claim::Claim;
+use crate::fits::alternative_fits;
+use crate::note::Alternative;
+use fr_program::{App, Range};
+use std::alloc::{AllocError, Global};
+
+impl Alternative {
+    ghost use Rattle.fr_notes.specs.Fits.{AlternativeFits};
+    ghost use Rattle.fr_notes.specs.View.{ends_of};
+
+    /// The alternative with these depths in the critical section and of suspension, a claim for each
+    /// object and a range for each variable, by their numbers. None where it can't be built for the
+    /// application. Takes no memory.
+    pub fn fitting(
+        app: &App,
+        crit: u8,
+        susp: u8,
+        claims: Vec<Claim>,
+        ranges: Vec<Range>,
+    ) -> Option<Alternative>
+        ensures fits { IfSome result (λ n. AlternativeFits app.now n) }
+        ensures depths { IfSome result (λ n. (n.critical ≡ crit) × (n.suspended ≡ susp)) }
+        ensures claims { IfSome result (λ n. n.claims ≡ claims.items) }
+        ensures ranges { IfSome result (λ n. n.ranges ≡ map ends_of ranges.items) }
+    {
+        let alternative = Alternative {
+            crit,
+            susp,
+            claims,
+            ranges,
+        };
+        if alternative_fits(app, &alternative) {
+            Some(alternative)
+        } else {
+            None
+        }
+    }
+
+    /// The same alternative once more.
+    pub fn copied(&self, alloc: Global) -> Result<Alternative, AllocError>
+        ensures { IfOk result (λ copy. copy ≡ self.now) }
+    {
+        Ok(Alternative {
+            crit: self.crit,
+            susp: self.susp,
+            claims: Vec::from_slice(alloc, &self.claims)?,
+            ranges: Vec::from_slice(alloc, &self.ranges)?,
+        })
+    }
+}
