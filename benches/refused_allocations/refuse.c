@@ -1,24 +1,22 @@
-// Refuses the allocation whose number is in REFUSE_AT, counted from 1, and keeps in the file REFUSE_COUNT how many there
-// have been. Loaded before the C library by LD_PRELOAD. (The program ends without running what is to run at its end, so
-// the count is written at each allocation.)
+// Refuses the allocation whose number is in REFUSE_AT, counted from 1, or where REFUSE is `thread`, the thread with that
+// number, and keeps in the file REFUSE_COUNT how many there have been. Loaded before the C library by LD_PRELOAD. (The
+// program ends without running what is to run at its end, so the count is written each time.)
 #define _GNU_SOURCE
 #include <dlfcn.h>
 #include <errno.h>
 #include <fcntl.h>
+#include <pthread.h>
 #include <stdatomic.h>
 #include <stdlib.h>
+#include <string.h>
 #include <unistd.h>
 
-static atomic_ulong seen;
-static unsigned long at;
-static int count_file = -1;
+enum kind { MEMORY, THREAD };
 
-__attribute__((constructor)) static void begin(void) {
-    const char *number = getenv("REFUSE_AT"), *path = getenv("REFUSE_COUNT");
-    at = number ? strtoul(number, NULL, 10) : 0;
-    if (path) count_file = open(path, O_WRONLY | O_CREAT | O_TRUNC, 0600);
-    seen = 0;
-}
+static enum kind refused;
+static unsigned long at, seen;
+static int count_file = -1;
+static atomic_flag counting = ATOMIC_FLAG_INIT;
 
 static void tell(unsigned long count) {
     char text[24];
@@ -27,32 +25,49 @@ static void tell(unsigned long count) {
     if (count_file >= 0) (void)!pwrite(count_file, text + sizeof text - length, length, 0);
 }
 
-static int is_refused(void) {
+__attribute__((constructor)) static void begin(void) {
+    const char *kind = getenv("REFUSE"), *number = getenv("REFUSE_AT"), *path = getenv("REFUSE_COUNT");
+    refused = kind && !strcmp(kind, "thread") ? THREAD : MEMORY;
+    at = number ? strtoul(number, NULL, 10) : 0;
+    if (path) count_file = open(path, O_WRONLY | O_CREAT | O_TRUNC, 0600);
+    tell(0);
+}
+
+static int is_refused(enum kind kind) {
+    if (kind != refused) return 0;
+    while (atomic_flag_test_and_set(&counting)) continue;
     unsigned long count = ++seen;
     tell(count);
+    atomic_flag_clear(&counting);
     return count == at;
 }
 
 void *malloc(size_t size) {
     static void *(*next)(size_t);
     if (!next) next = dlsym(RTLD_NEXT, "malloc");
-    return is_refused() ? NULL : next(size);
+    return is_refused(MEMORY) ? NULL : next(size);
 }
 
 void *realloc(void *old, size_t size) {
     static void *(*next)(void *, size_t);
     if (!next) next = dlsym(RTLD_NEXT, "realloc");
-    return is_refused() ? NULL : next(old, size);
+    return is_refused(MEMORY) ? NULL : next(old, size);
 }
 
 void *aligned_alloc(size_t alignment, size_t size) {
     static void *(*next)(size_t, size_t);
     if (!next) next = dlsym(RTLD_NEXT, "aligned_alloc");
-    return is_refused() ? NULL : next(alignment, size);
+    return is_refused(MEMORY) ? NULL : next(alignment, size);
 }
 
 int posix_memalign(void **to, size_t alignment, size_t size) {
     static int (*next)(void **, size_t, size_t);
     if (!next) next = dlsym(RTLD_NEXT, "posix_memalign");
-    return is_refused() ? ENOMEM : next(to, alignment, size);
+    return is_refused(MEMORY) ? ENOMEM : next(to, alignment, size);
+}
+
+int pthread_create(pthread_t *thread, const pthread_attr_t *attributes, void *(*begin)(void *), void *argument) {
+    static int (*next)(pthread_t *, const pthread_attr_t *, void *(*)(void *), void *);
+    if (!next) next = dlsym(RTLD_NEXT, "pthread_create");
+    return is_refused(THREAD) ? EAGAIN : next(thread, attributes, begin, argument);
 }

@@ -2,6 +2,7 @@
 use fr_cert::{CertFault, Path, read_cert, write_cert};
 use fr_reader::read_app;
 use std::alloc::Global;
+use std::process::Abort;
 
 const TWO_TASKS: &[u8] = br#"variable = [{name="turn", lo=0, hi=3, init=0}]
 object = [
@@ -99,9 +100,20 @@ fn notes_that_are_written(rt: HostRuntime) {
     }
 }
 
+/// Asks by which fault each certificate is refused, and where.
+fn ask_refused(rt: &impl Abort, alloc: Global, cases: &[(&str, &str)]) {
+    for (certificate, wanted) in cases {
+        let found = refusal(alloc, certificate.as_bytes());
+        assert!(rt;
+            matches!(&found, Some(found) if found.as_str() == *wanted),
+            "{certificate}"
+        );
+    }
+}
+
 #[test]
-fn notes_that_are_refused(rt: HostRuntime) {
-    let cases: [(&str, &str); 13] = [
+fn lists_of_notes_that_are_refused(rt: HostRuntime) {
+    let cases = [
         (
             r#"{"version":1,"ends":[],"notes":[[{}],{}]}"#,
             "3 Shape at notes/0",
@@ -110,6 +122,23 @@ fn notes_that_are_refused(rt: HostRuntime) {
             r#"{"version":2,"ends":[],"notes":[["never"],{}]}"#,
             "3 Shape at notes/0/0",
         ),
+        (r#"{"version":3,"ends":[],"notes":[{},{}]}"#, "4 Version"),
+        (r#"{"version":1,"ends":[],"notes":[{}]}"#, "5 PointCount"),
+        (
+            r#"{"version":2,"ends":[],"notes":[{},[]]}"#,
+            "10 Alternatives at notes/1",
+        ),
+        (
+            r#"{"version":2,"ends":[],"notes":[[{},{},{},{},{}],{}]}"#,
+            "10 Alternatives at notes/0",
+        ),
+    ];
+    ask_refused(&rt, rt.alloc(), &cases);
+}
+
+#[test]
+fn notes_that_are_refused(rt: HostRuntime) {
+    let cases = [
         (
             r#"{"version":1,"ends":[],"notes":[{"depth":1},{}]}"#,
             "3 Shape at notes/0/depth",
@@ -118,8 +147,6 @@ fn notes_that_are_refused(rt: HostRuntime) {
             r#"{"version":1,"ends":[],"notes":[{"live":"m"},{}]}"#,
             "3 Shape at notes/0/live",
         ),
-        (r#"{"version":3,"ends":[],"notes":[{},{}]}"#, "4 Version"),
-        (r#"{"version":1,"ends":[],"notes":[{}]}"#, "5 PointCount"),
         (
             r#"{"version":1,"ends":[],"notes":[{},{"live":["x"]}]}"#,
             "6 UnknownName at notes/1/live/0",
@@ -140,24 +167,13 @@ fn notes_that_are_refused(rt: HostRuntime) {
             r#"{"version":1,"ends":[],"notes":[{"live":["m","m"]},{}]}"#,
             "7 Note at notes/0/live/1",
         ),
-        (
-            r#"{"version":2,"ends":[],"notes":[{},[]]}"#,
-            "10 Alternatives at notes/1",
-        ),
-        (
-            r#"{"version":2,"ends":[],"notes":[[{},{},{},{},{}],{}]}"#,
-            "10 Alternatives at notes/0",
-        ),
     ];
-    for (certificate, text) in cases {
-        let found = refusal(rt.alloc(), certificate.as_bytes());
-        assert!(rt; matches!(&found, Some(found) if found.as_str() == text));
-    }
+    ask_refused(&rt, rt.alloc(), &cases);
 }
 
 #[test]
 fn guards_that_are_refused(rt: HostRuntime) {
-    let cases: [(&str, &str); 7] = [
+    let cases = [
         (
             r#"{"version":1,"ends":[{"buffer":"sb","end":"writer","guard":{"turn":"turn","values":{"a":1,"b":1}}}],"notes":[{},{}]}"#,
             "8 Guard at ends/0",
@@ -187,8 +203,5 @@ fn guards_that_are_refused(rt: HostRuntime) {
             "6 UnknownName at ends/0/guard/sole",
         ),
     ];
-    for (certificate, text) in cases {
-        let found = refusal(rt.alloc(), certificate.as_bytes());
-        assert!(rt; matches!(&found, Some(found) if found.as_str() == text));
-    }
+    ask_refused(&rt, rt.alloc(), &cases);
 }

@@ -3,6 +3,7 @@ use fr_cert::read_cert;
 use fr_interfere::{spoiler, undisturbed};
 use fr_reader::read_app;
 use std::alloc::{AllocError, Global};
+use std::process::Abort;
 
 /// A task t that goes round, and a task u with this line before its way back.
 fn beside(alloc: Global, line: &str) -> Result<String, AllocError> {
@@ -44,232 +45,158 @@ fn spoiler_at(alloc: Global, app: &str, notes: &str, number: usize) -> Option<Op
     if first.is_none() { Some(None) } else { None }
 }
 
-/// Whether the task t is disturbed as wanted where it has the first note, and u's points have the others.
-fn is_as_wanted(alloc: Global, case: (&str, &str, &str, Option<usize>)) -> bool {
-    let (line, note, others, wanted) = case;
-    let Ok(app) = beside(alloc, line) else {
-        return false;
-    };
-    let Ok(notes) = format!(in alloc; "{note},{others}") else {
-        return false;
-    };
-    spoiler_at(alloc, app.as_str(), notes.as_str(), 0) == Some(wanted)
+/// A line of the task u, the note of t's point, those of u's points, and the first point that disturbs t's note.
+type Case<'a> = (&'a str, &'a str, &'a str, Option<usize>);
+
+/// The first point that disturbs the note of t's point beside a task u with this line and these notes, as `spoiler_at` tells it.
+fn spoiler_beside(alloc: Global, line: &str, note: &str, others: &str) -> Option<Option<usize>> {
+    let app = beside(alloc, line).ok()?;
+    let notes = format!(in alloc; "{note},{others}").ok()?;
+    spoiler_at(alloc, app.as_str(), notes.as_str(), 0)
 }
 
+/// Asks each case.
+fn ask(rt: &impl Abort, alloc: Global, cases: &[Case]) {
+    for (line, note, others, wanted) in cases {
+        assert!(rt;
+            spoiler_beside(alloc, line, note, others) == Some(*wanted),
+            "{line} beside {note}"
+        );
+    }
+}
+
+const X_IS_0: &str = r#"{"range":{"x":[0,0]}}"#;
+
+const X_TO_1: &str = r#"{"range":{"x":[0,1]}}"#;
+
+const X_TO_2: &str = r#"{"range":{"x":[0,2]}}"#;
+
+const Y_TO_2: &str = r#"{"range":{"y":[0,2]}},{}"#;
+
 #[test]
-fn writes_disturb_ranges(rt: HostRuntime) {
+fn sets_disturb_ranges(rt: HostRuntime) {
     let cases = [
         ("set x = 3", "{}", "{},{}", None),
         ("set x = 4", "{}", "{},{}", Some(1)),
-        ("set x = 2", r#"{"range":{"x":[0,2]}}"#, "{},{}", None),
-        ("set x = 2", r#"{"range":{"x":[0,1]}}"#, "{},{}", Some(1)),
+        ("set x = 2", X_TO_2, "{},{}", None),
+        ("set x = 2", X_TO_1, "{},{}", Some(1)),
         ("set x = y + 1", "{}", "{},{}", Some(1)),
-        ("set x = y + 1", "{}", r#"{"range":{"y":[0,2]}},{}"#, None),
-        (
-            "set x = y + 1",
-            r#"{"range":{"x":[1,3]}}"#,
-            r#"{"range":{"y":[0,2]}},{}"#,
-            None,
-        ),
-        (
-            "set x = y + 1",
-            r#"{"range":{"x":[2,3]}}"#,
-            r#"{"range":{"y":[0,2]}},{}"#,
-            Some(1),
-        ),
+        ("set x = y + 1", "{}", Y_TO_2, None),
+        ("set x = y + 1", r#"{"range":{"x":[1,3]}}"#, Y_TO_2, None),
+        ("set x = y + 1", r#"{"range":{"x":[2,3]}}"#, Y_TO_2, Some(1)),
         ("set x = y + 1", r#"{"range":{"y":[2,2]}}"#, "{},{}", None),
+        ("vTaskDelay(1)", X_IS_0, "{},{}", None),
+    ];
+    ask(&rt, rt.alloc(), &cases);
+}
+
+const RECEIVE: &str = "xQueueReceive(q, x, 10)";
+
+const SEND: &str = "x = xStreamBufferSend(sb, 2, 10)";
+
+#[test]
+fn picks_and_results_disturb_ranges(rt: HostRuntime) {
+    let cases = [
         ("pick x 1 2", r#"{"range":{"x":[1,2]}}"#, "{},{}", None),
         ("pick x 1 2", r#"{"range":{"x":[1,1]}}"#, "{},{}", Some(1)),
-        (
-            "xQueueReceive(q, x, 10)",
-            r#"{"range":{"x":[1,2]}}"#,
-            "{},{},{}",
-            None,
-        ),
-        (
-            "xQueueReceive(q, x, 10)",
-            r#"{"range":{"x":[0,1]}}"#,
-            "{},{},{}",
-            Some(2),
-        ),
-        (
-            "x = xStreamBufferSend(sb, 2, 10)",
-            r#"{"range":{"x":[0,2]}}"#,
-            "{},{},{}",
-            None,
-        ),
-        (
-            "x = xStreamBufferSend(sb, 2, 10)",
-            r#"{"range":{"x":[0,1]}}"#,
-            "{},{},{}",
-            Some(2),
-        ),
-        (
-            "xStreamBufferSend(sb, 2, 10)",
-            r#"{"range":{"x":[0,0]}}"#,
-            "{},{},{}",
-            None,
-        ),
-        ("vTaskDelay(1)", r#"{"range":{"x":[0,0]}}"#, "{},{}", None),
+        (RECEIVE, r#"{"range":{"x":[1,2]}}"#, "{},{},{}", None),
+        (RECEIVE, X_TO_1, "{},{},{}", Some(2)),
+        (SEND, X_TO_2, "{},{},{}", None),
+        (SEND, X_TO_1, "{},{},{}", Some(2)),
+        ("xStreamBufferSend(sb, 2, 10)", X_IS_0, "{},{},{}", None),
     ];
-    for case in cases {
-        assert!(rt; is_as_wanted(rt.alloc(), case));
-    }
+    ask(&rt, rt.alloc(), &cases);
 }
+
+const CREATE: &str = "xStreamBufferCreate(sb)";
+
+const DELETE: &str = "vStreamBufferDelete(sb)";
+
+const LIVE: &str = r#"{"live":["sb"]}"#;
+
+const DEAD: &str = r#"{"dead":["sb"]}"#;
 
 #[test]
 fn creates_and_deletes_disturb_lives(rt: HostRuntime) {
     let cases = [
-        (
-            "xStreamBufferCreate(sb)",
-            r#"{"dead":["sb"]}"#,
-            "{},{}",
-            Some(1),
-        ),
-        ("xStreamBufferCreate(sb)", "{}", "{},{}", None),
-        (
-            "xStreamBufferCreate(sb)",
-            r#"{"live":["sb"]}"#,
-            "{},{}",
-            None,
-        ),
-        (
-            "vStreamBufferDelete(sb)",
-            r#"{"live":["sb"]}"#,
-            "{},{}",
-            Some(1),
-        ),
-        (
-            "vStreamBufferDelete(sb)",
-            r#"{"live":["q"]}"#,
-            "{},{}",
-            None,
-        ),
-        (
-            "vStreamBufferDelete(sb)",
-            r#"{"dead":["sb"]}"#,
-            "{},{}",
-            None,
-        ),
-        (
-            "vStreamBufferDelete(sb)",
-            r#"{"live":["sb"]}"#,
-            r#"{"dead":["sb"]},{}"#,
-            None,
-        ),
-        (
-            "vSemaphoreDelete(m)",
-            r#"{"held":{"m":1}}"#,
-            "{},{}",
-            Some(1),
-        ),
-        ("vSemaphoreDelete(m)", "{}", "{},{}", None),
-        (
-            "vSemaphoreDelete(m)",
-            r#"{"held":{"m":1}}"#,
-            r#"{"held":{"m":1}},{}"#,
-            None,
-        ),
-        (
-            "xSemaphoreTake(m, 10)",
-            r#"{"held":{"m":1}}"#,
-            "{},{},{}",
-            None,
-        ),
-        (
-            "xSemaphoreTake(m, 10)",
-            r#"{"live":["m"]}"#,
-            "{},{},{}",
-            None,
-        ),
-        ("xSemaphoreGive(m)", r#"{"held":{"m":1}}"#, "{},{},{}", None),
-        (
-            "xSemaphoreGive(m)",
-            r#"{"live":["m"]}"#,
-            r#"{"held":{"m":1}},{"held":{"m":1}},{}"#,
-            None,
-        ),
-        (
-            "xStreamBufferReset(sb)",
-            r#"{"live":["sb"]}"#,
-            "{},{},{}",
-            None,
-        ),
-        ("taskENTER_CRITICAL()", r#"{"crit":1}"#, "{},{}", None),
-        ("vTaskSuspendAll()", r#"{"susp":1}"#, "{},{}", None),
+        (CREATE, DEAD, "{},{}", Some(1)),
+        (CREATE, "{}", "{},{}", None),
+        (CREATE, LIVE, "{},{}", None),
+        (DELETE, LIVE, "{},{}", Some(1)),
+        (DELETE, r#"{"live":["q"]}"#, "{},{}", None),
+        (DELETE, DEAD, "{},{}", None),
+        (DELETE, LIVE, r#"{"dead":["sb"]},{}"#, None),
+        ("xStreamBufferReset(sb)", LIVE, "{},{},{}", None),
     ];
-    for case in cases {
-        assert!(rt; is_as_wanted(rt.alloc(), case));
-    }
+    ask(&rt, rt.alloc(), &cases);
+}
+
+const UNMAKE: &str = "vSemaphoreDelete(m)";
+
+const TAKE: &str = "xSemaphoreTake(m, 10)";
+
+const GIVE: &str = "xSemaphoreGive(m)";
+
+const HELD: &str = r#"{"held":{"m":1}}"#;
+
+const MUTEX: &str = r#"{"live":["m"]}"#;
+
+#[test]
+fn deletes_alone_disturb_mutexes(rt: HostRuntime) {
+    let cases = [
+        (UNMAKE, HELD, "{},{}", Some(1)),
+        (UNMAKE, "{}", "{},{}", None),
+        (UNMAKE, HELD, r#"{"held":{"m":1}},{}"#, None),
+        (TAKE, HELD, "{},{},{}", None),
+        (TAKE, MUTEX, "{},{},{}", None),
+        (GIVE, HELD, "{},{},{}", None),
+        (GIVE, MUTEX, r#"{"held":{"m":1}},{"held":{"m":1}},{}"#, None),
+    ];
+    ask(&rt, rt.alloc(), &cases);
 }
 
 #[test]
-fn alternatives_and_depths_decide(rt: HostRuntime) {
+fn depths_decide_and_are_never_disturbed(rt: HostRuntime) {
+    let critical = r#"{"crit":1,"range":{"x":[0,0]}}"#;
+    let suspended = r#"{"susp":1,"range":{"x":[0,0]}}"#;
+    let cases = [
+        ("taskENTER_CRITICAL()", r#"{"crit":1}"#, "{},{}", None),
+        ("vTaskSuspendAll()", r#"{"susp":1}"#, "{},{}", None),
+        ("set x = 1", critical, r#"{"crit":1},{}"#, None),
+        ("set x = 1", critical, "{},{}", Some(1)),
+        ("set x = 1", suspended, r#"{"susp":1},{}"#, Some(1)),
+    ];
+    ask(&rt, rt.alloc(), &cases);
+}
+
+#[test]
+fn notes_that_no_state_has_together_disturb_nothing(rt: HostRuntime) {
+    let held = r#"{"held":{"m":1},"range":{"x":[0,0]}}"#;
+    let cases = [
+        ("set x = 1", held, r#"{"held":{"m":1}},{}"#, None),
+        ("set x = 1", X_IS_0, r#"{"range":{"x":[1,1]}},{}"#, None),
+        ("set x = 1", X_IS_0, r#""never",{}"#, None),
+        ("set x = 4", r#""never""#, "{},{}", None),
+    ];
+    ask(&rt, rt.alloc(), &cases);
+}
+
+#[test]
+fn alternatives_decide(rt: HostRuntime) {
     let zero_or_one = r#"[{"range":{"x":[0,0]}},{"range":{"x":[1,1]}}]"#;
+    let zero_or_live = r#"[{"range":{"x":[0,0]}},{"live":["q"],"range":{"x":[1,2]}}]"#;
+    let zero_or_two = r#"[{"range":{"y":[0,0]}},{"range":{"y":[2,2]}}],{}"#;
+    let receive = "xQueueReceive(q, x, portMAX_DELAY)";
     let cases = [
         ("set x = 1", zero_or_one, "{},{}", None),
         ("set x = 2", zero_or_one, "{},{}", Some(1)),
         ("pick x 0 1", zero_or_one, "{},{}", Some(1)),
-        ("pick x 0 1", r#"{"range":{"x":[0,1]}}"#, "{},{}", None),
-        (
-            "set x = y + 0",
-            r#"{"range":{"x":[0,2]}}"#,
-            r#"[{"range":{"y":[0,0]}},{"range":{"y":[2,2]}}],{}"#,
-            None,
-        ),
-        (
-            "set x = y + 0",
-            r#"{"range":{"x":[0,0]}}"#,
-            r#"[{"range":{"y":[0,0]}},{"range":{"y":[2,2]}}],{}"#,
-            Some(1),
-        ),
-        (
-            "set x = 1",
-            r#"{"range":{"x":[0,0]}}"#,
-            r#""never",{}"#,
-            None,
-        ),
-        ("set x = 4", r#""never""#, "{},{}", None),
-        (
-            "xQueueReceive(q, x, portMAX_DELAY)",
-            r#"[{"range":{"x":[0,0]}},{"live":["q"],"range":{"x":[1,2]}}]"#,
-            "{},{},{}",
-            None,
-        ),
-        (
-            "set x = 1",
-            r#"{"crit":1,"range":{"x":[0,0]}}"#,
-            r#"{"crit":1},{}"#,
-            None,
-        ),
-        (
-            "set x = 1",
-            r#"{"crit":1,"range":{"x":[0,0]}}"#,
-            "{},{}",
-            Some(1),
-        ),
-        (
-            "set x = 1",
-            r#"{"susp":1,"range":{"x":[0,0]}}"#,
-            r#"{"susp":1},{}"#,
-            Some(1),
-        ),
-        (
-            "set x = 1",
-            r#"{"held":{"m":1},"range":{"x":[0,0]}}"#,
-            r#"{"held":{"m":1}},{}"#,
-            None,
-        ),
-        (
-            "set x = 1",
-            r#"{"range":{"x":[0,0]}}"#,
-            r#"{"range":{"x":[1,1]}},{}"#,
-            None,
-        ),
+        ("pick x 0 1", X_TO_1, "{},{}", None),
+        ("set x = y + 0", X_TO_2, zero_or_two, None),
+        ("set x = y + 0", X_IS_0, zero_or_two, Some(1)),
+        (receive, zero_or_live, "{},{},{}", None),
     ];
-    for case in cases {
-        assert!(rt; is_as_wanted(rt.alloc(), case));
-    }
+    ask(&rt, rt.alloc(), &cases);
 }
 
 const DELETER: &str = r#"object = [{name="m", kind="mutex", live=true}]

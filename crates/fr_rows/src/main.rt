@@ -44,6 +44,8 @@ mod run_words;
 #[cfg(test)]
 mod runs;
 #[cfg(test)]
+mod runs_without_memory;
+#[cfg(test)]
 mod want_of_memory;
 #[cfg(test)]
 mod workers;

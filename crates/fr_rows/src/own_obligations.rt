@@ -5,6 +5,7 @@ use fr_edge::{Own, own};
 use fr_program::{ActorId, Point, Side};
 use fr_reader::read_app;
 use std::alloc::Global;
+use std::process::Abort;
 
 const FIRST: &str = r#"variable = [{name="x", lo=0, hi=1, init=0}]
 actor = [{name="t", kind="task", code=["taskENTER_CRITICAL()", "set x = 1", "taskEXIT_CRITICAL()", "vTaskDelay(1)", "goto 0"]}]
@@ -38,52 +39,56 @@ pub fn goes(pc: usize) -> Own {
     })
 }
 
-#[test]
-fn first_own_obligation_that_fails(rt: HostRuntime) {
-    let good = r#"{},{"crit":1},{"crit":1},{},{}"#;
-    let cases = [
-        (FIRST, good, 0, None),
-        (FIRST, good, 1, None),
-        (FIRST, good, 2, None),
-        (FIRST, good, 3, None),
-        (FIRST, good, 4, None),
-        (
-            FIRST,
-            r#"{"crit":1},{"crit":1},{"crit":1},{},{}"#,
-            0,
-            Some(Own::Entry),
-        ),
-        (FIRST, r#"{},{},{"crit":1},{},{}"#, 0, Some(goes(1))),
-        (
-            FIRST,
-            r#"{},{"crit":1},{"crit":1,"range":{"x":[0,0]}},{},{}"#,
-            1,
-            Some(goes(2)),
-        ),
-        (
-            COUNTING,
-            r#"{},{},{"range":{"x":[-2147483648,2147483646]}},{}"#,
-            0,
-            None,
-        ),
-        (
-            COUNTING,
-            r#"{},{},{"range":{"x":[-2147483648,2147483646]}},{}"#,
-            2,
-            None,
-        ),
-        (
-            COUNTING,
-            r#"{},{},{"range":{"x":[-2147483648,2147483645]}},{}"#,
-            0,
-            Some(goes(2)),
-        ),
-        (COUNTING, "{},{},{},{}", 2, Some(Own::Rule(Rule::InRange))),
-        (RETURNING, "{},{}", 1, Some(Own::Rule(Rule::EndsInOrder))),
-        (RETURNING, r#"{},"never""#, 0, None),
-        (RETURNING, r#"{},"never""#, 1, None),
-    ];
-    for (app, notes, number, wanted) in cases {
-        assert!(rt; own_at(rt.alloc(), app, notes, number) == Some(wanted));
+/// Notes of an application's points, the number of one of them, and what fails there first.
+pub type Case<'a> = (&'a str, usize, Option<Own>);
+
+/// Asks each case of the application.
+pub fn ask(rt: &impl Abort, alloc: Global, app: &str, cases: &[Case]) {
+    for (notes, number, wanted) in cases {
+        assert!(rt;
+            own_at(alloc, app, notes, *number) == Some(*wanted),
+            "{notes} at {number}"
+        );
     }
+}
+
+#[test]
+fn critical_sections_and_delays(rt: HostRuntime) {
+    let good = r#"{},{"crit":1},{"crit":1},{},{}"#;
+    let begun_inside = r#"{"crit":1},{"crit":1},{"crit":1},{},{}"#;
+    let unset = r#"{},{"crit":1},{"crit":1,"range":{"x":[0,0]}},{},{}"#;
+    let cases = [
+        (good, 0, None),
+        (good, 1, None),
+        (good, 2, None),
+        (good, 3, None),
+        (good, 4, None),
+        (begun_inside, 0, Some(Own::Entry)),
+        (r#"{},{},{"crit":1},{},{}"#, 0, Some(goes(1))),
+        (unset, 1, Some(goes(2))),
+    ];
+    ask(&rt, rt.alloc(), FIRST, &cases);
+}
+
+#[test]
+fn counters(rt: HostRuntime) {
+    let below = r#"{},{},{"range":{"x":[-2147483648,2147483646]}},{}"#;
+    let too_low = r#"{},{},{"range":{"x":[-2147483648,2147483645]}},{}"#;
+    let cases = [
+        (below, 0, None),
+        (below, 2, None),
+        (too_low, 0, Some(goes(2))),
+        ("{},{},{},{}", 2, Some(Own::Rule(Rule::InRange))),
+    ];
+    ask(&rt, rt.alloc(), COUNTING, &cases);
+}
+
+#[test]
+fn returns_of_a_task(rt: HostRuntime) {
+    let cases = [
+        ("{},{}", 1, Some(Own::Rule(Rule::EndsInOrder))),
+        (r#"{},"never""#, 0, None),
+        (r#"{},"never""#, 1, None),
+    ];
+    ask(&rt, rt.alloc(), RETURNING, &cases);
 }

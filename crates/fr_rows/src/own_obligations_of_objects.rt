@@ -1,24 +1,11 @@
 // What a point owes by itself where its task uses an object: takes and gives, queues, creates and deletes, buffers, the
 // rules on calls, and notes with several alternatives.
-use crate::own_obligations::{goes, own_at};
+use crate::own_obligations::{ask, goes, own_at};
 use fr_calls::Rule;
 use fr_edge::Own;
 use fr_program::{ActorId, Point, Side};
 use std::alloc::Global;
 use std::process::Abort;
-
-/// Notes of an application's points, the number of one of them, and what fails there first.
-type Case<'a> = (&'a str, usize, Option<Own>);
-
-/// Asks each case of the application.
-fn ask(rt: &impl Abort, alloc: Global, app: &str, cases: &[Case]) {
-    for (notes, number, wanted) in cases {
-        assert!(rt;
-            own_at(alloc, app, notes, *number) == Some(*wanted),
-            "{notes} at {number}"
-        );
-    }
-}
 
 /// Asks that each of the points up to this number keeps its own obligations.
 fn ask_kept(rt: &impl Abort, alloc: Global, app: &str, notes: &str, points: usize) {

@@ -1,6 +1,6 @@
-// A machine that is polled by hand, without threads: the choices that words pick, actors that are blocked, polls that are
-// refused, and what a refused allocation leaves.
-use crate::runs::{QUEUE, QUEUE_NOTES, STREAM, STREAM_NOTES, passed};
+// A machine that is polled by hand, without threads: the choices that words pick, actors that are blocked, and polls that are
+// refused.
+use crate::runs::{STREAM, STREAM_NOTES, passed};
 use fr_judge::Passed;
 use fr_program::ActorId;
 use fr_report::trace_text;
@@ -31,15 +31,6 @@ const ENDING: &[u8] =
 
 const ENDING_NOTES: &[u8] = br#"{"version":1,"ends":[],"notes":[{},{}]}"#;
 
-/// The next entry; where memory is refused, that of the second try, if no poll is spent.
-fn polled(machine: &mut Machine, actor: usize) -> Result<Entry, RunFault> {
-    let left = machine.left();
-    match machine.poll(ActorId(actor)) {
-        Err(RunFault::Memory) if machine.left() == left => machine.poll(ActorId(actor)),
-        answer => answer,
-    }
-}
-
 /// The text of the trace of a machine with one poll for each of these actors, polled in this order;
 /// None where something is refused.
 fn text_of(
@@ -52,7 +43,7 @@ fn text_of(
     let passed: Passed = passed(alloc, app, notes)?;
     let mut machine = Machine::new(alloc, &passed, order.len() as u64, words).ok()?;
     for actor in order {
-        polled(&mut machine, *actor).ok()?;
+        machine.poll(ActorId(*actor)).ok()?;
     }
     trace_text(alloc, passed.app(), &machine.into_trace()).ok()
 }
@@ -87,24 +78,23 @@ fn choices_of_128_bits(rt: HostRuntime) {
     assert!(rt; matches!(&text, Some(text) if text.as_str() == lines));
 }
 
+/// What a task that ends does: it steps twice, and then it is done and blocked.
+fn ended(alloc: Global) -> Option<bool> {
+    let passed = passed(alloc, ENDING, ENDING_NOTES)?;
+    let mut machine = Machine::new(alloc, &passed, 9, &[]).ok()?;
+    let task = ActorId(0);
+    let steps = machine.poll(task) == Ok(Entry::Stepped(task, 0)) && !machine.done(task);
+    let ends = machine.poll(task) == Ok(Entry::Stepped(task, 0)) && machine.done(task);
+    let blocked = machine.poll(task) == Ok(Entry::Blocked(task)) && machine.left() == 6;
+    Some(steps && ends && blocked)
+}
+
 #[test]
 fn an_actor_that_is_done_is_blocked(rt: HostRuntime) {
-    let text = text_of(rt.alloc(), ENDING, ENDING_NOTES, &[], &[0, 0, 0]);
-    assert!(rt; matches!(&text, Some(text) if text.as_str() == "t step 0\nt step 0\nt blocked\n"));
+    assert!(rt; ended(rt.alloc()) == Some(true));
 }
 
-// The right entries or none, for want of memory: so it passes whichever allocation is refused. A poll that is refused
-// leaves the machine as it was, and asked again it gives the entry that it would have given.
-#[test]
-fn a_poll_without_memory_changes_nothing(rt: HostRuntime) {
-    let kept = match &text_of(rt.alloc(), QUEUE, QUEUE_NOTES, &[1], &[0, 0, 0]) {
-        Some(text) => text.as_str() == "t step 0\nt step 1\nt step 0\n",
-        None => true,
-    };
-    assert!(rt; kept);
-}
-
-/// What is answered without any poll, to a number that is no actor, and to a number of polls past the most.
+/// What is answered where no poll is left, to a number that is no actor, and to a number of polls past the most.
 fn refused(alloc: Global) -> Option<bool> {
     let passed = passed(alloc, STREAM, STREAM_NOTES)?;
     let mut none = Machine::new(alloc, &passed, 0, &[8]).ok()?;
@@ -113,12 +103,13 @@ fn refused(alloc: Global) -> Option<bool> {
     let mut one = Machine::new(alloc, &passed, 1, &[8]).ok()?;
     let stranger = one.poll(ActorId(2)) == Err(RunFault::NoActor);
     let same = one.left() == 1 && !one.done(ActorId(2));
-    let polled = polled(&mut one, 0) == Ok(Entry::Stepped(ActorId(0), 0));
+    let polled = one.poll(ActorId(0)) == Ok(Entry::Stepped(ActorId(0), 0));
+    let used = one.poll(ActorId(0)) == Err(RunFault::Spent) && one.left() == 0;
     let too_many = match Machine::new(alloc, &passed, 1_000_001, &[8]) {
         Err(fault) => fault == RunFault::Polls,
         Ok(_) => false,
     };
-    Some(spent && empty && stranger && same && polled && too_many)
+    Some(spent && empty && stranger && same && polled && used && too_many)
 }
 
 #[test]

@@ -1,10 +1,9 @@
-// Runs with a thread for each actor: that they meet, how long their traces are, and what comes of refused memory.
+// Runs with a thread for each actor: that they meet. And small applications that pass, for other tests of runs.
 use fr_cert::read_cert;
 use fr_judge::Passed;
-use fr_parallel::{Gate, Open};
-use fr_program::ActorId;
+use fr_parallel::Gate;
 use fr_reader::read_app;
-use fr_runner::{Entry, RunFault, run};
+use fr_runner::run;
 use std::alloc::{AllocError, Global};
 use std::sync::atomic::{AtomicU64, Ordering};
 use std::test::Fail;
@@ -110,23 +109,4 @@ fn actors_meet_at_each_turn(rt: HostRuntime) -> Result<(), Fail> {
     assert!(rt; gate.disordered.load(Ordering::SeqCst) == 0);
     assert!(rt; gate.alone.load(Ordering::SeqCst) == 0);
     Ok(())
-}
-
-// A trace of the right length and choices, or a fault of the machine: so it passes whichever allocation is refused.
-#[test]
-fn a_run_without_memory_gives_no_false_trace(rt: HostRuntime) {
-    let choices = [0, 1, 0, 0, 1, 0];
-    let kept = match &passed(rt.alloc(), QUEUE, QUEUE_NOTES) {
-        Some(passed) => match run(&rt, rt.alloc(), passed, 6, &[1], &Open) {
-            Ok(trace) => trace.entries.iter().enumerate().all(|(number, entry)| {
-                choices
-                    .get(number)
-                    .map(|choice| Entry::Stepped(ActorId(0), *choice))
-                    == Some(*entry)
-            }),
-            Err(fault) => fault == RunFault::Memory || fault == RunFault::Threads,
-        },
-        None => true,
-    };
-    assert!(rt; kept);
 }

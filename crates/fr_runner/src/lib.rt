@@ -8,8 +8,6 @@ mod fault;
 mod lock;
 mod machine;
 mod rest;
-#[cfg(test)]
-mod tests;
 mod threads;
 mod trace;
 mod turn;
