@@ -1,13 +1,14 @@
 // What answers a command, from the bytes of the files to the report, the exit status and a refusal's line. `load` reads a
 // file, `check_with` judges and writes the report, and `answer_check` is the whole of it: the program and the worked
 // rows both call it, and its contract says what an exit status means. `answer_run` is the same of a run, whose words
-// `words_of` reads.
+// `words_of` reads, and `answer_points` of the listing of an application's points.
 #![tactic(auto)]
 
 mod answer;
 mod check;
 mod fault;
 mod file;
+mod points;
 mod running;
 mod words;
 
@@ -17,5 +18,6 @@ pub use fault::{CheckFault, fault_line, status};
 pub use file::{LoadFault, load};
 pub use fr_cert::MOST_BYTES as MOST_CERTIFICATE_BYTES;
 pub use fr_reader::MOST_BYTES as MOST_APP_BYTES;
+pub use points::{answer_points, points_to};
 pub use running::{answer_run, run_to};
 pub use words::{WordsFault, answer_words, words_of};
