@@ -19,6 +19,7 @@ fn answer_to(alloc: Global, line: &str) -> Result<String, AllocError> {
                     workers,
                 },
             ) => format!(in alloc; "{app} {certificate} {workers}"),
+            Some(Request::Points { app }) => format!(in alloc; "the points of {app}"),
             Some(Request::Run(run)) => {
                 let (app, certificate, polls) = (run.app, run.certificate, run.polls);
                 format!(in alloc; "{app} {certificate} {polls} {:?}", run.words)
@@ -58,6 +59,11 @@ fn words_and_what_is_said_to_them(rt: HostRuntime) {
         ),
         (
             "fr_check run A C",
+            "2 error: the following required arguments",
+        ),
+        ("fr_check points A", "the points of A"),
+        (
+            "fr_check points",
             "2 error: the following required arguments",
         ),
         ("fr_check", "2 Checks that a multicore FreeRTOS application"),

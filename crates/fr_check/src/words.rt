@@ -1,4 +1,5 @@
 // The words of the command line.
+use crate::listing::points_command;
 use crate::running::{RunRequest, asked_run, run_command};
 use clap::{Arg, ArgAction, ArgMatches, Command, Error, value_parser};
 use std::alloc::{AllocError, Global};
@@ -20,6 +21,10 @@ pub enum Request<'a> {
         app: &'a str,
         certificate: &'a str,
         workers: u16,
+    },
+    /// The points of the application in this file.
+    Points {
+        app: &'a str,
     },
     /// A run of the application.
     Run(RunRequest<'a>),
@@ -61,6 +66,7 @@ fn command<'a>(alloc: Global) -> Result<Command<'a>, AllocError> {
         .subcommand_required(true)
         .arg_required_else_help(true)
         .subcommand(check_command(alloc)?)?
+        .subcommand(points_command(alloc)?)?
         .subcommand(run_command(alloc)?)
 }
 
@@ -80,6 +86,9 @@ pub fn asked<'a>(matches: &ArgMatches<'a>) -> Option<Request<'a>> {
                 workers: words.get_one::<u16>("workers")?,
             })
         }
+        "points" => Some(Request::Points {
+            app: words.get_str("APP")?,
+        }),
         "run" => Some(Request::Run(asked_run(&words)?)),
         _ => None,
     }
