@@ -1,7 +1,8 @@
 // What answers a command, from the bytes of the files to the report, the exit status and a refusal's line. `load` reads a
 // file, `check_with` judges and writes the report, and `answer_check` is the whole of it: the program and the worked
 // rows both call it, and its contract says what an exit status means. `answer_run` is the same of a run, whose words
-// `words_of` reads. `find_bytes` finds a certificate and `tell_found` says so.
+// `words_of` reads. `find_bytes` finds a certificate and `tell_found` says so. `answer_points` lists the points of an
+// application.
 #![tactic(auto)]
 
 mod answer;
@@ -9,6 +10,7 @@ mod check;
 mod fault;
 mod file;
 mod found;
+mod points;
 mod running;
 mod words;
 
@@ -19,5 +21,6 @@ pub use file::{LoadFault, load};
 pub use found::{Found, find_bytes, tell_found};
 pub use fr_cert::MOST_BYTES as MOST_CERTIFICATE_BYTES;
 pub use fr_reader::MOST_BYTES as MOST_APP_BYTES;
+pub use points::{answer_points, points_to};
 pub use running::{answer_run, run_to};
 pub use words::{WordsFault, answer_words, words_of};

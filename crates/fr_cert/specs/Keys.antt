@@ -8,13 +8,12 @@
 -- | field                                     | what an object holds at a key                       |
 -- | integer_of                                | the integer that a value is                         |
 -- | end_at                                    | the integer at a position of a list                 |
--- | names_in                                  | the names of an application                         |
-use Rattle.std.specs.Prelude.{◌≡◌, ℕ, ℤ, List, Bool, ◌||◌, IsTrue, Option, Some, option_and_then, codes, map}
+use Rattle.std.specs.Prelude.{◌≡◌, ℕ, ℤ, List, Bool, ◌||◌, IsTrue, Option, Some, option_and_then, codes}
 use Rattle.std.specs.Str.{bytes_eq}
 use Rattle.serde_json.specs.Data.{Data, Items, Members}
 use Rattle.serde_json.specs.Find.{get_member, get_item, as_number, as_integer}
-use Rattle.fr_program.specs.Program.{Program}
-use Rattle.fr_instr.specs.Names.{NamesOf}
+-- the names of the application's variables, objects and actors, each at its number
+pub use Rattle.fr_instr.specs.AppNames.{names_in}
 use Rattle.fr_cert.specs.declared.key.Key.{Key}
 use Rattle.fr_cert.specs.declared.key.Key.TheVariants.{Version, Ends, Notes, Buffer, End, Guard, Sole, Mutex, Turn, Values, Held, Crit, Susp, Live, Dead, Range}
 use Rattle.fr_cert.specs.declared.key.Place.{Place}
@@ -67,7 +66,3 @@ integer_of d = option_and_then as_integer (as_number d)
 -- the integer at a position of a list
 abbrev pub end_at : ℕ → Items → Option ℤ
 end_at i ds = option_and_then integer_of (get_item i ds)
-
--- the names of the application's variables, objects and actors, each at its number
-abbrev pub names_in : Program → NamesOf
-names_in P = record { variables = map (λ v. v.name) P.variables; objects = map (λ o. o.name) P.objects; actors = map (λ a. a.name) P.actors }

@@ -18,13 +18,12 @@ ghost use Rattle.fr_cert.specs.declared.fault.CertFault.{CertFault as Refusal};
 use crate::end::ends_of;
 use crate::fault::CertFault;
 use crate::key::{Key, Place};
-use crate::names::names_of;
 use crate::note::note_of;
 use crate::tree::{
     departs_at, found_at, integer_in, known_keys, list_in, object_in, within_key, within_position,
 };
 use fr_ends::{Certificate, EndGuard, Ends};
-use fr_instr::Names;
+use fr_instr::{Names, names_of};
 use fr_notes::{Alts, Notes};
 use fr_program::App;
 use serde_json::{Map, Value};

@@ -5,6 +5,7 @@ ghost use Rattle.std.specs.Prelude.{◌≤◌};
 ghost use Rattle.fr_answer.specs.Checked.{most_bytes};
 
 mod finding;
+mod listing;
 mod running;
 #[cfg(test)]
 mod tests;
@@ -16,6 +17,7 @@ use fr_answer::{
     CheckFault, MOST_APP_BYTES, MOST_CERTIFICATE_BYTES, answer_check, answer_fault, load,
 };
 use fr_parallel::Open;
+use listing::list_points;
 use running::run;
 use std::fs::File;
 use std::process::ExitCode;
@@ -104,6 +106,7 @@ fn answer<R: Threads + Wait + Sync>(rt: &HostRuntime, threads: &R) -> Result<u8,
                 },
             ) => check(rt, threads, app, certificate, workers),
             Some(Request::Find(asked)) => find(rt, threads, asked),
+            Some(Request::Points { app }) => list_points(rt, app),
             Some(Request::Run(asked)) => run(rt, threads, asked),
             None => refuse_words(rt),
         },

@@ -23,6 +23,7 @@ fn answer_to(alloc: Global, line: &str) -> Result<String, AllocError> {
                 let (app, out, rounds) = (find.app, find.out, find.rounds);
                 format!(in alloc; "{app} {out} {rounds}")
             }
+            Some(Request::Points { app }) => format!(in alloc; "the points of {app}"),
             Some(Request::Run(run)) => {
                 let (app, certificate, polls) = (run.app, run.certificate, run.polls);
                 format!(in alloc; "{app} {certificate} {polls} {:?}", run.words)
@@ -69,6 +70,11 @@ fn words_and_what_is_said_to_them(rt: HostRuntime) {
         ),
         (
             "fr_check run A C",
+            "2 error: the following required arguments",
+        ),
+        ("fr_check points A", "the points of A"),
+        (
+            "fr_check points",
             "2 error: the following required arguments",
         ),
         ("fr_check", "2 Checks that a multicore FreeRTOS application"),

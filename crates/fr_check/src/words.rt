@@ -1,5 +1,6 @@
 // The words of the command line.
 use crate::finding::{FindRequest, asked_find, find_command};
+use crate::listing::points_command;
 use crate::running::{RunRequest, asked_run, run_command};
 use clap::{Arg, ArgAction, ArgMatches, Command, Error, value_parser};
 use std::alloc::{AllocError, Global};
@@ -24,6 +25,10 @@ pub enum Request<'a> {
     },
     /// A certificate for an application.
     Find(FindRequest<'a>),
+    /// The points of the application in this file.
+    Points {
+        app: &'a str,
+    },
     /// A run of the application.
     Run(RunRequest<'a>),
 }
@@ -65,6 +70,7 @@ fn command<'a>(alloc: Global) -> Result<Command<'a>, AllocError> {
         .arg_required_else_help(true)
         .subcommand(check_command(alloc)?)?
         .subcommand(find_command(alloc)?)?
+        .subcommand(points_command(alloc)?)?
         .subcommand(run_command(alloc)?)
 }
 
@@ -85,6 +91,9 @@ pub fn asked<'a>(matches: &ArgMatches<'a>) -> Option<Request<'a>> {
             })
         }
         "find" => Some(Request::Find(asked_find(&words)?)),
+        "points" => Some(Request::Points {
+            app: words.get_str("APP")?,
+        }),
         "run" => Some(Request::Run(asked_run(&words)?)),
         _ => None,
     }

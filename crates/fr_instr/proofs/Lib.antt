@@ -1,3 +1,5 @@
+pub mod AppLines
+pub mod AppNamesLemmas
 pub mod ArgsLaws
 pub mod CallLaws
 pub mod LineLaws

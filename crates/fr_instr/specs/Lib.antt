@@ -1,3 +1,4 @@
+pub mod AppNames
 pub mod CallReading
 pub mod Calls
 pub mod Faults

@@ -3,6 +3,7 @@
 // above reads the lines of an application's file with `read_line`.
 #![tactic(auto)]
 
+mod app_names;
 mod call;
 mod calling;
 mod fault;
@@ -14,6 +15,7 @@ mod shape;
 mod token;
 mod writing;
 
+pub use app_names::names_of;
 pub use fault::LineFault;
 pub use fr_program::Instr as Line;
 pub use names::Names;

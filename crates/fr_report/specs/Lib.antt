@@ -1,3 +1,4 @@
+pub mod Listing
 pub mod Report
 pub mod Shown
 pub mod Trace

@@ -34,7 +34,7 @@ impl<'a> ShownPoint<'a> {
 }
 
 /// The number of a point of the application.
-fn number_of(app: &App, point: Point) -> usize
+pub(crate) fn number_of(app: &App, point: Point) -> usize
     requires { IsPoint app.now point }
     ensures { result ≡ point_number app.now point }
 {
@@ -61,7 +61,7 @@ pub fn object_name(app: &App, object: ObjId) -> &str
     }
 }
 
-fn side_name(side: Side) -> &'static str
+pub(crate) fn side_name(side: Side) -> &'static str
     ensures { result.now ≡ side_text side }
 {
     match side {

@@ -1,8 +1,8 @@
 use Rattle.std.proofs.Common.{◌≢◌, ◌∙◌, All, AllPairs, sym, ap, subst}
 use Rattle.fr_program.specs.Limits.{IsName}
 use Rattle.fr_instr.specs.Views.{texts}
-use Rattle.fr_cert.proofs.NamesLemmas.{all_three, variable_texts, object_texts, actor_texts, three_names}
-use Rattle.fr_cert.proofs.names.names_of.Goals as goal
+use Rattle.fr_instr.proofs.AppNamesLemmas.{all_three, variable_texts, object_texts, actor_texts, three_names}
+use Rattle.fr_instr.proofs.app_names.names_of.Goals as goal
 
 pub build-requires-clause-names : goal.build-requires-clause-names
 build-requires-clause-names c =

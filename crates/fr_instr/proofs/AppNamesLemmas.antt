@@ -7,7 +7,7 @@ use Rattle.fr_program.specs.Limits.{names_of}
 use Rattle.fr_program.specs.Program.{Program, VariableOf, ObjectOf, ActorOf}
 use Rattle.fr_program.specs.View.{variable_of, object_of, actor_of}
 use Rattle.fr_instr.specs.Names.{NamesOf}
-use Rattle.fr_cert.specs.Keys.{names_in}
+use Rattle.fr_instr.specs.AppNames.{names_in}
 
 map_after : {A B C : Type 0} (f : B → C) (g : A → B) (h : A → C) → ((x : A) → h x ≡ f (g x)) → (xs : List A) → map h xs ≡ map f (map g xs)
 map_after f g h e [] = refl

@@ -1,0 +1,57 @@
+// The listing of an application's points.
+ghost use Rattle.std.specs.Prelude.{◌≡◌, ◌++◌, IfOk, OnOk, string_bytes};
+ghost use Rattle.fr_program.specs.Lookup.{IsPoint};
+ghost use Rattle.fr_instr.specs.AppNames.{names_in};
+ghost use Rattle.fr_report.specs.Listing.{code_text, listed_text, points_text};
+
+use crate::shown::{actor_name, number_of, side_name};
+use fr_instr::{Names, names_of, write_line};
+use fr_program::{App, Point};
+use std::alloc::{AllocError, Global};
+
+/// The line of code at a point.
+fn code_text(alloc: Global, app: &App, names: &Names, point: Point) -> Result<String, AllocError>
+    requires { names.now ≡ names_in app.now }
+    ensures { IfOk result (λ text. string_bytes text ≡ code_text app.now point) }
+{
+    app.recall_faultless();
+    match app.instr(point) {
+        Some(instr) => write_line(alloc, instr, names),
+        None => Ok(String::new(alloc)),
+    }
+}
+
+/// Appends the line of a point.
+fn put_point(
+    alloc: Global,
+    text: &mut String,
+    app: &App,
+    names: &Names,
+    point: Point,
+) -> Result<(), AllocError>
+    requires names { names.now ≡ names_in app.now }
+    requires point { IsPoint app.now point }
+    ensures { OnOk result (string_bytes text.new ≡ string_bytes text.old ++ listed_text app.now point) }
+{
+    let code = code_text(alloc, app, names, point)?;
+    let (number, actor) = (number_of(app, point), actor_name(app, point.actor));
+    let (pc, side) = (point.pc, side_name(point.side));
+    write!(text, "{number} {actor} {pc} {side} {code}\n")
+}
+
+/// The lines of the points of this application, in the order of their numbers, each with its newline:
+/// `<number> <actor> <instruction> <side> <line>`. The instruction is given by its place in the
+/// actor's code, from 0, the side is `before` or `inside`, and the line is as `write_line` writes it.
+/// An application with no actor has no point, and the text is empty. An error says that an
+/// allocation was refused. The lines' form is this project's own.
+pub fn points_text(alloc: Global, app: &App) -> Result<String, AllocError>
+    ensures { IfOk result (λ text. string_bytes text ≡ points_text app.now) }
+{
+    app.recall_numbered();
+    let names = names_of(alloc, app)?;
+    let mut text = String::new(alloc);
+    for number in 0..app.points() {
+        put_point(alloc, &mut text, app, &names, app.point(number))?;
+    }
+    Ok(text)
+}
