@@ -146,6 +146,14 @@ fn find<R: Threads + Sync>(
     }
 }
 
+/// What `points` writes and answers to this file.
+fn points(alloc: Global, app: Option<&[u8]>, stdout: &mut Vec<u8>, stderr: &mut Vec<u8>) -> u8 {
+    match &file_bytes(alloc, app, MOST_APP_BYTES) {
+        Ok(app) => answer_points(alloc, app, stdout, stderr),
+        Err(fault) => answer_fault(alloc, fault, stderr),
+    }
+}
+
 impl Call {
     /// What the program answers and writes to what is asked of these files; None is a file that is missing.
     pub fn on_files<R: Threads + Wait + Sync>(
@@ -172,6 +180,7 @@ impl Call {
                 )
             }
             Asked::Find { rounds } => find(threads, alloc, app, *rounds, &mut out, &mut err),
+            Asked::Points => (points(alloc, app, &mut out, &mut err), None),
         };
         Call {
             answer: Answer {

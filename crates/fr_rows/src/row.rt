@@ -3,8 +3,8 @@
 // about        what the row shows (for a reader)
 // app.toml     the application; the file may be missing, as any that the program reads
 // cert.json    the certificate
-// args         the words, one a line: a check of both files, by so many workers; a run of so many polls with these words; or a
-//              search, in so many rounds, for a certificate that goes to out.json
+// args         the words, one a line: a check of both files, by so many workers; a run of so many polls with these words; a
+//              search, in so many rounds, for a certificate that goes to out.json; or the points of the application
 // stdout       what has to be written to standard output
 // stderr       what has to be written to standard error
 // status       the exit status
@@ -53,6 +53,8 @@ pub enum Asked {
     Run { polls: u64, words: Option<String> },
     /// A certificate, in at most so many rounds.
     Find { rounds: usize },
+    /// The points of the application.
+    Points,
 }
 
 /// What has to be in the file for the certificate afterwards.
@@ -194,6 +196,7 @@ fn asked_in(alloc: Global, words: &str, certificate: &str) -> io::Result<Asked> 
     }
     let second = words.next();
     match command {
+        Some("points") if second.is_none() => Ok(Asked::Points),
         Some("find") if second == Some(OUT) => find_asked(&mut words),
         Some("check") if second == Some(certificate) => check_asked(&mut words),
         Some("run") if second == Some(certificate) => run_asked(alloc, &mut words),
