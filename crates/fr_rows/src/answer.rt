@@ -5,7 +5,7 @@ ghost use Rattle.fr_answer.specs.Checked.{most_bytes};
 use crate::row::Asked;
 use fr_answer::{
     CheckFault, Found, MOST_APP_BYTES, MOST_CERTIFICATE_BYTES, WordsFault, answer_check,
-    answer_fault, answer_run, answer_words, find_bytes, load, tell_found, words_of,
+    answer_fault, answer_points, answer_run, answer_words, find_bytes, load, tell_found, words_of,
 };
 use fr_parallel::Open;
 use std::alloc::{AllocError, Global};
