@@ -1,6 +1,6 @@
 // Which points lead to which.
 use fr_calls::{Landing, Way, lands_at};
-use fr_program::{Action, App, BufferKind, Call, Instr, Point, Side};
+use fr_program::{Action, App, BufferKind, Call, Instr, Point};
 use std::alloc::{AllocError, Global};
 
 /// The rows of an instruction in their order: those that work before those that fail, but for a
@@ -74,45 +74,4 @@ pub fn arrivals(alloc: Global, app: &App) -> Result<Vec<Vec<usize>>, AllocError>
         enlist_by(app, &mut arrivals, number, point, Way::Else)?;
     }
     Ok(arrivals)
-}
-
-/// Whether a step from the point can change what another actor's note says: a variable's value, or
-/// whether an object is live.
-fn can_change(point: Point, instr: &Instr) -> bool {
-    match (point.side, instr) {
-        (Side::Before, Instr::Set { .. } | Instr::Pick { .. }) => true,
-        (Side::Before, Instr::Call(Call::Create { .. } | Call::Delete { .. })) => true,
-        (
-            Side::Inside,
-            Instr::Call(
-                Call::On {
-                    action: Action::QueueReceive { .. }
-                    | Action::Send {
-                        result: Some(_),
-                        ..
-                    }
-                    | Action::Receive {
-                        result: Some(_),
-                        ..
-                    },
-                    ..
-                },
-            ),
-        ) => true,
-        _ => false,
-    }
-}
-
-/// The numbers of the points whose steps can change what other actors' notes say, in their order.
-pub fn changers(alloc: Global, app: &App) -> Result<Vec<usize>, AllocError> {
-    let mut changers = Vec::new(alloc);
-    for number in 0..app.points() {
-        let point = app.point(number);
-        if let Some(instr) = app.instr(point) {
-            if can_change(point, instr) {
-                changers.push(number)?;
-            }
-        }
-    }
-    Ok(changers)
 }

@@ -107,17 +107,12 @@ fn add_effects(app: &App, spot: Spot, effects: &mut Vec<Effect>) -> Result<(), A
     Ok(())
 }
 
-/// What the steps of all these points can change of other actors' notes, in the points' order.
-pub fn effects(
-    alloc: Global,
-    app: &App,
-    notes: &Notes,
-    changers: &[usize],
-) -> Result<Vec<Effect>, AllocError>
+/// What the steps of all points can change of other actors' notes, in the points' order.
+pub fn effects(alloc: Global, app: &App, notes: &Notes) -> Result<Vec<Effect>, AllocError>
     requires { NotesFit app.now notes.now }
 {
     let mut effects = Vec::new(alloc);
-    for number in changers {
+    for number in app.changers() {
         if let Some(spot) = spot_at(app, notes, *number) {
             add_effects(app, spot, &mut effects)?;
         }

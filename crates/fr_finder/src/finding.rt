@@ -6,10 +6,10 @@ ghost use Rattle.fr_ends.specs.Fits.{CertificateFits};
 ghost use Rattle.fr_finder.specs.Found.{IsNoRounds};
 ghost use Rattle.fr_finder.specs.declared.fault.FindFault.TheVariants.{Rounds};
 
-use crate::arrivals::{arrivals, changers};
+use crate::arrivals::arrivals;
 use crate::fault::FindFault;
 use crate::guards::ends;
-use crate::rounds::{Paths, next_round};
+use crate::rounds::next_round;
 use crate::start::start;
 use fr_ends::Certificate;
 use fr_notes::{Alternative, Note, Notes};
@@ -68,13 +68,10 @@ fn stable_round<R: Threads + Sync>(
 ) -> Result<Option<Notes>, AllocError>
     ensures { IfOk result (λ found. IfSome found (λ notes. NotesFit app.now notes)) }
 {
-    let paths = Paths {
-        arrivals: arrivals(alloc, app)?,
-        changers: changers(alloc, app)?,
-    };
+    let arrivals = arrivals(alloc, app)?;
     let mut notes = start(alloc, app)?;
     for round in 0..rounds {
-        let next = next_round(rt, alloc, app, &paths, &notes, round)?;
+        let next = next_round(rt, alloc, app, &arrivals, &notes, round)?;
         if is_same(app, &next, &notes) {
             return Ok(Some(next));
         }

@@ -24,20 +24,13 @@ const EXACT_ROUNDS: usize = 8;
 /// How few points are worth a thread of their own.
 const LEAST_PIECE: usize = 8;
 
-/// What doesn't change from round to round: for each point the points that lead to it, and the
-/// points whose steps can change what other actors' notes say.
-#[derive(Drop)]
-pub struct Paths {
-    pub arrivals: Vec<Vec<usize>>,
-    pub changers: Vec<usize>,
-}
-
 /// The round before, and what its steps can change of other actors' notes.
 #[derive(Clone, Copy)]
 struct Before<'a> {
     app: &'a App,
     notes: &'a Notes,
-    paths: &'a Paths,
+    /// For each point the points that lead to it.
+    arrivals: &'a [Vec<usize>],
     effects: &'a [Effect],
     growth: Growth,
 }
@@ -147,7 +140,7 @@ fn arrive(
     requires note { NoteFits before.app.now note.old.items }
     ensures { NoteFits before.entry.app.now note.new.items }
 {
-    let Some(sources) = before.paths.arrivals.get(number) else {
+    let Some(sources) = before.arrivals.get(number) else {
         return Ok(());
     };
     for source in sources {
@@ -350,14 +343,14 @@ pub fn next_round<R: Threads + Sync>(
     rt: &R,
     alloc: Global,
     app: &App,
-    paths: &Paths,
+    arrivals: &[Vec<usize>],
     notes: &Notes,
     rounds: usize,
 ) -> Result<Notes, AllocError>
     requires { NotesFit app.now notes.now }
     ensures { IfOk result (λ notes. NotesFit app.now notes) }
 {
-    let effects = effects(alloc, app, notes, &paths.changers)?;
+    let effects = effects(alloc, app, notes)?;
     let growth = if rounds < EXACT_ROUNDS {
         Growth::Exact
     } else {
@@ -366,7 +359,7 @@ pub fn next_round<R: Threads + Sync>(
     let before = Before {
         app,
         notes,
-        paths,
+        arrivals,
         effects: &effects,
         growth,
     };
