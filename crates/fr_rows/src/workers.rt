@@ -3,6 +3,7 @@ use fr_calls::Rule;
 use fr_cert::read_cert;
 use fr_judge::{Judged, Part, Verdict};
 use fr_parallel::{BytesFault, Gate, Open, judge_bytes, judge_with};
+use fr_program::App;
 use fr_reader::read_app;
 use std::alloc::{AllocError, Global};
 use std::sync::Wait;
@@ -190,7 +191,20 @@ fn one_worker_stops_at_the_first_failure(rt: HostRuntime) -> Result<(), Fail> {
     Ok(())
 }
 
-// The verdict of three workers on a task that was read already; None where something is refused.
+// The verdict of three workers on an application, with the certificate in this text; None where something is refused.
+fn verdict_of<R: Threads + Wait + Sync>(
+    rt: &R,
+    alloc: Global,
+    app: &App,
+    certificate: &[u8],
+) -> Option<Verdict> {
+    match read_cert(alloc, app, certificate) {
+        Ok(certificate) => judge_with(rt, alloc, app, &certificate, 3, &Open).ok(),
+        Err(_) => None,
+    }
+}
+
+// The same of a task that was read already.
 fn verdict_on<R: Threads + Wait + Sync>(
     rt: &R,
     alloc: Global,
@@ -199,8 +213,7 @@ fn verdict_on<R: Threads + Wait + Sync>(
 ) -> Option<Verdict> {
     let (text, notes) = (task(alloc, count, exits).ok()?, plain(alloc, count).ok()?);
     let app = read_app(alloc, text.as_bytes()).ok()?;
-    let certificate = read_cert(alloc, &app, notes.as_bytes()).ok()?;
-    judge_with(rt, alloc, &app, &certificate, 3, &Open).ok()
+    verdict_of(rt, alloc, &app, notes.as_bytes())
 }
 
 #[test]
