@@ -18,7 +18,6 @@ use Rattle.fr_program.specs.declared.instr.Operand.{Operand}
 use Rattle.fr_program.specs.declared.instr.Operand.TheVariants.{Number, Variable}
 use Rattle.fr_program.specs.declared.instr.Operator.{Operator}
 use Rattle.fr_program.specs.declared.instr.Operator.TheVariants.{Times}
-use Rattle.fr_program.specs.declared.ids.VarId.{VarId}
 use Rattle.fr_program.specs.declared.parts.Kind.{Kind}
 use Rattle.fr_program.specs.declared.parts.Kind.TheVariants.{Queue}
 use Rattle.fr_program.specs.declared.range.Range.{Range}
@@ -121,12 +120,13 @@ computable P Inside (Calls (On o action)) fits = inside-computable (kind_of P o.
 computable P side i fits = tt
 
 -- the exact span of what a `set` computes lies in a range exactly where all of it does
-pub set-bears : (m n : Alternative) (k : Known) → k ≡ alone m → (x : VarId) (l : Operand) (op : Operator) (r : Operand) (span range : Range) → IsSpanIn (joint_range k) op l r span → ends_of range ≡ range_of n x.0 → (result : Bool) → (IsTrue result ↔ ((z : ℤ) → IsIn span z → IsIn range z)) → (IsTrue result ↔ Bears (Sets x l op r) m n)
-set-bears m n k one x l op r span range computed is result both = (
-  λ t u v left right. subst (λ e. Within e (result_of op u v)) is (both.0 t (result_of op u v) (s.inside u v left right)),
-  λ bears.
-      let lo = subst (λ e. Within e span.lo) (sym is) (subst (λ v. Within (range_of n x.0) v) s.lo.4 (bears s.lo.0 s.lo.1 s.lo.2 s.lo.3)) in
-      let hi = subst (λ e. Within e span.hi) (sym is) (subst (λ v. Within (range_of n x.0) v) s.hi.4 (bears s.hi.0 s.hi.1 s.hi.2 s.hi.3)) in
+pub set-within : (m : Alternative) (k : Known) → k ≡ alone m → (l : Operand) (op : Operator) (r : Operand) (span range : Range) → IsSpanIn (joint_range k) op l r span → (result : Bool) → (IsTrue result ↔ ((z : ℤ) → IsIn span z → IsIn range z)) →
+    (IsTrue result ↔ ((u v : ℤ) → CanBeIn (range_of m) l u → CanBeIn (range_of m) r v → Within (ends_of range) (result_of op u v)))
+set-within m k one l op r span range computed result both = (
+  λ t u v left right. both.0 t (result_of op u v) (s.inside u v left right),
+  λ all.
+      let lo = subst (λ v. Within (ends_of range) v) s.lo.4 (all s.lo.0 s.lo.1 s.lo.2 s.lo.3) in
+      let hi = subst (λ v. Within (ends_of range) v) s.hi.4 (all s.hi.0 s.hi.1 s.hi.2 s.hi.3) in
       both.1 (λ z inside. (omega (arith, ints, lo.0, inside.0), omega (arith, ints, hi.1, inside.1))),
 )
   where

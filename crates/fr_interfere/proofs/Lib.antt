@@ -2,5 +2,5 @@ pub mod BearLaws
 pub mod DisturbanceLaws
 pub mod EffectLaws
 pub mod Lists
-pub mod Changers
+pub mod UnsaidLaws
 pub mod SpoilerLaws

@@ -5,10 +5,14 @@
 -- | effect_of               | what the steps from a side of an instruction can change                          |
 -- | IsMade, IsWritten       | the effect is on this object's life; it gives this variable that number          |
 -- | IsSeen                  | all that a note of this actor can say is as it was, but for the effect           |
--- | IsComputable            | what a `set` computes has a number among the factors of a product                |
+-- | IsComputable, HasTarget | a product has a number among its factors; the variable that is written is there  |
+-- | declared_of             | the declared range of a variable                                                 |
+-- | Stays                   | a variable gets numbers of its declared range alone, as the mover's alternative  |
+-- |                         | says                                                                             |
+-- | IsUnsaid                | an alternative says of a variable or of an object no more than each one does     |
 -- | Bears, EachBears,       | an alternative holds after an effect where it held before; each of a note's      |
 -- |   AllBear               | does; each does whichever alternative the mover has                              |
-use Rattle.std.specs.Prelude.{◌≡◌, ◌≤ℤ◌, ◌⊎◌, ℕ, ℤ, pos, Option, None, Some, Contains}
+use Rattle.std.specs.Prelude.{◌≡◌, ◌<◌, ◌≤ℤ◌, ◌⊎◌, ℕ, ℤ, pos, Option, None, Some, Contains, length}
 use Rattle.fr_program.specs.declared.ids.VarId.{VarId}
 use Rattle.fr_program.specs.declared.ids.Side.{Side}
 use Rattle.fr_program.specs.declared.ids.Side.TheVariants.{Before, Inside}
@@ -20,13 +24,17 @@ use Rattle.fr_program.specs.declared.instr.Action.TheVariants.{QueueReceive, Sen
 use Rattle.fr_program.specs.declared.instr.Operator.TheVariants.{Times}
 use Rattle.fr_program.specs.declared.parts.Kind.{Kind}
 use Rattle.fr_program.specs.declared.parts.Kind.TheVariants.{Queue}
+use Rattle.fr_program.specs.declared.changers.Changed.{Changed}
+use Rattle.fr_program.specs.declared.changers.Changed.TheVariants.{Anything, Number, Life as LifeOf}
 use Rattle.fr_program.specs.Program.{Program}
+use Rattle.fr_program.specs.Lookup.{variable_at}
 use Rattle.fr_program.specs.Fault.{IsConstant}
 use Rattle.fr_calls.specs.State.{State, content_of, value_of, depth_of, suspension_of, kind_of}
 use Rattle.fr_calls.specs.Rule.{operand_of, result_of}
 use Rattle.fr_notes.specs.declared.claim.Claim.{Claim}
 use Rattle.fr_notes.specs.declared.claim.Claim.TheVariants.{NotHeld}
 use Rattle.fr_notes.specs.Note.{Alternative, Note, Meets, Within, claim_of, range_of}
+use Rattle.fr_notes.specs.Implication.{IsPart}
 use Rattle.fr_notes.specs.Reckoning.{CanBeIn}
 use Rattle.fr_interfere.specs.declared.effects.Effect.{Effect}
 use Rattle.fr_interfere.specs.declared.effects.Effect.TheVariants.{Nothing, Life, Gives, Sets}
@@ -96,3 +104,26 @@ AllBear effect others note = (m : Alternative) → Contains others m → EachBea
 abbrev pub IsComputable : Effect → Type 0
 IsComputable (Sets x l Times r) = IsConstant l ⊎ IsConstant r
 IsComputable effect = Unit {0}
+
+-- the variable that is written is one of the application's
+abbrev pub HasTarget : Program → Effect → Type 0
+HasTarget P (Gives x lo hi) = x.0 < length P.variables
+HasTarget P (Sets x l op r) = x.0 < length P.variables
+HasTarget P effect = Unit {0}
+
+-- the declared range of a variable
+abbrev pub declared_of : Program → ℕ → ℤ × ℤ
+declared_of P x = ((variable_at P x).lo, (variable_at P x).hi)
+
+-- every number that the variable can get, where the mover's alternative holds, is in its declared range
+abbrev pub Stays : Program → Effect → Alternative → Type 0
+Stays P (Gives x lo hi) m = IsPart (lo, hi) (declared_of P x.0)
+Stays P (Sets x l op r) m = (u v : ℤ) → CanBeIn (range_of m) l u → CanBeIn (range_of m) r v → Within (declared_of P x.0) (result_of op u v)
+Stays P effect m = Unit {0}
+
+-- the alternative says of the variable no more than its declared range, of the object no more than that the actor
+-- doesn't hold it
+abbrev pub IsUnsaid : Program → Changed → Alternative → Type 0
+IsUnsaid P Anything n = ⊥
+IsUnsaid P (Number x) n = IsPart (declared_of P x.0) (range_of n x.0)
+IsUnsaid P (LifeOf o) n = claim_of n o.0 ≡ NotHeld

@@ -124,7 +124,7 @@ fn is_each_spared(app: &App, note: &Note, others: &Note, mover: Point, instr: &I
 
 /// Whether no step from the mover's point disturbs the note: where each alternative bears what the
 /// instruction can change, nothing else is asked.
-pub fn is_left(
+fn is_left(
     app: &App,
     effect: Effect,
     note: &Note,

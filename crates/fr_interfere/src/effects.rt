@@ -1,14 +1,20 @@
 // What a step can change of what the notes of other actors say.
-ghost use Rattle.std.specs.Prelude.{◌≡◌, ◌⊎◌, ◌<◌, ◌↔◌, IsTrue, length};
+ghost use Rattle.std.specs.Prelude.{◌≡◌, ◌⊎◌, ◌<◌, ◌↔◌, ℤ, IsTrue, Contains, length};
 ghost use Rattle.fr_program.specs.Fault.{IsConstant, NamesThings};
+ghost use Rattle.fr_program.specs.Changers.{IsThere};
 ghost use Rattle.fr_calls.specs.State.{kind_of};
+ghost use Rattle.fr_calls.specs.Rule.{result_of};
 ghost use Rattle.fr_notes.specs.Fits.{AlternativeFits, NoteFits};
 ghost use Rattle.fr_notes.specs.Implication.{IsPart};
-ghost use Rattle.fr_notes.specs.Note.{claim_of, range_of};
-ghost use Rattle.fr_interfere.specs.Effects.{received, moved, effect_inside, effect_of, IsComputable, Bears, EachBears, AllBear};
+ghost use Rattle.fr_notes.specs.Note.{Alternative as AlternativeOf, Within, claim_of, range_of};
+ghost use Rattle.fr_notes.specs.Reckoning.{CanBeIn};
+ghost use Rattle.fr_notes.specs.View.{ends_of};
+ghost use Rattle.fr_interfere.specs.Effects.{received, moved, effect_inside, effect_of, IsComputable, Bears, EachBears, AllBear, HasTarget, Stays, IsUnsaid};
 
 use fr_notes::{Alternative, Claim, Known, Note};
-use fr_program::{Action, App, Call, Instr, Kind, ObjId, Operand, Operator, Side, VarId};
+use fr_program::{
+    Action, App, Call, Changed, Instr, Kind, ObjId, Operand, Operator, Range, Side, VarId,
+};
 
 /// What the steps from a side of an instruction can change of what the notes of other actors say.
 #[derive(Clone, Copy)]
@@ -111,32 +117,29 @@ fn says_nothing(alternative: &Alternative, object: ObjId) -> bool
     matches!(alternative.claim(object), Claim::NotHeld)
 }
 
-/// Whether the alternative's range of the variable has the numbers from the first to the second.
-fn covers(alternative: &Alternative, variable: VarId, ends: (i128, i128)) -> bool
-    ensures { IsTrue result ↔ IsPart ends (range_of alternative.now variable.0) }
+/// Whether the range has the numbers from the first to the second.
+fn is_part(ends: (i128, i128), range: Range) -> bool
+    ensures { IsTrue result ↔ IsPart ends (ends_of range) }
 {
-    let range = alternative.range(variable);
     range.lo <= ends.0 && ends.1 <= range.hi
 }
 
-/// Whether the alternative's range of the variable has all that a `set` computes where the mover's
-/// alternative holds.
-fn bears_set(
+/// Whether the range has all that a `set` computes where the mover's alternative holds.
+fn computes_within(
     app: &App,
     mover: &Alternative,
-    alternative: &Alternative,
-    target: VarId,
     left: Operand,
     operator: Operator,
     right: Operand,
+    range: Range,
 ) -> bool
     requires mover { AlternativeFits app.now mover.now }
     requires product { operator ≡ Operator.Times → IsConstant left ⊎ IsConstant right }
-    ensures { IsTrue result ↔ Bears (Effect.Sets target left operator right) mover.now alternative.now }
+    ensures { IsTrue result ↔ ((u v : ℤ) → CanBeIn (range_of mover.now) left u → CanBeIn (range_of mover.now) right v → Within (ends_of range) (result_of operator u v)) }
 {
     app.recall_faultless();
     let span = Known::alone(mover).result(operator, left, right);
-    span.within(alternative.range(target))
+    span.within(range)
 }
 
 /// Whether the alternative holds after the effect where it held before, if the mover's alternative
@@ -150,14 +153,17 @@ fn bears(app: &App, effect: Effect, mover: &Alternative, alternative: &Alternati
         Effect::Nothing => true,
         Effect::Life(object) => says_nothing(alternative, object),
         Effect::Gives { into, lo, hi } => {
-            covers(alternative, into, (i128::from(lo), i128::from(hi)))
+            is_part((i128::from(lo), i128::from(hi)), alternative.range(into))
         }
         Effect::Sets {
             target,
             left,
             operator,
             right,
-        } => bears_set(app, mover, alternative, target, left, operator, right),
+        } => {
+            let range = alternative.range(target);
+            computes_within(app, mover, left, operator, right, range)
+        }
     }
 }
 
@@ -183,6 +189,60 @@ pub fn all_bear(app: &App, effect: Effect, others: &Note, note: &Note) -> bool
 {
     for mover in others.alternatives() {
         if !each_bears(app, effect, mover, note) {
+            return false;
+        }
+    }
+    true
+}
+
+/// Whether each number that the variable can get, where the mover's alternative holds, is in its
+/// declared range.
+pub fn stays(app: &App, effect: Effect, mover: &Alternative) -> bool
+    requires mover { AlternativeFits app.now mover.now }
+    requires computable { IsComputable effect }
+    requires target { HasTarget app.now effect }
+    ensures { IsTrue result ↔ Stays app.now effect mover.now }
+{
+    match effect {
+        Effect::Gives { into, lo, hi } => {
+            is_part((i128::from(lo), i128::from(hi)), app.range(into))
+        }
+        Effect::Sets {
+            target,
+            left,
+            operator,
+            right,
+        } => {
+            let range = app.range(target);
+            computes_within(app, mover, left, operator, right, range)
+        }
+        _ => true,
+    }
+}
+
+/// Whether the alternative says of it no more than every one does: of a variable its declared range,
+/// of an object that the actor doesn't hold it.
+fn is_unsaid(app: &App, alternative: &Alternative, changed: Changed) -> bool
+    requires { IsThere app.now changed }
+    ensures { IsTrue result ↔ IsUnsaid app.now changed alternative.now }
+{
+    match changed {
+        Changed::Anything => false,
+        Changed::Number(variable) => {
+            let range = app.range(variable);
+            is_part((range.lo, range.hi), alternative.range(variable))
+        }
+        Changed::Life(object) => says_nothing(alternative, object),
+    }
+}
+
+/// Whether that is so of each alternative of the note.
+pub fn is_unsaid_by_each(app: &App, note: &Note, changed: Changed) -> bool
+    requires { IsThere app.now changed }
+    ensures { IsTrue result ↔ ((n : AlternativeOf) → Contains note.now n → IsUnsaid app.now changed n) }
+{
+    for alternative in note.alternatives() {
+        if !is_unsaid(app, alternative, changed) {
             return false;
         }
     }

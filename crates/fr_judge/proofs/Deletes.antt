@@ -1,33 +1,53 @@
--- Where no line deletes the object of the call that a point is inside, no delete is a danger to it.
-use Rattle.std.proofs.Common.{◌≡◌, Option, Some, None, false, List, refl}
-use Rattle.std.specs.Prelude.{All}
+-- A point whose steps don't delete the object of the call that another point is inside is no danger to that.
+use Rattle.std.proofs.Common.{◌≡◌, ℕ, ◌<◌, Option, Some, None, true, false, List, length, get_or, refl, subst, arith}
+use Rattle.std.specs.Prelude.{Bool}
+use Rattle.std.proofs.lemmas.Option.{same_Some}
 use Rattle.fr_program.specs.declared.instr.Instr.{Instr}
 use Rattle.fr_program.specs.declared.instr.Instr.TheVariants.{Call as Calls}
-use Rattle.fr_program.specs.declared.instr.Call.TheVariants.{Delete}
+use Rattle.fr_program.specs.declared.instr.Call.TheVariants.{Delete, On}
 use Rattle.fr_program.specs.declared.ids.ObjId.{ObjId}
 use Rattle.fr_program.specs.declared.ids.Point.{Point}
 use Rattle.fr_program.specs.declared.ids.Side.{Side}
-use Rattle.fr_program.specs.declared.ids.Side.TheVariants.{Before}
+use Rattle.fr_program.specs.declared.ids.Side.TheVariants.{Before, Inside}
 use Rattle.fr_program.specs.Program.{Program}
-use Rattle.fr_program.specs.Lookup.{no_actor, actor_at, instr_of}
-use Rattle.fr_program.proofs.InstrLemmas.{All-slice_get}
+use Rattle.fr_program.specs.Fault.{IsFaultless}
+use Rattle.fr_program.specs.Lookup.{IsPoint, instr_of}
+use Rattle.fr_program.specs.Points.{point_number}
+use Rattle.fr_program.specs.PointNumbers.{PointsAreNumbered}
+use Rattle.fr_program.specs.declared.changers.Changed.TheVariants.{Life}
+use Rattle.fr_program.specs.Changers.{changes_at, is_changer, changers_of}
+use Rattle.fr_program.proofs.ChangerLists.{AreChecked, checked-point}
 use Rattle.fr_notes.specs.Note.{Note}
 use Rattle.fr_ends.specs.Guarded.{Near}
 use Rattle.fr_ends.specs.Nearness.{used_inside, deleted_before, are_same}
 use Rattle.fr_ends.proofs.NearLaws.{near-unused}
-use Rattle.fr_judge.specs.Deleter.{deletes, NeverDeletes}
-use Rattle.fr_judge.proofs.Numbers.{actor-below}
 
 module _ (P : Program) (notes : List Note) (p q : Point) where
   pub outside-near : used_inside p.side (instr_of P p) ≡ None → Near P notes p q
   outside-near out = near-unused P p q notes (rw out refl)
 
-  pub undeleted-near : (o : ObjId) → used_inside p.side (instr_of P p) ≡ Some o → All (λ a. NeverDeletes o.0 a.code) P.actors → Near P notes p q
-  undeleted-near o used never = near-unused P p q notes (rw used (apart q.side (instr_of P q) each))
+  -- a point that neither creates nor deletes the object is no danger
+  pub undeleted-near : (o : ObjId) → used_inside p.side (instr_of P p) ≡ Some o → is_changer P (Life o) q ≡ false → Near P notes p q
+  undeleted-near o used still = near-unused P p q notes (rw used (apart q.side (instr_of P q) still))
     where
-      each : (i : Instr) → instr_of P q ≡ Some i → deletes o.0 i ≡ false
-      each i e = All-slice_get (λ j. deletes o.0 j ≡ false) (actor_at P q.actor.0).code q.pc i (never q.actor.0 no_actor (actor-below P q.actor.0 q.pc i e)) e
+      apart : (s : Side) (instr : Option Instr) → changes_at (Life o) s instr ≡ false → are_same (Some o) (deleted_before s instr) ≡ false
+      apart Before (Some (Calls (Delete kind n))) e = grind (arith, e)
+      apart s instr e = refl
 
-      apart : (s : Side) (instr : Option Instr) → ((i : Instr) → instr ≡ Some i → deletes o.0 i ≡ false) → are_same (Some o) (deleted_before s instr) ≡ false
-      apart Before (Some (Calls (Delete kind n))) h = h (Calls (Delete kind n)) refl
-      apart s instr h = refl
+-- where those of the object's creates and deletes whose places come before are none, no delete with such a place is
+pub checked-near : (P : Program) → PointsAreNumbered P → (notes : List Note) (p : Point) (o : ObjId) → used_inside p.side (instr_of P p) ≡ Some o → (items : List ℕ) → items ≡ changers_of P (Life o) →
+    (bound : ℕ) → AreChecked P (λ q. Near P notes p q) items bound → (q : Point) → IsPoint P q → ((j : ℕ) → j < length items → get_or items j 0 ≡ point_number P q → j < bound) → Near P notes p q
+checked-near P numbered notes p o used items same bound checked q at place = by_change (is_changer P (Life o) q) refl
+  where
+    by_change : (b : Bool) → is_changer P (Life o) q ≡ b → Near P notes p q
+    by_change true e = checked-point P (Life o) items same (λ r. Near P notes p r) numbered bound checked q at e place
+    by_change false e = undeleted-near P notes p q o used e
+
+-- the object of a call is one of the application's
+pub used-there : (P : Program) → IsFaultless P → (p : Point) (o : ObjId) → used_inside p.side (instr_of P p) ≡ Some o → o.0 < length P.objects
+used-there P free p o used = by_instr p.side (instr_of P p) refl used
+  where
+    by_instr : (s : Side) (i : Option Instr) → instr_of P p ≡ i → used_inside s i ≡ Some o → o.0 < length P.objects
+    by_instr Inside (Some (Calls (On n action))) e is =
+        subst (λ (x : ObjId). x.0 < length P.objects) (same_Some n o is) (free.names.things p.actor.0 p.pc (Calls (On n action)) e).1
+    by_instr s i e is = cc

@@ -31,7 +31,12 @@ module _ (P : Program) (C : Certificate) (numbered : PointsAreNumbered P) where
       let f : Told → _ = TellsNo p in
       (No p first.0, ap f first.1, record { point = listed.0; first = first.2; before = λ q is lt. below q is (omega (arith, lt, listed.1)) })
 
+-- a yes says that every part is kept
+pub yes-certified : (P : Program) (C : Certificate) → TellsVerdict P C TellsYes → IsCertified P C
+yes-certified P C (Yes, e, kept) = kept
+yes-certified P C (No p part, e, first) = absurd (cc)
+
 -- a yes is safe
 pub yes-safe : (P : Program) (C : Certificate) → IsFaultless P → CertificateFits P C → TellsVerdict P C TellsYes → IsSafe P
-yes-safe P C faultless fits (Yes, e, kept) = (certified-safe P C (record { faultless = faultless; turns = fitting-distinct P C.ends fits.1.0; kept = kept })).0
-yes-safe P C faultless fits (No p part, e, first) = absurd (cc)
+yes-safe P C faultless fits told =
+    (certified-safe P C (record { faultless = faultless; turns = fitting-distinct P C.ends fits.1.0; kept = yes-certified P C told })).0

@@ -19,5 +19,5 @@ pub use laws::{
 };
 pub use part::{Part, Verdict};
 pub use text::{Judged, TextFault, judge_text};
-pub use verdict::{job, judge};
+pub use verdict::{job, job_given, judge};
 pub use worked::{parts_as_worked, two_writers_are_certified, verdicts_as_worked};

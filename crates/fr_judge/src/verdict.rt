@@ -1,17 +1,18 @@
 // Judging a certificate, point by point.
-ghost use Rattle.std.specs.Prelude.{◌≡◌, ◌<◌, Some, length, slice_get, IfSome};
+ghost use Rattle.std.specs.Prelude.{◌≡◌, ◌<◌, Some, length, slice_get, IsTrue, IfSome};
 ghost use Rattle.fr_program.specs.declared.ids.Point.{Point as PointOf};
 ghost use Rattle.fr_program.specs.Points.{points_of};
 ghost use Rattle.fr_calls.specs.Run.{IsSafe};
 ghost use Rattle.fr_edge.specs.declared.failure.Own.{Own as OwnPart};
 ghost use Rattle.fr_ends.specs.Fits.{CertificateFits};
+ghost use Rattle.fr_interfere.specs.Staying.{AllStay};
 ghost use Rattle.fr_judge.specs.Told.{TellsFirst, TellsVerdict, IsOf, Speaks, part_of_own};
 
 use crate::deletion::deleter;
 use crate::part::{Part, Verdict};
 use fr_edge::{Own, own};
 use fr_ends::{Certificate, guarded};
-use fr_interfere::spoiler;
+use fr_interfere::{all_stay, spoiler_given};
 use fr_program::App;
 
 /// The part that an own obligation is.
@@ -36,6 +37,20 @@ pub fn job(app: &App, certificate: &Certificate, number: usize) -> Option<Part>
         TellsFirst app.now certificate.now p result }
     ensures speaks { IfSome result (λ part. IsOf app.now part) }
 {
+    let stay = all_stay(app, &certificate.notes);
+    job_given(app, certificate, stay, number)
+}
+
+/// The same as `job`, for many points of one application and its certificate: `stay` says that
+/// `all_stay` of fr_interfere does of its notes, which is asked once for all points. Takes no memory.
+pub fn job_given(app: &App, certificate: &Certificate, stay: bool, number: usize) -> Option<Part>
+    requires number { number < length (points_of app.now) }
+    requires fits { CertificateFits app.now certificate.now }
+    requires stay { IsTrue stay → AllStay app.now certificate.now.notes }
+    ensures first { (p : PointOf) → slice_get (points_of app.now) number ≡ Some p →
+        TellsFirst app.now certificate.now p result }
+    ensures speaks { IfSome result (λ part. IsOf app.now part) }
+{
     app.recall_faultless();
     app.recall_numbered();
     let _point = app.point(number);
@@ -48,7 +63,7 @@ pub fn job(app: &App, certificate: &Certificate, number: usize) -> Option<Part>
     if let Some(other) = deleter(app, &certificate.notes, number) {
         return Some(Part::Near(other));
     }
-    match spoiler(app, &certificate.notes, number) {
+    match spoiler_given(app, &certificate.notes, stay, number) {
         Some(other) => Some(Part::Spoiled(app.point(other))),
         None => None,
     }
@@ -65,8 +80,9 @@ pub fn judge(app: &App, certificate: &Certificate) -> Verdict
 {
     app.recall_faultless();
     app.recall_numbered();
+    let stay = all_stay(app, &certificate.notes);
     for number in 0..app.points() {
-        if let Some(part) = job(app, certificate, number) {
+        if let Some(part) = job_given(app, certificate, stay, number) {
             return Verdict::No {
                 point: app.point(number),
                 part,

@@ -1,10 +1,11 @@
 // One worker's turn.
-ghost use Rattle.std.specs.Prelude.{◌≡◌, ◌<◌, Some};
+ghost use Rattle.std.specs.Prelude.{◌≡◌, ◌<◌, IsTrue, Some};
 ghost use Rattle.fr_board.specs.declared.progress.Outcome.TheVariants.{Open};
 ghost use Rattle.fr_board.specs.Drawn.{outcome_of};
 ghost use Rattle.fr_board.specs.Progress.{new_progress};
 ghost use Rattle.fr_board.specs.Values.{IsOf};
 ghost use Rattle.fr_ends.specs.Fits.{CertificateFits};
+ghost use Rattle.fr_interfere.specs.Staying.{AllStay};
 ghost use Rattle.fr_parallel.specs.Kept.{IsFor, IsWorked};
 ghost use Rattle.fr_parallel.specs.Assignments.{IsReady, KeepsIn};
 ghost use Rattle.fr_parallel.specs.Worked.{Settles};
@@ -12,7 +13,8 @@ ghost use Rattle.fr_parallel.specs.Worked.{Settles};
 use crate::gate::Gate;
 use fr_board::{Board, Claim, Pass};
 use fr_ends::Certificate;
-use fr_judge::job;
+use fr_interfere::all_stay;
+use fr_judge::job_given;
 use fr_program::App;
 
 /// What workers work on: the points of an application, by a certificate that fits it, and the board that hands them out.
@@ -23,9 +25,18 @@ pub(crate) struct Assignment<'s> {
     pub board: &'s Board,
 }
 
-// What a worker does with one claim: it leaves it where a lower number has failed, and judges it otherwise.
-fn settle<G: Gate>(assignment: Assignment, pass: &mut Pass, claim: Claim, worker: usize, gate: &G)
+// What a worker does with one claim: it leaves it where a lower number has failed, and judges it otherwise, with what
+// `all_stay` says of the notes.
+fn settle<G: Gate>(
+    assignment: Assignment,
+    stay: bool,
+    pass: &mut Pass,
+    claim: Claim,
+    worker: usize,
+    gate: &G,
+)
     requires ready { IsReady assignment }
+    requires stay { IsTrue stay → AllStay assignment.app.now assignment.certificate.now.notes }
     requires own { IsOf assignment.board.now pass.old }
     requires number { claim < assignment.board.now.jobs }
     requires claim { outcome_of claim pass.old.progress.drawn ≡ Some Open }
@@ -38,7 +49,8 @@ fn settle<G: Gate>(assignment: Assignment, pass: &mut Pass, claim: Claim, worker
         return;
     }
     gate.arrive(worker, number);
-    match job(assignment.app, assignment.certificate, number as usize) {
+    let (app, certificate) = (assignment.app, assignment.certificate);
+    match job_given(app, certificate, stay, number as usize) {
         None => assignment.board.passed(pass, claim),
         Some(_) => assignment.board.failed(pass, claim),
     }
@@ -70,8 +82,9 @@ pub fn work<G: Gate>(
         certificate,
         board,
     };
+    let stay = all_stay(app, &certificate.notes);
     while let Some(claim) = board.draw(&mut pass) {
-        settle(assignment, &mut pass, claim, worker, gate);
+        settle(assignment, stay, &mut pass, claim, worker, gate);
     }
     pass
 }

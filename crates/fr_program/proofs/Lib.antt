@@ -7,4 +7,5 @@ pub mod FaultLemmas
 pub mod PointLaws
 pub mod StartLemmas
 pub mod ChangerLemmas
+pub mod ChangerLists
 pub mod SpanLemmas

@@ -3,11 +3,12 @@ ghost use Rattle.std.specs.Prelude.{◌≡◌, ◌≢◌, ◌<◌, ◌+◌, ◌^
 ghost use Rattle.fr_program.specs.Lookup.{HasSide, IsPoint};
 ghost use Rattle.fr_program.specs.Points.{points_of, point_number, side_number};
 ghost use Rattle.fr_program.specs.PointNumbers.{starts_from, PointsAreNumbered};
-ghost use Rattle.fr_program.specs.Changers.{changers_of};
+ghost use Rattle.fr_program.specs.Changers.{IsThere, changers_of};
+ghost use Rattle.fr_program.specs.Built.{ListsChangers};
 ghost use Rattle.fr_program.specs.Fault.{IsFreeOf, IsFaultless};
 ghost use Rattle.fr_program.specs.View.{actor_of, program_of};
 
-use crate::changers::{changers_of, instr_of};
+use crate::changers::{Changed, Changers, instr_of};
 use crate::check::check_parts;
 use crate::fault::BuildFault;
 use crate::ids::{ActorId, ObjId, Point, Side, VarId};
@@ -26,8 +27,8 @@ pub struct App {
     points: Vec<Point>,
     /// By actor and instruction, the number of the point before it.
     starts: Vec<Vec<usize>>,
-    /// The numbers of the points whose steps can change what the notes of other actors say.
-    changers: Vec<usize>,
+    /// The points whose steps can change what the notes of other actors say.
+    changers: Changers,
 }
 
 impl Model for App {
@@ -126,12 +127,18 @@ impl App {
         instr_of(&self.parts, point)
     }
 
-    /// The numbers, rising, of the points whose steps can change something that the notes of other
-    /// actors say: a variable's number, or whether an object is live. Most points aren't among them.
-    pub fn changers(&self) -> &[usize]
-        ensures { result.now ≡ changers_of self.now }
+    /// The numbers, rising, of the points whose steps can change this of what the notes of other
+    /// actors say: a variable's number, whether an object is live, or anything. The variable or the
+    /// object is one of the application's. Most points aren't among them.
+    pub fn changers(&self, changed: Changed) -> &[usize]
+        requires { IsThere self.now changed }
+        ensures { result.now ≡ changers_of self.now changed }
     {
-        &self.changers
+        match changed {
+            Changed::Anything => &self.changers.anything,
+            Changed::Number(variable) => &self.changers.numbers[variable.0],
+            Changed::Life(object) => &self.changers.lives[object.0],
+        }
     }
 
     /// What the object is, which is one of the application's.
@@ -208,17 +215,18 @@ fn number_from(start: usize, instr: Instr, side: Side) -> Option<usize>
     }
 }
 
-fn checked_table(alloc: Global, parts: &Parts) -> Result<(Table, Vec<usize>), BuildFault>
+fn checked_table(alloc: Global, parts: &Parts) -> Result<(Table, Changers), BuildFault>
     ensures points { IfOk result (λ t. t.0.points.items ≡ points_of (program_of parts.now)) }
     ensures starts { IfOk result
         (λ t. map (λ v. v.items) t.0.starts.items ≡ starts_from 0 (program_of parts.now).actors) }
-    ensures changers { IfOk result (λ t. t.1.items ≡ changers_of (program_of parts.now)) }
+    ensures changers { IfOk result
+        (λ t. ListsChangers (program_of parts.now) (points_of (program_of parts.now)) t.1) }
     ensures faultless { OnOk result (IsFaultless (program_of parts.now)) }
     ensures present { IfErr result
         (λ f. f ≢ BuildFault.Memory → IsFreeOf (program_of parts.now) f → ⊥) }
 {
     check_parts(alloc, parts)?;
     let table = table_of(alloc, &parts.actors)?;
-    let changers = changers_of(alloc, parts, &table.points)?;
+    let changers = Changers::of(alloc, parts, &table.points)?;
     Ok((table, changers))
 }

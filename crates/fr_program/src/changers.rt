@@ -1,35 +1,97 @@
 // The points whose steps can change something that the notes of other actors say.
-ghost use Rattle.std.specs.Prelude.{◌≡◌, ◌++◌, OnOk, IfOk, IfErr};
+ghost use Rattle.std.specs.Prelude.{◌≡◌, ◌++◌, OnOk, IfOk, IfErr, length, map};
 ghost use Rattle.std.specs.Option.{option_copied};
-ghost use Rattle.fr_program.specs.Changers.{gives_number, is_changing, is_changer, if_wanted, changers_from};
+ghost use Rattle.std.specs.List.{range_with_len};
+ghost use Rattle.fr_program.specs.Changers.{result_of_end, written, made, is_variable, is_object, changes, is_changer, if_wanted, changers_from, number_at, life_at};
 ghost use Rattle.fr_program.specs.Lookup.{instr_of};
 ghost use Rattle.fr_program.specs.View.{program_of};
 
 use crate::fault::BuildFault;
-use crate::ids::{Point, Side};
+use crate::ids::{ObjId, Point, Side, VarId};
 use crate::instr::{Action, Call, Instr};
 use crate::parts::Parts;
 use std::alloc::Global;
 
-fn gives_number(action: &Action) -> bool
-    ensures { result ≡ gives_number action.now }
+/// What steps can change of what the notes of other actors say.
+#[derive(Clone, Copy)]
+pub enum Changed {
+    /// Anything of it.
+    Anything,
+    /// The number of this variable.
+    Number(VarId),
+    /// Whether this object is live.
+    Life(ObjId),
+}
+
+/// The numbers, rising, of the points whose steps can change something: anything, the number of each
+/// variable, and whether each object is live.
+#[derive(Debug, Drop)]
+pub struct Changers {
+    pub anything: Vec<usize>,
+    pub numbers: Vec<Vec<usize>>,
+    pub lives: Vec<Vec<usize>>,
+}
+
+/// The variable to which the end of an object call gives a number.
+fn result_of_end(action: &Action) -> Option<VarId>
+    ensures { result ≡ result_of_end action.now }
 {
     match action {
-        Action::QueueReceive { .. } => true,
-        Action::Send { result, .. } => result.is_some(),
-        Action::Receive { result, .. } => result.is_some(),
-        _ => false,
+        Action::QueueReceive { into, .. } => Some(*into),
+        Action::Send { result, .. } => *result,
+        Action::Receive { result, .. } => *result,
+        _ => None,
     }
 }
 
-fn is_changing(side: Side, instr: &Instr) -> bool
-    ensures { result ≡ is_changing side instr.now }
+/// The variable that the steps from this side of the instruction write.
+fn written(side: Side, instr: &Instr) -> Option<VarId>
+    ensures { result ≡ written side instr.now }
 {
     match (side, instr) {
-        (Side::Before, Instr::Set { .. } | Instr::Pick { .. }) => true,
-        (Side::Before, Instr::Call(Call::Create { .. } | Call::Delete { .. })) => true,
-        (Side::Inside, Instr::Call(Call::On { action, .. })) => gives_number(action),
-        _ => false,
+        (Side::Before, Instr::Set { target, .. }) => Some(*target),
+        (Side::Before, Instr::Pick { target, .. }) => Some(*target),
+        (Side::Inside, Instr::Call(Call::On { action, .. })) => result_of_end(action),
+        _ => None,
+    }
+}
+
+/// The object that they create or delete.
+fn made(side: Side, instr: &Instr) -> Option<ObjId>
+    ensures { result ≡ made side instr.now }
+{
+    match (side, instr) {
+        (Side::Before, Instr::Call(Call::Create { object, .. })) => Some(*object),
+        (Side::Before, Instr::Call(Call::Delete { object, .. })) => Some(*object),
+        _ => None,
+    }
+}
+
+fn is_variable(written: Option<VarId>, variable: VarId) -> bool
+    ensures { result ≡ is_variable written variable }
+{
+    match written {
+        Some(written) => written.0 == variable.0,
+        None => false,
+    }
+}
+
+fn is_object(made: Option<ObjId>, object: ObjId) -> bool
+    ensures { result ≡ is_object made object }
+{
+    match made {
+        Some(made) => made.0 == object.0,
+        None => false,
+    }
+}
+
+fn changes(changed: Changed, side: Side, instr: &Instr) -> bool
+    ensures { result ≡ changes changed side instr.now }
+{
+    match changed {
+        Changed::Anything => written(side, instr).is_some() || made(side, instr).is_some(),
+        Changed::Number(variable) => is_variable(written(side, instr), variable),
+        Changed::Life(object) => is_object(made(side, instr), object),
     }
 }
 
@@ -43,11 +105,11 @@ pub fn instr_of(parts: &Parts, point: Point) -> Option<&Instr>
     }
 }
 
-fn is_changer(parts: &Parts, point: Point) -> bool
-    ensures { result ≡ is_changer (program_of parts.now) point }
+fn is_changer(parts: &Parts, changed: Changed, point: Point) -> bool
+    ensures { result ≡ is_changer (program_of parts.now) changed point }
 {
     match instr_of(parts, point) {
-        Some(instr) => is_changing(point.side, instr),
+        Some(instr) => changes(changed, point.side, instr),
         None => false,
     }
 }
@@ -55,28 +117,88 @@ fn is_changer(parts: &Parts, point: Point) -> bool
 fn push_changer(
     numbers: &mut Vec<usize>,
     parts: &Parts,
+    changed: Changed,
     number: usize,
     point: Point,
 ) -> Result<(), BuildFault>
     ensures numbers { OnOk result
-        (numbers.new.items ≡ numbers.old.items ++ if_wanted (is_changer (program_of parts.now) point) number) }
+        (numbers.new.items ≡ numbers.old.items ++ if_wanted (is_changer (program_of parts.now) changed point) number) }
     ensures err { IfErr result (λ f. f ≡ BuildFault.Memory) }
 {
-    if is_changer(parts, point) {
+    if is_changer(parts, changed, point) {
         numbers.push(number)?;
     }
     Ok(())
 }
 
-/// The numbers of those of the points whose steps can change such a thing.
-pub fn changers_of(alloc: Global, parts: &Parts, points: &[Point]) -> Result<Vec<usize>, BuildFault>
+/// The numbers of those of the points whose steps can change this.
+fn changers_of(
+    alloc: Global,
+    parts: &Parts,
+    points: &[Point],
+    changed: Changed,
+) -> Result<Vec<usize>, BuildFault>
     ensures ok { IfOk result
-        (λ numbers. numbers.items ≡ changers_from (program_of parts.now) 0 points.now) }
+        (λ numbers. numbers.items ≡ changers_from (program_of parts.now) changed 0 points.now) }
     ensures err { IfErr result (λ f. f ≡ BuildFault.Memory) }
 {
     let mut numbers = Vec::new(alloc);
     for (number, point) in points.iter().enumerate() {
-        push_changer(&mut numbers, parts, number, *point)?;
+        push_changer(&mut numbers, parts, changed, number, *point)?;
     }
     Ok(numbers)
+}
+
+/// The same for each of so many variables.
+fn changers_of_numbers(
+    alloc: Global,
+    parts: &Parts,
+    points: &[Point],
+    variables: usize,
+) -> Result<Vec<Vec<usize>>, BuildFault>
+    ensures ok { IfOk result
+        (λ lists. map (λ list. list.items) lists.items ≡ map (λ x. changers_from (program_of parts.now) (number_at x) 0 points.now) (range_with_len 0 variables)) }
+    ensures err { IfErr result (λ f. f ≡ BuildFault.Memory) }
+{
+    let mut lists = Vec::with_capacity(alloc, variables)?;
+    for variable in 0..variables {
+        let changed = Changed::Number(VarId(variable));
+        lists.push(changers_of(alloc, parts, points, changed)?)?;
+    }
+    Ok(lists)
+}
+
+/// The same for each of so many objects.
+fn changers_of_lives(
+    alloc: Global,
+    parts: &Parts,
+    points: &[Point],
+    objects: usize,
+) -> Result<Vec<Vec<usize>>, BuildFault>
+    ensures ok { IfOk result
+        (λ lists. map (λ list. list.items) lists.items ≡ map (λ o. changers_from (program_of parts.now) (life_at o) 0 points.now) (range_with_len 0 objects)) }
+    ensures err { IfErr result (λ f. f ≡ BuildFault.Memory) }
+{
+    let mut lists = Vec::with_capacity(alloc, objects)?;
+    for object in 0..objects {
+        let changed = Changed::Life(ObjId(object));
+        lists.push(changers_of(alloc, parts, points, changed)?)?;
+    }
+    Ok(lists)
+}
+
+impl Changers {
+    ghost use Rattle.fr_program.specs.Built.{ListsChangers};
+
+    /// The changers of an application whose points these are.
+    pub fn of(alloc: Global, parts: &Parts, points: &[Point]) -> Result<Changers, BuildFault>
+        ensures ok { IfOk result (ListsChangers (program_of parts.now) points.now) }
+        ensures err { IfErr result (λ f. f ≡ BuildFault.Memory) }
+    {
+        Ok(Changers {
+            anything: changers_of(alloc, parts, points, Changed::Anything)?,
+            numbers: changers_of_numbers(alloc, parts, points, parts.variables.len())?,
+            lives: changers_of_lives(alloc, parts, points, parts.objects.len())?,
+        })
+    }
 }

@@ -1,9 +1,14 @@
 -- The points before the one that the loop is at keep every part; so the first that fails is the least one, and where the
 -- loop ends, all keep.
 use Rattle.std.proofs.Common.{refl, arith}
-use Rattle.fr_judge.specs.Verdict.{Yes}
+use Rattle.fr_judge.specs.Verdict.{Yes, KeepsAll}
 use Rattle.fr_judge.proofs.Judging.{all-keep, first-failure, yes-safe}
+use Rattle.fr_judge.proofs.Walks.{one-more}
 use Rattle.fr_judge.proofs.verdict.judge.Goals as goal
+
+pub loop-number-preserved : goal.loop-number-preserved
+loop-number-preserved c =
+    one-more c.args.app.now c.recall_numbered.ensures (λ p. KeepsAll c.args.app.now c.args.certificate.now p) c.loop-number.number c.loop-number.invariant c.in_default.ensures.first
 
 pub returns-in-Some-clause-verdict : goal.returns-in-Some-clause-verdict
 returns-in-Some-clause-verdict c =

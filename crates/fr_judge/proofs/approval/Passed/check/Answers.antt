@@ -1,5 +1,12 @@
 use Rattle.std.proofs.Common.{refl}
+use Rattle.fr_judge.proofs.Judging.{yes-certified}
 use Rattle.fr_judge.proofs.approval.Passed.check.Goals as goal
+
+pub invariant_of-result : goal.invariant_of-result
+invariant_of-result c = record { fits = c.requires.fits; certified = yes-certified c.args.app c.args.certificate c.in-Yes.ensures.verdict }
+
+pub returns-in-Yes-clause-certified : goal.returns-in-Yes-clause-certified
+returns-in-Yes-clause-certified c = yes-certified c.args.app c.args.certificate c.in-Yes.ensures.verdict
 
 pub returns-in-Yes-clause-safe : goal.returns-in-Yes-clause-safe
 returns-in-Yes-clause-safe c = c.in-Yes.ensures.safe refl

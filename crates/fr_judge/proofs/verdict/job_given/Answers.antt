@@ -4,7 +4,7 @@ use Rattle.fr_edge.specs.FirstOwn.{IsFirstOwn}
 use Rattle.fr_interfere.specs.Disturbance.{IsSpoiler}
 use Rattle.fr_judge.specs.Deleter.{IsDeleter}
 use Rattle.fr_judge.proofs.Firsts.{own-first, guard-first, near-first, spoiled-first, all-kept, first-is-of}
-use Rattle.fr_judge.proofs.verdict.job.Goals as goal
+use Rattle.fr_judge.proofs.verdict.job_given.Goals as goal
 
 pub returns-in-Some-clause-first : goal.returns-in-Some-clause-first
 returns-in-Some-clause-first c = λ p e.
@@ -37,14 +37,14 @@ returns-in-Some-deleter-clause-first c = λ p e.
     let near = subst (λ ns. IsDeleter P ns p (Some c.in-Some-deleter.other)) notes (c.in-Some-deleter.ensures p e) in
     near-first P c.args.certificate.now p c.in-Some-deleter.other own (c.in_default-guarded.ensures.first p e) near
 
-pub returns-in-Some-spoiler-clause-first : goal.returns-in-Some-spoiler-clause-first
-returns-in-Some-spoiler-clause-first c = λ p e.
+pub returns-in-Some-spoiler_given-clause-first : goal.returns-in-Some-spoiler_given-clause-first
+returns-in-Some-spoiler_given-clause-first c = λ p e.
     let P = c.args.app.now in
     let notes = ap (λ D. D.notes) c.certificate.view_is in
     let own = subst (λ ns. IsFirstOwn P ns p None) notes (c.in_default.ensures p e) in
     let near = subst (λ ns. IsDeleter P ns p None) notes (c.in_default-deleter.ensures p e) in
-    let spoiler = subst (λ ns. IsSpoiler P ns p (Some c.in-Some-spoiler.other)) notes (c.in-Some-spoiler.ensures p e) in
-    spoiled-first P c.args.certificate.now p c.recall_numbered.ensures c.point.result c.in-Some-spoiler.other c.point.ensures own (c.in_default-guarded.ensures.first p e) near spoiler
+    let spoiler = subst (λ ns. IsSpoiler P ns p (Some c.in-Some-spoiler_given.other)) notes (c.in-Some-spoiler_given.ensures p e) in
+    spoiled-first P c.args.certificate.now p c.recall_numbered.ensures c.point.result c.in-Some-spoiler_given.other c.point.ensures own (c.in_default-guarded.ensures.first p e) near spoiler
 
 pub returns-in-None-clause-first : goal.returns-in-None-clause-first
 returns-in-None-clause-first c = λ p e.

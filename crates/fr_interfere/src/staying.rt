@@ -1,0 +1,63 @@
+// Whether steps leave each variable in its declared range.
+ghost use Rattle.std.specs.Prelude.{◌≡◌, ◌<◌, ◌↔◌, IsTrue, Some, Contains, length, slice_get};
+ghost use Rattle.fr_program.specs.declared.ids.Point.{Point};
+ghost use Rattle.fr_program.specs.Points.{points_of};
+ghost use Rattle.fr_notes.specs.Fits.{NoteFits, NotesFit};
+ghost use Rattle.fr_notes.specs.Note.{Alternative as AlternativeOf};
+ghost use Rattle.fr_interfere.specs.Effects.{HasTarget, IsComputable, Stays};
+ghost use Rattle.fr_interfere.specs.Staying.{StaysAt, AllStay};
+
+use crate::effects::{Effect, effect_of, stays};
+use fr_notes::{Note, Notes};
+use fr_program::App;
+
+/// Whether that is so of an effect, whichever alternative of the mover's note holds.
+fn stays_by_each(app: &App, effect: Effect, others: &Note) -> bool
+    requires others { NoteFits app.now others.now }
+    requires computable { IsComputable effect }
+    requires target { HasTarget app.now effect }
+    ensures { IsTrue result ↔ ((m : AlternativeOf) → Contains others.now m → Stays app.now effect m) }
+{
+    for mover in others.alternatives() {
+        if !stays(app, effect, mover) {
+            return false;
+        }
+    }
+    true
+}
+
+/// Whether that is so of the steps from the point with this number, where its note holds.
+fn stays_at(app: &App, notes: &Notes, number: usize) -> bool
+    requires number { number < length (points_of app.now) }
+    requires fit { NotesFit app.now notes.now }
+    ensures { (q : Point) → slice_get (points_of app.now) number ≡ Some q →
+        (IsTrue result ↔ StaysAt app.now notes.now q) }
+{
+    app.recall_faultless();
+    app.recall_numbered();
+    let mover = app.point(number);
+    match app.instr(mover) {
+        None => true,
+        Some(instr) => stays_by_each(
+            app,
+            effect_of(app, mover.side, instr),
+            notes.at(app, number),
+        ),
+    }
+}
+
+/// Whether the steps from every point, where its note holds, give each variable numbers of its
+/// declared range alone. Where that is so, only those steps can disturb a note that change something
+/// which it says. The notes fit the application. Takes no memory.
+pub fn all_stay(app: &App, notes: &Notes) -> bool
+    requires { NotesFit app.now notes.now }
+    ensures { IsTrue result ↔ AllStay app.now notes.now }
+{
+    app.recall_numbered();
+    for number in 0..app.points() {
+        if !stays_at(app, notes, number) {
+            return false;
+        }
+    }
+    true
+}
