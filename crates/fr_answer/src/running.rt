@@ -109,7 +109,10 @@ fn output<R: Threads + Wait + Sync, G: Gate>(
 {
     match Passed::check(app, certificate) {
         Ok(passed) => Ok((0, run_text(rt, alloc, &passed, polls, words, gate)?)),
-        Err((app, _, verdict)) => Ok((1, report(alloc, &app, &verdict)?)),
+        Err((app, _, verdict)) => match report(alloc, &app, &verdict) {
+            Ok(text) => Ok((1, text)),
+            Err(_) => Err(CheckFault::Memory),
+        },
     }
 }
 
