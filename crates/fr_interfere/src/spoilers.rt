@@ -53,13 +53,7 @@ fn lesser(one: Option<usize>, other: Option<usize>) -> Option<usize>
     ensures { result ≡ least_of one other }
 {
     match (one, other) {
-        (Some(one), Some(other)) => {
-            if one <= other {
-                Some(one)
-            } else {
-                Some(other)
-            }
-        }
+        (Some(one), Some(other)) => { if one <= other { Some(one) } else { Some(other) } }
         (None, other) => other,
         (one, None) => one,
     }
