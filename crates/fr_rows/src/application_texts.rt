@@ -1,6 +1,9 @@
-// Faults of applications that no row shows, and every changed byte of a small application.
+// Faults of applications that no row shows, every changed byte of a small application, and the numbers of points.
+use crate::runs::STREAM;
+use fr_program::{ActorId, App, Point, Side};
 use fr_reader::read_app;
 use std::alloc::{AllocError, Global};
+use std::process::Abort;
 use std::test::Fail;
 
 const SMALL: &str = "variable = [{name=\"x\", lo=0, hi=9, init=0, owner=\"t\"}]
@@ -63,4 +66,45 @@ fn each_changed_byte_has_an_answer(rt: HostRuntime) -> Result<(), Fail> {
         }
     }
     Ok(())
+}
+
+/// The point of an actor at this instruction.
+fn point(actor: usize, pc: usize, side: Side) -> Point {
+    Point {
+        actor: ActorId(actor),
+        pc,
+        side,
+    }
+}
+
+/// Asks that these are the points, in the order of their numbers, and that those are none.
+fn ask_points(rt: &impl Abort, app: &App, points: &[Point], others: &[Point]) {
+    assert!(rt; app.points() == points.len());
+    for (number, point) in points.iter().enumerate() {
+        assert!(rt; app.number(*point) == Some(number));
+    }
+    for other in others {
+        assert!(rt; app.number(*other).is_none());
+    }
+}
+
+#[test]
+fn points_have_their_numbers(rt: HostRuntime) {
+    let points = [
+        point(0, 0, Side::Before),
+        point(0, 0, Side::Inside),
+        point(0, 1, Side::Before),
+        point(1, 0, Side::Before),
+        point(1, 0, Side::Inside),
+        point(1, 1, Side::Before),
+    ];
+    let others = [
+        point(0, 1, Side::Inside),
+        point(0, 2, Side::Before),
+        point(2, 0, Side::Before),
+    ];
+    match read_app(rt.alloc(), STREAM) {
+        Ok(app) => ask_points(&rt, &app, &points, &others),
+        Err(_) => assert!(rt; false, "the application is refused"),
+    }
 }

@@ -1,10 +1,11 @@
 // Whole judgements by workers in threads. A gate that waits gives up after a while, and notes it.
 use fr_calls::Rule;
 use fr_cert::read_cert;
-use fr_judge::{Judged, Part, Verdict};
-use fr_parallel::{BytesFault, Gate, Open, judge_bytes, judge_with};
-use fr_program::App;
+use fr_judge::{Part, Verdict};
+use fr_parallel::{Gate, Open, ParFault, judge_bytes, judge_with};
+use fr_program::{ActorId, App, Point, Side};
 use fr_reader::read_app;
+use fr_report::report;
 use std::alloc::{AllocError, Global};
 use std::sync::Wait;
 use std::sync::atomic::{AtomicU64, Ordering};
@@ -13,7 +14,8 @@ use std::thread::{self, Threads};
 
 const MOST_TURNS: usize = 1_000_000;
 
-const LONG: usize = 512;
+// Each task's instructions.
+const LINES: usize = 400;
 
 // Whether this word becomes 1 before it is given up.
 fn becomes_one(word: &AtomicU64) -> bool {
@@ -87,19 +89,25 @@ impl Gate for InOrder {
     }
 }
 
-// A task of this many instructions: it delays, but for an exit from no critical section at these places, and then goes round.
-fn task(alloc: Global, count: usize, exits: &[usize]) -> Result<String, AllocError> {
-    let mut text = String::from_str(alloc, "actor=[{name=\"t\",kind=\"task\",code=[")?;
-    for place in 1..count {
-        let line = if exits.contains(&(place - 1)) {
+// A task of 400 instructions: it delays, but for an exit from no critical section at this place, and then goes round.
+fn task(alloc: Global, name: &str, exit: Option<usize>) -> Result<String, AllocError> {
+    let mut text = format!(in alloc; "{{name=\"{name}\",kind=\"task\",code=[")?;
+    for place in 1..LINES {
+        let line = if exit == Some(place - 1) {
             "\"taskEXIT_CRITICAL()\","
         } else {
             "\"vTaskDelay(1)\","
         };
         text.push_str(line)?;
     }
-    text.push_str("\"goto 0\"]}]")?;
+    text.push_str("\"goto 0\"]}")?;
     Ok(text)
+}
+
+// Two such tasks.
+fn tasks(alloc: Global, first: Option<usize>, second: Option<usize>) -> Result<String, AllocError> {
+    let (t, u) = (task(alloc, "t", first)?, task(alloc, "u", second)?);
+    format!(in alloc; "actor=[{t},{u}]")
 }
 
 // A certificate of this many notes that say nothing.
@@ -112,39 +120,67 @@ fn plain(alloc: Global, count: usize) -> Result<String, AllocError> {
     Ok(text)
 }
 
-// Whether the answer is yes.
-fn is_yes(answer: &Result<Judged, BytesFault>) -> bool {
-    matches!(answer, Ok(judged) if judged.verdict == Verdict::Yes)
+// Two tasks with 800 points, of which 3 and 700 fail, or none, and their certificate.
+fn files(alloc: Global, fails: bool) -> Result<(String, String), AllocError> {
+    let (first, second) = if fails {
+        (Some(3), Some(300))
+    } else {
+        (None, None)
+    };
+    Ok((tasks(alloc, first, second)?, plain(alloc, 2 * LINES)?))
 }
 
-// Whether the answer is no, at the task's instruction 3, by rule 10.
-fn is_no_at_3(answer: &Result<Judged, BytesFault>) -> bool {
-    match answer {
-        Ok(
-            Judged {
-                verdict: Verdict::No { point, part },
-                ..
-            },
-        ) => point.pc == 3 && *part == Part::Rule(Rule::DepthAboveZero),
-        _ => false,
+// The report of so many workers on them; None where something is refused.
+fn reported<R: Threads + Wait + Sync, G: Gate>(
+    rt: &R,
+    alloc: Global,
+    fails: bool,
+    workers: usize,
+    gate: &G,
+) -> Option<String> {
+    let (app, notes) = files(alloc, fails).ok()?;
+    let judged = judge_bytes(rt, alloc, app.as_bytes(), notes.as_bytes(), workers, gate).ok()?;
+    report(alloc, &judged.app, &judged.verdict).ok()
+}
+
+// Whether the report names the first of the two points that fail.
+fn is_no_at_3(line: &Option<String>) -> bool {
+    matches!(line, Some(line) if line.as_str() == "no: point 3 (t 3 before): rule 10: depth is already zero\n")
+}
+
+fn is_yes(line: &Option<String>) -> bool {
+    matches!(line, Some(line) if line.as_str() == "yes\n")
+}
+
+#[test]
+fn any_number_of_workers(rt: HostRuntime) {
+    for workers in [1, 2, 16, 64] {
+        assert!(rt;
+            is_yes(&reported(&rt, rt.alloc(), false, workers, &Open)),
+            "{workers}"
+        );
+        assert!(rt;
+            is_no_at_3(&reported(&rt, rt.alloc(), true, workers, &Open)),
+            "{workers}"
+        );
     }
 }
 
 #[test]
-fn the_least_failure_though_it_comes_last(rt: HostRuntime) -> Result<(), Fail> {
-    let alloc = rt.alloc();
-    let app = task(alloc, LONG, &[3, 500])?;
-    let certificate = plain(alloc, LONG)?;
-    let gate = Holds {
-        held: 3,
-        awaited: 500,
-        arrived: AtomicU64::new(0),
-        alone: AtomicU64::new(0),
-    };
-    let answer = judge_bytes(&rt, alloc, app.as_bytes(), certificate.as_bytes(), 2, &gate);
-    assert!(rt; is_no_at_3(&answer));
-    assert!(rt; gate.alone.load(Ordering::SeqCst) == 0);
-    Ok(())
+fn the_least_failure_though_it_comes_last(rt: HostRuntime) {
+    for workers in [2, 16, 64] {
+        let gate = Holds {
+            held: 3,
+            awaited: 700,
+            arrived: AtomicU64::new(0),
+            alone: AtomicU64::new(0),
+        };
+        assert!(rt;
+            is_no_at_3(&reported(&rt, rt.alloc(), true, workers, &gate)),
+            "{workers}"
+        );
+        assert!(rt; gate.alone.load(Ordering::SeqCst) == 0, "{workers}");
+    }
 }
 
 // So many counters at zero.
@@ -156,73 +192,98 @@ fn zeros(alloc: Global, count: usize) -> Result<Vec<AtomicU64>, AllocError> {
     Ok(counters)
 }
 
-#[test]
-fn two_workers_share(rt: HostRuntime) -> Result<(), Fail> {
-    let alloc = rt.alloc();
-    let app = task(alloc, LONG, &[])?;
-    let certificate = plain(alloc, LONG)?;
-    let gate = Pairs {
-        arrived: zeros(alloc, LONG)?,
-        by_worker: zeros(alloc, 2)?,
+// The gate where pairs meet, for so many workers.
+fn pairs(alloc: Global, workers: usize) -> Result<Pairs, AllocError> {
+    Ok(Pairs {
+        arrived: zeros(alloc, 2 * LINES)?,
+        by_worker: zeros(alloc, workers)?,
         alone: AtomicU64::new(0),
-    };
-    let answer = judge_bytes(&rt, alloc, app.as_bytes(), certificate.as_bytes(), 2, &gate);
-    assert!(rt; is_yes(&answer));
-    assert!(rt; gate.alone.load(Ordering::SeqCst) == 0);
-    for count in &gate.by_worker {
-        assert!(rt; count.load(Ordering::SeqCst) == 256);
+    })
+}
+
+#[test]
+fn workers_meet_in_pairs(rt: HostRuntime) -> Result<(), Fail> {
+    for workers in [2, 16, 64] {
+        let gate = pairs(rt.alloc(), workers)?;
+        assert!(rt;
+            is_yes(&reported(&rt, rt.alloc(), false, workers, &gate)),
+            "{workers}"
+        );
+        assert!(rt; gate.alone.load(Ordering::SeqCst) == 0, "{workers}");
+        for count in &gate.by_worker {
+            assert!(rt; workers > 2 || count.load(Ordering::SeqCst) == 400);
+        }
     }
     Ok(())
 }
 
-#[test]
-fn one_worker_stops_at_the_first_failure(rt: HostRuntime) -> Result<(), Fail> {
-    let alloc = rt.alloc();
-    let app = task(alloc, LONG, &[3, 500])?;
-    let certificate = plain(alloc, LONG)?;
-    let gate = InOrder {
-        count: AtomicU64::new(0),
-        disordered: AtomicU64::new(0),
-    };
-    let answer = judge_bytes(&rt, alloc, app.as_bytes(), certificate.as_bytes(), 1, &gate);
-    assert!(rt; is_no_at_3(&answer));
-    assert!(rt; gate.count.load(Ordering::SeqCst) == 4);
-    assert!(rt; gate.disordered.load(Ordering::SeqCst) == 0);
-    Ok(())
+// How many points one worker has come to, in their order; None where it came to one out of its order.
+fn in_order(gate: &InOrder) -> Option<u64> {
+    if gate.disordered.load(Ordering::SeqCst) == 0 {
+        Some(gate.count.load(Ordering::SeqCst))
+    } else {
+        None
+    }
 }
 
-// The verdict of three workers on an application, with the certificate in this text; None where something is refused.
-fn verdict_of<R: Threads + Wait + Sync>(
+#[test]
+fn one_worker_stops_at_the_first_failure(rt: HostRuntime) {
+    for (fails, count) in [(true, 4), (false, 800)] {
+        let gate = InOrder {
+            count: AtomicU64::new(0),
+            disordered: AtomicU64::new(0),
+        };
+        let line = reported(&rt, rt.alloc(), fails, 1, &gate);
+        assert!(rt;
+            if fails {
+                is_no_at_3(&line)
+            } else {
+                is_yes(&line)
+            }
+        );
+        assert!(rt; in_order(&gate) == Some(count));
+    }
+}
+
+// What so many workers answer for an application, with the certificate in this text; None where that is refused.
+fn judged<R: Threads + Wait + Sync>(
     rt: &R,
     alloc: Global,
     app: &App,
     certificate: &[u8],
-) -> Option<Verdict> {
+    workers: usize,
+) -> Option<Result<Verdict, ParFault>> {
     match read_cert(alloc, app, certificate) {
-        Ok(certificate) => judge_with(rt, alloc, app, &certificate, 3, &Open).ok(),
+        Ok(certificate) => Some(judge_with(rt, alloc, app, &certificate, workers, &Open)),
         Err(_) => None,
     }
 }
 
-// The same of a task that was read already.
-fn verdict_on<R: Threads + Wait + Sync>(
+// The same of the two tasks.
+fn judged_tasks<R: Threads + Wait + Sync>(
     rt: &R,
     alloc: Global,
-    count: usize,
-    exits: &[usize],
-) -> Option<Verdict> {
-    let (text, notes) = (task(alloc, count, exits).ok()?, plain(alloc, count).ok()?);
+    fails: bool,
+    workers: usize,
+) -> Option<Result<Verdict, ParFault>> {
+    let (text, notes) = files(alloc, fails).ok()?;
     let app = read_app(alloc, text.as_bytes()).ok()?;
-    verdict_of(rt, alloc, &app, notes.as_bytes())
+    judged(rt, alloc, &app, notes.as_bytes(), workers)
 }
 
 #[test]
-fn a_task_that_was_read_already(rt: HostRuntime) {
-    assert!(rt; verdict_on(&rt, rt.alloc(), 7, &[]) == Some(Verdict::Yes));
-    let failing = match verdict_on(&rt, rt.alloc(), 7, &[2, 5]) {
-        Some(Verdict::No { point, part }) => point.pc == 2
-            && part == Part::Rule(Rule::DepthAboveZero),
-        _ => false,
+fn tasks_that_were_read_already(rt: HostRuntime) {
+    assert!(rt; judged_tasks(&rt, rt.alloc(), false, 3) == Some(Ok(Verdict::Yes)));
+    let no = Verdict::No {
+        point: Point {
+            actor: ActorId(0),
+            pc: 3,
+            side: Side::Before,
+        },
+        part: Part::Rule(Rule::DepthAboveZero),
     };
-    assert!(rt; failing);
+    assert!(rt; judged_tasks(&rt, rt.alloc(), true, 3) == Some(Ok(no)));
+    for workers in [0, 65] {
+        assert!(rt; judged_tasks(&rt, rt.alloc(), false, workers) == Some(Err(ParFault::Workers)));
+    }
 }
