@@ -1,6 +1,7 @@
 // What a command writes, and its exit status.
 ghost use Rattle.std.specs.Prelude.{◌≡◌, ◌≤◌, ◌++◌, IfOk, codes, string_bytes};
 ghost use Rattle.std.specs.Io.KnownBytes.{Appends};
+ghost use Rattle.fr_parallel.specs.Kept.{IsNoCrew};
 ghost use Rattle.fr_answer.specs.Checked.{
   IsAnswer,
   IsSafeText,
@@ -57,7 +58,8 @@ pub fn answer_fault<W: Write>(alloc: Global, fault: &CheckFault, writer: &mut W)
 /// in any state of any run, and 1 only where it is `No`: each with the report's bytes written to
 /// `out`, and nothing to `err`. It is 2 only where the bytes or the number of workers are refused,
 /// with nothing written to `out`, and the fault's line and a newline to `err`. Else it is 3: the
-/// machine failed, and what was written then is open.
+/// machine failed, and what was written then is open. Where there aren't 1 to 64 workers, it is
+/// neither 0 nor 1.
 pub fn answer_check<R: Threads + Wait + Sync, G: Gate, O: Write, E: Write>(
     rt: &R,
     alloc: Global,
@@ -72,6 +74,7 @@ pub fn answer_check<R: Threads + Wait + Sync, G: Gate, O: Write, E: Write>(
     ensures safe { result ≡ 0 → IsSafeText app.now }
     ensures no { result ≡ 1 → IsAnswer app.now certificate.now 1 (O.contents out.old) (O.contents out.new) }
     ensures quiet { result ≤ 1 → err.new ≡ err.old }
+    ensures workers { IsNoCrew workers → 2 ≤ result }
     ensures refused { result ≡ 2 → IsTold app.now certificate.now workers (E.contents err.old) (E.contents err.new) }
     ensures kept { result ≡ 2 → out.new ≡ out.old }
     ensures most { result ≤ 3 }

@@ -1,5 +1,6 @@
 // Checking the bytes of an application and of a certificate.
-ghost use Rattle.std.specs.Prelude.{◌≡◌, ◌≢◌, ◌≤◌, IfOk, IfErr};
+ghost use Rattle.std.specs.Prelude.{◌≡◌, ◌≢◌, ◌≤◌, ◌↔◌, IfOk, IfErr, IsErrOf};
+ghost use Rattle.fr_parallel.specs.Kept.{IsNoCrew};
 ghost use Rattle.fr_answer.specs.Checked.{IsAnswer, IsSafeText, CanRefuse, IsRefused, status_of};
 
 use crate::fault::{CheckFault, status};
@@ -26,10 +27,12 @@ fn status_of(verdict: &Verdict) -> u8
 /// twelve rules in any state of any run, and 1 only where it is `No`, each with the report's bytes
 /// written and nothing else.
 ///
-/// `Workers` says that their number is not 1 to 64, `App` and `Cert` name a fault that is present
-/// in the bytes, `Memory` and `Thread` say that the machine refused an allocation or a thread;
-/// nothing is written then. `Write` says that the writer failed to take the report of a verdict;
-/// what was written then is open.
+/// # Errors
+///
+/// `Workers` exactly where their number is not 1 to 64, before anything is read; `App` and `Cert`
+/// name a fault that is present in the bytes; `Memory` and `Thread` say that the machine refused an
+/// allocation or a thread. Nothing is written then. `Write` says that the writer failed to take the
+/// report of a verdict; what was written then is open.
 pub fn check_with<R: Threads + Wait + Sync, G: Gate, W: Write>(
     rt: &R,
     alloc: Global,
@@ -42,6 +45,7 @@ pub fn check_with<R: Threads + Wait + Sync, G: Gate, W: Write>(
     ensures answer { IfOk result
         (λ status. IsAnswer app.now certificate.now status (W.contents writer.old) (W.contents writer.new)) }
     ensures safe { IfOk result (λ status. status ≡ 0 → IsSafeText app.now) }
+    ensures workers { IsErrOf result CheckFault.Workers ↔ IsNoCrew workers }
     ensures refused { IfErr result (CanRefuse app.now certificate.now workers) }
     ensures kept { IfErr result (λ fault. fault ≢ CheckFault.Write → writer.new ≡ writer.old) }
 {
@@ -57,7 +61,8 @@ pub fn check_with<R: Threads + Wait + Sync, G: Gate, W: Write>(
 }
 
 /// The exit status of `check_with`: 0 and 1 as it answers, 2 where the bytes or the number of
-/// workers are refused, with nothing written, and 3 where the machine failed.
+/// workers are refused, with nothing written, and 3 where the machine failed. Where there can't be
+/// so many workers it is 2.
 pub fn check_to<R: Threads + Wait + Sync, G: Gate, W: Write>(
     rt: &R,
     alloc: Global,
@@ -70,6 +75,7 @@ pub fn check_to<R: Threads + Wait + Sync, G: Gate, W: Write>(
     ensures yes { result ≡ 0 → IsAnswer app.now certificate.now 0 (W.contents writer.old) (W.contents writer.new) }
     ensures safe { result ≡ 0 → IsSafeText app.now }
     ensures no { result ≡ 1 → IsAnswer app.now certificate.now 1 (W.contents writer.old) (W.contents writer.new) }
+    ensures workers { IsNoCrew workers → result ≡ 2 }
     ensures refused { result ≡ 2 → IsRefused app.now certificate.now workers }
     ensures kept { result ≡ 2 → writer.new ≡ writer.old }
     ensures most { result ≤ 3 }

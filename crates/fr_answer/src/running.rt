@@ -162,7 +162,7 @@ pub fn run_to<R: Threads + Wait + Sync, G: Gate, W: Write>(
 /// only where the verdict is `No` and its report was: each with nothing written to `err`. It is 2
 /// only where the bytes or the number of polls are refused, with nothing written to `out`, and the
 /// fault's line and a newline to `err`. Else it is 3: the machine failed, and what was written then
-/// is open.
+/// is open. Where there are more than 1,000,000 polls, it is neither 0 nor 1.
 pub fn answer_run<R: Threads + Wait + Sync, G: Gate, O: Write, E: Write>(
     rt: &R,
     alloc: Global,
@@ -178,6 +178,7 @@ pub fn answer_run<R: Threads + Wait + Sync, G: Gate, O: Write, E: Write>(
     ensures safe { result ≡ 0 → IsSafeText app.now }
     ensures no { result ≡ 1 → IsRunAnswer app.now certificate.now polls words.now 1 (O.contents out.old) (O.contents out.new) }
     ensures quiet { result ≤ 1 → err.new ≡ err.old }
+    ensures polls { most_polls < polls → 2 ≤ result }
     ensures refused { result ≡ 2 → IsRunTold app.now certificate.now polls (E.contents err.old) (E.contents err.new) }
     ensures kept { result ≡ 2 → out.new ≡ out.old }
     ensures most { result ≤ 3 }

@@ -37,7 +37,7 @@ use Rattle.fr_notes.specs.Fits.{AlternativeFits}
 use Rattle.fr_notes.specs.Known.{alone, joint_range}
 use Rattle.fr_notes.specs.declared.holding.Holding.{Holding}
 use Rattle.fr_notes.specs.declared.holding.Holding.TheVariants.{Unheld, Living, Lifeless, Own, Others}
-use Rattle.fr_notes.specs.Holding.{holding}
+use Rattle.fr_notes.specs.Holding.{holding, can_be_dead}
 use Rattle.fr_notes.specs.Reckoning.{operand_in, CanBeIn, IsNamed, HasNumbersIn}
 use Rattle.fr_notes.specs.Spot.{condition_known}
 use Rattle.fr_notes.proofs.Shown.{listed-case, instead-same}
@@ -46,7 +46,7 @@ use Rattle.fr_notes.proofs.Seen.{Site, other, IsKnown, Choice, drawn, IsChosen, 
 use Rattle.fr_notes.proofs.EndRows.{gives-held, unheld-gives}
 use Rattle.fr_notes.proofs.VariableRows.{chosen_for, can-be-known, for-chosen, number-drawn, first-number, second-number}
 use Rattle.fr_edge.specs.Own.{is_own}
-use Rattle.fr_edge.specs.Alternatives.{KeepsRuleBy, BreaksRuleBy, Decides, RuleOutcome, is_decided, AnyRule, IsDecided, IsUndecided, lesser_of, may_be_dead, may_be_live, gives_unheld, dead_by, uses_dead, creates_live, StaysInQueue, LeavesQueue, StaysIn, IsOutBy}
+use Rattle.fr_edge.specs.Alternatives.{KeepsRuleBy, BreaksRuleBy, Decides, RuleOutcome, is_decided, AnyRule, IsDecided, IsUndecided, lesser_of, may_be_live, gives_unheld, dead_by, uses_dead, creates_live, StaysInQueue, LeavesQueue, StaysIn, IsOutBy}
 use Rattle.fr_edge.proofs.Standing.{breach-here}
 
 -- a rule of a list, and a fact about each
@@ -148,14 +148,14 @@ own-decided i InRange d = absurd (false≢true d)
 own-decided i rule d = refl
 
 -- what is known of an object decides whether it can be dead, and whether it can be live
-dead-in : (a b : ℕ) (kind : Kind) (known : Holding) → may_be_dead known ≡ true → content_in a b kind known ≡ Dead
+dead-in : (a b : ℕ) (kind : Kind) (known : Holding) → can_be_dead known ≡ true → content_in a b kind known ≡ Dead
 dead-in a b kind Unheld t = refl
 dead-in a b kind Lifeless t = refl
 dead-in a b kind Living t = absurd (false≢true t)
 dead-in a b kind (Own n) t = absurd (false≢true t)
 dead-in a b kind (Others n) t = absurd (false≢true t)
 
-never-dead : (a b : ℕ) (content : Content) (known : Holding) → may_be_dead known ≡ false → IsIn a b known content → content ≢ Dead
+never-dead : (a b : ℕ) (content : Content) (known : Holding) → can_be_dead known ≡ false → IsIn a b known content → content ≢ Dead
 never-dead a b content Unheld f i = absurd (false≢true (sym f))
 never-dead a b content Lifeless f i = absurd (false≢true (sym f))
 never-dead a b content Living f i = i.0
@@ -295,7 +295,7 @@ module _ (P : Program) (p : Point) (i : Instr) (n : Alternative) (free : IsFault
   given-decides = decide P p n GivenByHolder (gives_unheld P (alone n) i) (λ t. breaks-drawn GivenByHolder refl (usual s) (usual-chosen s) (given-broken i t)) (λ f. keeps-here GivenByHolder (λ own S noted b. given-kept i f S noted b))
 
   -- rule 7
-  dead-drawn : (o : ℕ) → may_be_dead (holding (alone n) o) ≡ true → content_of (drawn s (usual s)) o ≡ Dead
+  dead-drawn : (o : ℕ) → can_be_dead (holding (alone n) o) ≡ true → content_of (drawn s (usual s)) o ≡ Dead
   dead-drawn o t =
       listed-case (length P.objects) (usual s).content o Dead (λ c. c ≡ Dead) (λ l. dead-in p.actor.0 (other s) (kind_of P o) (holding (alone n) o) t) (λ l. refl)
 

@@ -7,7 +7,7 @@
 -- | is_decided                       | whether an actor's condition decides the rule                               |
 -- | AnyRule, IsDecided, IsUndecided  | every rule; the rules that a condition decides; the others                  |
 -- | RuleOutcome                      | the least of some rules that an alternative breaks, or none                 |
--- | may_be_dead, may_be_live         | whether an object can be dead, live, by what is known of it                 |
+-- | may_be_live                      | whether an object can be live, by what is known of it                       |
 -- | gives_unheld, uses_dead,         | whether rule 3, 7, 8 is breached in some state, by what is known            |
 -- |   creates_live                   |                                                                             |
 -- | StaysIn, IsOutBy                 | numbers are put into their declared ranges; some number out of it           |
@@ -40,10 +40,10 @@ use Rattle.fr_calls.specs.Step.{CanStep, AlwaysLeaves}
 use Rattle.fr_notes.specs.Note.{Alternative, Note, HoldsOne}
 use Rattle.fr_notes.specs.Noted.{note_at, IsAt, NotedBy}
 use Rattle.fr_notes.specs.Known.{Known, alone, joint_range, LeavesSome}
-use Rattle.fr_notes.specs.Holding.{holding, is_given_unheld}
+use Rattle.fr_notes.specs.Holding.{holding, can_be_dead, is_given_unheld}
 use Rattle.fr_notes.specs.Reckoning.{CanBeIn, operand_in}
 use Rattle.fr_notes.specs.declared.holding.Holding.{Holding}
-use Rattle.fr_notes.specs.declared.holding.Holding.TheVariants.{Unheld, Lifeless}
+use Rattle.fr_notes.specs.declared.holding.Holding.TheVariants.{Lifeless}
 use Rattle.fr_edge.specs.Own.{is_own, Goes}
 
 -- no state with the alternative breaches the rule, if that is one for the point to keep by itself
@@ -91,13 +91,7 @@ IsDecided rule = IsTrue (is_decided rule)
 abbrev pub IsUndecided : Rule → Type 0
 IsUndecided rule = IsFalse (is_decided rule)
 
--- whether an object can be dead, by what is known of it
-abbrev pub may_be_dead : Holding → Bool
-may_be_dead Unheld = true
-may_be_dead Lifeless = true
-may_be_dead known = false
-
--- whether it can be live
+-- whether an object can be live, by what is known of it
 abbrev pub may_be_live : Holding → Bool
 may_be_live Lifeless = false
 may_be_live known = true
@@ -110,7 +104,7 @@ gives_unheld P k i = false
 -- whether an object, if there is one, can be dead
 abbrev pub dead_by : Known → Option ℕ → Bool
 dead_by k None = false
-dead_by k (Some o) = may_be_dead (holding k o)
+dead_by k (Some o) = can_be_dead (holding k o)
 
 -- whether an object is used that can be dead
 abbrev pub uses_dead : Known → Instr → Side → Bool

@@ -57,7 +57,7 @@ fn uses_dead(known: &Known, instr: &Instr, side: Side) -> bool
     ensures { result ≡ uses_dead known.now instr.now side }
 {
     match used_object(instr, side) {
-        Some(object) => matches!(known.holding(object.0), Holding::Unheld | Holding::Lifeless),
+        Some(object) => known.holding(object.0).can_be_dead(),
         None => false,
     }
 }

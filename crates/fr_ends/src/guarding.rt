@@ -34,7 +34,7 @@ fn called_inside(app: &App, point: Point) -> Option<(ObjId, Action)>
 
 /// Whether an action is at this end of its buffer: a send at the writer's, a receive at the reader's,
 /// a reset at both.
-fn is_at_end(end: End, action: Action) -> bool
+pub fn is_at_end(end: End, action: Action) -> bool
     ensures { result ≡ is_at_end end action }
 {
     match (end, action) {
@@ -95,8 +95,8 @@ fn says_guard(alternative: &Alternative, actor: ActorId, guard: &Guard) -> bool
     }
 }
 
-/// Whether each alternative of the note says that the guard holds of its actor.
-fn note_says(note: &Note, actor: ActorId, guard: &Guard) -> bool
+/// Whether each alternative of the note says that the guard holds of its actor. Takes no memory.
+pub fn note_says(note: &Note, actor: ActorId, guard: &Guard) -> bool
     ensures { IsTrue result ↔ NoteSays note.now actor.0 (guard_of guard.now) }
 {
     note.alternatives()

@@ -10,8 +10,8 @@ ghost use Rattle.fr_ends.specs.Nearness.{used_inside, deleted_before, deletes_us
 use fr_notes::{Notes, together};
 use fr_program::{App, Call, Instr, ObjId, Point, Side};
 
-/// The object of the call that the point is inside.
-fn used_inside(app: &App, point: Point) -> Option<ObjId>
+/// The object of the call that the point is inside; None where it is inside none.
+pub fn used_inside(app: &App, point: Point) -> Option<ObjId>
     ensures { result ≡ used_inside point.side (instr_of app.now point) }
 {
     match (point.side, app.instr(point)) {

@@ -62,12 +62,18 @@ fn enlist_by(
     }
 }
 
+/// So many empty lists.
+fn empty_lists(alloc: Global, count: usize) -> Result<Vec<Vec<usize>>, AllocError> {
+    let mut lists = Vec::with_capacity(alloc, count)?;
+    for _ in 0..count {
+        lists.push(Vec::new(alloc))?;
+    }
+    Ok(lists)
+}
+
 /// For each point, by its number, the numbers of the points that lead to it, in their order.
 pub fn arrivals(alloc: Global, app: &App) -> Result<Vec<Vec<usize>>, AllocError> {
-    let mut arrivals = Vec::with_capacity(alloc, app.points())?;
-    for _ in 0..app.points() {
-        arrivals.push(Vec::new(alloc))?;
-    }
+    let mut arrivals = empty_lists(alloc, app.points())?;
     for number in 0..app.points() {
         let point = app.point(number);
         enlist_by(app, &mut arrivals, number, point, Way::Then)?;

@@ -6,9 +6,9 @@ ghost use Rattle.fr_ends.specs.View.{end_of};
 
 use crate::spot::{Spot, spot_at};
 use fr_calls::End;
-use fr_ends::{EndGuard, EndName, Ends, Guard, is_listed};
-use fr_notes::{Alternative, Claim, Note, Notes};
-use fr_program::{Action, ActorId, App, Call, Instr, ObjId, Side, VarId};
+use fr_ends::{EndGuard, EndName, Ends, Guard, is_at_end, is_listed, note_says};
+use fr_notes::{Alternative, Note, Notes};
+use fr_program::{ActorId, App, Call, Instr, ObjId, Side, VarId};
 use std::alloc::{AllocError, Global};
 use std::collections::BTreeMap;
 
@@ -19,15 +19,6 @@ struct Insider<'a> {
     note: &'a Note,
 }
 
-/// Whether an actor inside a call of this action is at this end of the buffer.
-fn is_at(action: &Action, end: End) -> bool {
-    match (action, end) {
-        (Action::Send { .. } | Action::Reset { .. }, End::Writer) => true,
-        (Action::Receive { .. } | Action::Reset { .. }, End::Reader) => true,
-        _ => false,
-    }
-}
-
 /// Whether some actor can be at the point, inside this end.
 fn is_inside(spot: &Spot, end: EndName) -> bool {
     if spot.note.alternatives().is_empty() {
@@ -35,7 +26,7 @@ fn is_inside(spot: &Spot, end: EndName) -> bool {
     }
     match (spot.point.side, spot.instr) {
         (Side::Inside, Instr::Call(Call::On { object, action })) => {
-            object.0 == end.buffer.0 && is_at(action, end.end)
+            object.0 == end.buffer.0 && is_at_end(end.end, *action)
         }
         _ => false,
     }
@@ -72,42 +63,19 @@ fn fitting(app: &App, end: EndName, guard: Guard) -> Option<EndGuard>
     if guard.fits(app) { Some(guard) } else { None }
 }
 
-fn holds(alternative: &Alternative, mutex: usize) -> bool {
-    matches!(alternative.claim(ObjId(mutex)), Claim::HeldTimes(_))
-}
-
-/// Whether each of them holds the mutex.
-fn all_hold(insiders: &[Insider], mutex: usize) -> bool {
-    insiders.iter().all(|insider| {
-        insider
-            .note
-            .alternatives()
-            .iter()
-            .all(|alternative| holds(alternative, mutex))
-    })
-}
-
-/// Whether each of them is in the critical section.
-fn are_critical(insiders: &[Insider]) -> bool {
-    insiders.iter().all(|insider| {
-        insider
-            .note
-            .alternatives()
-            .iter()
-            .all(|alternative| alternative.critical() > 0)
-    })
-}
-
-/// Whether all of them are one actor.
-fn are_one(insiders: &[Insider], actor: ActorId) -> bool {
-    insiders.iter().all(|insider| insider.actor.0 == actor.0)
+/// Whether the note of each of them says that the guard holds of its actor.
+fn all_have(insiders: &[Insider], guard: &Guard) -> bool {
+    insiders
+        .iter()
+        .all(|insider| note_says(insider.note, insider.actor, guard))
 }
 
 /// The mutex with the least number that each of them holds.
-fn common_mutex(app: &App, insiders: &[Insider]) -> Option<ObjId> {
+fn common_mutex(app: &App, insiders: &[Insider]) -> Option<Guard> {
     for mutex in 0..app.objects().len() {
-        if all_hold(insiders, mutex) {
-            return Some(ObjId(mutex));
+        let guard = Guard::Mutex(ObjId(mutex));
+        if all_have(insiders, &guard) {
+            return Some(guard);
         }
     }
     None
@@ -205,19 +173,20 @@ fn guard_at(
     let Some(first) = insiders.first() else {
         return Ok(None);
     };
-    if are_one(&insiders, first.actor) {
-        return Ok(fitting(app, end, Guard::Sole(first.actor)));
+    let sole = Guard::Sole(first.actor);
+    if all_have(&insiders, &sole) {
+        return Ok(fitting(app, end, sole));
     }
     if let Some(mutex) = common_mutex(app, &insiders) {
-        return Ok(fitting(app, end, Guard::Mutex(mutex)));
+        return Ok(fitting(app, end, mutex));
     }
-    if are_critical(&insiders) {
+    if all_have(&insiders, &Guard::Critical) {
         return Ok(fitting(app, end, Guard::Critical));
     }
     if let Some(turn) = common_turn(alloc, app, &insiders, end)? {
         return Ok(Some(turn));
     }
-    Ok(fitting(app, end, Guard::Sole(first.actor)))
+    Ok(fitting(app, end, sole))
 }
 
 /// Adds a guard, unless the end has one.

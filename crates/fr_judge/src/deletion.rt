@@ -7,9 +7,9 @@ ghost use Rattle.fr_notes.specs.Fits.{NotesFit};
 ghost use Rattle.fr_ends.specs.Nearness.{used_inside};
 ghost use Rattle.fr_judge.specs.Deleter.{IsDeleter};
 
-use fr_ends::near;
+use fr_ends::{near, used_inside};
 use fr_notes::Notes;
-use fr_program::{App, Call, Changed, Instr, ObjId, Point, Side};
+use fr_program::{App, Changed, ObjId, Point};
 
 /// The least point at which another actor can delete the object of the call that the point with this
 /// number is inside. None where no actor can, and where the point isn't inside a call. The notes fit
@@ -24,16 +24,6 @@ pub fn deleter(app: &App, notes: &Notes, number: usize) -> Option<Point>
     match used_inside(app, app.point(number)) {
         Some(object) => first_delete(app, notes, number, object),
         None => None,
-    }
-}
-
-/// The object of the call that the point is inside.
-fn used_inside(app: &App, point: Point) -> Option<ObjId>
-    ensures { result ≡ used_inside point.side (instr_of app.now point) }
-{
-    match (point.side, app.instr(point)) {
-        (Side::Inside, Some(Instr::Call(Call::On { object, .. }))) => Some(*object),
-        (_, _) => None,
     }
 }
 

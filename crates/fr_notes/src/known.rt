@@ -1,7 +1,7 @@
 // What is known before a step: the mover's alternative, and perhaps another actor's.
-ghost use Rattle.std.specs.Prelude.{◌≡◌, ◌≤◌, ◌≤ℤ◌, IfSome, option_copied};
+ghost use Rattle.std.specs.Prelude.{◌≡◌, ◌≤◌, ◌≤ℤ◌, IfSome};
 ghost use Rattle.std.specs.Int.{int_min, int_max};
-ghost use Rattle.fr_notes.specs.Known.{alone, beside, IsPossible, joint_range, joint_claim, joined, meet_of, is_other_critical, is_other_holder, claims_some};
+ghost use Rattle.fr_notes.specs.Known.{alone, beside, IsPossible, joint_range, joint_claim, joined, meet_of, is_other_critical, claims_some};
 ghost use Rattle.fr_notes.specs.Holding.{holding};
 ghost use Rattle.fr_notes.specs.Note.{claim_of, range_of};
 ghost use Rattle.fr_notes.specs.Spot.{unchanged, claiming, resulting};
@@ -101,16 +101,6 @@ impl<'a> Known<'a> {
         }
     }
 
-    /// Whether another actor is known to hold the object.
-    pub fn is_other_holder(&self, object: usize) -> bool
-        ensures { result ≡ is_other_holder self.now object }
-    {
-        match self.other {
-            None => false,
-            Some(other) => matches!(other.claim(ObjId(object)), Claim::HeldTimes(_)),
-        }
-    }
-
     /// Whether the mover holds something.
     pub fn holds_some(&self) -> bool
         ensures { result ≡ claims_some self.now.mover.claims }
@@ -166,20 +156,6 @@ impl<'a> Known<'a> {
             None => Holding::of(claim, Claim::NotHeld),
             Some(other) => Holding::of(claim, other.claim(ObjId(object))),
         }
-    }
-
-    /// The other actor's alternative, where one is looked at.
-    pub fn other(&self) -> Option<&Alternative>
-        ensures { option_copied result ≡ self.now.other }
-    {
-        self.other
-    }
-
-    /// The mover's alternative.
-    pub fn mover(&self) -> &Alternative
-        ensures { result.now ≡ self.now.mover }
-    {
-        self.mover
     }
 
     /// The change that leaves all as it is.
