@@ -1,3 +1,4 @@
+// The board: it hands out each number once, keeps the least that failed, and tells at the end what became of them.
 ghost use Rattle.std.specs.Prelude.{List, MatchResult, OnOk, IfErr, Some, ◌≡◌, ◌<◌, ◌≤◌, ℕ, IfSome, IfNone, [], MatchOption, IfOk, ◌++◌, ◌∷◌, All, unwrap_or};
 ghost use Rattle.fr_board.specs.declared.board.BoardFault.TheVariants.{Memory};
 ghost use Rattle.fr_board.specs.declared.progress.Outcome.TheVariants.{Open, Passed, Failed, Skipped};

@@ -1,4 +1,4 @@
--- For private clauses: where a step leaves its actor, as the code says it.
+-- Where a step leaves its actor, as the code says it: for the public contract of `lands_at`.
 use Rattle.fr_program.specs.declared.ids.ActorId.{ActorId}
 use Rattle.fr_calls.specs.declared.way.Landing.{Landing}
 use Rattle.fr_calls.specs.declared.way.Landing.TheVariants.{At as LandsAt, Done as LandsNowhere}

@@ -1,4 +1,4 @@
-// What a kernel object has, in a state: its values, its number, its holder, its bytes or its messages.
+// What a kernel object has, in a state: its values, its count, its holder, its bytes or its messages.
 ghost use Rattle.std.specs.Prelude.{◌≡◌, ◌+◌, ◌^◌, ◌++◌, ◌∷◌, ◌<◌, ◌≤◌, ◌↔◌, ℕ, ℤ, pos, [], List, Some, IsTrue, IsSome, OnOk, OnErr, IfSome, IfNone, is_some, sum};
 ghost use Rattle.fr_program.specs.Limits.{KindInLimits};
 
@@ -46,6 +46,7 @@ impl Model for Content {
 }
 
 impl Messages {
+    /// No messages. Takes no memory.
     fn new(alloc: Global) -> Messages
         ensures { result.lengths.items ≡ [] }
     {
@@ -124,7 +125,7 @@ impl Content {
     }
 
     /// Whether the actor's take works: a mutex is free, a recursive one free or the actor's own, a
-    /// number above 0.
+    /// semaphore's count is above 0.
     pub(crate) fn can_take(&self, kind: Kind, actor: ActorId) -> bool
         ensures { result ≡ is_some (taken kind actor.0 self.now) }
     {
@@ -136,7 +137,7 @@ impl Content {
         }
     }
 
-    /// The actor takes it.
+    /// A take that works: the actor holds a mutex once more; a semaphore's count goes down by 1.
     pub(crate) fn take(&mut self, kind: Kind, actor: ActorId)
         requires can { IsSome (taken kind actor.0 self.old) }
         requires small { count_held actor.0 self.old ≤ 255 }
@@ -156,7 +157,8 @@ impl Content {
         self.stock = stock;
     }
 
-    /// Whether a give works: it is held, or a number is below 1 or the size.
+    /// Whether a give works: a mutex is held, a binary semaphore's count is below 1, a counting one's
+    /// is below its size.
     pub(crate) fn can_give(&self, kind: Kind) -> bool
         ensures { result ≡ is_some (given kind self.now) }
     {
@@ -168,7 +170,7 @@ impl Content {
         }
     }
 
-    /// Whether a give is refused: a number is at 1 or the size.
+    /// Whether a give is refused: a binary semaphore's count is 1, a counting one's is its size.
     pub(crate) fn is_full(&self, kind: Kind) -> bool
         ensures { result ≡ is_full kind self.now }
     {
@@ -179,7 +181,8 @@ impl Content {
         }
     }
 
-    /// It is given back, or its number goes up.
+    /// A give that works: a mutex is held once less, and free after the last time; a semaphore's count
+    /// goes up by 1.
     pub(crate) fn give(&mut self, kind: Kind)
         requires can { IsSome (given kind self.old) }
         requires limits { KindInLimits kind }

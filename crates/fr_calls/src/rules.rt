@@ -78,6 +78,7 @@ fn is_at_once(timing: &Timing) -> bool
     matches!(timing, Timing::FromIsr | Timing::Waits(BlockTime::Ticks(0)))
 }
 
+/// Whether the call is allowed in the critical section.
 fn allowed_in_critical(call: &Call) -> bool
     ensures { result ≡ allowed_in_critical call.now }
 {
@@ -91,6 +92,7 @@ fn allowed_in_critical(call: &Call) -> bool
     }
 }
 
+/// Whether the call is allowed while the scheduler is suspended.
 fn allowed_suspended(call: &Call) -> bool
     ensures { result ≡ allowed_suspended call.now }
 {
@@ -135,6 +137,7 @@ pub fn first_forbidden(app: &App, condition: Condition, instr: &Instr) -> Option
     }
 }
 
+/// The least rule that forbids the call in this condition, or None.
 fn first_forbidden_call(app: &App, condition: Condition, call: &Call) -> Option<Rule>
     requires { NamesThings app.now (Instr.Call call.now) }
     ensures { result ≡ first_forbidden app.now condition (Instr.Call call.now) }

@@ -24,6 +24,7 @@ pub enum Landing {
     Done,
 }
 
+/// The point before this instruction of the actor.
 fn before(actor: ActorId, pc: usize) -> Landing
     ensures { result ≡ landing_of actor (At pc Before) }
 {

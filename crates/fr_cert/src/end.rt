@@ -25,7 +25,7 @@ use fr_program::{App, ObjId};
 use serde_json::{Map, Value};
 use std::alloc::Global;
 
-// The end that the value names.
+/// The end that the value names.
 fn end_named(alloc: Global, value: &Value) -> Result<End, CertFault>
     ensures ok { IfOk result (IsEndName (view value.now)) }
     ensures err { IfErr result (InEndName (view value.now)) }
@@ -37,7 +37,7 @@ fn end_named(alloc: Global, value: &Value) -> Result<End, CertFault>
     }
 }
 
-// The end at the key `end`, which the object has to have.
+/// The end at the key `end`, which the object has to have.
 fn end_at(alloc: Global, object: &Map<String, Value>) -> Result<End, CertFault>
     ensures ok { IfOk result (At Key.End IsEndName (members_view object.now.entries)) }
     ensures err { IfErr result
@@ -52,7 +52,7 @@ fn end_at(alloc: Global, object: &Map<String, Value>) -> Result<End, CertFault>
     }
 }
 
-// The guard of an end that the object means, key by key.
+/// The guard of an end that the object means, key by key.
 fn end_of(alloc: Global, names: &Names, object: &Map<String, Value>) -> Result<EndGuard, CertFault>
     ensures ok { IfOk result
         (λ e. IsEnd names.now (members_view object.now.entries) (end_of e)) }
@@ -71,7 +71,7 @@ fn end_of(alloc: Global, names: &Names, object: &Map<String, Value>) -> Result<E
     })
 }
 
-// The guard of an end that the object means, which has to fit the application.
+/// The guard of an end that the object means, which has to fit the application.
 fn fitting_end(
     alloc: Global,
     app: &App,
@@ -92,7 +92,7 @@ fn fitting_end(
     }
 }
 
-// The guard of an end that the value means.
+/// The guard of an end that the value means.
 fn end_in(alloc: Global, app: &App, names: &Names, value: &Value) -> Result<EndGuard, CertFault>
     requires { names.now ≡ names_in app.now }
     ensures ok { IfOk result (λ e. IsObject (IsEnd (names_in app.now)) (view value.now) (end_of e)) }
@@ -102,7 +102,7 @@ fn end_in(alloc: Global, app: &App, names: &Names, value: &Value) -> Result<EndG
     fitting_end(alloc, app, names, object_in(alloc, value)?)
 }
 
-// The guards of ends that the entries mean, none of one end twice.
+/// The guards of ends that the entries mean, none of one end twice.
 fn each_end(
     alloc: Global,
     app: &App,
@@ -130,7 +130,7 @@ fn each_end(
     Ok(ends)
 }
 
-// The guards of ends that the value means.
+/// The guards of ends that the value means.
 pub(crate) fn ends_of(
     alloc: Global,
     app: &App,

@@ -11,6 +11,7 @@ use std::fmt;
 /// refusal's line shows.
 #[derive(Debug, Drop)]
 pub enum CertFault {
+    /// An allocation was refused.
     Memory,
     /// Over 16,777,216 bytes.
     TooLong,

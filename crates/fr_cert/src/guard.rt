@@ -23,7 +23,7 @@ use serde_json::{Map, Value};
 use std::alloc::Global;
 use std::collections::BTreeMap;
 
-// The number of the thing that is named at a key, which the object has to have.
+/// The number of the thing that is named at a key, which the object has to have.
 pub(crate) fn number_at(
     alloc: Global,
     names: &Names,
@@ -45,7 +45,7 @@ pub(crate) fn number_at(
     }
 }
 
-// The value of an actor's turn.
+/// The value of an actor's turn.
 fn turn_value(alloc: Global, value: &Value) -> Result<i64, CertFault>
     ensures ok { IfOk result (IsTurnNumber (view value.now)) }
     ensures err { IfErr result (Standing (InTurnValue (view value.now))) }
@@ -56,7 +56,7 @@ fn turn_value(alloc: Global, value: &Value) -> Result<i64, CertFault>
     }
 }
 
-// The values of a turn, by actor.
+/// The values of a turn, by actor.
 fn turn_values(
     alloc: Global,
     names: &Names,
@@ -78,7 +78,7 @@ fn turn_values(
     Ok(values)
 }
 
-// The values of a turn at the key `values`, which the object has to have.
+/// The values of a turn at the key `values`, which the object has to have.
 fn values_at(
     alloc: Global,
     names: &Names,
@@ -98,7 +98,7 @@ fn values_at(
     }
 }
 
-// The values of a turn that the value means.
+/// The values of a turn that the value means.
 fn values_in(
     alloc: Global,
     names: &Names,
@@ -112,7 +112,7 @@ fn values_in(
     turn_values(alloc, names, object_in(alloc, value)?)
 }
 
-// The turn that the object means.
+/// The turn that the object means.
 fn turn_of(alloc: Global, names: &Names, object: &Map<String, Value>) -> Result<Guard, CertFault>
     ensures ok { IfOk result
         (λ guard. IsGuardObject names.now (members_view object.now.entries) (guard_of guard)) }
@@ -124,7 +124,7 @@ fn turn_of(alloc: Global, names: &Names, object: &Map<String, Value>) -> Result<
     Ok(Guard::Turn(VarId(variable), values))
 }
 
-// The guard of one actor alone that the object means.
+/// The guard of one actor alone that the object means.
 fn sole_of(alloc: Global, names: &Names, object: &Map<String, Value>) -> Result<Guard, CertFault>
     ensures ok { IfOk result
         (λ guard. IsGuardObject names.now (members_view object.now.entries) (guard_of guard)) }
@@ -137,7 +137,7 @@ fn sole_of(alloc: Global, names: &Names, object: &Map<String, Value>) -> Result<
     Ok(Guard::Sole(ActorId(actor)))
 }
 
-// The guard of whoever holds a mutex that the object means.
+/// The guard of whoever holds a mutex that the object means.
 fn mutex_of(alloc: Global, names: &Names, object: &Map<String, Value>) -> Result<Guard, CertFault>
     ensures ok { IfOk result
         (λ guard. IsGuardObject names.now (members_view object.now.entries) (guard_of guard)) }
@@ -150,7 +150,7 @@ fn mutex_of(alloc: Global, names: &Names, object: &Map<String, Value>) -> Result
     Ok(Guard::Mutex(ObjId(mutex)))
 }
 
-// Whether the object has this key.
+/// Whether the object has this key.
 fn has(object: &Map<String, Value>, key: Key) -> bool
     ensures some { OnTrue result (Has key (members_view object.now.entries)) }
     ensures none { OnFalse result (field key (members_view object.now.entries) ≡ None) }
@@ -158,7 +158,7 @@ fn has(object: &Map<String, Value>, key: Key) -> bool
     found_at(object, key).is_some()
 }
 
-// The guard that the object means: which one it has to be, its first key says.
+/// The guard that the object means: which one it has to be, its first key says.
 fn guard_in(alloc: Global, names: &Names, object: &Map<String, Value>) -> Result<Guard, CertFault>
     ensures ok { IfOk result
         (λ guard. IsGuardObject names.now (members_view object.now.entries) (guard_of guard)) }
@@ -174,7 +174,7 @@ fn guard_in(alloc: Global, names: &Names, object: &Map<String, Value>) -> Result
     turn_of(alloc, names, object)
 }
 
-// Whether the value is the text `critical`.
+/// Whether the value is the text `critical`.
 fn is_critical(value: &Value) -> bool
     ensures { IsTrue result ↔ (as_str (view value.now) ≡ Some (codes "critical")) }
 {
@@ -184,7 +184,7 @@ fn is_critical(value: &Value) -> bool
     }
 }
 
-// The guard that the value means: the text `critical`, or an object.
+/// The guard that the value means: the text `critical`, or an object.
 fn guard_value(alloc: Global, names: &Names, value: &Value) -> Result<Guard, CertFault>
     ensures ok { IfOk result (λ guard. IsGuard names.now (view value.now) (guard_of guard)) }
     ensures err { IfErr result (Standing (InGuard names.now (view value.now))) }
@@ -199,7 +199,7 @@ fn guard_value(alloc: Global, names: &Names, value: &Value) -> Result<Guard, Cer
     }
 }
 
-// The guard at the key `guard`, which the object has to have.
+/// The guard at the key `guard`, which the object has to have.
 pub(crate) fn guard_at(
     alloc: Global,
     names: &Names,

@@ -16,7 +16,7 @@ use fr_program::ObjId;
 use serde_json::{Map, Value};
 use std::alloc::Global;
 
-// The depth, or the count, that a value means.
+/// The depth, or the count, that a value means.
 pub(crate) fn depth_of(alloc: Global, value: &Value) -> Result<u8, CertFault>
     ensures ok { IfOk result (λ n. IsDepth (view value.now) n) }
     ensures err { IfErr result (Standing (InDepth (view value.now))) }
@@ -27,7 +27,7 @@ pub(crate) fn depth_of(alloc: Global, value: &Value) -> Result<u8, CertFault>
     }
 }
 
-// The object with this name, and the count beside it.
+/// The object with this name, and the count beside it.
 fn named_count(
     alloc: Global,
     names: &Names,
@@ -45,7 +45,7 @@ fn named_count(
     }
 }
 
-// The counts of an object, in its order.
+/// The counts of an object, in its order.
 fn counts_in(
     alloc: Global,
     names: &Names,
@@ -63,7 +63,7 @@ fn counts_in(
     Ok(counts)
 }
 
-// How often the value says that objects are held.
+/// How often the value says that objects are held.
 pub(crate) fn counts_of(
     alloc: Global,
     names: &Names,
@@ -77,14 +77,14 @@ pub(crate) fn counts_of(
     counts_in(alloc, names, object_in(alloc, value)?)
 }
 
-// Whether the object with this number is one of these.
+/// Whether the object with this number is one of these.
 fn is_among(objects: &[ObjId], number: usize) -> bool
     ensures { result ≡ list_any (λ o. nat_eq o.0 number) objects.now }
 {
     objects.iter().any(|object| object.0 == number)
 }
 
-// The objects that the entries name, none of them twice.
+/// The objects that the entries name, none of them twice.
 fn objects_in(alloc: Global, names: &Names, list: &Vec<Value>) -> Result<Vec<ObjId>, CertFault>
     ensures ok { IfOk result
         (λ v. AreNames names.now.objects (items_view list.now.items) (map number_of v.items)) }
@@ -105,7 +105,7 @@ fn objects_in(alloc: Global, names: &Names, list: &Vec<Value>) -> Result<Vec<Obj
     Ok(objects)
 }
 
-// The objects that the value names.
+/// The objects that the value names.
 pub(crate) fn objects_of(
     alloc: Global,
     names: &Names,

@@ -63,7 +63,7 @@ pub(crate) enum Place {
     Note,
 }
 
-// Whether a note's object may have this key.
+/// Whether a note's object may have this key.
 fn is_key_of_note(key: &str) -> bool
     ensures { result ≡ is_key_of Place.Note key.now }
 {

@@ -21,7 +21,7 @@ pub(crate) enum Thing {
     Actor,
 }
 
-// The number of the thing with this name.
+/// The number of the thing with this name.
 fn number_of(names: &Names, thing: Thing, name: &str) -> Option<usize>
     ensures { result ≡ place_of (list_of thing names.now) name.now }
 {
@@ -41,7 +41,7 @@ fn number_of(names: &Names, thing: Thing, name: &str) -> Option<usize>
     }
 }
 
-// The name is that of nothing.
+/// The name is that of nothing.
 fn unknown(alloc: Global, name: &str) -> CertFault
     ensures { Standing (IsUnknown name.now) result }
 {
@@ -51,7 +51,7 @@ fn unknown(alloc: Global, name: &str) -> CertFault
     }
 }
 
-// The number of the thing that has to have this name.
+/// The number of the thing that has to have this name.
 pub(crate) fn number_named(
     alloc: Global,
     names: &Names,
@@ -68,7 +68,7 @@ pub(crate) fn number_named(
     }
 }
 
-// The number of the thing that the value has to name.
+/// The number of the thing that the value has to name.
 pub(crate) fn number_in(
     alloc: Global,
     names: &Names,

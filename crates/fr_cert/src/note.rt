@@ -27,7 +27,7 @@ use std::alloc::Global;
 /// The most alternatives of a note.
 const MOST_ALTERNATIVES: usize = 4;
 
-// The depth at a key, which is 0 where the object has no such key.
+/// The depth at a key, which is 0 where the object has no such key.
 fn depth_at(alloc: Global, object: &Map<String, Value>, key: Key) -> Result<u8, CertFault>
     ensures ok { IfOk result
         (λ n. AtOrDefault key 0 IsDepth (members_view object.now.entries) n) }
@@ -43,7 +43,7 @@ fn depth_at(alloc: Global, object: &Map<String, Value>, key: Key) -> Result<u8, 
     }
 }
 
-// The counts at the key `held`, of which there are none where the object has no such key.
+/// The counts at the key `held`, of which there are none where the object has no such key.
 fn held_at(
     alloc: Global,
     names: &Names,
@@ -63,7 +63,7 @@ fn held_at(
     }
 }
 
-// The objects named at a key, of which there are none where the object has no such key.
+/// The objects named at a key, of which there are none where the object has no such key.
 fn objects_at(
     alloc: Global,
     names: &Names,
@@ -84,7 +84,7 @@ fn objects_at(
     }
 }
 
-// The ranges at the key `range`, of which there are none where the object has no such key.
+/// The ranges at the key `range`, of which there are none where the object has no such key.
 fn ranges_at(
     alloc: Global,
     names: &Names,
@@ -104,7 +104,7 @@ fn ranges_at(
     }
 }
 
-// The parts that the object means, key by key.
+/// The parts that the object means, key by key.
 fn parts_of(
     alloc: Global,
     names: &Names,
@@ -126,7 +126,7 @@ fn parts_of(
     })
 }
 
-// What a certificate with a note that has this fault is refused for.
+/// What a certificate with a note that has this fault is refused for.
 fn refused_as(alloc: Global, fault: NoteFault) -> CertFault
     ensures { result ≡ refused_as fault }
 {
@@ -136,7 +136,7 @@ fn refused_as(alloc: Global, fault: NoteFault) -> CertFault
     }
 }
 
-// The plain note of the one alternative that the object means.
+/// The plain note of the one alternative that the object means.
 fn alternative_of(
     alloc: Global,
     app: &App,
@@ -155,7 +155,7 @@ fn alternative_of(
     }
 }
 
-// The plain note that the value means.
+/// The plain note that the value means.
 fn plain_note(alloc: Global, app: &App, names: &Names, value: &Value) -> Result<Note, CertFault>
     requires { names.now ≡ names_in app.now }
     ensures ok { IfOk result (IsOneOf (IsPlainNote app.now (view value.now))) }
@@ -165,7 +165,7 @@ fn plain_note(alloc: Global, app: &App, names: &Names, value: &Value) -> Result<
     alternative_of(alloc, app, names, object_in(alloc, value)?)
 }
 
-// The plain notes that the entries mean.
+/// The plain notes that the entries mean.
 fn each_plain_note(
     alloc: Global,
     app: &App,
@@ -189,7 +189,7 @@ fn each_plain_note(
     Ok(notes)
 }
 
-// The list has one to four entries.
+/// The list has one to four entries.
 #[tactic(auto, using(crate::proofs::EntryLemmas::view_length))]
 fn check_few(alloc: Global, list: &Vec<Value>) -> Result<(), CertFault>
     ensures some { OnOk result (1 ≤ items_len (items_view list.now.items)) }
@@ -208,7 +208,7 @@ fn check_few(alloc: Global, list: &Vec<Value>) -> Result<(), CertFault>
     Ok(())
 }
 
-// The alternatives of plain notes, of which there are one to four, so they are not refused.
+/// The alternatives of plain notes, of which there are one to four, so they are not refused.
 fn joined(alloc: Global, app: &App, notes: Vec<Note>) -> Result<Alts, CertFault>
     requires plain { All (λ note. length note ≡ 1) notes.items }
     requires few { length notes.items ≤ most_alternatives }
@@ -223,7 +223,7 @@ fn joined(alloc: Global, app: &App, notes: Vec<Note>) -> Result<Alts, CertFault>
     }
 }
 
-// The alternatives that the entries of a list mean, in its order.
+/// The alternatives that the entries of a list mean, in its order.
 fn alternatives_of(
     alloc: Global,
     app: &App,
@@ -241,7 +241,7 @@ fn alternatives_of(
     joined(alloc, app, notes)
 }
 
-// Whether the value is the text `never`.
+/// Whether the value is the text `never`.
 fn is_never(value: &Value) -> bool
     ensures { IsTrue result ↔ (as_str (view value.now) ≡ Some (codes "never")) }
 {
@@ -251,7 +251,7 @@ fn is_never(value: &Value) -> bool
     }
 }
 
-// The note that a value which is no object means: `"never"`, or in version 2 a list.
+/// The note that a value which is no object means: `"never"`, or in version 2 a list.
 fn other_note(
     alloc: Global,
     app: &App,
@@ -274,7 +274,7 @@ fn other_note(
     }
 }
 
-// The note that a value means in this version.
+/// The note that a value means in this version.
 pub(crate) fn note_of(
     alloc: Global,
     app: &App,

@@ -1,4 +1,4 @@
-// Where in a certificate's text a value stands.
+// Where in a certificate's text a value is.
 ghost use Rattle.std.specs.Prelude.{◌≡◌, [], ◌∷◌, Some, IfOk};
 
 use std::alloc::{AllocError, Global};
@@ -39,7 +39,8 @@ impl Path {
         }
     }
 
-    /// The same value, seen from one that has this one's whole at this step.
+    /// The path of the same value, seen from one level further out, where `step` leads to what was the
+    /// whole. Its error is that an allocation was refused.
     pub fn within(mut self, step: Step) -> Result<Path, AllocError>
         ensures { IfOk result (λ path. path ≡ step_of step ∷ self) }
     {

@@ -18,7 +18,7 @@ use fr_program::{Range, VarId};
 use serde_json::{Map, Value};
 use std::alloc::Global;
 
-// What a list has at a position, if it is so long.
+/// What a list has at a position, if it is so long.
 fn item_at(list: &Vec<Value>, index: usize) -> Option<&Value>
     ensures { option_map (λ v. view v.now) result ≡ get_item index (items_view list.now.items) }
 {
@@ -29,7 +29,7 @@ fn item_at(list: &Vec<Value>, index: usize) -> Option<&Value>
     }
 }
 
-// The integer at a position of a list, if there is one.
+/// The integer at a position of a list, if there is one.
 fn end_at(ends: &Vec<Value>, index: usize) -> Option<i128>
     ensures { result ≡ end_at index (items_view ends.now.items) }
 {
@@ -39,7 +39,7 @@ fn end_at(ends: &Vec<Value>, index: usize) -> Option<i128>
     }
 }
 
-// The range with the two ends.
+/// The range with the two ends.
 fn span_of(alloc: Global, ends: &Vec<Value>) -> Result<Range, CertFault>
     ensures ok { IfOk result (λ range. AreEnds (items_view ends.now.items) (ends_of range)) }
     ensures err { IfErr result (Standing (InEnds (items_view ends.now.items))) }
@@ -59,7 +59,7 @@ fn span_of(alloc: Global, ends: &Vec<Value>) -> Result<Range, CertFault>
     }
 }
 
-// The range that a list of two integers means.
+/// The range that a list of two integers means.
 fn range_of(alloc: Global, value: &Value) -> Result<Range, CertFault>
     ensures ok { IfOk result (λ range. IsSpan (view value.now) (ends_of range)) }
     ensures err { IfErr result (Standing (InSpan (view value.now))) }
@@ -67,7 +67,7 @@ fn range_of(alloc: Global, value: &Value) -> Result<Range, CertFault>
     span_of(alloc, list_in(alloc, value)?)
 }
 
-// The variable with this name, and the range beside it.
+/// The variable with this name, and the range beside it.
 fn named_range(
     alloc: Global,
     names: &Names,
@@ -85,7 +85,7 @@ fn named_range(
     }
 }
 
-// The ranges of an object, in its order.
+/// The ranges of an object, in its order.
 fn members_of(
     alloc: Global,
     names: &Names,
@@ -103,7 +103,7 @@ fn members_of(
     Ok(ranges)
 }
 
-// The ranges that the value means, in its order.
+/// The ranges that the value means, in its order.
 pub(crate) fn ranges_of(
     alloc: Global,
     names: &Names,

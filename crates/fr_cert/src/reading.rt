@@ -32,7 +32,7 @@ use std::alloc::Global;
 /// The most bytes that a certificate has.
 pub const MOST_BYTES: usize = 16_777_216;
 
-// The version that the value means, 1 or 2.
+/// The version that the value means, 1 or 2.
 fn version_of(alloc: Global, value: &Value) -> Result<u8, CertFault>
     ensures ok { IfOk result (IsVersion (view value.now)) }
     ensures err { IfErr result (Standing (InVersion (view value.now))) }
@@ -44,7 +44,7 @@ fn version_of(alloc: Global, value: &Value) -> Result<u8, CertFault>
     }
 }
 
-// The version at its key, which the object has to have.
+/// The version at its key, which the object has to have.
 fn version_at(alloc: Global, object: &Map<String, Value>) -> Result<u8, CertFault>
     ensures ok { IfOk result (At Key.Version IsVersion (members_view object.now.entries)) }
     ensures err { IfErr result
@@ -59,7 +59,7 @@ fn version_at(alloc: Global, object: &Map<String, Value>) -> Result<u8, CertFaul
     }
 }
 
-// The guards of ends at their key, which the object has to have.
+/// The guards of ends at their key, which the object has to have.
 fn ends_at(
     alloc: Global,
     app: &App,
@@ -82,7 +82,7 @@ fn ends_at(
     }
 }
 
-// The list has one entry for each point.
+/// The list has one entry for each point.
 fn check_count(app: &App, list: &Vec<Value>) -> Result<(), CertFault>
     ensures ok { OnOk result (items_len (items_view list.now.items) ≡ length (points_of app.now)) }
     ensures err { IfErr result
@@ -95,7 +95,7 @@ fn check_count(app: &App, list: &Vec<Value>) -> Result<(), CertFault>
     }
 }
 
-// The notes that the entries of a list mean, in its order.
+/// The notes that the entries of a list mean, in its order.
 fn each_note(
     alloc: Global,
     app: &App,
@@ -120,7 +120,7 @@ fn each_note(
     Ok(notes)
 }
 
-// The notes of a list, one for each point.
+/// The notes of a list, one for each point.
 fn notes_in(
     alloc: Global,
     app: &App,
@@ -140,7 +140,7 @@ fn notes_in(
     each_note(alloc, app, names, version, list)
 }
 
-// The notes that a value means, one for each point.
+/// The notes that a value means, one for each point.
 fn notes_of(
     alloc: Global,
     app: &App,
@@ -158,7 +158,7 @@ fn notes_of(
     notes_in(alloc, app, names, version, list_in(alloc, value)?)
 }
 
-// The notes at their key, which the object has to have.
+/// The notes at their key, which the object has to have.
 fn notes_at(
     alloc: Global,
     app: &App,
@@ -183,7 +183,7 @@ fn notes_at(
     }
 }
 
-// The same notes, which are one for each point, so they are not refused.
+/// The same notes, which are one for each point, so they are not refused.
 fn built_notes(alloc: Global, app: &App, notes: Vec<Alts>) -> Result<Notes, CertFault>
     requires points { length notes.items ≡ length (points_of app.now) }
     requires fit { All (NoteFits app.now) notes.items }
@@ -197,7 +197,7 @@ fn built_notes(alloc: Global, app: &App, notes: Vec<Alts>) -> Result<Notes, Cert
     }
 }
 
-// The same guards, which fit the application, so they are not refused.
+/// The same guards, which fit the application, so they are not refused.
 fn built_ends(alloc: Global, app: &App, ends: Vec<EndGuard>) -> Result<Ends, CertFault>
     requires { EndsFit app.now (map end_of ends.items) }
     ensures same { IfOk result (λ e. e ≡ map end_of ends.items) }
@@ -209,7 +209,7 @@ fn built_ends(alloc: Global, app: &App, ends: Vec<EndGuard>) -> Result<Ends, Cer
     }
 }
 
-// The certificate that the object means, key by key.
+/// The certificate that the object means, key by key.
 fn certificate_of(
     alloc: Global,
     app: &App,
@@ -232,7 +232,7 @@ fn certificate_of(
     })
 }
 
-// The certificate that the value of the whole text means.
+/// The certificate that the value of the whole text means.
 fn certificate_in(alloc: Global, app: &App, value: &Value) -> Result<Certificate, CertFault>
     ensures ok { IfOk result (IsTree app.now (view value.now)) }
     ensures fits { IfOk result (CertificateFits app.now) }
@@ -242,7 +242,7 @@ fn certificate_in(alloc: Global, app: &App, value: &Value) -> Result<Certificate
     certificate_of(alloc, app, &names, object_in(alloc, value)?)
 }
 
-// The value that the bytes are the text of.
+/// The value that the bytes are the text of.
 fn tree_of(alloc: Global, bytes: &[u8]) -> Result<Value, CertFault>
     ensures ok { IfOk result (λ tree. IsTreeText bytes.now (view tree)) }
     ensures err { IfErr result (Standing (InBytes bytes.now)) }
@@ -265,8 +265,9 @@ fn tree_of(alloc: Global, bytes: &[u8]) -> Result<Value, CertFault>
 /// The bytes are a JSON text (RFC 8259), as the crate `serde_json` reads it, of at most 16,777,216
 /// bytes, in version 1 or 2 of the format. `write_cert` can write it.
 ///
-/// Its errors are those of `CertFault`: one that is present in the bytes, where they mean no
-/// certificate. Of several, which one is named is open.
+/// Its errors are those of `CertFault`: `Memory` where an allocation was refused, otherwise a fault
+/// that is present in the bytes, which then mean no certificate. Of several, which one is named is
+/// open.
 pub fn read_cert(alloc: Global, app: &App, bytes: &[u8]) -> Result<Certificate, CertFault>
     ensures ok { IfOk result (Means app.now bytes.now) }
     ensures fits { IfOk result (CertificateFits app.now) }

@@ -12,14 +12,14 @@ use crate::path::{Path, Step};
 use serde_json::{Map, Value};
 use std::alloc::{AllocError, Global};
 
-// The value itself departs.
+/// The value itself departs.
 pub(crate) fn departs(alloc: Global) -> CertFault
     ensures { Departs [] result }
 {
     CertFault::Shape(Path::whole(alloc))
 }
 
-// The same fault, seen from a value that has the one with the fault at this step.
+/// The same fault, seen from a value that has the one with the fault at this step.
 fn deeper(step: Step, fault: CertFault) -> Result<CertFault, AllocError>
     ensures { IfOk result (λ f. f ≡ deeper (step_of step) fault) }
 {
@@ -34,7 +34,7 @@ fn deeper(step: Step, fault: CertFault) -> Result<CertFault, AllocError>
     })
 }
 
-// The same fault, seen from a value that has the one with the fault at a key.
+/// The same fault, seen from a value that has the one with the fault at a key.
 pub(crate) fn within_key(alloc: Global, name: &str, fault: CertFault) -> CertFault
     ensures { Standing (λ f. f ≡ deeper (key name.now) fault) result }
 {
@@ -47,7 +47,7 @@ pub(crate) fn within_key(alloc: Global, name: &str, fault: CertFault) -> CertFau
     }
 }
 
-// The same fault, seen from a value that has the one with the fault at a position.
+/// The same fault, seen from a value that has the one with the fault at a position.
 pub(crate) fn within_position(index: usize, fault: CertFault) -> CertFault
     ensures { Standing (λ f. f ≡ deeper (at index) fault) result }
 {
@@ -57,28 +57,28 @@ pub(crate) fn within_position(index: usize, fault: CertFault) -> CertFault
     }
 }
 
-// The value at this key departs.
+/// The value at this key departs.
 pub(crate) fn departs_at(alloc: Global, name: &str) -> CertFault
     ensures { Standing (Departs (key name.now ∷ [])) result }
 {
     within_key(alloc, name, departs(alloc))
 }
 
-// The value at this position departs.
+/// The value at this position departs.
 pub(crate) fn departs_in(alloc: Global, index: usize) -> CertFault
     ensures { Standing (Departs (at index ∷ [])) result }
 {
     within_position(index, departs(alloc))
 }
 
-// What the object holds at the key.
+/// What the object holds at the key.
 pub(crate) fn found_at(map: &Map<String, Value>, key: Key) -> Option<&Value>
     ensures { option_map (λ v. view v.now) result ≡ field key (members_view map.now.entries) }
 {
     map.get(key.text())
 }
 
-// The whole number that a value is: one for which the crate's `as_i64` or `as_u64` answers.
+/// The whole number that a value is: one for which the crate's `as_i64` or `as_u64` answers.
 pub(crate) fn integer_of(value: &Value) -> Option<i128>
     ensures { result ≡ integer_of (view value.now) }
 {
@@ -88,7 +88,7 @@ pub(crate) fn integer_of(value: &Value) -> Option<i128>
     }
 }
 
-// The integer that the value has to be.
+/// The integer that the value has to be.
 pub(crate) fn integer_in(alloc: Global, value: &Value) -> Result<i128, CertFault>
     ensures ok { IfOk result (λ z. integer_of (view value.now) ≡ Some z) }
     ensures err { IfErr result (InInteger (view value.now)) }
@@ -99,7 +99,7 @@ pub(crate) fn integer_in(alloc: Global, value: &Value) -> Result<i128, CertFault
     }
 }
 
-// The list that the value has to be.
+/// The list that the value has to be.
 pub(crate) fn list_in(alloc: Global, value: &Value) -> Result<&Vec<Value>, CertFault>
     ensures ok { IfOk result (λ v. as_array (view value.now) ≡ Some (items_view v.now.items)) }
     ensures err { IfErr result (λ f. (as_array (view value.now) ≡ None) × Departs [] f) }
@@ -110,7 +110,7 @@ pub(crate) fn list_in(alloc: Global, value: &Value) -> Result<&Vec<Value>, CertF
     }
 }
 
-// The text that the value has to be.
+/// The text that the value has to be.
 pub(crate) fn text_in(alloc: Global, value: &Value) -> Result<&str, CertFault>
     ensures ok { IfOk result (λ s. as_str (view value.now) ≡ Some s.now) }
     ensures err { IfErr result (λ f. (as_str (view value.now) ≡ None) × Departs [] f) }
@@ -121,7 +121,7 @@ pub(crate) fn text_in(alloc: Global, value: &Value) -> Result<&str, CertFault>
     }
 }
 
-// The object that the value has to be.
+/// The object that the value has to be.
 pub(crate) fn object_in(alloc: Global, value: &Value) -> Result<&Map<String, Value>, CertFault>
     ensures ok { IfOk result
         (λ map. as_object (view value.now) ≡ Some (members_view map.now.entries)) }
@@ -133,7 +133,7 @@ pub(crate) fn object_in(alloc: Global, value: &Value) -> Result<&Map<String, Val
     }
 }
 
-// No key of the object is unknown at its place.
+/// No key of the object is unknown at its place.
 pub(crate) fn known_keys(
     alloc: Global,
     map: &Map<String, Value>,

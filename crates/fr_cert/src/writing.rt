@@ -16,7 +16,7 @@ use fr_program::App;
 use serde_json::{Map, Value, put};
 use std::alloc::{AllocError, Global};
 
-// Whether the note with this number has several alternatives.
+/// Whether the note with this number has several alternatives.
 fn is_long(notes: &Notes, number: usize) -> bool
     ensures { (note : Note) → slice_get notes.now number ≡ Some note →
         result ≡ not (nat_le (length note) 1) }
@@ -27,7 +27,7 @@ fn is_long(notes: &Notes, number: usize) -> bool
     }
 }
 
-// The version in which the notes can be written: 1 where each has one alternative at the most.
+/// The version in which the notes can be written: 1 where each has one alternative at the most.
 fn version_of(app: &App, notes: &Notes) -> u8
     requires { NotesFit app.now notes.now }
     ensures { result ≡ version_of notes.now }
@@ -40,7 +40,7 @@ fn version_of(app: &App, notes: &Notes) -> u8
     1
 }
 
-// The object of the whole certificate.
+/// The object of the whole certificate.
 fn cert_value(alloc: Global, app: &App, certificate: &Certificate) -> Result<Value, AllocError>
     requires { CertificateFits app.now certificate.now }
     ensures { IfOk result (λ v. view v ≡ cert_tree app.now certificate.now) }

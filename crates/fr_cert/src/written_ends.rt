@@ -18,7 +18,7 @@ use serde_json::{Map, Value, put};
 use std::alloc::{AllocError, Global};
 use std::collections::BTreeMap;
 
-// The name of an actor as a value.
+/// The name of an actor as a value.
 fn actor_value(alloc: Global, app: &App, actor: ActorId) -> Result<Value, AllocError>
     requires { actor.0 < length app.now.actors }
     ensures { IfOk result (λ v. view v ≡ string (actor_at app.now actor.0).name) }
@@ -26,7 +26,7 @@ fn actor_value(alloc: Global, app: &App, actor: ActorId) -> Result<Value, AllocE
     Value::try_from_str(alloc, app.actors()[actor.0].name.as_str())
 }
 
-// The name of an object as a value.
+/// The name of an object as a value.
 fn object_value(alloc: Global, app: &App, object: ObjId) -> Result<Value, AllocError>
     requires { object.0 < length app.now.objects }
     ensures { IfOk result (λ v. view v ≡ string (object_at app.now object.0).name) }
@@ -34,7 +34,7 @@ fn object_value(alloc: Global, app: &App, object: ObjId) -> Result<Value, AllocE
     Value::try_from_str(alloc, app.objects()[object.0].name.as_str())
 }
 
-// The name of a variable as a value.
+/// The name of a variable as a value.
 fn variable_value(alloc: Global, app: &App, variable: VarId) -> Result<Value, AllocError>
     requires { variable.0 < length app.now.variables }
     ensures { IfOk result (λ v. view v ≡ string (variable_at app.now variable.0).name) }
@@ -42,7 +42,7 @@ fn variable_value(alloc: Global, app: &App, variable: VarId) -> Result<Value, Al
     Value::try_from_str(alloc, app.variables()[variable.0].name.as_str())
 }
 
-// An object with this one member.
+/// An object with this one member.
 fn single(alloc: Global, key: Key, value: Value) -> Result<Value, AllocError>
     ensures { IfOk result (λ v. view v ≡ object (member (key_text key) (view value) no_members)) }
 {
@@ -51,7 +51,7 @@ fn single(alloc: Global, key: Key, value: Value) -> Result<Value, AllocError>
     Ok(Value::Object(object))
 }
 
-// Adds the turn value under the actor's name.
+/// Adds the turn value under the actor's name.
 fn add_value(
     alloc: Global,
     app: &App,
@@ -71,7 +71,7 @@ fn add_value(
     )
 }
 
-// The turn values, by the names of their actors.
+/// The turn values, by the names of their actors.
 fn values_value(
     alloc: Global,
     app: &App,
@@ -88,7 +88,7 @@ fn values_value(
     Ok(named)
 }
 
-// The guard of a turn as a value.
+/// The guard of a turn as a value.
 fn turn_value(
     alloc: Global,
     app: &App,
@@ -110,7 +110,7 @@ fn turn_value(
     Ok(Value::Object(object))
 }
 
-// A guard as a value.
+/// A guard as a value.
 fn guard_value(alloc: Global, app: &App, guard: &Guard) -> Result<Value, AllocError>
     requires { GuardFits app.now (guard_of guard.now) }
     ensures { IfOk result (λ v. view v ≡ guard_tree app.now (guard_of guard.now)) }
@@ -123,7 +123,7 @@ fn guard_value(alloc: Global, app: &App, guard: &Guard) -> Result<Value, AllocEr
     }
 }
 
-// The guard of an end as a value.
+/// The guard of an end as a value.
 fn end_value(alloc: Global, app: &App, end: &EndGuard) -> Result<Value, AllocError>
     requires { EndFits app.now (end_of end.now) }
     ensures { IfOk result (λ v. view v ≡ end_tree app.now (end_of end.now)) }
@@ -138,7 +138,7 @@ fn end_value(alloc: Global, app: &App, end: &EndGuard) -> Result<Value, AllocErr
     Ok(Value::Object(object))
 }
 
-// The guards of ends as values, in the certificate's order.
+/// The guards of ends as values, in the certificate's order.
 pub(crate) fn ends_value(alloc: Global, app: &App, ends: &Ends) -> Result<Vec<Value>, AllocError>
     requires { All (EndFits app.now) ends.now }
     ensures { IfOk result (λ v. items_view v.items ≡ ends_tree app.now ends.now) }

@@ -23,7 +23,7 @@ pub(crate) enum Life {
     Dead,
 }
 
-// An end of a range as a value.
+/// An end of a range as a value.
 fn end_value(end: i128) -> Value
     requires { IsNumber end }
     ensures { view result ≡ number (of_integer end) }
@@ -31,7 +31,7 @@ fn end_value(end: i128) -> Value
     Value::from(end as i64)
 }
 
-// A range as a list of its two ends.
+/// A range as a list of its two ends.
 fn range_value(alloc: Global, range: Range) -> Result<Value, AllocError>
     requires { HasNumbers range }
     ensures { IfOk result (λ v. view v ≡ range_tree (ends_of range)) }
@@ -42,14 +42,14 @@ fn range_value(alloc: Global, range: Range) -> Result<Value, AllocError>
     Ok(Value::Array(ends))
 }
 
-// Whether this is the range that the variable is declared with.
+/// Whether this is the range that the variable is declared with.
 fn is_declared(variable: &Variable, range: Range) -> bool
     ensures { result ≡ is_declared (variable_of variable.now) (ends_of range) }
 {
     i128::from(variable.lo) == range.lo && i128::from(variable.hi) == range.hi
 }
 
-// Adds the range under the variable's name, if it is narrower than the declared one.
+/// Adds the range under the variable's name, if it is narrower than the declared one.
 fn add_range(
     alloc: Global,
     named: &mut Map<String, Value>,
@@ -71,7 +71,7 @@ fn add_range(
     )
 }
 
-// The ranges that are narrower than the declared ones, by name.
+/// The ranges that are narrower than the declared ones, by name.
 fn ranges_value(
     alloc: Global,
     variables: &[Variable],
@@ -89,7 +89,7 @@ fn ranges_value(
     Ok(named)
 }
 
-// Adds the count under the object's name, if it is held.
+/// Adds the count under the object's name, if it is held.
 fn add_count(
     alloc: Global,
     named: &mut Map<String, Value>,
@@ -105,7 +105,7 @@ fn add_count(
     }
 }
 
-// How often objects are held, by name.
+/// How often objects are held, by name.
 fn counts_value(
     alloc: Global,
     objects: &[Object],
@@ -122,7 +122,7 @@ fn counts_value(
     Ok(named)
 }
 
-// Whether the claim says so of its object, and not that it is held.
+/// Whether the claim says so of its object, and not that it is held.
 fn says(life: Life, claim: Claim) -> bool
     ensures { result ≡ says life claim }
 {
@@ -132,7 +132,7 @@ fn says(life: Life, claim: Claim) -> bool
     }
 }
 
-// The names of the objects of which the claims say so, in the order of their numbers.
+/// The names of the objects of which the claims say so, in the order of their numbers.
 fn names_value(
     alloc: Global,
     life: Life,
@@ -153,7 +153,7 @@ fn names_value(
     Ok(names)
 }
 
-// Adds the depth in front of the other keys, if it isn't 0.
+/// Adds the depth in front of the other keys, if it isn't 0.
 fn add_depth(
     alloc: Global,
     note: &mut Map<String, Value>,
@@ -170,7 +170,7 @@ fn add_depth(
     put(note, alloc, key.text(), Value::from(depth))
 }
 
-// Adds the list in front of the other keys, if it has an entry.
+/// Adds the list in front of the other keys, if it has an entry.
 fn add_list(
     alloc: Global,
     note: &mut Map<String, Value>,
@@ -187,7 +187,7 @@ fn add_list(
     put(note, alloc, key.text(), Value::Array(list))
 }
 
-// Adds the object in front of the other keys, if it has a member.
+/// Adds the object in front of the other keys, if it has a member.
 fn add_object(
     alloc: Global,
     note: &mut Map<String, Value>,
@@ -204,7 +204,7 @@ fn add_object(
     put(note, alloc, key.text(), Value::Object(object))
 }
 
-// The ranges of an alternative that are narrower than the declared ones, by name.
+/// The ranges of an alternative that are narrower than the declared ones, by name.
 fn ranges_of(
     alloc: Global,
     app: &App,
@@ -218,7 +218,7 @@ fn ranges_of(
     ranges_value(alloc, app.variables(), alternative.ranges())
 }
 
-// How often the objects of an alternative are held, by name.
+/// How often the objects of an alternative are held, by name.
 fn counts_of(
     alloc: Global,
     app: &App,
@@ -231,7 +231,7 @@ fn counts_of(
     counts_value(alloc, app.objects(), alternative.claims())
 }
 
-// The names of the objects of which an alternative says so.
+/// The names of the objects of which an alternative says so.
 fn names_of(
     alloc: Global,
     app: &App,
@@ -245,7 +245,7 @@ fn names_of(
     names_value(alloc, life, app.objects(), alternative.claims())
 }
 
-// The object of one alternative. Its keys are added from the last one on.
+/// The object of one alternative. Its keys are added from the last one on.
 fn alternative_value(
     alloc: Global,
     app: &App,
@@ -268,7 +268,7 @@ fn alternative_value(
     Ok(Value::Object(note))
 }
 
-// The alternatives as values, in their order.
+/// The alternatives as values, in their order.
 fn alternatives_value(
     alloc: Global,
     app: &App,
@@ -284,7 +284,7 @@ fn alternatives_value(
     Ok(list)
 }
 
-// A note as a value.
+/// A note as a value.
 fn note_value(alloc: Global, app: &App, note: &Note) -> Result<Value, AllocError>
     requires { NoteFits app.now note.now }
     ensures { IfOk result (λ v. view v ≡ note_tree app.now note.now) }
@@ -300,7 +300,7 @@ fn note_value(alloc: Global, app: &App, note: &Note) -> Result<Value, AllocError
     Ok(Value::Array(alternatives_value(alloc, app, alternatives)?))
 }
 
-// The notes as values, by the points' numbers.
+/// The notes as values, by the points' numbers.
 pub(crate) fn notes_value(alloc: Global, app: &App, notes: &Notes) -> Result<Vec<Value>, AllocError>
     requires { NotesFit app.now notes.now }
     ensures { IfOk result (λ v. items_view v.items ≡ notes_tree app.now notes.now) }

@@ -22,6 +22,7 @@ pub struct FindRequest<'a> {
     pub rounds: u16,
 }
 
+/// The word `--rounds` with its number.
 fn rounds_arg<'a>(alloc: Global) -> Arg<'a> {
     Arg::new(alloc, "rounds")
         .long("rounds")
@@ -31,6 +32,7 @@ fn rounds_arg<'a>(alloc: Global) -> Arg<'a> {
         .help("Rounds of guessing, 1 to 64")
 }
 
+/// The command `find`: its words, its help and its exit statuses.
 pub fn find_command<'a>(alloc: Global) -> Result<Command<'a>, AllocError> {
     Command::new(alloc, "find")
         .display_name(NAME)?
@@ -41,7 +43,8 @@ pub fn find_command<'a>(alloc: Global) -> Result<Command<'a>, AllocError> {
         .arg(rounds_arg(alloc))
 }
 
-/// The certificate that the matched words ask for. None can't be where the words were matched.
+/// The certificate that the matched words ask for. Words that were matched always ask for something, so
+/// it is never None.
 pub fn asked_find<'a>(words: &ArgMatches<'a>) -> Option<FindRequest<'a>> {
     Some(FindRequest {
         app: words.get_str("APP")?,

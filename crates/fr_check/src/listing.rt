@@ -10,6 +10,7 @@ const STATUSES: &str = "Exit status:
   2  The words or the application are refused
   3  The machine failed: no memory, or a file that can't be read or written";
 
+/// The command `points`: its word, its help and its exit statuses.
 pub fn points_command<'a>(alloc: Global) -> Result<Command<'a>, AllocError> {
     Command::new(alloc, "points")
         .display_name(NAME)?

@@ -48,6 +48,8 @@ fn file_bytes(rt: &HostRuntime, path: &str, limit: usize) -> Result<Vec<u8>, Che
     }
 }
 
+/// Prints the verdict on the application and the certificate in these files, or why there is none, and
+/// gives the exit status.
 fn check<R: Threads + Wait + Sync>(
     rt: &HostRuntime,
     threads: &R,

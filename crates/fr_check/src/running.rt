@@ -26,6 +26,7 @@ pub struct RunRequest<'a> {
     pub words: Option<&'a str>,
 }
 
+/// The word `--polls` with its number, which has to be given.
 fn polls_arg<'a>(alloc: Global) -> Arg<'a> {
     Arg::new(alloc, "polls")
         .long("polls")
@@ -35,6 +36,7 @@ fn polls_arg<'a>(alloc: Global) -> Arg<'a> {
         .help("Turns of actors in all, 0 to 1000000")
 }
 
+/// The word `--words` with its list of numbers, as a text.
 fn words_arg<'a>(alloc: Global) -> Arg<'a> {
     Arg::new(alloc, "words")
         .long("words")
@@ -43,6 +45,7 @@ fn words_arg<'a>(alloc: Global) -> Arg<'a> {
         .help("Numbers below 2^64, over and over, that pick each turn's choice; 0 without them")
 }
 
+/// The command `run`: its words, its help and its exit statuses.
 pub fn run_command<'a>(alloc: Global) -> Result<Command<'a>, AllocError> {
     Command::new(alloc, "run")
         .display_name(NAME)?
@@ -54,7 +57,8 @@ pub fn run_command<'a>(alloc: Global) -> Result<Command<'a>, AllocError> {
         .arg(words_arg(alloc))
 }
 
-/// The run that the matched words ask for. None can't be where the words were matched.
+/// The run that the matched words ask for. Words that were matched always ask for something, so it is
+/// never None.
 pub fn asked_run<'a>(words: &ArgMatches<'a>) -> Option<RunRequest<'a>> {
     Some(RunRequest {
         app: words.get_str("APP")?,

@@ -4,7 +4,9 @@ use crate::words::{Request, asked, matched};
 use fr_answer::CheckFault;
 use std::alloc::{AllocError, Global};
 
-// The files and workers that a check is asked for by the words of this line; else the exit status and the text for them.
+// What the words of this line ask for: of `check` the files and the workers, of `find` the files and the rounds, of
+// `points` the file, of `run` the files, the polls and the words. Where the words don't match, the exit status and the
+// usage message.
 fn answer_to(alloc: Global, line: &str) -> Result<String, AllocError> {
     let mut words = Vec::new(alloc);
     for word in line.split(' ') {

@@ -33,6 +33,7 @@ pub enum Request<'a> {
     Run(RunRequest<'a>),
 }
 
+/// A word that names a file, and that has to be given.
 pub fn file_arg<'a>(alloc: Global, id: &'a str, help: &'a str) -> Arg<'a> {
     Arg::new(alloc, id)
         .value_name(id)
@@ -41,6 +42,7 @@ pub fn file_arg<'a>(alloc: Global, id: &'a str, help: &'a str) -> Arg<'a> {
         .help(help)
 }
 
+/// The word `--workers` with its number.
 fn workers_arg<'a>(alloc: Global) -> Arg<'a> {
     Arg::new(alloc, "workers")
         .long("workers")
@@ -50,6 +52,7 @@ fn workers_arg<'a>(alloc: Global) -> Arg<'a> {
         .help("Threads that judge, 1 to 64")
 }
 
+/// The command `check`: its words, its help and its exit statuses.
 fn check_command<'a>(alloc: Global) -> Result<Command<'a>, AllocError> {
     Command::new(alloc, "check")
         .display_name(NAME)?
@@ -60,6 +63,7 @@ fn check_command<'a>(alloc: Global) -> Result<Command<'a>, AllocError> {
         .arg(workers_arg(alloc))
 }
 
+/// The whole command line, with its four commands.
 fn command<'a>(alloc: Global) -> Result<Command<'a>, AllocError> {
     Command::new(alloc, NAME)
         .version("0.1.0")
@@ -74,12 +78,13 @@ fn command<'a>(alloc: Global) -> Result<Command<'a>, AllocError> {
         .subcommand(run_command(alloc)?)
 }
 
-/// What the words match, or `clap`'s own text of what is wrong with them.
+/// What the words match; else the usage message that says what is wrong with them, the help or the
+/// version.
 pub fn matched<'a>(alloc: Global, words: &'a [String]) -> Result<ArgMatches<'a>, Error> {
     command(alloc)?.try_get_matches_from(words)
 }
 
-/// What the matched words ask for. None can't be where the words were matched.
+/// What the matched words ask for. Words that were matched always ask for something, so it is never None.
 pub fn asked<'a>(matches: &ArgMatches<'a>) -> Option<Request<'a>> {
     let (name, words) = matches.subcommand()?;
     match name {

@@ -11,6 +11,7 @@ ghost use Rattle.fr_edge.specs.Starts.{begins_as, BeginsAs, BeginsWithin};
 use fr_notes::{Alternative, Claim, Note, Notes};
 use fr_program::{App, Object, Point, Range, Side, Variable};
 
+/// Whether the claim is true of the object at the start.
 fn begins_as(claim: Claim, object: &Object) -> bool
     ensures { result ≡ begins_as claim object.now.live }
 {
@@ -22,6 +23,7 @@ fn begins_as(claim: Claim, object: &Object) -> bool
     }
 }
 
+/// Whether the variable's initial value is in the range.
 fn begins_in(range: Range, variable: &Variable) -> bool
     ensures { IsTrue result ↔ Within (ends_of range) variable.now.init }
 {
@@ -29,6 +31,7 @@ fn begins_in(range: Range, variable: &Variable) -> bool
     range.lo <= number && number <= range.hi
 }
 
+/// Whether each claim is true of its object at the start.
 fn begins_with_claims(objects: &[Object], claims: &[Claim]) -> bool
     requires { length claims.now ≡ length objects.now }
     ensures { IsTrue result ↔ ((o : ℕ) → o < length objects.now → BeginsAs claims.now objects.now o) }
@@ -41,6 +44,7 @@ fn begins_with_claims(objects: &[Object], claims: &[Claim]) -> bool
     true
 }
 
+/// Whether each variable's initial value is in its range.
 fn begins_with_ranges(variables: &[Variable], ranges: &[Range]) -> bool
     requires { length ranges.now ≡ length variables.now }
     ensures { IsTrue result ↔ ((x : ℕ) → x < length variables.now → BeginsWithin ranges.now variables.now x) }

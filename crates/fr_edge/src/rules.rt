@@ -74,6 +74,7 @@ fn creates_live(known: &Known, instr: &Instr, side: Side) -> bool
     }
 }
 
+/// Whether the range is inside the variable's declared one.
 fn is_in_declared(app: &App, variable: VarId, range: Range) -> bool
     requires { variable.0 < length app.now.variables }
     ensures { IsTrue result ↔ (((variable_at app.now variable.0).lo ≤ℤ range.lo) × (range.hi ≤ℤ (variable_at app.now variable.0).hi)) }

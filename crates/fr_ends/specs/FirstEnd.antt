@@ -1,4 +1,4 @@
--- The first end whose guard a point's note doesn't imply.
+-- The first end whose guard a point's note doesn't imply: for the public contract of `guarded`.
 use Rattle.std.specs.Prelude.{◌≡◌, ℕ, Option, None, Some}
 use Rattle.fr_program.specs.declared.ids.Point.{Point}
 use Rattle.fr_program.specs.Program.{Program}

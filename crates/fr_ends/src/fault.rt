@@ -4,6 +4,7 @@ use thiserror::Error;
 /// Why guards are refused. The numbers are those that a refused certificate shows.
 #[derive(Clone, Copy, Debug, PartialEq, Eq, Error)]
 pub enum EndsFault {
+    /// An allocation was refused. Never given, since `Ends::build` takes no memory.
     #[error("0 Memory")]
     Memory,
     /// The buffer is neither a stream nor a message buffer, the mutex is none, two actors of a turn

@@ -14,6 +14,7 @@ use crate::guard::{EndGuard, Guard};
 use fr_program::{ActorId, App, Kind, ObjId, VarId};
 use std::collections::BTreeMap;
 
+/// Whether the kind is that of a stream or message buffer.
 fn is_any_buffer(kind: Kind) -> bool
     ensures { result ≡ is_any_buffer kind }
 {
@@ -23,6 +24,7 @@ fn is_any_buffer(kind: Kind) -> bool
     }
 }
 
+/// Whether the kind is that of a mutex, plain or recursive.
 fn is_any_mutex(kind: Kind) -> bool
     ensures { result ≡ is_any_mutex kind }
 {
@@ -32,18 +34,21 @@ fn is_any_mutex(kind: Kind) -> bool
     }
 }
 
+/// How many actors the application has.
 fn actor_count(app: &App) -> usize
     ensures { result ≡ length app.now.actors }
 {
     app.actors().len()
 }
 
+/// How many variables the application has.
 fn variable_count(app: &App) -> usize
     ensures { result ≡ length app.now.variables }
 {
     app.variables().len()
 }
 
+/// How many objects the application has.
 fn object_count(app: &App) -> usize
     ensures { result ≡ length app.now.objects }
 {
@@ -95,6 +100,7 @@ fn values_fit(app: &App, values: &BTreeMap<ActorId, i64>) -> bool
     are_turn_values(actor_count(app), values) && are_distinct(values)
 }
 
+/// Whether this is a mutex of the application.
 fn is_mutex_of(app: &App, mutex: ObjId) -> bool
     ensures { IsTrue result ↔ GuardFits app.now (ByMutex mutex.0) }
 {

@@ -1,4 +1,8 @@
-// Certificates: a note for each point, and a guard for each end of a buffer.
+// Certificates: a note for each point, and guards for ends of buffers. Below it are notes (fr_notes), the rules and
+// the step table (fr_calls) and applications (fr_program). The crates above build certificates from `Notes` and
+// `Ends`, and rely on `CertificateFits`, which says that one could have been made for an application. fr_judge uses
+// the contracts of `guarded`, whether a point's note implies the guards that it owes, and `near`, whether a delete is
+// no danger to it.
 #![tactic(auto)]
 
 mod certificate;

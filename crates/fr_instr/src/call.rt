@@ -71,14 +71,14 @@ const CALLS: [CallName; 40] = [
     CallName::Reset(BufferKind::Message),
 ];
 
-// The place in `CALLS` of the call with this name.
+/// The place in `CALLS` of the call with this name.
 fn place_of_call(name: &[u8]) -> Option<usize>
     ensures { result ≡ position (λ c. bytes_eq (row_of c).name name.now) CALLS }
 {
     CALLS.iter().position(|call| call.text().as_bytes() == name)
 }
 
-// The call at this place in `CALLS`.
+/// The call at this place in `CALLS`.
 fn call_at(place: usize) -> CallName
     requires { place < length CALLS }
     ensures { slice_get CALLS place ≡ Some result }

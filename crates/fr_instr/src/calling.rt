@@ -129,7 +129,7 @@ fn reset(
     Ok(Call::On { object, action })
 }
 
-// A call that has no argument at all.
+/// A call that has no argument at all.
 fn bare(names: &Names, name: CallName, call: Call, args: Args<'_, '_>) -> Result<Call, LineFault>
     requires named { (parts_of call).name ≡ name }
     requires bare { (parts_of call).args ≡ [] }
@@ -143,7 +143,7 @@ fn bare(names: &Names, name: CallName, call: Call, args: Args<'_, '_>) -> Result
     Ok(call)
 }
 
-// A call of `vTaskDelay`.
+/// A call of `vTaskDelay`.
 fn delay(names: &Names, args: Args<'_, '_>) -> Result<Call, LineFault>
     ensures ok { IfOk result (CallSays names.now CallName.Delay (args_words args.entry) None None) }
     ensures err { IfErr result (InPlaces names.now (row_of CallName.Delay).places (args_words args.entry)) }
@@ -153,7 +153,7 @@ fn delay(names: &Names, args: Args<'_, '_>) -> Result<Call, LineFault>
     Ok(Call::Delay(ticks))
 }
 
-// A call of `vTaskDelete`.
+/// A call of `vTaskDelete`.
 fn delete_self(names: &Names, args: Args<'_, '_>) -> Result<Call, LineFault>
     ensures ok { IfOk result (CallSays names.now CallName.DeleteSelf (args_words args.entry) None None) }
     ensures err { IfErr result (InPlaces names.now (row_of CallName.DeleteSelf).places (args_words args.entry)) }

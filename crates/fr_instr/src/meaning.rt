@@ -53,6 +53,7 @@ pub(crate) fn variable_of(names: &Names, word: &[u8]) -> Result<VarId, LineFault
     }
 }
 
+/// The variable that this argument names.
 fn variable_at(names: &Names, value: Value<'_>) -> Result<VarId, LineFault>
     ensures { MatchResult result (SaysVariable names.now (word_of value.entry)) (InPlace names.now variable (word_of value.entry)) }
 {
@@ -65,6 +66,7 @@ fn variable_at(names: &Names, value: Value<'_>) -> Result<VarId, LineFault>
     }
 }
 
+/// The object that this argument names.
 fn object_at(names: &Names, value: Value<'_>) -> Result<ObjId, LineFault>
     ensures { MatchResult result (SaysObject names.now (word_of value.entry)) (InPlace names.now object (word_of value.entry)) }
 {
@@ -93,6 +95,7 @@ pub(crate) fn operand_at(names: &Names, value: Value<'_>) -> Result<Operand, Lin
     }
 }
 
+/// The length that this argument is.
 fn length_at(value: Value<'_>) -> Result<u32, LineFault>
     ensures { MatchResult result (SaysLength (word_of value.entry)) (InPlain length (word_of value.entry)) }
 {
@@ -105,6 +108,7 @@ fn length_at(value: Value<'_>) -> Result<u32, LineFault>
     }
 }
 
+/// The number of ticks that this argument is.
 fn ticks_at(value: Value<'_>) -> Result<u32, LineFault>
     ensures { MatchResult result (SaysTicks (word_of value.entry)) (InPlain ticks (word_of value.entry)) }
 {
@@ -117,6 +121,7 @@ fn ticks_at(value: Value<'_>) -> Result<u32, LineFault>
     }
 }
 
+/// The block time that this argument is: a number of ticks, or `portMAX_DELAY`.
 fn block_time_at(value: Value<'_>) -> Result<BlockTime, LineFault>
     ensures { MatchResult result (IsBlockTime (word_of value.entry)) (InPlain time (word_of value.entry)) }
 {
@@ -135,6 +140,7 @@ fn block_time_at(value: Value<'_>) -> Result<BlockTime, LineFault>
     }
 }
 
+/// Ok where this argument is `NULL`.
 fn null_at(value: Value<'_>) -> Result<(), LineFault>
     ensures { MatchResult result (λ _. SaysNull (word_of value.entry)) (InPlain null (word_of value.entry)) }
 {
@@ -150,7 +156,7 @@ fn null_at(value: Value<'_>) -> Result<(), LineFault>
     }
 }
 
-// No argument at all.
+/// No argument at all.
 pub(crate) fn no_args(args: Args<'_, '_>) -> Result<(), LineFault>
     ensures { MatchResult result (λ _. args_words args.entry ≡ []) (λ f. (f ≡ ArgCount) × (list_length (args_words args.entry) ≢ 0)) }
 {
@@ -160,6 +166,7 @@ pub(crate) fn no_args(args: Args<'_, '_>) -> Result<(), LineFault>
     }
 }
 
+/// The one argument of a delay: a number of ticks.
 pub(crate) fn delay_arg(args: Args<'_, '_>) -> Result<u32, LineFault>
     ensures ok { IfOk result (λ n. (N : NamesOf) → AreArgs N (args_words args.entry) (arg.Ticks n ∷ [])) }
     ensures err { IfErr result (λ f. (N : NamesOf) → InPlaces N (ticks ∷ []) (args_words args.entry) f) }
@@ -170,6 +177,7 @@ pub(crate) fn delay_arg(args: Args<'_, '_>) -> Result<u32, LineFault>
     }
 }
 
+/// The one argument of `vTaskDelete`: `NULL`.
 pub(crate) fn delete_self_arg(args: Args<'_, '_>) -> Result<(), LineFault>
     ensures ok { IfOk result (λ _. (N : NamesOf) → AreArgs N (args_words args.entry) (arg.Null ∷ [])) }
     ensures err { IfErr result (λ f. (N : NamesOf) → InPlaces N (null ∷ []) (args_words args.entry) f) }
@@ -180,7 +188,7 @@ pub(crate) fn delete_self_arg(args: Args<'_, '_>) -> Result<(), LineFault>
     }
 }
 
-// The one argument of a call on an object alone.
+/// The one argument of a call on an object alone.
 pub(crate) fn only_object(names: &Names, args: Args<'_, '_>) -> Result<ObjId, LineFault>
     ensures ok { IfOk result (λ o. AreArgs names.now (args_words args.entry) (arg.Object o ∷ [])) }
     ensures err { IfErr result (InPlaces names.now (object ∷ []) (args_words args.entry)) }
@@ -191,7 +199,7 @@ pub(crate) fn only_object(names: &Names, args: Args<'_, '_>) -> Result<ObjId, Li
     }
 }
 
-// A queue, a value, and a block time in the form for tasks.
+/// A queue, a value, and a block time in the form for tasks.
 pub(crate) fn queue_send_args(
     names: &Names,
     form: Form,
@@ -221,7 +229,7 @@ pub(crate) fn queue_send_args(
     }
 }
 
-// A queue, a variable, and a block time in the form for tasks.
+/// A queue, a variable, and a block time in the form for tasks.
 pub(crate) fn queue_receive_args(
     names: &Names,
     form: Form,
@@ -251,7 +259,7 @@ pub(crate) fn queue_receive_args(
     }
 }
 
-// A buffer, a length, and a block time in the form for tasks.
+/// A buffer, a length, and a block time in the form for tasks.
 pub(crate) fn buffer_args(
     names: &Names,
     form: Form,
@@ -281,7 +289,7 @@ pub(crate) fn buffer_args(
     }
 }
 
-// A semaphore, and a block time but in the form for interrupts.
+/// A semaphore, and a block time but in the form for interrupts.
 pub(crate) fn take_args(
     names: &Names,
     form: GiveForm,

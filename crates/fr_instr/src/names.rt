@@ -93,7 +93,7 @@ impl Names {
         }
     }
 
-    // The variable whose name these bytes are.
+    /// The variable whose name these bytes are.
     pub(crate) fn variable_named(&self, word: &[u8]) -> Option<VarId>
         ensures { option_map (λ x. x.0) result ≡ place_of self.now.variables word.now }
     {
@@ -107,7 +107,7 @@ impl Names {
         }
     }
 
-    // The object whose name these bytes are.
+    /// The object whose name these bytes are.
     pub(crate) fn object_named(&self, word: &[u8]) -> Option<ObjId>
         ensures { option_map (λ o. o.0) result ≡ place_of self.now.objects word.now }
     {
@@ -121,21 +121,21 @@ impl Names {
         }
     }
 
-    // Each is a name, and is given once among all of them.
+    /// Each is a name, and is given once among all of them.
     pub(crate) fn are_names(&self)
         ensures { AreNames self.now }
     {
         let _ = &self.variables;
     }
 
-    // The name of a variable, or no text where there is none.
+    /// The name of a variable, or no text where there is none.
     pub(crate) fn variable_text(&self, variable: VarId) -> &str
         ensures { result.now ≡ name_at self.now.variables variable.0 }
     {
         text_at(&self.variables, variable.0)
     }
 
-    // The name of an object, or no text where there is none.
+    /// The name of an object, or no text where there is none.
     pub(crate) fn object_text(&self, object: ObjId) -> &str
         ensures { result.now ≡ name_at self.now.objects object.0 }
     {
@@ -143,7 +143,7 @@ impl Names {
     }
 }
 
-// The names, each at its number.
+/// The names, each at its number.
 fn numbered(alloc: Global, names: &[&str]) -> Result<IndexSet<String>, AllocError>
     requires { AllPairs (λ x y. x ≢ y) (texts names.now) }
     ensures { IfOk result (λ set. map string_bytes set.keys ≡ texts names.now) }
@@ -155,14 +155,14 @@ fn numbered(alloc: Global, names: &[&str]) -> Result<IndexSet<String>, AllocErro
     Ok(set)
 }
 
-// The place of the name among these.
+/// The place of the name among these.
 fn number_of(names: &IndexSet<String>, name: &str) -> Option<usize>
     ensures { result ≡ place_of (map string_bytes names.now.keys) name.now }
 {
     names.get_index_of(name)
 }
 
-// The name at this place, or no text where there is none.
+/// The name at this place, or no text where there is none.
 fn text_at(names: &IndexSet<String>, i: usize) -> &str
     ensures { result.now ≡ name_at (map string_bytes names.now.keys) i }
 {

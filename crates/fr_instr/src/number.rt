@@ -10,7 +10,7 @@ use itoa::Buffer;
 /// The greatest target of a line.
 const MOST_TARGET: u32 = 2_147_483_647;
 
-// The number that the text is the one way to write.
+/// The number that the text is the one way to write.
 fn number_of(text: &[u8]) -> Option<i64>
     ensures some { IfSome result (λ z. text.now ≡ signed_decimal z) }
     ensures none { IfNone result ((z : ℤ) → FitsSigned w64 z → text.now ≢ signed_decimal z) }
@@ -37,7 +37,7 @@ pub(crate) fn integer_of(text: &[u8]) -> Option<i64>
     number_of(text)
 }
 
-// The number within these limits that the text is.
+/// The number within these limits that the text is.
 fn natural_of(text: &[u8], least: u32, most: u32) -> Option<u32>
     ensures some { IfSome result (IsNatural least most text.now) }
     ensures none { IfNone result ((n : ℕ) → ¬ IsNatural least most text.now n) }

@@ -35,7 +35,7 @@ fn integer_at(text: &[u8]) -> Result<i64, LineFault>
     }
 }
 
-// The target behind `else`, which is only where the call may fail.
+/// The target behind `else`, which is only where the call may fail.
 fn else_of(name: CallName, or_else: Option<&[u8]>) -> Result<Option<usize>, LineFault>
     ensures ok { IfOk result (IsElse (text_in or_else.entry)) }
     ensures none { IfOk result (λ e. (row_of name).may_fail ≡ false → e ≡ None) }
@@ -53,7 +53,7 @@ fn else_of(name: CallName, or_else: Option<&[u8]>) -> Result<Option<usize>, Line
     }
 }
 
-// The variable before `=`, which is only where the call answers a number.
+/// The variable before `=`, which is only where the call answers a number.
 fn into_of(names: &Names, name: CallName, into: Option<&[u8]>) -> Result<Option<VarId>, LineFault>
     ensures ok { IfOk result (IsInto names.now (text_in into.entry)) }
     ensures none { IfOk result (λ v. (row_of name).may_answer ≡ false → v ≡ None) }
@@ -105,7 +105,7 @@ fn set_of(
     })
 }
 
-// A `set` of one operand adds 0 to it.
+/// A `set` of one operand adds 0 to it.
 fn short_set_of(names: &Names, target: &[u8], left: Value<'_>) -> Result<Line, LineFault>
     ensures ok { IfOk result (IsLineOf names.now (set target.now (word_of left.entry))) }
     ensures err { IfErr result (InShape names.now (set target.now (word_of left.entry))) }
@@ -191,7 +191,8 @@ fn line_of(names: &Names, shape: &Shape<'_>) -> Result<Line, LineFault>
 /// Operands and the bounds of a `pick` have 64 bits with a sign, a length is 1 to 65535, and a
 /// block time, a delay and a target are 0 to 2147483647.
 ///
-/// Its errors are those of `LineFault`: one that is present in the text, where it is no line.
+/// Its errors are those of `LineFault`: `Memory` where an allocation was refused, otherwise a fault
+/// that is present in the text, which then is no line. Of several, which one is named is open.
 pub fn read_line(alloc: Global, text: &str, names: &Names) -> Result<Line, LineFault>
     ensures ok { IfOk result (IsLine names.now text.now) }
     ensures one { IfOk result (λ l. (m : Instr) → IsLine names.now text.now m → m ≡ l) }

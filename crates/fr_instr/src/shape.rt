@@ -103,7 +103,7 @@ fn take_sign<'a, 't>(tokens: &'t [Token<'a>]) -> Option<(Sign, &'t [Token<'a>])>
     }
 }
 
-// The shape, where no token follows.
+/// The shape, where no token follows.
 fn at_end<'a>(shape: Shape<'a>, tokens: &[Token<'a>]) -> Option<Shape<'a>>
     ensures { option_map shape_view result ≡ at_end (shape_view shape.entry) (toks tokens.now) }
 {
@@ -190,7 +190,7 @@ fn keyword_at<'a>(word: &[u8], tokens: &[Token<'a>]) -> Option<Shape<'a>>
     }
 }
 
-// An argument before a comma, and what follows the comma.
+/// An argument before a comma, and what follows the comma.
 #[tactic(auto, unfolding(crate::specs::ShapeReading::arg_before_comma))]
 fn arg_before_comma<'a, 't>(tokens: &'t [Token<'a>]) -> Option<(Value<'a>, &'t [Token<'a>])>
     ensures value { option_map (λ p. (word_of p.0, toks p.1.now)) result ≡ arg_before_comma (toks tokens.now) }
@@ -204,7 +204,7 @@ fn arg_before_comma<'a, 't>(tokens: &'t [Token<'a>]) -> Option<(Value<'a>, &'t [
     }
 }
 
-// An argument before a closing bracket, and what follows the bracket.
+/// An argument before a closing bracket, and what follows the bracket.
 #[tactic(auto, unfolding(crate::specs::ShapeReading::arg_before_close))]
 fn arg_before_close<'a, 't>(tokens: &'t [Token<'a>]) -> Option<(Value<'a>, &'t [Token<'a>])>
     ensures { option_map (λ p. (word_of p.0, toks p.1.now)) result ≡ arg_before_close (toks tokens.now) }
@@ -217,7 +217,7 @@ fn arg_before_close<'a, 't>(tokens: &'t [Token<'a>]) -> Option<(Value<'a>, &'t [
     }
 }
 
-// What follows a closing bracket at the front.
+/// What follows a closing bracket at the front.
 fn behind_close<'a, 't>(tokens: &'t [Token<'a>]) -> Option<&'t [Token<'a>]>
     ensures { option_map (λ p. toks p.now) result ≡ behind_close (take_sign (toks tokens.now)) }
 {
@@ -227,7 +227,7 @@ fn behind_close<'a, 't>(tokens: &'t [Token<'a>]) -> Option<&'t [Token<'a>]>
     }
 }
 
-// What follows an opening bracket at the front.
+/// What follows an opening bracket at the front.
 fn behind_open<'a, 't>(tokens: &'t [Token<'a>]) -> Option<&'t [Token<'a>]>
     ensures { option_map (λ p. toks p.now) result ≡ behind_open (take_sign (toks tokens.now)) }
 {
@@ -237,7 +237,7 @@ fn behind_open<'a, 't>(tokens: &'t [Token<'a>]) -> Option<&'t [Token<'a>]>
     }
 }
 
-// The arguments that are before a comma, and where what follows the last comma begins.
+/// The arguments that are before a comma, and where what follows the last comma begins.
 fn args_before_last<'a>(
     alloc: Global,
     tokens: &[Token<'a>],
@@ -255,7 +255,7 @@ fn args_before_last<'a>(
     Ok((args, i))
 }
 
-// The arguments up to the closing bracket, and what follows it.
+/// The arguments up to the closing bracket, and what follows it.
 #[tactic(auto, unfolding(crate::specs::ShapeReading::args_at))]
 fn args_at<'a, 't>(
     alloc: Global,
@@ -276,7 +276,7 @@ fn args_at<'a, 't>(
     }
 }
 
-// The target, where no token follows.
+/// The target, where no token follows.
 fn target_end<'a>(target: &'a [u8], tokens: &[Token<'a>]) -> Option<&'a [u8]>
     ensures { text_in result ≡ target_end target.now (toks tokens.now) }
 {
@@ -287,7 +287,7 @@ fn target_end<'a>(target: &'a [u8], tokens: &[Token<'a>]) -> Option<&'a [u8]>
     }
 }
 
-// The target behind `else`.
+/// The target behind `else`.
 #[tactic(auto, unfolding(crate::specs::ShapeReading::else_tail))]
 fn else_tail<'a>(tokens: &[Token<'a>]) -> Option<&'a [u8]>
     ensures { text_in result ≡ else_tail (toks tokens.now) }
@@ -301,7 +301,7 @@ fn else_tail<'a>(tokens: &[Token<'a>]) -> Option<&'a [u8]>
     }
 }
 
-// The target behind `else`, where tokens are left at all.
+/// The target behind `else`, where tokens are left at all.
 fn else_at<'a>(tokens: &[Token<'a>]) -> Option<Option<&'a [u8]>>
     ensures { option_map text_in result ≡ else_at (toks tokens.now) }
 {
@@ -314,7 +314,7 @@ fn else_at<'a>(tokens: &[Token<'a>]) -> Option<Option<&'a [u8]>>
     }
 }
 
-// A call, behind its name and its opening bracket.
+/// A call, behind its name and its opening bracket.
 #[tactic(auto, unfolding(crate::specs::ShapeReading::call_at))]
 fn call_at<'a>(
     alloc: Global,
@@ -338,7 +338,7 @@ fn call_at<'a>(
     }
 }
 
-// A call's name, where the variable before it has this name, and what follows the opening bracket.
+/// A call's name, where the variable before it has this name, and what follows the opening bracket.
 #[tactic(auto, unfolding(crate::specs::ShapeReading::head_at))]
 fn head_behind<'a, 't>(tokens: &'t [Token<'a>]) -> Option<(&'a [u8], &'t [Token<'a>])>
     ensures { option_map (λ p. (p.0.now, toks p.1.now)) result ≡ head_at (toks tokens.now) }
@@ -348,7 +348,7 @@ fn head_behind<'a, 't>(tokens: &'t [Token<'a>]) -> Option<(&'a [u8], &'t [Token<
     Some((name, inside))
 }
 
-// A call behind the variable that takes its answer.
+/// A call behind the variable that takes its answer.
 #[tactic(auto, unfolding(crate::specs::ShapeReading::counted_at))]
 fn counted_at<'a>(
     alloc: Global,

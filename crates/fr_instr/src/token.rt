@@ -1,3 +1,4 @@
+// The tokens of a line: words, numbers and signs.
 ghost use Rattle.std.specs.Prelude.{◌≡◌, ◌+◌, ◌<◌, ◌≤◌, Some, IfSome, IfNone, IfOk, IfErr, ℕ, List, length, option_map, slice_index};
 ghost use Rattle.fr_instr.specs.Tokens.{Tok, is_letter, is_space, Begins, Spells};
 ghost use Rattle.std.specs.List.{list_all};
@@ -42,12 +43,14 @@ pub(crate) enum Class {
     Digit,
 }
 
+/// Whether the byte is an ASCII letter or an underscore.
 fn is_letter(byte: u8) -> bool
     ensures { result ≡ is_letter byte }
 {
     byte.is_ascii_alphabetic() || byte == b'_'
 }
 
+/// Whether the byte is of this kind. A digit is of the kind of words too.
 fn is_of(class: Class, byte: u8) -> bool
     ensures { result ≡ is_of class byte }
 {
@@ -58,7 +61,7 @@ fn is_of(class: Class, byte: u8) -> bool
     }
 }
 
-// The longest front of bytes of the class, and the rest.
+/// The longest front of bytes of the class, and the rest.
 pub(crate) fn split_class(text: &[u8], class: Class) -> (&[u8], &[u8])
     ensures front { result.0.now ≡ front (is_of class) text.now }
     ensures rest { result.1.now ≡ after (is_of class) text.now }
@@ -71,7 +74,7 @@ pub(crate) fn split_class(text: &[u8], class: Class) -> (&[u8], &[u8])
     text.split_at(n)
 }
 
-// The sign that begins with these two bytes, and its length.
+/// The sign that begins with these two bytes, and its length.
 fn sign_at(first: u8, second: u8) -> Option<(Sign, usize)>
     ensures value { result ≡ sign_at first second }
     ensures short { IfSome result (λ p. p.1 ≤ 2) }
@@ -112,7 +115,7 @@ fn byte_at(text: &[u8], i: usize) -> u8
     if i < text.len() { text[i] } else { 0 }
 }
 
-// The token at the front of a text that begins with no space.
+/// The token at the front of a text that begins with no space.
 #[tactic(auto, unfolding(crate::specs::Reading::token_at))]
 fn token_at(text: &[u8]) -> Option<(Token<'_>, &[u8])>
     ensures { option_map (λ p. (tok p.0, p.1.now)) result ≡ token_at text.now }

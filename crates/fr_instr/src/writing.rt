@@ -73,7 +73,7 @@ fn push_arg(out: &mut String, names: &Names, arg: Arg) -> Result<(), AllocError>
     }
 }
 
-// Further arguments, each behind a comma and a space.
+/// Further arguments, each behind a comma and a space.
 fn push_more_args(out: &mut String, names: &Names, args: &[Arg]) -> Result<(), AllocError>
     ensures { OnOk result (string_bytes out.new ≡ string_bytes out.old ++ more_text (map (arg_word names.now) args.now)) }
 {

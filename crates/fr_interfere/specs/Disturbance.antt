@@ -1,4 +1,5 @@
--- For private clauses: which steps of another actor leave a point's note holding.
+-- Which steps of another actor leave a point's note holding. `IsSpoiler` is for the public contracts of `spoiler` and
+-- `spoiler_given`; the other words are for private clauses.
 --
 -- | word            | meaning                                                                            |
 -- |-----------------|------------------------------------------------------------------------------------|

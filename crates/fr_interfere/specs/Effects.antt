@@ -1,4 +1,6 @@
--- For private clauses: what a step can change of what the notes of other actors say.
+-- What a step can change of what the notes of other actors say. `AllStay` of `Staying`, which public contracts use, is
+-- said by `Stays` and `effect_of`; so these two, and the words that they use (`received`, `moved`, `effect_inside`,
+-- `declared_of`), are for public contracts. The other words are for private clauses.
 --
 -- | word                    | meaning                                                                          |
 -- |-------------------------|----------------------------------------------------------------------------------|

@@ -1,4 +1,5 @@
--- Whether steps leave each variable in its declared range.
+-- Whether steps leave each variable in its declared range. `AllStay` is for the public contracts of `all_stay`,
+-- `spoiler_given` and `job_given` (of fr_judge).
 --
 -- | word      | meaning                                                                                              |
 -- |-----------|------------------------------------------------------------------------------------------------------|

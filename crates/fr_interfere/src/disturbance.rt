@@ -54,8 +54,9 @@ fn is_spared_by_row(
     }
 }
 
-/// The same by both rows, of any two alternatives: where they exclude each other, no state has such
-/// a step.
+/// Whether, for this alternative of the note and that one of the mover's, one alternative of the note is
+/// left by every step of the mover by either row. Where the two exclude each other, no state has such a
+/// step.
 fn is_spared(
     app: &App,
     alternative: &Alternative,
@@ -80,7 +81,8 @@ fn is_spared(
         && is_spared_by_row(app, &known, alternative, mover, instr, Way::Else, note)
 }
 
-/// Whether that is so of each alternative of the mover's note.
+/// Whether, for this alternative of the note and each one of the mover's, one alternative of the note is
+/// left by every step of the mover, row by row.
 fn is_spared_beside_each(
     app: &App,
     alternative: &Alternative,
@@ -105,7 +107,8 @@ fn is_spared_beside_each(
     true
 }
 
-/// Whether that is so of each alternative of the note too.
+/// Whether, for each alternative of the note and each one of the mover's, one alternative of the note is
+/// left by every step of the mover, row by row.
 fn is_each_spared(app: &App, note: &Note, others: &Note, mover: Point, instr: &Instr) -> bool
     requires note { NoteFits app.now note.now }
     requires others { NoteFits app.now others.now }
@@ -122,8 +125,8 @@ fn is_each_spared(app: &App, note: &Note, others: &Note, mover: Point, instr: &I
     true
 }
 
-/// Whether no step from the mover's point disturbs the note: where each alternative bears what the
-/// instruction can change, nothing else is asked.
+/// Whether no step from the mover's point disturbs the note. Where each alternative of the note holds
+/// after what the instruction can change, nothing else is asked.
 fn is_left(
     app: &App,
     effect: Effect,

@@ -23,7 +23,7 @@ pub enum Effect {
     Nothing,
     /// Whether the object is live.
     Life(ObjId),
-    /// The variable, which gets a number from `lo` to `hi`.
+    /// The variable, which gets a value from `lo` to `hi`.
     Gives {
         into: VarId,
         lo: i64,
@@ -48,7 +48,7 @@ fn received(into: VarId, kind: Kind) -> Effect
     }
 }
 
-/// A call that moves up to so many bytes gives its variable, where it has one, their number.
+/// A call that moves up to so many bytes gives its variable, where it has one, the count of bytes.
 fn moved(into: Option<VarId>, length: u32) -> Effect
     ensures { result ≡ moved into length }
 {
@@ -181,7 +181,8 @@ fn each_bears(app: &App, effect: Effect, mover: &Alternative, note: &Note) -> bo
     true
 }
 
-/// Whether that is so whichever alternative the mover has.
+/// Whether each alternative of the note holds after the effect where it held before, whichever
+/// alternative of the mover's note holds.
 pub fn all_bear(app: &App, effect: Effect, others: &Note, note: &Note) -> bool
     requires others { NoteFits app.now others.now }
     requires computable { IsComputable effect }
@@ -195,8 +196,8 @@ pub fn all_bear(app: &App, effect: Effect, others: &Note, note: &Note) -> bool
     true
 }
 
-/// Whether each number that the variable can get, where the mover's alternative holds, is in its
-/// declared range.
+/// Whether each value that the effect can give its variable, where the mover's alternative holds, is in
+/// the variable's declared range.
 pub fn stays(app: &App, effect: Effect, mover: &Alternative) -> bool
     requires mover { AlternativeFits app.now mover.now }
     requires computable { IsComputable effect }
@@ -220,8 +221,8 @@ pub fn stays(app: &App, effect: Effect, mover: &Alternative) -> bool
     }
 }
 
-/// Whether the alternative says of it no more than every one does: of a variable its declared range,
-/// of an object that the actor doesn't hold it.
+/// Whether the alternative says no more of the variable or the object than every alternative does: of a
+/// variable its declared range, of an object that the actor doesn't hold it.
 fn is_unsaid(app: &App, alternative: &Alternative, changed: Changed) -> bool
     requires { IsThere app.now changed }
     ensures { IsTrue result ↔ IsUnsaid app.now changed alternative.now }
@@ -236,7 +237,8 @@ fn is_unsaid(app: &App, alternative: &Alternative, changed: Changed) -> bool
     }
 }
 
-/// Whether that is so of each alternative of the note.
+/// Whether each alternative of the note says no more of the variable or the object than every
+/// alternative does.
 pub fn is_unsaid_by_each(app: &App, note: &Note, changed: Changed) -> bool
     requires { IsThere app.now changed }
     ensures { IsTrue result ↔ ((n : AlternativeOf) → Contains note.now n → IsUnsaid app.now changed n) }

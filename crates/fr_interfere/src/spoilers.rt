@@ -31,7 +31,8 @@ fn first_changer(app: &App, notes: &Notes, number: usize, changed: Changed) -> O
     None
 }
 
-/// The same, without a look at any point where the note doesn't speak of it.
+/// The least number of a point whose steps can change this and disturb the point's note. Where the note
+/// says nothing of it, no point is looked at.
 fn first_speaker(app: &App, notes: &Notes, number: usize, changed: Changed) -> Option<usize>
     requires number { number < length (points_of app.now) }
     requires fit { NotesFit app.now notes.now }
@@ -91,9 +92,9 @@ fn first_maker(app: &App, notes: &Notes, number: usize) -> Option<usize>
     least
 }
 
-/// The same as `spoiler`, for many points of one application and its notes: `stay` says that
-/// `all_stay` does, which is asked once for all of them. Where it is false, every point whose steps
-/// can change something is looked at.
+/// The same as `spoiler`, for many points of one application and its notes. `stay` is the answer of
+/// `all_stay`, which the caller asks once for all points. Where it is false, every point whose steps
+/// can change something is looked at. Takes no memory.
 pub fn spoiler_given(app: &App, notes: &Notes, stay: bool, number: usize) -> Option<usize>
     requires number { number < length (points_of app.now) }
     requires fit { NotesFit app.now notes.now }

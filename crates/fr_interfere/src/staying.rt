@@ -11,7 +11,8 @@ use crate::effects::{Effect, effect_of, stays};
 use fr_notes::{Note, Notes};
 use fr_program::App;
 
-/// Whether that is so of an effect, whichever alternative of the mover's note holds.
+/// Whether every value that the effect can give its variable is in the declared range, whichever
+/// alternative of the mover's note holds.
 fn stays_by_each(app: &App, effect: Effect, others: &Note) -> bool
     requires others { NoteFits app.now others.now }
     requires computable { IsComputable effect }
@@ -26,7 +27,8 @@ fn stays_by_each(app: &App, effect: Effect, others: &Note) -> bool
     true
 }
 
-/// Whether that is so of the steps from the point with this number, where its note holds.
+/// Whether the steps from the point with this number write only values in the declared range, where its
+/// note holds.
 fn stays_at(app: &App, notes: &Notes, number: usize) -> bool
     requires number { number < length (points_of app.now) }
     requires fit { NotesFit app.now notes.now }
@@ -46,9 +48,9 @@ fn stays_at(app: &App, notes: &Notes, number: usize) -> bool
     }
 }
 
-/// Whether the steps from every point, where its note holds, give each variable numbers of its
-/// declared range alone. Where that is so, only those steps can disturb a note that change something
-/// which it says. The notes fit the application. Takes no memory.
+/// Whether the steps from every point, where its note holds, write only values in the declared range of
+/// the variable. Where that is so, a step can disturb a note only if it changes something that the note
+/// says. The notes fit the application. Takes no memory.
 pub fn all_stay(app: &App, notes: &Notes) -> bool
     requires { NotesFit app.now notes.now }
     ensures { IsTrue result ↔ AllStay app.now notes.now }

@@ -21,7 +21,8 @@ pub struct Judged {
 /// Why there is no verdict.
 #[derive(Debug, Drop)]
 pub enum TextFault {
-    /// An allocation was refused.
+    /// An allocation was refused. No call gives it today: a refused allocation comes inside `App` or
+    /// `Cert`, and their `is_memory` tells it.
     Memory,
     /// The application's bytes are refused.
     App(ReadFault),

@@ -41,8 +41,9 @@ pub fn job(app: &App, certificate: &Certificate, number: usize) -> Option<Part>
     job_given(app, certificate, stay, number)
 }
 
-/// The same as `job`, for many points of one application and its certificate: `stay` says that
-/// `all_stay` of fr_interfere does of its notes, which is asked once for all points. Takes no memory.
+/// The same as `job`, for many points of one application and its certificate. `stay` is the answer of
+/// `all_stay` of fr_interfere on the certificate's notes, which the caller asks once for all points.
+/// Takes no memory.
 pub fn job_given(app: &App, certificate: &Certificate, stay: bool, number: usize) -> Option<Part>
     requires number { number < length (points_of app.now) }
     requires fits { CertificateFits app.now certificate.now }

@@ -1,4 +1,5 @@
--- For private clauses: a change's ranges, and the ways of an `if`.
+-- A change's ranges, and the ways of an `if`. `new_range`, with `range_after`, is for the public contract of `new_range`,
+-- and `Turns` for that of `Known::branch`; `narrowed_to` is for private clauses.
 --
 -- | word                    | meaning                                                            |
 -- |-------------------------|--------------------------------------------------------------------|

@@ -1,4 +1,6 @@
--- For private clauses: what is known of one object, for the actor that moves and for another actor at once.
+-- What is known of one object, for the actor that moves and for another actor at once. `taken_by`, `given_by`,
+-- `can_be_full` and `other_claim` are for private clauses; the other words are for the public contracts of `Holding`,
+-- `Known` and `is_given_unheld`.
 --
 -- | word                      | meaning                                                                        |
 -- |---------------------------|--------------------------------------------------------------------------------|

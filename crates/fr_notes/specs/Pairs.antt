@@ -1,4 +1,5 @@
--- For private clauses: when two alternatives, of two actors, hold in one state, part by part.
+-- When two alternatives, of two actors, hold in one state, part by part. `CanMeet`, with the words that it uses, is for
+-- the public contract of `can_meet`; `MeetsSome` is for private clauses.
 --
 -- | word                    | meaning                                                                          |
 -- |-------------------------|----------------------------------------------------------------------------------|

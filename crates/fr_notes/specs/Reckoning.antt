@@ -1,4 +1,5 @@
--- For private clauses: what a `set` computes and an `if` leaves, where each variable has a number of its range.
+-- What a `set` computes and an `if` leaves, where each variable has a number of its range: for the public contracts of
+-- `Known::operand`, `Known::result` and `Known::branch`, and for `AllStay` of fr_interfere. `IsNamed` is for private clauses.
 --
 -- | word                     | meaning                                                                             |
 -- |--------------------------|-------------------------------------------------------------------------------------|

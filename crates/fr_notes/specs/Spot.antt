@@ -1,4 +1,5 @@
--- For private clauses: what a row of the step table leaves, at whatever point its instruction is.
+-- What a row of the step table leaves, at whatever point its instruction is. `condition_known`, `unchanged`, `claiming`
+-- and `resulting` are for the public contracts of `condition_at` and of `Known`; the other words are for private clauses.
 --
 -- | word                       | meaning                                                                             |
 -- |----------------------------|-------------------------------------------------------------------------------------|

@@ -18,6 +18,7 @@ const MOST_ALTERNATIVES: usize = 4;
 /// Why plain notes are not the alternatives of one note.
 #[derive(Clone, Copy, Debug, PartialEq, Eq, Error)]
 pub enum AltsFault {
+    /// An allocation was refused.
     #[error("0 Memory")]
     Memory,
     /// There are more than four.
@@ -145,8 +146,8 @@ impl Notes {
     ghost use Rattle.fr_notes.specs.Fits.{NoteFits, NotesFit};
 
     /// The notes of an application, one for each point, each with alternatives that were built for that
-    /// application. `PointCount`: there are more or fewer notes than points. On a refusal the
-    /// alternatives come back.
+    /// application. `PointCount`: there are more or fewer notes than points. `Memory`: an allocation
+    /// was refused. On a refusal the alternatives come back.
     pub fn build_alts(
         alloc: Global,
         app: &App,

@@ -20,24 +20,28 @@ pub fn is_count(kind: Kind, count: u32) -> bool
     }
 }
 
+/// Whether the application has the object, and it can be held so often, as a note can say.
 fn may_be_held(app: &App, object: ObjId, count: u32) -> bool
     ensures { IsTrue result ↔ IsCount app.now (object, count) }
 {
     object.0 < object_count(app) && is_count(app.kind(object), count)
 }
 
+/// Whether the application has the variable, and the range is inside its declared one.
 pub fn is_narrowing(app: &App, variable: VarId, range: Range) -> bool
     ensures { IsTrue result ↔ IsNarrowing app.now (variable, range) }
 {
     variable.0 < variable_count(app) && range.within(app.range(variable))
 }
 
+/// Whether the parts say that the object is live, or that it is held.
 fn is_live_said(parts: &NoteParts, object: usize) -> bool
     ensures { result ≡ is_live_said parts.now object }
 {
     names(&parts.live, object) || count_in(&parts.held, object).is_some()
 }
 
+/// Looks for a count that can't be.
 fn check_counts(app: &App, held: &[(ObjId, u32)]) -> Result<(), NoteFault>
     ensures ok { OnOk result (All (IsCount app.now) held.now) }
     ensures err { IfErr result
@@ -51,6 +55,7 @@ fn check_counts(app: &App, held: &[(ObjId, u32)]) -> Result<(), NoteFault>
     Ok(())
 }
 
+/// Looks for an object that is said to be dead, and live or held too.
 fn check_lives(parts: &NoteParts) -> Result<(), NoteFault>
     ensures ok { OnOk result
         (All (λ o. IsTrue (is_live_said parts.now o.0) → ⊥) parts.now.dead.items) }
@@ -65,6 +70,7 @@ fn check_lives(parts: &NoteParts) -> Result<(), NoteFault>
     Ok(())
 }
 
+/// Looks for a range that isn't inside the declared one, or is of a variable that isn't there.
 fn check_spans(app: &App, narrower: &[(VarId, Range)]) -> Result<(), NoteFault>
     ensures ok { OnOk result (All (IsNarrowing app.now) narrower.now) }
     ensures err { IfErr result

@@ -17,7 +17,7 @@ pub enum Claim {
 impl Claim {
     ghost use Rattle.fr_notes.specs.Implication.{ClaimImplies};
 
-    /// Whether an actor of which this claim holds has the other one hold of it too.
+    /// Whether the other claim is true of an actor and an object wherever this one is.
     pub fn implies(self, other: Claim) -> bool
         ensures { IsTrue result ↔ ClaimImplies self other }
     {

@@ -39,7 +39,7 @@ impl Alternative {
         }
     }
 
-    /// The same alternative once more.
+    /// The same alternative once more. Its error is that an allocation was refused.
     pub fn copied(&self, alloc: Global) -> Result<Alternative, AllocError>
         ensures { IfOk result (λ copy. copy ≡ self.now) }
     {

@@ -21,6 +21,7 @@ fn can_claim(kind: Kind, claim: Claim) -> bool
     }
 }
 
+/// Whether there is a claim for each object, and each can be true of an object of its kind.
 fn claims_fit(app: &App, claims: &[Claim]) -> bool
     ensures { IsTrue result ↔ ClaimsFit app.now claims.now }
 {
@@ -35,6 +36,7 @@ fn claims_fit(app: &App, claims: &[Claim]) -> bool
     true
 }
 
+/// Whether there is a range for each variable, and each is inside the declared one.
 fn ranges_fit(app: &App, ranges: &[Range]) -> bool
     ensures { IsTrue result ↔ RangesFit app.now (map ends_of ranges.now) }
 {
@@ -49,6 +51,7 @@ fn ranges_fit(app: &App, ranges: &[Range]) -> bool
     true
 }
 
+/// Whether the alternative could be one of a note of the application.
 pub fn alternative_fits(app: &App, alternative: &Alternative) -> bool
     ensures { IsTrue result ↔ AlternativeFits app.now alternative.now }
 {
@@ -57,6 +60,7 @@ pub fn alternative_fits(app: &App, alternative: &Alternative) -> bool
     claims_fit(app, &alternative.claims) && ranges_fit(app, &alternative.ranges)
 }
 
+/// Whether there are at most four alternatives, and each of them fits the application.
 pub fn note_fits(app: &App, note: &Note) -> bool
     ensures { IsTrue result ↔ NoteFits app.now note.now }
 {

@@ -46,7 +46,7 @@ fn can_time_out(timing: Timing) -> bool
     }
 }
 
-/// The same, of a take.
+/// Whether a take can fail because its block time has passed, or at once from an interrupt.
 fn take_can_time_out(form: TakeForm) -> bool
     ensures { result ≡ take_can_time_out form }
 {

@@ -99,8 +99,9 @@ impl Model for Note {
 }
 
 /// What a plain note says, where it says more than the default: no mutex held, depth 0, objects
-/// live or dead, and variables anywhere in their declared ranges. A number is in a list at most
-/// once; where it is there twice, its first entry counts.
+/// live or dead, and variables anywhere in their declared ranges. Where a number is in a list twice,
+/// what it says is its first entry; `Note::build` checks every entry. A number in `live` or `dead`
+/// that is of no object of the application says nothing of the application's objects.
 #[derive(Debug, Drop)]
 pub struct NoteParts {
     pub held: Vec<(ObjId, u32)>,
@@ -146,10 +147,11 @@ impl Note {
     }
 
     /// The plain note that the parts say: Ok exactly where none of the three faults is present and no
-    /// allocation was refused. `Count`: a count is not 1 to 255, is not 1 on a plain mutex, or is of
-    /// no mutex. `Lives`: an object is both live and dead, or held and dead. `Span`: a range isn't
-    /// inside the variable's declared one. Of several faults, which one is named is open; `Memory`
-    /// is named only where none of the three is present.
+    /// allocation was refused. `Count`: a count is not 1 to 255, is not 1 on a plain mutex, is of no
+    /// mutex, or is of an object that the application doesn't have. `Lives`: an object is both live and
+    /// dead, or held and dead. `Span`: a range isn't inside the variable's declared one, or is of a
+    /// variable that the application doesn't have. Of several faults, which one is named is open;
+    /// `Memory` is named only where none of the three is present.
     pub fn build(alloc: Global, app: &App, parts: NoteParts) -> Result<Note, NoteFault>
         ensures says { IfOk result (λ note. note ≡ said app.now parts ∷ []) }
         ensures fits { IfOk result (λ note. NoteFits app.now note) }
@@ -172,7 +174,8 @@ impl Note {
         Ok(Note { alternatives })
     }
 
-    /// The note with these alternatives.
+    /// The note with these alternatives. Nothing is checked: that there are at most four, and that they
+    /// fit an application, is the caller's matter.
     pub fn of(alternatives: Vec<Alternative>) -> Note
         ensures { result ≡ alternatives.items }
     {

@@ -40,6 +40,7 @@ pub fn count_in(held: &[(ObjId, u32)], object: usize) -> Option<u32>
         .map(|entry| entry.1)
 }
 
+/// What the parts say of an object.
 fn claim_said(parts: &NoteParts, object: usize) -> Claim
     ensures { result ≡ claim_said parts.now object }
 {
@@ -71,6 +72,7 @@ pub fn claims_said(alloc: Global, app: &App, parts: &NoteParts) -> Result<Vec<Cl
     )
 }
 
+/// The range that the list gives the variable first, if it names it.
 fn range_in(narrower: &[(VarId, Range)], variable: usize) -> Option<Range>
     ensures { result ≡ range_in narrower.now variable }
 {
@@ -80,6 +82,7 @@ fn range_in(narrower: &[(VarId, Range)], variable: usize) -> Option<Range>
         .map(|entry| entry.1)
 }
 
+/// What the parts say of a variable: the range that they name, or else the declared one.
 fn range_said(app: &App, narrower: &[(VarId, Range)], variable: VarId) -> Range
     requires { variable.0 < length app.now.variables }
     ensures { ends_of result ≡ range_said app.now narrower.now variable.0 }

@@ -26,7 +26,8 @@ KeepsAt P C number = (p : Point) → slice_get (points_of P) number ≡ Some p �
 abbrev pub IsFor : Program → BoardValue → Type 0
 IsFor P b = b.jobs ≡ length (points_of P)
 
--- one worker's pass after its turn: of weight 1, dry, each passed number without a failing part, each failed one with one, none open
+-- one worker's pass after its turn, of weight 1 and with a dry mark: every point marked passed keeps all its parts, every point
+-- marked failed doesn't, and no drawn point is left open
 abbrev pub IsWorked : BoardValue → Program → Certificate → PassValue → Type 0
 IsWorked b P C p = IsGathered b (KeepsAt P C) 1 p
 

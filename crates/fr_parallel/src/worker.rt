@@ -58,11 +58,12 @@ fn settle<G: Gate>(
 
 /// A worker's whole turn: it draws numbers of points until none is left, and says of each what it is.
 ///
-/// After each draw it looks. Where a lower number has failed it leaves the point, and otherwise it arrives at the gate and judges
-/// the point. It takes no memory, and no lock is held while it judges.
+/// After each draw it looks. Where a lower number has failed it leaves the point, and otherwise it arrives at the
+/// gate and judges the point. It takes no memory, and no lock is held while it judges.
 ///
-/// The pass comes back with weight 1 and a dry mark, each passed number without a failing part, each failed one with one, and none
-/// open.
+/// In the pass that comes back, every point marked passed keeps all its parts, and every point marked failed breaks
+/// one. Every other drawn point is marked skipped, since a lower one had failed. The pass is that of one worker (its
+/// weight is 1), and it has found that no number is left (it has a dry mark).
 pub fn work<G: Gate>(
     app: &App,
     certificate: &Certificate,

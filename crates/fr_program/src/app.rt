@@ -51,12 +51,12 @@ impl App {
     ghost use Rattle.fr_program.specs.View.{variable_of, object_of};
 
     /// The application that the parts say: Ok exactly where no build fault is present and no
-    /// allocation was refused. The tables of points and the list of names take memory. Names are
-    /// compared pair by pair, which is cheap since more than 160 are refused before.
+    /// allocation was refused. The tables of points, the lists of changers and the list of names take
+    /// memory. Names are compared pair by pair, which is cheap since more than 160 are refused before.
     ///
     /// On a refusal the parts come back unchanged, with a fault that is present at the line or the
     /// actor that it names. Where several are present, which one is named is open. `Memory` says that
-    /// an allocation was refused. The rules are this project's profile.
+    /// an allocation was refused. Which parts are refused is this project's profile.
     pub fn build(alloc: Global, parts: Parts) -> Result<App, (BuildFault, Parts)>
         ensures same { IfOk result (λ app. app ≡ program_of parts) }
         ensures faultless { IfOk result (λ app. IsFaultless app) }
@@ -127,9 +127,9 @@ impl App {
         instr_of(&self.parts, point)
     }
 
-    /// The numbers, rising, of the points whose steps can change this of what the notes of other
-    /// actors say: a variable's number, whether an object is live, or anything. The variable or the
-    /// object is one of the application's. Most points aren't among them.
+    /// The numbers, rising, of the points whose steps can change this part of what other actors' notes
+    /// say: the value of a variable, whether an object is live, or anything. The variable or the object
+    /// is one of the application's. Most points aren't among them.
     pub fn changers(&self, changed: Changed) -> &[usize]
         requires { IsThere self.now changed }
         ensures { result.now ≡ changers_of self.now changed }
@@ -203,6 +203,8 @@ impl App {
     }
 }
 
+/// The number of the point on this side of an instruction whose first point has the number `start`; None
+/// where the instruction has no such side.
 fn number_from(start: usize, instr: Instr, side: Side) -> Option<usize>
     requires { HasSide instr side → start + side_number side < 2 ^ 64 }
     ensures some { IfSome result (λ k. HasSide instr side × (k ≡ start + side_number side)) }
@@ -215,6 +217,8 @@ fn number_from(start: usize, instr: Instr, side: Side) -> Option<usize>
     }
 }
 
+/// The tables of the points and the changers of these parts; else a fault that is present in them, or
+/// `Memory` where an allocation was refused.
 fn checked_table(alloc: Global, parts: &Parts) -> Result<(Table, Changers), BuildFault>
     ensures points { IfOk result (λ t. t.0.points.items ≡ points_of (program_of parts.now)) }
     ensures starts { IfOk result

@@ -17,13 +17,13 @@ use std::alloc::Global;
 pub enum Changed {
     /// Anything of it.
     Anything,
-    /// The number of this variable.
+    /// The value of this variable.
     Number(VarId),
     /// Whether this object is live.
     Life(ObjId),
 }
 
-/// The numbers, rising, of the points whose steps can change something: anything, the number of each
+/// The numbers, rising, of the points whose steps can change something: anything, the value of each
 /// variable, and whether each object is live.
 #[derive(Debug, Drop)]
 pub struct Changers {
@@ -32,7 +32,7 @@ pub struct Changers {
     pub lives: Vec<Vec<usize>>,
 }
 
-/// The variable to which the end of an object call gives a number.
+/// The variable to which the end of an object call gives a value.
 fn result_of_end(action: &Action) -> Option<VarId>
     ensures { result ≡ result_of_end action.now }
 {
@@ -56,7 +56,7 @@ fn written(side: Side, instr: &Instr) -> Option<VarId>
     }
 }
 
-/// The object that they create or delete.
+/// The object that the steps from this side of the instruction create or delete.
 fn made(side: Side, instr: &Instr) -> Option<ObjId>
     ensures { result ≡ made side instr.now }
 {
@@ -67,6 +67,7 @@ fn made(side: Side, instr: &Instr) -> Option<ObjId>
     }
 }
 
+/// Whether the variable that is written, if there is one, is this one.
 fn is_variable(written: Option<VarId>, variable: VarId) -> bool
     ensures { result ≡ is_variable written variable }
 {
@@ -76,6 +77,7 @@ fn is_variable(written: Option<VarId>, variable: VarId) -> bool
     }
 }
 
+/// Whether the object that is created or deleted, if there is one, is this one.
 fn is_object(made: Option<ObjId>, object: ObjId) -> bool
     ensures { result ≡ is_object made object }
 {
@@ -85,6 +87,7 @@ fn is_object(made: Option<ObjId>, object: ObjId) -> bool
     }
 }
 
+/// Whether the steps from this side of the instruction can change this.
 fn changes(changed: Changed, side: Side, instr: &Instr) -> bool
     ensures { result ≡ changes changed side instr.now }
 {
@@ -105,6 +108,7 @@ pub fn instr_of(parts: &Parts, point: Point) -> Option<&Instr>
     }
 }
 
+/// Whether the steps from the point can change this; not where there is no such point.
 fn is_changer(parts: &Parts, changed: Changed, point: Point) -> bool
     ensures { result ≡ is_changer (program_of parts.now) changed point }
 {
@@ -114,6 +118,7 @@ fn is_changer(parts: &Parts, changed: Changed, point: Point) -> bool
     }
 }
 
+/// Appends the point's number where its steps can change this.
 fn push_changer(
     numbers: &mut Vec<usize>,
     parts: &Parts,
@@ -131,7 +136,7 @@ fn push_changer(
     Ok(())
 }
 
-/// The numbers of those of the points whose steps can change this.
+/// The numbers, rising, of those of the points whose steps can change this.
 fn changers_of(
     alloc: Global,
     parts: &Parts,
@@ -149,7 +154,7 @@ fn changers_of(
     Ok(numbers)
 }
 
-/// The same for each of so many variables.
+/// For each of so many variables, the numbers of those of the points whose steps can change its value.
 fn changers_of_numbers(
     alloc: Global,
     parts: &Parts,
@@ -168,7 +173,8 @@ fn changers_of_numbers(
     Ok(lists)
 }
 
-/// The same for each of so many objects.
+/// For each of so many objects, the numbers of those of the points whose steps can change whether it is
+/// live.
 fn changers_of_lives(
     alloc: Global,
     parts: &Parts,

@@ -37,6 +37,8 @@ pub fn check_parts(alloc: Global, parts: &Parts) -> Result<(), BuildFault>
     check_names(alloc, parts)
 }
 
+/// Looks for the faults of the lists: too many things, variables and objects out of limits, code that
+/// doesn't end well, owners that aren't there.
 fn check_lists(parts: &Parts) -> Result<(), BuildFault>
     ensures ok { OnOk result (AreListsFaultless (program_of parts.now)) }
     ensures err { IfErr result (λ f. IsFreeOf (program_of parts.now) f → ⊥) }
@@ -56,6 +58,7 @@ fn check_lists(parts: &Parts) -> Result<(), BuildFault>
     }
 }
 
+/// Looks for what is no name, and for a name that is given twice.
 fn check_names(alloc: Global, parts: &Parts) -> Result<(), BuildFault>
     ensures ok { OnOk result (AreNamesFaultless (program_of parts.now)) }
     ensures err { IfErr result (λ f. f ≢ BuildFault.Memory → IsFreeOf (program_of parts.now) f → ⊥) }
@@ -70,6 +73,7 @@ fn check_names(alloc: Global, parts: &Parts) -> Result<(), BuildFault>
     }
 }
 
+/// Looks for a fault in every actor's code.
 fn check_code(parts: &Parts) -> Result<(), BuildFault>
     ensures ok { OnOk result (IsCodeFaultless (program_of parts.now)) }
     ensures err { IfErr result (λ f. IsFreeOf (program_of parts.now) f → ⊥) }
@@ -80,6 +84,7 @@ fn check_code(parts: &Parts) -> Result<(), BuildFault>
     Ok(())
 }
 
+/// Looks for a fault in the code of this actor.
 fn check_code_of(parts: &Parts, a: ActorId, actor: &Actor) -> Result<(), BuildFault>
     ensures ok { OnOk result
         (All (λ i. IsInstrFaultless (program_of parts.now) a.0 (actor_of actor.now) i)
@@ -92,6 +97,7 @@ fn check_code_of(parts: &Parts, a: ActorId, actor: &Actor) -> Result<(), BuildFa
     Ok(())
 }
 
+/// Looks for a fault of this instruction, which is at this line.
 fn check_instr(parts: &Parts, at: CodeLine, actor: &Actor, instr: Instr) -> Result<(), BuildFault>
     ensures ok { OnOk result
         (IsInstrFaultless (program_of parts.now) at.actor.0 (actor_of actor.now) instr) }

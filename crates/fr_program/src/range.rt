@@ -77,6 +77,7 @@ impl Range {
         }
     }
 
+    /// The range of the products with this number, which isn't below 0.
     fn scale_up(self, by: i64) -> Range
         requires narrow { IsNarrow self }
         requires up { pos 0 ≤ℤ by }
@@ -89,6 +90,7 @@ impl Range {
         }
     }
 
+    /// The range of the products with this number, which isn't above 0.
     fn scale_down(self, by: i64) -> Range
         requires narrow { IsNarrow self }
         requires down { by ≤ℤ pos 0 }

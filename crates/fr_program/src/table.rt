@@ -18,6 +18,7 @@ pub struct Table {
     pub starts: Vec<Vec<usize>>,
 }
 
+/// The table of the points of these actors.
 pub fn table_of(alloc: Global, actors: &[Actor]) -> Result<Table, BuildFault>
     ensures points { IfOk result (λ t. t.points.items ≡ points_from 0 (map actor_of actors.now)) }
     ensures starts { IfOk result
@@ -32,6 +33,7 @@ pub fn table_of(alloc: Global, actors: &[Actor]) -> Result<Table, BuildFault>
     Ok(Table { points, starts })
 }
 
+/// Appends the points of an actor's code, and gives for each instruction the number of the point before it.
 fn push_points_of_code(
     alloc: Global,
     points: &mut Vec<Point>,
@@ -52,6 +54,7 @@ fn push_points_of_code(
     Ok(starts)
 }
 
+/// Appends the points of an instruction: the one before it and, for an object call, the one inside it.
 fn push_points_at(
     points: &mut Vec<Point>,
     actor: ActorId,

@@ -73,7 +73,7 @@ fn line_of(value: &Value, name: TableName) -> Result<&str, ReadFault>
     }
 }
 
-// The texts that an array has, in its order.
+/// The texts that an array has, in its order.
 fn lines_of(alloc: Global, array: &Array, name: TableName) -> Result<Vec<&str>, ReadFault>
     ensures ok { IfOk result (λ lines. Each IsText (array_view array.now) (map line_text lines.items)) }
     ensures err { IfErr result (Standing (InEach (λ i. InLine name) (array_view array.now))) }
@@ -85,7 +85,7 @@ fn lines_of(alloc: Global, array: &Array, name: TableName) -> Result<Vec<&str>, 
     Ok(lines)
 }
 
-// The actor that the table means.
+/// The actor that the table means.
 fn actor_of(alloc: Global, table: &Table, name: TableName) -> Result<ActorText<'_>, ReadFault>
     ensures ok { IfOk result (λ a. IsActor (table_view table.now) (actor_text a)) }
     ensures err { IfErr result (Standing (InActor name (table_view table.now))) }
@@ -108,7 +108,7 @@ fn entry_of(alloc: Global, value: &Value, name: TableName) -> Result<ActorText<'
     }
 }
 
-// The actors that an array means, in its order.
+/// The actors that an array means, in its order.
 pub(crate) fn actors_of(alloc: Global, array: &Array) -> Result<Vec<ActorText<'_>>, ReadFault>
     ensures ok { IfOk result (λ xs. Each (IsTableOf IsActor) (array_view array.now) (map actor_text xs.items)) }
     ensures err { IfErr result (Standing (InEach (λ i. InEntry Key.Actor (TableName.Actor i) (InActor (TableName.Actor i))) (array_view array.now))) }

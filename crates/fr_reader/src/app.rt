@@ -16,7 +16,7 @@ use toml::Table;
 /// How many bytes the text of an application has at the most.
 pub const MOST_BYTES: usize = 1_048_576;
 
-// The table that the bytes are the text of.
+/// The table that the bytes are the text of.
 fn table_of(alloc: Global, bytes: &[u8]) -> Result<Table, ReadFault>
     ensures ok { IfOk result (λ table. IsTableText bytes.now (table_view table)) }
     ensures err { IfErr result (Standing (InBytes bytes.now)) }
@@ -42,8 +42,9 @@ fn table_of(alloc: Global, bytes: &[u8]) -> Result<Table, ReadFault>
 /// where `App::build` says so.
 ///
 /// Its errors are those of `ReadFault`: one that is present in the bytes, where they mean no
-/// application. `Line` comes only where no fault before it is present, and `Build` only where no fault
-/// before it does. `is_memory` tells the refusal of an allocation from all others.
+/// application. `Line` comes only where none of the faults before it in `ReadFault` is present, and
+/// `Build` only where none before it and no `Line` is. `is_memory` tells the refusal of an allocation
+/// from all others.
 pub fn read_app(alloc: Global, bytes: &[u8]) -> Result<App, ReadFault>
     ensures ok { IfOk result (Means bytes.now) }
     ensures err { IfErr result (Standing (Stands bytes.now)) }

@@ -90,7 +90,7 @@ pub(crate) fn is_key_of(kind: TableKind, key: &str) -> bool
     }
 }
 
-// Whether this is a key that objects of this kind have beside the keys of every object.
+/// Whether this is a key that objects of this kind have beside the keys of every object.
 fn is_own_key(kind: ObjectKind, key: &str) -> bool
     ensures { result ≡ is_own_key kind key.now }
 {

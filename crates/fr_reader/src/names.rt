@@ -53,7 +53,7 @@ pub(crate) fn names_of<'a>(alloc: Global, texts: &Texts<'a>) -> Result<NameLists
     })
 }
 
-// The names of the three lists together.
+/// The names of the three lists together.
 fn all_names<'a>(alloc: Global, lists: &NameLists<'a>) -> Result<Vec<&'a str>, AllocError>
     ensures { IfOk result (λ all. all.items ≡ lists.now.variables.items ++ (lists.now.objects.items ++ lists.now.actors.items)) }
 {
@@ -64,7 +64,7 @@ fn all_names<'a>(alloc: Global, lists: &NameLists<'a>) -> Result<Vec<&'a str>, A
     Ok(all)
 }
 
-// Finds a text that is no name, or a name that is given twice.
+/// Finds a text that is no name, or a name that is given twice.
 fn check_each(alloc: Global, names: &[&str]) -> Result<(), ReadFault>
     ensures ok { OnOk result (AreNames (map line_text names.now)) }
     ensures err { IfErr result (Standing (InNames (map line_text names.now))) }

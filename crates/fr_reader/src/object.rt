@@ -55,7 +55,7 @@ fn kind_at(table: &Table, name: TableName) -> Result<ObjectKind, ReadFault>
     }
 }
 
-// The kind with the keys that only it has.
+/// The kind with the keys that only it has.
 fn kind_of(table: &Table, kind: ObjectKind, name: TableName) -> Result<Kind, ReadFault>
     ensures named { IfOk result (λ k. kind_named k ≡ kind) }
     ensures ok { IfOk result (HasKind (table_view table.now)) }
@@ -84,7 +84,7 @@ fn kind_of(table: &Table, kind: ObjectKind, name: TableName) -> Result<Kind, Rea
     }
 }
 
-// The object that the table means, where its kind is this one.
+/// The object that the table means, where its kind is this one.
 fn object_of(
     alloc: Global,
     table: &Table,
@@ -114,7 +114,7 @@ fn entry_of(alloc: Global, value: &Value, name: TableName) -> Result<ObjectText<
     }
 }
 
-// The objects that an array means, in its order.
+/// The objects that an array means, in its order.
 pub(crate) fn objects_of(alloc: Global, array: &Array) -> Result<Vec<ObjectText<'_>>, ReadFault>
     ensures ok { IfOk result (λ os. Each (IsTableOf IsObject) (array_view array.now) (map object_text os.items)) }
     ensures err { IfErr result (Standing (InEach (λ i. InEntry Key.Object (TableName.Object i) (InObject (TableName.Object i))) (array_view array.now))) }

@@ -91,7 +91,7 @@ fn objects_of(alloc: Global, texts: &[ObjectText]) -> Result<Vec<Object>, ReadFa
     Ok(objects)
 }
 
-// The instruction of the line with this number in the code of the actor with this name.
+/// The instruction of the line with this number in the code of the actor with this name.
 fn instr_of(
     alloc: Global,
     names: &Names,
@@ -150,8 +150,8 @@ fn actors_of(alloc: Global, names: &Names, texts: &[ActorText]) -> Result<Vec<Ac
     Ok(actors)
 }
 
-// The parts that the texts say, where these are the names in them. Owners are asked for first, then
-// lines.
+/// The parts that the texts say, where these are the names in them. Owners are asked for first, then
+/// lines.
 fn parts_with(alloc: Global, names: &Names, texts: &Texts) -> Result<Parts, ReadFault>
     requires { names.now ≡ lists_in (texts_view texts.now) }
     ensures ok { IfOk result (λ parts. Says (texts_view texts.now) (program.program_of parts)) }

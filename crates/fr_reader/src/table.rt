@@ -11,14 +11,14 @@ use crate::key::{self, Key, TableKind, TableName};
 use std::alloc::Global;
 use toml::{Table, Value};
 
-// What the table holds at the key.
+/// What the table holds at the key.
 pub(crate) fn found_at(table: &Table, key: Key) -> Option<&Value>
     ensures { option_map (λ v. view v.now) result ≡ field key (table_view table.now) }
 {
     table.get(key.text())
 }
 
-// The number at a key that a table of this kind has to have.
+/// The number at a key that a table of this kind has to have.
 pub(crate) fn integer_at(
     table: &Table,
     kind: TableKind,
@@ -40,7 +40,7 @@ pub(crate) fn integer_at(
     }
 }
 
-// The text at a key that a table of this kind has to have.
+/// The text at a key that a table of this kind has to have.
 pub(crate) fn text_at(
     table: &Table,
     kind: TableKind,
@@ -62,7 +62,7 @@ pub(crate) fn text_at(
     }
 }
 
-// The truth value at the key `live`.
+/// The truth value at the key `live`.
 pub(crate) fn live_at(table: &Table, kind: TableKind, name: TableName) -> Result<bool, ReadFault>
     requires { IsKeyOf kind Key.Live }
     ensures ok { IfOk result (λ b. field Key.Live (table_view table.now) ≡ Some (boolean b)) }
@@ -77,7 +77,7 @@ pub(crate) fn live_at(table: &Table, kind: TableKind, name: TableName) -> Result
     }
 }
 
-// No key of the table is unknown there.
+/// No key of the table is unknown there.
 pub(crate) fn known_keys(
     alloc: Global,
     table: &Table,

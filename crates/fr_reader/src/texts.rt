@@ -25,7 +25,7 @@ pub(crate) struct Texts<'a> {
     pub actors: Vec<ActorText<'a>>,
 }
 
-// The array at the key of a list, if the key is there.
+/// The array at the key of a list, if the key is there.
 fn array_at(table: &Table, key: Key) -> Result<Option<&Array>, ReadFault>
     requires known { IsKeyOf TableKind.Application key }
     requires list { IsListKey key }
@@ -71,7 +71,7 @@ fn actors_at(alloc: Global, table: &Table) -> Result<Vec<ActorText<'_>>, ReadFau
     }
 }
 
-// The texts that the table of the whole text means.
+/// The texts that the table of the whole text means.
 pub(crate) fn texts_of(alloc: Global, table: &Table) -> Result<Texts<'_>, ReadFault>
     ensures ok { IfOk result (λ texts. AreTexts (table_view table.now) (texts_view texts)) }
     ensures err { IfErr result (Standing (InApplication (table_view table.now))) }

@@ -37,7 +37,7 @@ fn owner_at(table: &Table, name: TableName) -> Result<Option<&str>, ReadFault>
     }
 }
 
-// The variable that the table means.
+/// The variable that the table means.
 fn variable_of(alloc: Global, table: &Table, name: TableName) -> Result<VariableText<'_>, ReadFault>
     ensures ok { IfOk result (λ v. IsVariable (table_view table.now) (variable_text v)) }
     ensures err { IfErr result (Standing (InVariable name (table_view table.now))) }
@@ -62,7 +62,7 @@ fn entry_of(alloc: Global, value: &Value, name: TableName) -> Result<VariableTex
     }
 }
 
-// The variables that an array means, in its order.
+/// The variables that an array means, in its order.
 pub(crate) fn variables_of(alloc: Global, array: &Array) -> Result<Vec<VariableText<'_>>, ReadFault>
     ensures ok { IfOk result (λ vs. Each (IsTableOf IsVariable) (array_view array.now) (map variable_text vs.items)) }
     ensures err { IfErr result (Standing (InEach (λ i. InEntry Key.Variable (TableName.Variable i) (InVariable (TableName.Variable i))) (array_view array.now))) }

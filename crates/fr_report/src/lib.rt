@@ -1,4 +1,7 @@
-// The texts that a person reads: the report of a verdict, the lines of a trace, and the listing of an application's points.
+// The texts that a person reads: the report of a verdict (`report`), the lines of a trace (`trace_text`), and the
+// listing of an application's points (`points_text`). Below it are verdicts (fr_judge), traces (fr_runner) and the
+// writing of a line (fr_instr). The crate above, fr_answer, prints what these three give; their contracts say the
+// text to the letter.
 #![tactic(auto)]
 
 mod listing;

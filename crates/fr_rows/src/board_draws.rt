@@ -1,3 +1,4 @@
+// Draws from a board by two passes, what they look at, and boards that are finished or left unfinished.
 ghost use Rattle.std.specs.Prelude.{Some, ◌≡◌};
 ghost use Rattle.fr_board.specs.declared.progress.Outcome.TheVariants.{Open};
 ghost use Rattle.fr_board.specs.Drawn.{outcome_of};

@@ -47,8 +47,8 @@ fn ranges_and_the_declared_one(rt: HostRuntime) {
     }
 }
 
-/// What comes of so many notes, alternately never and one that says nothing: how many of them the
-/// application takes, or the fault and how many come back.
+/// What comes of so many notes, alternately never and one that says nothing: whether they fit and there
+/// is none past them, or the fault and how many come back.
 fn taken(alloc: Global, count: usize) -> Option<Result<bool, (NotesFault, usize)>> {
     let app = read_app(alloc, APP).ok()?;
     let mut notes = Vec::new(alloc);

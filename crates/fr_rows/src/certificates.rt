@@ -1,4 +1,4 @@
-// Certificates that are read and written again, and where a value of a wrong shape stands.
+// Certificates that are read and written again, and where a value of a wrong shape is.
 use fr_cert::{CertFault, read_cert, write_cert};
 use fr_reader::read_app;
 use std::alloc::Global;
@@ -11,7 +11,7 @@ const LOOP: &[u8] = br#"variable = [{name="b", lo=0, hi=9, init=0}, {name="a", l
 actor = [{name="t", kind="task", code=["goto 0"]}]
 "#;
 
-/// What is written for the certificate that the text stands for; None where a text is refused or
+/// What is written for the certificate that the text means; None where a text is refused or
 /// there is no memory.
 fn written(alloc: Global, app: &[u8], certificate: &[u8]) -> Option<String> {
     let app = read_app(alloc, app).ok()?;
@@ -19,7 +19,8 @@ fn written(alloc: Global, app: &[u8], certificate: &[u8]) -> Option<String> {
     write_cert(alloc, &app, &certificate).ok()
 }
 
-/// Whether this text is written for the certificate that the other stands for, and for its own.
+/// Whether this text is written for the certificate that the other text means, and for the one that it
+/// means itself.
 fn writes(alloc: Global, app: &[u8], certificate: &[u8], text: &str) -> bool {
     let first = written(alloc, app, certificate);
     let again = written(alloc, app, text.as_bytes());
@@ -27,7 +28,7 @@ fn writes(alloc: Global, app: &[u8], certificate: &[u8], text: &str) -> bool {
         && matches!(&again, Some(again) if again.as_str() == text)
 }
 
-/// Where the value of a wrong shape stands, as it is printed; None where that is not the fault.
+/// Where the value of a wrong shape is, as it is printed; None where that is not the fault.
 fn misshapen_at(alloc: Global, certificate: &[u8]) -> Option<String> {
     let app = read_app(alloc, LOOP).ok()?;
     match read_cert(alloc, &app, certificate) {

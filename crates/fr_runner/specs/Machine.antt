@@ -1,5 +1,6 @@
 -- What a machine is: an application that has passed, the words, the entries so far with the state after them, and how
--- many polls are left.
+-- many polls are left. Both words are for public contracts: those of `Machine` speak of a `MachineOf`, and every machine
+-- is one that `IsRunning`.
 --
 -- | word           | meaning                                                                                  |
 -- |----------------|------------------------------------------------------------------------------------------|

@@ -1,4 +1,4 @@
--- For private clauses: the machine that a machine in code stands for.
+-- The machine that a machine in code is: the public contracts of `Machine` speak of what `machine_of` gives.
 use Rattle.fr_runner.specs.declared.machine.Machine.TheInside.{Inside}
 use Rattle.fr_runner.specs.Machine.{MachineOf}
 

@@ -47,8 +47,8 @@ impl<'a> Machine<'a> {
     ///
     /// # Errors
     ///
-    /// `Polls` exactly where there are more than 1,000,000, before any memory is asked for; otherwise
-    /// `Memory`.
+    /// `Polls` exactly where there are more than 1,000,000, before any memory is asked for; `Memory`
+    /// where memory is refused.
     pub fn new(
         alloc: Global,
         passed: &'a Passed,

@@ -7,6 +7,7 @@ ghost use Rattle.fr_program.specs.View.{actor_of, program_of};
 use crate::instr::{Action, BufferKind, Call, CreatedKind, DeletedKind, Instr};
 use crate::parts::{Actor, ActorKind, Kind, Parts};
 
+/// Whether the instruction's object, where there is one, is of a kind that the call is for.
 pub fn suits_kind(parts: &Parts, instr: Instr) -> bool
     ensures { IsTrue result ↔ SuitsKind (program_of parts.now) instr }
 {
@@ -27,6 +28,7 @@ pub fn suits_kind(parts: &Parts, instr: Instr) -> bool
     }
 }
 
+/// Whether this create makes objects of the kind.
 fn makes_kind(created: CreatedKind, kind: Kind) -> bool
     ensures { result ≡ makes_kind created kind }
 {
@@ -42,6 +44,7 @@ fn makes_kind(created: CreatedKind, kind: Kind) -> bool
     }
 }
 
+/// Whether the kind is that of a semaphore or a mutex.
 fn is_semaphore(kind: Kind) -> bool
     ensures { result ≡ is_semaphore kind }
 {
@@ -54,6 +57,7 @@ fn is_semaphore(kind: Kind) -> bool
     }
 }
 
+/// Whether this delete is for objects of the kind.
 fn drops_kind(deleted: DeletedKind, kind: Kind) -> bool
     ensures { result ≡ drops_kind deleted kind }
 {
@@ -66,6 +70,7 @@ fn drops_kind(deleted: DeletedKind, kind: Kind) -> bool
     }
 }
 
+/// Whether the kind is that of this sort of buffer.
 fn is_buffer(buffer: BufferKind, kind: Kind) -> bool
     ensures { result ≡ is_buffer buffer kind }
 {
@@ -76,6 +81,7 @@ fn is_buffer(buffer: BufferKind, kind: Kind) -> bool
     }
 }
 
+/// Whether the object call is for objects of the kind.
 fn acts_on(action: Action, kind: Kind) -> bool
     ensures { result ≡ acts_on action kind }
 {
@@ -91,6 +97,7 @@ fn acts_on(action: Action, kind: Kind) -> bool
     }
 }
 
+/// Whether the actor may make the call: a task makes none that is for interrupts.
 pub fn suits_actor(actor: &Actor, instr: Instr) -> bool
     ensures { IsTrue result ↔ SuitsActor (actor_of actor.now) instr }
 {

@@ -7,12 +7,16 @@ ghost use Rattle.fr_program.specs.View.{variable_of, actor_of, program_of};
 use crate::instr::{Action, BlockTime, Call, Instr, TakeForm, Timing};
 use crate::parts::{Actor, Kind, Object, Parts, Variable};
 
+/// The most actors that an application has.
 const MOST_ACTORS: usize = 32;
 
+/// The most variables that an application has.
 const MOST_VARIABLES: usize = 64;
 
+/// The most objects that an application has.
 const MOST_OBJECTS: usize = 64;
 
+/// The most instructions that an actor has.
 const MOST_INSTRUCTIONS: usize = 512;
 
 /// The greatest size of an object, and the greatest length of a buffer call.
@@ -21,12 +25,14 @@ pub const MOST_SIZE: u32 = 65535;
 /// The greatest number of ticks in a block time or a delay.
 pub const MOST_TICKS: u32 = 2147483647;
 
+/// Whether there are no more actors, variables, objects and instructions than an application can have.
 pub fn is_small(parts: &Parts) -> bool
     ensures { IsTrue result ↔ IsSmall (program_of parts.now) }
 {
     are_lists_small(parts) && are_codes_small(&parts.actors)
 }
 
+/// Whether there are no more actors, variables and objects than an application can have.
 fn are_lists_small(parts: &Parts) -> bool
     ensures { IsTrue result
         ↔ ((length (program_of parts.now).actors ≤ most_actors)
@@ -38,6 +44,7 @@ fn are_lists_small(parts: &Parts) -> bool
         && parts.objects.len() <= MOST_OBJECTS
 }
 
+/// Whether no actor has more instructions than it can have.
 fn are_codes_small(actors: &[Actor]) -> bool
     ensures { IsTrue result ↔ All (λ a. length (actor_of a).code ≤ most_instructions) actors.now }
 {
@@ -46,6 +53,7 @@ fn are_codes_small(actors: &[Actor]) -> bool
         .all(|actor| actor.code.len() <= MOST_INSTRUCTIONS)
 }
 
+/// Whether the range and the initial value of each variable are in their limits.
 pub fn are_variables_in_limits(variables: &[Variable]) -> bool
     ensures { IsTrue result ↔ All (λ v. VariableInLimits (variable_of v)) variables.now }
 {
@@ -54,18 +62,21 @@ pub fn are_variables_in_limits(variables: &[Variable]) -> bool
         .all(|variable| is_variable_in_limits(variable))
 }
 
+/// Whether the variable's initial value is in its range.
 fn is_variable_in_limits(variable: &Variable) -> bool
     ensures { IsTrue result ↔ VariableInLimits (variable_of variable.now) }
 {
     variable.lo <= variable.init && variable.init <= variable.hi
 }
 
+/// Whether the numbers of each object's kind are in their limits.
 pub fn are_objects_in_limits(objects: &[Object]) -> bool
     ensures { IsTrue result ↔ All (λ o. KindInLimits o.kind) objects.now }
 {
     objects.iter().all(|object| is_kind_in_limits(object.kind))
 }
 
+/// Whether the numbers of a kind are in their limits: its size, its first count, its range.
 fn is_kind_in_limits(kind: Kind) -> bool
     ensures { IsTrue result ↔ KindInLimits kind }
 {
@@ -80,12 +91,14 @@ fn is_kind_in_limits(kind: Kind) -> bool
     }
 }
 
+/// Whether an object can have this size.
 fn is_size(size: i64) -> bool
     ensures { IsTrue result ↔ IsSize size }
 {
     1 <= size && size <= i64::from(MOST_SIZE)
 }
 
+/// Whether the numbers of an instruction, but for its target, are in their limits.
 pub fn is_instr_in_limits(instr: Instr) -> bool
     ensures { IsTrue result ↔ InstrInLimits instr }
 {
@@ -97,6 +110,7 @@ pub fn is_instr_in_limits(instr: Instr) -> bool
     }
 }
 
+/// Whether the length and the block time of an object call, where it has them, are in their limits.
 fn is_action_in_limits(action: Action) -> bool
     ensures { IsTrue result ↔ ActionInLimits action }
 {
@@ -126,6 +140,7 @@ fn is_action_in_limits(action: Action) -> bool
     }
 }
 
+/// Whether the block time, where there is one, is in its limits.
 fn is_timing_in_limits(timing: Timing) -> bool
     ensures { IsTrue result ↔ TimingInLimits timing }
 {
@@ -135,6 +150,7 @@ fn is_timing_in_limits(timing: Timing) -> bool
     }
 }
 
+/// Whether a block time is in its limits, or `portMAX_DELAY`.
 fn is_block_time_in_limits(time: BlockTime) -> bool
     ensures { IsTrue result ↔ BlockTimeInLimits time }
 {
@@ -144,6 +160,7 @@ fn is_block_time_in_limits(time: BlockTime) -> bool
     }
 }
 
+/// Whether the length of a buffer call is in its limits.
 fn is_length_in_limits(length: u32) -> bool
     ensures { IsTrue result ↔ LengthInLimits length }
 {

@@ -8,6 +8,7 @@ use crate::fault::BuildFault;
 use crate::parts::{Parts, Variable};
 use std::alloc::Global;
 
+/// The most bytes that a name has.
 const LONGEST_NAME: usize = 32;
 
 /// The names of variables, objects and actors together.
@@ -24,6 +25,7 @@ pub fn names_of(alloc: Global, parts: &Parts) -> Result<Vec<&str>, BuildFault>
     Ok(variables.chain(objects.chain(actors)).collect(alloc)?)
 }
 
+/// Whether each of these is a name.
 pub fn are_names(names: &[&str]) -> bool
     ensures { IsTrue result ↔ All (λ n. IsName n.now) names.now }
 {
@@ -46,18 +48,21 @@ fn is_word(name: &[u8]) -> bool
     has_length(name) && name.iter().all(|byte| is_word_byte(*byte)) && !starts_with_digit(name)
 }
 
+/// Whether these are as many bytes as a name can have.
 fn has_length(name: &[u8]) -> bool
     ensures { IsTrue result ↔ (1 ≤ length name.now) × (length name.now ≤ 32) }
 {
     1 <= name.len() && name.len() <= LONGEST_NAME
 }
 
+/// Whether the byte is an ASCII letter, a digit or an underscore.
 fn is_word_byte(byte: u8) -> bool
     ensures { result ≡ (is_letter byte || is_digit byte) }
 {
     byte.is_ascii_alphanumeric() || byte == b'_'
 }
 
+/// Whether the first byte is a digit.
 fn starts_with_digit(name: &[u8]) -> bool
     ensures { result ≡ is_digit (slice_index name.now 0) }
 {
@@ -67,24 +72,28 @@ fn starts_with_digit(name: &[u8]) -> bool
     }
 }
 
+/// Whether lines of code have this word for themselves.
 fn is_reserved(name: &str) -> bool
     ensures { IsTrue result ↔ Contains reserved name.now }
 {
     is_line_word(name) || is_end_word(name)
 }
 
+/// Whether this is one of the first four of those words.
 fn is_line_word(name: &str) -> bool
     ensures { IsTrue result ↔ Contains (take 4 reserved) name.now }
 {
     name == "set" || name == "if" || name == "goto" || name == "pick"
 }
 
+/// Whether this is one of the other four of those words.
 fn is_end_word(name: &str) -> bool
     ensures { IsTrue result ↔ Contains (drop 4 reserved) name.now }
 {
     name == "return" || name == "else" || name == "NULL" || name == "portMAX_DELAY"
 }
 
+/// Whether no name is given twice.
 pub fn are_distinct(names: &[&str]) -> bool
     ensures { IsTrue result ↔ AllPairs (λ x y. x.now ≢ y.now) names.now }
 {
@@ -96,12 +105,14 @@ pub fn are_distinct(names: &[&str]) -> bool
     true
 }
 
+/// Whether the name is none of the others.
 fn differs_from_each(name: &str, names: &[&str]) -> bool
     ensures { IsTrue result ↔ All (λ other. name.now ≢ other.now) names.now }
 {
     names.iter().all(|other| *other != name)
 }
 
+/// Whether each variable's owner, where it has one, is one of so many actors.
 pub fn are_owners_there(variables: &[Variable], actors: usize) -> bool
     ensures { IsTrue result ↔ All (λ v. HasOwner actors (variable_of v)) variables.now }
 {

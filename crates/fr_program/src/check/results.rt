@@ -7,6 +7,8 @@ use crate::ids::{ObjId, VarId};
 use crate::instr::{Action, Call, Instr, Operand, Operator};
 use crate::parts::{Kind, Parts};
 
+/// Whether the instruction's result fits its variable: both bounds of a `pick` are in the variable's
+/// range, and the range has every number that an object call can give.
 pub fn results_fit(parts: &Parts, instr: Instr) -> bool
     ensures { IsTrue result ↔ ResultsFit (program_of parts.now) instr }
 {
@@ -18,6 +20,7 @@ pub fn results_fit(parts: &Parts, instr: Instr) -> bool
     }
 }
 
+/// Whether the range of the variable of an object call's result has every number that the call can give.
 fn takes_in(parts: &Parts, object: ObjId, action: Action) -> bool
     ensures { IsTrue result ↔ TakesIn (program_of parts.now) object action }
 {
@@ -40,6 +43,7 @@ fn takes_in(parts: &Parts, object: ObjId, action: Action) -> bool
     }
 }
 
+/// Whether the variable's range has the queue's whole range, if the kind is that of a queue.
 fn covers_queue(parts: &Parts, x: VarId, kind: Kind) -> bool
     ensures { IsTrue result ↔ CoversQueue (program_of parts.now) x kind }
 {
@@ -49,6 +53,7 @@ fn covers_queue(parts: &Parts, x: VarId, kind: Kind) -> bool
     }
 }
 
+/// Whether the variable's range, where a variable is named, has all numbers from 0 to the length.
 fn covers_count(parts: &Parts, count: Option<VarId>, length: u32) -> bool
     ensures { IsTrue result ↔ IfSome count (λ x. Covers (program_of parts.now) x (pos 0) (pos length)) }
 {
@@ -58,6 +63,7 @@ fn covers_count(parts: &Parts, count: Option<VarId>, length: u32) -> bool
     }
 }
 
+/// Whether the range of the variable, where there is one, has all numbers from `lo` to `hi`.
 fn covers(parts: &Parts, x: VarId, lo: i64, hi: i64) -> bool
     ensures { IsTrue result ↔ Covers (program_of parts.now) x lo hi }
 {
@@ -67,6 +73,8 @@ fn covers(parts: &Parts, x: VarId, lo: i64, hi: i64) -> bool
     }
 }
 
+/// Whether the operands of a `set` or an `if` go together: `*` has a number among them, and no variable
+/// is both.
 pub fn operands_fit(instr: Instr) -> bool
     ensures { IsTrue result ↔ OperandsFit instr }
 {
@@ -83,6 +91,7 @@ pub fn operands_fit(instr: Instr) -> bool
     }
 }
 
+/// Whether the operand is a number.
 fn is_constant(operand: Operand) -> bool
     ensures { IsTrue result ↔ IsConstant operand }
 {
@@ -92,6 +101,7 @@ fn is_constant(operand: Operand) -> bool
     }
 }
 
+/// Whether the operands aren't one variable twice.
 fn are_apart(left: Operand, right: Operand) -> bool
     ensures { IsTrue result ↔ AreApart left right }
 {

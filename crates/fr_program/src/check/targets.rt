@@ -7,6 +7,7 @@ ghost use Rattle.fr_program.specs.View.{actor_of};
 use crate::instr::{Call, Instr};
 use crate::parts::Actor;
 
+/// Whether each target that the instruction names is an instruction of code of this length.
 pub fn are_targets_below(length: usize, instr: Instr) -> bool
     ensures { IsTrue result ↔ TargetsBelow length instr }
 {
@@ -19,6 +20,7 @@ pub fn are_targets_below(length: usize, instr: Instr) -> bool
     }
 }
 
+/// Whether the target for a failure, where one is named, is an instruction of code of this length.
 fn is_else_below(length: usize, or_else: Option<usize>) -> bool
     ensures { IsTrue result ↔ IfSome or_else (λ target. target < length) }
 {
@@ -35,6 +37,8 @@ pub fn first_falling_off(actors: &[Actor]) -> Option<usize>
     actors.iter().position(|actor| !ends_well(actor))
 }
 
+/// Whether the actor's code has a last instruction, and it is a `goto`, a `return` or
+/// `vTaskDelete(NULL)`.
 fn ends_well(actor: &Actor) -> bool
     ensures { result ≡ ends_well (actor_of actor.now) }
 {

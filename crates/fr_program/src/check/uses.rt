@@ -17,6 +17,7 @@ pub struct Uses {
     pub right: Option<VarId>,
 }
 
+/// The variables that the instruction names.
 pub fn uses_of(instr: Instr) -> Uses
     ensures { used result ≡ variables_of instr }
 {
@@ -40,6 +41,7 @@ pub fn uses_of(instr: Instr) -> Uses
     }
 }
 
+/// These variables as the uses of an instruction.
 fn made_of(target: Option<VarId>, left: Option<VarId>, right: Option<VarId>) -> Uses
     ensures target { result.target ≡ target }
     ensures left { result.left ≡ left }
@@ -52,6 +54,7 @@ fn made_of(target: Option<VarId>, left: Option<VarId>, right: Option<VarId>) -> 
     }
 }
 
+/// The variable that an object call names, if it names one.
 fn action_variable(action: Action) -> Option<VarId>
     ensures { option_list result ≡ action_variables action }
 {
@@ -64,6 +67,7 @@ fn action_variable(action: Action) -> Option<VarId>
     }
 }
 
+/// The variable that the operand is, if it is one.
 fn operand_variable(operand: Operand) -> Option<VarId>
     ensures { option_list result ≡ operand_variables operand }
 {
@@ -73,6 +77,7 @@ fn operand_variable(operand: Operand) -> Option<VarId>
     }
 }
 
+/// Whether the instruction names shared variables at most once, all its places counted.
 pub fn shares_at_most_one(parts: &Parts, instr: Instr) -> bool
     ensures { IsTrue result ↔ SharesAtMostOne (program_of parts.now) instr }
 {
@@ -83,6 +88,7 @@ pub fn shares_at_most_one(parts: &Parts, instr: Instr) -> bool
         <= 1
 }
 
+/// 1 where a variable is named and is shared, else 0.
 fn shared_count(parts: &Parts, x: Option<VarId>) -> usize
     ensures some { result ≤ 1 }
     ensures count { result ≡ count_by (is_shared (program_of parts.now)) (option_list x) }
@@ -93,6 +99,7 @@ fn shared_count(parts: &Parts, x: Option<VarId>) -> usize
     }
 }
 
+/// Whether this is a variable with no owner.
 fn is_shared(parts: &Parts, x: VarId) -> bool
     ensures { result ≡ is_shared (program_of parts.now) x }
 {
@@ -102,12 +109,14 @@ fn is_shared(parts: &Parts, x: VarId) -> bool
     }
 }
 
+/// Whether the actor may use each variable that the instruction names.
 pub fn may_use_all(parts: &Parts, actor: ActorId, instr: Instr) -> bool
     ensures { IsTrue result ↔ MayUseAll (program_of parts.now) actor.0 instr }
 {
     may_use_places(parts, actor, uses_of(instr))
 }
 
+/// Whether the actor may use each of these variables.
 fn may_use_places(parts: &Parts, actor: ActorId, uses: Uses) -> bool
     ensures { IsTrue result ↔ InEachPlace (λ x. MayUse (program_of parts.now) actor.0 x) uses }
 {
@@ -116,6 +125,8 @@ fn may_use_places(parts: &Parts, actor: ActorId, uses: Uses) -> bool
         && may_use(parts, actor, uses.right)
 }
 
+/// Whether the actor may use the variable, where one is named: it has no owner, this actor owns it, or
+/// its owner is no actor, which is a fault of names alone.
 fn may_use(parts: &Parts, actor: ActorId, x: Option<VarId>) -> bool
     ensures { IsTrue result ↔ IfSome x (λ x. MayUse (program_of parts.now) actor.0 x) }
 {
@@ -131,12 +142,14 @@ fn may_use(parts: &Parts, actor: ActorId, x: Option<VarId>) -> bool
     }
 }
 
+/// Whether the application has each variable and the object that the instruction names.
 pub fn names_things(parts: &Parts, instr: Instr) -> bool
     ensures { IsTrue result ↔ NamesThings (program_of parts.now) instr }
 {
     names_variables(parts, instr) && names_object(parts, instr)
 }
 
+/// Whether the application has each variable that the instruction names.
 fn names_variables(parts: &Parts, instr: Instr) -> bool
     ensures { IsTrue result
         ↔ All (λ x. IsVariable (program_of parts.now) x) (variables_of instr) }
@@ -144,6 +157,7 @@ fn names_variables(parts: &Parts, instr: Instr) -> bool
     names_places(parts, uses_of(instr))
 }
 
+/// Whether the application has each of these variables.
 fn names_places(parts: &Parts, uses: Uses) -> bool
     ensures { IsTrue result ↔ InEachPlace (λ x. IsVariable (program_of parts.now) x) uses }
 {
@@ -152,6 +166,7 @@ fn names_places(parts: &Parts, uses: Uses) -> bool
         && names_variable(parts, uses.right)
 }
 
+/// Whether the application has the variable, where one is named.
 fn names_variable(parts: &Parts, x: Option<VarId>) -> bool
     ensures { IsTrue result ↔ IfSome x (λ x. IsVariable (program_of parts.now) x) }
 {
@@ -161,6 +176,7 @@ fn names_variable(parts: &Parts, x: Option<VarId>) -> bool
     }
 }
 
+/// Whether the application has the object that the instruction names, if it names one.
 fn names_object(parts: &Parts, instr: Instr) -> bool
     ensures { IsTrue result
         ↔ IfSome (object_named instr) (λ o. o < length (program_of parts.now).objects) }
