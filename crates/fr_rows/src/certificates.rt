@@ -1,11 +1,8 @@
 // Certificates that are read and written again, and where a value of a wrong shape is.
+use crate::own_obligations::FIRST;
 use fr_cert::{CertFault, read_cert, write_cert};
 use fr_reader::read_app;
 use std::alloc::Global;
-
-const FIRST: &[u8] = br#"variable = [{name="x", lo=0, hi=1, init=0}]
-actor = [{name="t", kind="task", code=["taskENTER_CRITICAL()", "set x = 1", "taskEXIT_CRITICAL()", "vTaskDelay(1)", "goto 0"]}]
-"#;
 
 const LOOP: &[u8] = br#"variable = [{name="b", lo=0, hi=9, init=0}, {name="a", lo=-5, hi=5, init=0}]
 actor = [{name="t", kind="task", code=["goto 0"]}]
@@ -21,7 +18,7 @@ fn written(alloc: Global, app: &[u8], certificate: &[u8]) -> Option<String> {
 
 /// Whether this text is written for the certificate that the other text means, and for the one that it
 /// means itself.
-fn writes(alloc: Global, app: &[u8], certificate: &[u8], text: &str) -> bool {
+pub fn writes(alloc: Global, app: &[u8], certificate: &[u8], text: &str) -> bool {
     let first = written(alloc, app, certificate);
     let again = written(alloc, app, text.as_bytes());
     matches!(&first, Some(first) if first.as_str() == text)
@@ -46,7 +43,7 @@ fn certificates_that_are_written(rt: HostRuntime) {
             r#"{"ends":[],"notes":[],"version":1}"#,
         ),
         (
-            FIRST,
+            FIRST.as_bytes(),
             br#"{"version":1,"ends":[],"notes":[{},{"crit":1},{"crit":1},{},{}]}"#,
             r#"{"ends":[],"notes":[{},{"crit":1},{"crit":1},{},{}],"version":1}"#,
         ),

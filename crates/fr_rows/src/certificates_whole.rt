@@ -1,5 +1,6 @@
 // Certificates of the whole format, with guards, objects and alternatives: what is written for them, and what is refused.
-use fr_cert::{CertFault, Path, read_cert, write_cert};
+use crate::certificates::writes;
+use fr_cert::{CertFault, Path, read_cert};
 use fr_reader::read_app;
 use std::alloc::Global;
 use std::process::Abort;
@@ -16,22 +17,6 @@ actor = [
  {name="a", kind="task", code=["goto 0"]},
 ]
 "#;
-
-/// What is written for the certificate that the text means; None where it is refused or there is no
-/// memory.
-fn written(alloc: Global, certificate: &[u8]) -> Option<String> {
-    let app = read_app(alloc, TWO_TASKS).ok()?;
-    let certificate = read_cert(alloc, &app, certificate).ok()?;
-    write_cert(alloc, &app, &certificate).ok()
-}
-
-/// Whether this text is written for the certificate that the other means, and for its own.
-fn writes(alloc: Global, certificate: &str, text: &str) -> bool {
-    let first = written(alloc, certificate.as_bytes());
-    let again = written(alloc, text.as_bytes());
-    matches!(&first, Some(first) if first.as_str() == text)
-        && matches!(&again, Some(again) if again.as_str() == text)
-}
 
 /// Where the fault is, if it says so.
 fn place_of(fault: &CertFault) -> Option<&Path> {
@@ -64,7 +49,7 @@ fn guards_that_are_written(rt: HostRuntime) {
         r#"{"version":1,"ends":[{"buffer":"sb","end":"writer","guard":{"turn":"turn","values":{"b":1,"a":-2}}},{"buffer":"sb","end":"reader","guard":"critical"},{"buffer":"mb","end":"writer","guard":{"mutex":"m"}},{"buffer":"mb","end":"reader","guard":{"sole":"a"}}],"notes":[{},{}]}"#;
     let text =
         r#"{"ends":[{"buffer":"sb","end":"writer","guard":{"turn":"turn","values":{"a":-2,"b":1}}},{"buffer":"sb","end":"reader","guard":"critical"},{"buffer":"mb","end":"writer","guard":{"mutex":"m"}},{"buffer":"mb","end":"reader","guard":{"sole":"a"}}],"notes":[{},{}],"version":1}"#;
-    assert!(rt; writes(rt.alloc(), guards, text));
+    assert!(rt; writes(rt.alloc(), TWO_TASKS, guards.as_bytes(), text));
 }
 
 #[test]
@@ -96,7 +81,7 @@ fn notes_that_are_written(rt: HostRuntime) {
         ),
     ];
     for (certificate, text) in cases {
-        assert!(rt; writes(rt.alloc(), certificate, text));
+        assert!(rt; writes(rt.alloc(), TWO_TASKS, certificate.as_bytes(), text));
     }
 }
 

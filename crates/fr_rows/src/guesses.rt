@@ -1,13 +1,10 @@
 // Certificates that are found, where memory may be refused, and numbers of rounds that are refused.
 use crate::answer::Call;
+use crate::own_obligations::FIRST;
 use crate::row::Asked;
 use fr_answer::{CheckFault, Found, find_bytes};
 use std::alloc::Global;
 use std::thread::Threads;
-
-const FIRST: &[u8] = br#"variable = [{name="x", lo=0, hi=1, init=0}]
-actor = [{name="t", kind="task", code=["taskENTER_CRITICAL()", "set x = 1", "taskEXIT_CRITICAL()", "vTaskDelay(1)", "goto 0"]}]
-"#;
 
 const FIRST_FOUND: &str =
     r#"{"ends":[],"notes":[{},{"crit":1},{"crit":1,"range":{"x":[1,1]}},{"range":{"x":[1,1]}},{"range":{"x":[1,1]}}],"version":1}"#;
@@ -15,8 +12,8 @@ const FIRST_FOUND: &str =
 /// What is found in so many rounds, asked for once more where there is no memory: so a test passes whichever allocation is
 /// refused.
 fn found<R: Threads + Sync>(rt: &R, alloc: Global, rounds: usize) -> Result<Found, CheckFault> {
-    match find_bytes(rt, alloc, FIRST, rounds) {
-        Err(CheckFault::Memory) => find_bytes(rt, alloc, FIRST, rounds),
+    match find_bytes(rt, alloc, FIRST.as_bytes(), rounds) {
+        Err(CheckFault::Memory) => find_bytes(rt, alloc, FIRST.as_bytes(), rounds),
         answer => answer,
     }
 }

@@ -7,7 +7,8 @@ use fr_reader::read_app;
 use std::alloc::Global;
 use std::process::Abort;
 
-const FIRST: &str = r#"variable = [{name="x", lo=0, hi=1, init=0}]
+/// A task that sets a variable in the critical section, over and over.
+pub const FIRST: &str = r#"variable = [{name="x", lo=0, hi=1, init=0}]
 actor = [{name="t", kind="task", code=["taskENTER_CRITICAL()", "set x = 1", "taskEXIT_CRITICAL()", "vTaskDelay(1)", "goto 0"]}]
 "#;
 

@@ -1,14 +1,11 @@
 // The true answer though an allocation is refused: where there is no memory, it is asked for once more and has to come then.
 // So each of these tests passes whichever allocation is refused (`rt try --test --fail-alloc N`).
+use crate::own_obligations::FIRST;
 use fr_cert::{CertFault, read_cert, write_cert};
 use fr_judge::{TextFault, judge_text};
 use fr_reader::read_app;
 use fr_report::report;
 use std::alloc::Global;
-
-const FIRST: &[u8] = br#"variable = [{name="x", lo=0, hi=1, init=0}]
-actor = [{name="t", kind="task", code=["taskENTER_CRITICAL()", "set x = 1", "taskEXIT_CRITICAL()", "vTaskDelay(1)", "goto 0"]}]
-"#;
 
 const DELAYED_INSIDE: &[u8] = br#"variable = [{name="x", lo=0, hi=1, init=0}]
 actor = [{name="t", kind="task", code=["taskENTER_CRITICAL()", "set x = 1", "vTaskDelay(1)", "taskEXIT_CRITICAL()", "goto 0"]}]
@@ -75,13 +72,13 @@ fn answers(alloc: Global, app: &[u8], notes: &[u8], wanted: &str) -> bool {
 
 #[test]
 fn verdicts_and_refusals(rt: HostRuntime) {
-    let alloc = rt.alloc();
-    assert!(rt; answers(alloc, FIRST, FIRST_NOTES, "yes\n"));
+    let (alloc, first) = (rt.alloc(), FIRST.as_bytes());
+    assert!(rt; answers(alloc, first, FIRST_NOTES, "yes\n"));
     assert!(rt; answers(alloc, DELETED, DELETED_NOTES, "yes\n"));
     let no = "no: point 2 (t 2 before): rule 4: call not allowed in a critical section\n";
     assert!(rt; answers(alloc, DELAYED_INSIDE, DELAYED_NOTES, no));
     assert!(rt; answers(alloc, b"alarm = 1", FIRST_NOTES, "app 5 UnknownKey"));
-    assert!(rt; answers(alloc, FIRST, DELAYED_INSIDE, "cert 2 Json"));
+    assert!(rt; answers(alloc, first, DELAYED_INSIDE, "cert 2 Json"));
 }
 
 /// What is written for a certificate, or the fault by which it is refused; None where there is no memory.
@@ -96,7 +93,7 @@ fn rewritten(alloc: Global, app: &[u8], notes: &str) -> Option<String> {
 
 #[test]
 fn certificates_that_are_written(rt: HostRuntime) {
-    for (app, notes) in [(FIRST, FIRST_WRITTEN), (TURNS, TURNS_WRITTEN)] {
+    for (app, notes) in [(FIRST.as_bytes(), FIRST_WRITTEN), (TURNS, TURNS_WRITTEN)] {
         let text = match rewritten(rt.alloc(), app, notes) {
             None => rewritten(rt.alloc(), app, notes),
             text => text,
