@@ -98,7 +98,7 @@ fn numbers_of_workers_that_are_refused(rt: HostRuntime) {
     }
 }
 
-fn failing(alloc: Global, left: usize) -> Failing {
+fn failing_writer(alloc: Global, left: usize) -> Failing {
     Failing {
         left,
         taken: Vec::new(alloc),
@@ -107,13 +107,13 @@ fn failing(alloc: Global, left: usize) -> Failing {
 
 /// Asks what the calls that the program makes answer, where the writer of their report fails.
 fn ask_failing<R: Threads + Wait + Sync + Abort>(rt: &R, alloc: Global, left: usize) {
-    let (mut err, mut out) = (Vec::new(alloc), failing(alloc, left));
+    let (mut err, mut out) = (Vec::new(alloc), failing_writer(alloc, left));
     let status = answer_check(rt, alloc, GOOD, PLAIN, 1, &Open, &mut out, &mut err);
     assert!(rt; status == 3 && out.taken.len() == 2 * left);
-    let mut out = failing(alloc, left);
+    let mut out = failing_writer(alloc, left);
     let status = answer_run(rt, alloc, GOOD, PLAIN, 2, &[], &Open, &mut out, &mut err);
     assert!(rt; status == 3 && out.taken.len() == 2 * left);
-    let mut out = failing(alloc, left);
+    let mut out = failing_writer(alloc, left);
     assert!(rt; answer_points(alloc, GOOD, &mut out, &mut err) == 3);
     assert!(rt; err.as_slice() == b"machine: file\nmachine: file\nmachine: file\n".as_slice());
 }
@@ -123,12 +123,12 @@ fn writers_that_fail(rt: HostRuntime) {
     let alloc = rt.alloc();
     for left in 0..2 {
         ask_failing(&rt, alloc, left);
-        let found = tell_found(&Found::NotFound, &mut failing(alloc, left));
+        let found = tell_found(&Found::NotFound, &mut failing_writer(alloc, left));
         assert!(rt; matches!(&found, Err(CheckFault::Write)));
-        let (mut out, mut err) = (Vec::new(alloc), failing(alloc, left));
+        let (mut out, mut err) = (Vec::new(alloc), failing_writer(alloc, left));
         let refused = answer_check(&rt, alloc, b"[", PLAIN, 1, &Open, &mut out, &mut err);
         assert!(rt; refused == 3 && out.is_empty());
-        assert!(rt; answer_words(WordsFault::Bad, &mut failing(alloc, left)) == 3);
+        assert!(rt; answer_words(WordsFault::Bad, &mut failing_writer(alloc, left)) == 3);
     }
 }
 
@@ -151,7 +151,17 @@ fn statuses_of_checks(rt: HostRuntime) {
         assert!(rt; check_to(&rt, alloc, app, PLAIN, workers, &Open, &mut out) == status);
         assert!(rt; out.as_slice() == text.as_bytes());
     }
-    assert!(rt; check_to(&rt, alloc, GOOD, PLAIN, 1, &Open, &mut failing(alloc, 1)) == 3);
+    assert!(rt;
+        check_to(
+            &rt,
+            alloc,
+            GOOD,
+            PLAIN,
+            1,
+            &Open,
+            &mut failing_writer(alloc, 1)
+        ) == 3
+    );
 }
 
 #[test]

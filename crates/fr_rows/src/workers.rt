@@ -193,7 +193,7 @@ fn zeros(alloc: Global, count: usize) -> Result<Vec<AtomicU64>, AllocError> {
 }
 
 // The gate where pairs meet, for so many workers.
-fn pairs(alloc: Global, workers: usize) -> Result<Pairs, AllocError> {
+fn pairs_gate(alloc: Global, workers: usize) -> Result<Pairs, AllocError> {
     Ok(Pairs {
         arrived: zeros(alloc, 2 * LINES)?,
         by_worker: zeros(alloc, workers)?,
@@ -204,7 +204,7 @@ fn pairs(alloc: Global, workers: usize) -> Result<Pairs, AllocError> {
 #[test]
 fn workers_meet_in_pairs(rt: HostRuntime) -> Result<(), Fail> {
     for workers in [2, 16, 64] {
-        let gate = pairs(rt.alloc(), workers)?;
+        let gate = pairs_gate(rt.alloc(), workers)?;
         assert!(rt;
             is_yes(&reported(&rt, rt.alloc(), false, workers, &gate)),
             "{workers}"
