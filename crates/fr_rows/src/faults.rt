@@ -105,14 +105,15 @@ fn failing_writer(alloc: Global, left: usize) -> Failing {
     }
 }
 
-/// Asks what the calls that the program makes answer, where the writer of their report fails.
-fn ask_failing<R: Threads + Wait + Sync + Abort>(rt: &R, alloc: Global, left: usize) {
+/// Asks what the calls that the program makes answer, where the writer of their report fails after so many writes, which take
+/// so many bytes.
+fn ask_failing<R: Threads + Wait + Sync + Abort>(rt: &R, alloc: Global, left: usize, taken: usize) {
     let (mut err, mut out) = (Vec::new(alloc), failing_writer(alloc, left));
     let status = answer_check(rt, alloc, GOOD, PLAIN, 1, &Open, &mut out, &mut err);
-    assert!(rt; status == 3 && out.taken.len() == 2 * left);
+    assert!(rt; status == 3 && out.taken.len() == taken);
     let mut out = failing_writer(alloc, left);
     let status = answer_run(rt, alloc, GOOD, PLAIN, 2, &[], &Open, &mut out, &mut err);
-    assert!(rt; status == 3 && out.taken.len() == 2 * left);
+    assert!(rt; status == 3 && out.taken.len() == taken);
     let mut out = failing_writer(alloc, left);
     assert!(rt; answer_points(alloc, GOOD, &mut out, &mut err) == 3);
     assert!(rt; err.as_slice() == b"machine: file\nmachine: file\nmachine: file\n".as_slice());
@@ -121,8 +122,8 @@ fn ask_failing<R: Threads + Wait + Sync + Abort>(rt: &R, alloc: Global, left: us
 #[test]
 fn writers_that_fail(rt: HostRuntime) {
     let alloc = rt.alloc();
-    for left in 0..2 {
-        ask_failing(&rt, alloc, left);
+    for (left, taken) in [(0, 0), (1, 2)] {
+        ask_failing(&rt, alloc, left, taken);
         let found = tell_found(&Found::NotFound, &mut failing_writer(alloc, left));
         assert!(rt; matches!(&found, Err(CheckFault::Write)));
         let (mut out, mut err) = (Vec::new(alloc), failing_writer(alloc, left));
