@@ -1,7 +1,9 @@
 -- What a refused text and a status say: a fault that stands, and a verdict.
 use Rattle.std.proofs.Common.{◌≡◌, ◌≤◌, ℕ, List, Bool, true, false, refl, arith}
 use Rattle.std.specs.Prelude.{if◌then◌else◌}
+use Rattle.fr_reader.specs.declared.fault.ReadFault.{ReadFault}
 use Rattle.fr_reader.specs.Faults.{is_memory as app_is_memory}
+use Rattle.fr_cert.specs.declared.fault.CertFault.{CertFault}
 use Rattle.fr_cert.specs.Faults.{is_memory as cert_is_memory}
 use Rattle.fr_judge.specs.declared.part.Verdict.{Verdict}
 use Rattle.fr_judge.specs.declared.part.Verdict.TheVariants.{Yes, No}
@@ -12,22 +14,30 @@ use Rattle.fr_parallel.specs.Bytes.{FaultStands}
 use Rattle.fr_parallel.specs.Kept.{IsNoCrew}
 use Rattle.fr_answer.specs.declared.fault.CheckFault.{CheckFault}
 use Rattle.fr_answer.specs.declared.fault.CheckFault.TheVariants.{App, Cert, Workers, Rounds, Polls, Memory, Thread, Read, Write}
-use Rattle.fr_answer.specs.Checked.{status_of, fault_status, check_fault, CanRefuse}
+use Rattle.fr_answer.specs.Checked.{status_of, fault_status, app_fault, cert_fault, check_fault, CanRefuse}
+
+-- what holds of want of memory, and of a fault that the application's text has, holds of what it comes to
+pub app-refused : (Q : CheckFault → Type 0) (f : ReadFault) → Q Memory → (app_is_memory f ≡ false → Q (App f)) → Q (app_fault f)
+app-refused Q f none refused = by-cause (app_is_memory f) refl
+  where
+    by-cause : (b : Bool) → app_is_memory f ≡ b → Q (if b then Memory else App f)
+    by-cause true e = none
+    by-cause false e = refused e
+
+-- the same of the certificate's text
+pub cert-refused : (Q : CheckFault → Type 0) (f : CertFault) → Q Memory → (cert_is_memory f ≡ false → Q (Cert f)) → Q (cert_fault f)
+cert-refused Q f none refused = by-cause (cert_is_memory f) refl
+  where
+    by-cause : (b : Bool) → cert_is_memory f ≡ b → Q (if b then Memory else Cert f)
+    by-cause true e = none
+    by-cause false e = refused e
 
 pub refused-by : (a c : List ℕ) (w : ℕ) (f : BytesFault) → FaultStands a c f → (f ≡ Par NoWorkers → IsNoCrew w) → CanRefuse a c w (check_fault f)
 refused-by a c w (Par NoMemory) s none = tt
 refused-by a c w (Par NoWorkers) s none = none refl
 refused-by a c w (Par NoThreads) s none = tt
-refused-by a c w (AppRefused f) s none = app (app_is_memory f) refl
-  where
-    app : (b : Bool) → app_is_memory f ≡ b → CanRefuse a c w (if b then Memory else App f)
-    app true e = tt
-    app false e = (e, s)
-refused-by a c w (CertRefused f) s none = cert (cert_is_memory f) refl
-  where
-    cert : (b : Bool) → cert_is_memory f ≡ b → CanRefuse a c w (if b then Memory else Cert f)
-    cert true e = tt
-    cert false e = (e, s)
+refused-by a c w (AppRefused f) s none = app-refused (CanRefuse a c w) f tt (λ e. (e, s))
+refused-by a c w (CertRefused f) s none = cert-refused (CanRefuse a c w) f tt (λ e. (e, s))
 
 -- the status 0 is that of a yes
 pub zero-yes : (v : Verdict) → status_of v ≡ 0 → v ≡ Yes

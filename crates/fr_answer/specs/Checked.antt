@@ -8,7 +8,8 @@
 -- | IsAnswer              | the status and what was written are those of the verdict on the bytes         |
 -- | IsSafeText            | the bytes mean an application that is safe                                    |
 -- | HasVerdict            | there is a verdict on the bytes                                               |
--- | check_fault           | the fault of a check that refused bytes come to; inner ones of memory are one |
+-- | app_fault, cert_fault | the fault of a check that a refused text comes to; inner ones of memory are one |
+-- | check_fault           | the same of bytes without a verdict                                           |
 -- | load_fault            | the fault of a check whose file couldn't be read                              |
 -- | CanRefuse, IsRefused  | this fault can be the answer to the bytes and workers; one of status 2 can    |
 -- | IsTold                | such a fault of status 2 was written as its line                              |
@@ -16,11 +17,13 @@ use Rattle.std.specs.Prelude.{◌≡◌, ◌++◌, ℕ, List, Option, false, cod
 use Rattle.std.specs.Io.KnownBytes.{Appends}
 use Rattle.fr_program.specs.Program.{Program}
 use Rattle.fr_calls.specs.Run.{IsSafe}
+use Rattle.fr_reader.specs.declared.fault.ReadFault.{ReadFault}
 use Rattle.fr_reader.specs.FaultText.{fault_text}
 use Rattle.fr_reader.specs.Meaning.{Means}
 use Rattle.fr_reader.specs.Faults.{is_memory as app_is_memory}
 -- how many bytes the text of a certificate has at the most, which no file that is read may exceed
 pub use Rattle.fr_cert.specs.Meaning.{most_bytes}
+use Rattle.fr_cert.specs.declared.fault.CertFault.{CertFault}
 use Rattle.fr_cert.specs.FaultText.{text_of}
 use Rattle.fr_cert.specs.Faults.{is_memory as cert_is_memory}
 use Rattle.fr_judge.specs.Texts.{IsJudged}
@@ -84,13 +87,21 @@ IsSafeText app = (P : Program) × Means app P × IsSafe P
 abbrev pub HasVerdict : List ℕ → List ℕ → Type 0
 HasVerdict app certificate = (P : Program) × (verdict : Verdict) × IsJudged app certificate P verdict
 
+-- the fault of a check whose application is refused by this one: an inner fault of memory is `Memory`
+abbrev pub app_fault : ReadFault → CheckFault
+app_fault f = if app_is_memory f then Memory else App f
+
+-- the fault of a check whose certificate is refused by this one: an inner fault of memory is `Memory`
+abbrev pub cert_fault : CertFault → CheckFault
+cert_fault f = if cert_is_memory f then Memory else Cert f
+
 -- the fault of a check, where the bytes were given no verdict by this one: each inner fault of memory is `Memory`
 abbrev pub check_fault : BytesFault → CheckFault
 check_fault (Par NoMemory) = Memory
 check_fault (Par NoWorkers) = Workers
 check_fault (Par NoThreads) = Thread
-check_fault (AppRefused f) = if app_is_memory f then Memory else App f
-check_fault (CertRefused f) = if cert_is_memory f then Memory else Cert f
+check_fault (AppRefused f) = app_fault f
+check_fault (CertRefused f) = cert_fault f
 
 -- the fault of a check whose file couldn't be read
 abbrev pub load_fault : LoadFault → CheckFault

@@ -49,10 +49,7 @@ pub fn check_with<R: Threads + Wait + Sync, G: Gate, W: Write>(
     ensures refused { IfErr result (CanRefuse app.now certificate.now workers) }
     ensures kept { IfErr result (λ fault. fault ≢ CheckFault.Write → writer.new ≡ writer.old) }
 {
-    let judged = match judge_bytes(rt, alloc, app, certificate, workers, gate) {
-        Ok(judged) => judged,
-        Err(fault) => return Err(CheckFault::of_bytes(fault)),
-    };
+    let judged = judge_bytes(rt, alloc, app, certificate, workers, gate)?;
     let text = report(alloc, &judged.app, &judged.verdict)?;
     match writer.write_all(text.as_bytes()) {
         Ok(()) => Ok(status_of(&judged.verdict)),

@@ -31,31 +31,49 @@ pub enum CheckFault {
     Write,
 }
 
-impl CheckFault {
+/// An application that is refused: an inner fault of memory is `Memory`.
+impl From<ReadFault> for CheckFault {
+    ghost use Rattle.fr_answer.specs.Checked.{app_fault};
+
+    ghost from_gives = { λ fault result. result ≡ app_fault fault };
+
+    fn from(fault: ReadFault) -> CheckFault {
+        if fault.is_memory() {
+            CheckFault::Memory
+        } else {
+            CheckFault::App(fault)
+        }
+    }
+}
+
+/// A certificate that is refused: an inner fault of memory is `Memory`.
+impl From<CertFault> for CheckFault {
+    ghost use Rattle.fr_answer.specs.Checked.{cert_fault};
+
+    ghost from_gives = { λ fault result. result ≡ cert_fault fault };
+
+    fn from(fault: CertFault) -> CheckFault {
+        if fault.is_memory() {
+            CheckFault::Memory
+        } else {
+            CheckFault::Cert(fault)
+        }
+    }
+}
+
+/// Bytes without a verdict, each inner fault of memory as `Memory`.
+impl From<BytesFault> for CheckFault {
     ghost use Rattle.fr_answer.specs.Checked.{check_fault};
 
-    /// The fault that bytes without a verdict come to, with each inner fault of memory as `Memory`.
-    pub fn of_bytes(fault: BytesFault) -> CheckFault
-        ensures { result ≡ check_fault fault }
-    {
+    ghost from_gives = { λ fault result. result ≡ check_fault fault };
+
+    fn from(fault: BytesFault) -> CheckFault {
         match fault {
             BytesFault::Par(ParFault::Memory) => CheckFault::Memory,
             BytesFault::Par(ParFault::Workers) => CheckFault::Workers,
             BytesFault::Par(ParFault::Threads) => CheckFault::Thread,
-            BytesFault::App(fault) => {
-                if fault.is_memory() {
-                    CheckFault::Memory
-                } else {
-                    CheckFault::App(fault)
-                }
-            }
-            BytesFault::Cert(fault) => {
-                if fault.is_memory() {
-                    CheckFault::Memory
-                } else {
-                    CheckFault::Cert(fault)
-                }
-            }
+            BytesFault::App(fault) => CheckFault::from(fault),
+            BytesFault::Cert(fault) => CheckFault::from(fault),
         }
     }
 }

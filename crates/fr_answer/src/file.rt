@@ -16,12 +16,12 @@ pub enum LoadFault {
     Device,
 }
 
-impl LoadFault {
-    /// The fault of a check whose file couldn't be read.
-    pub fn check_fault(self) -> CheckFault
-        ensures { result ≡ load_fault self }
-    {
-        match self {
+/// A file that couldn't be read.
+impl From<LoadFault> for CheckFault {
+    ghost from_gives = { λ fault result. result ≡ load_fault fault };
+
+    fn from(fault: LoadFault) -> CheckFault {
+        match fault {
             LoadFault::Memory => CheckFault::Memory,
             LoadFault::Device => CheckFault::Read,
         }

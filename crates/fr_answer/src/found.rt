@@ -16,7 +16,6 @@ use crate::fault::CheckFault;
 use fr_cert::write_cert;
 use fr_ends::Certificate;
 use fr_finder::{FindFault, find, is_rounds};
-use fr_parallel::BytesFault;
 use fr_program::App;
 use fr_reader::read_app;
 use std::alloc::Global;
@@ -24,7 +23,7 @@ use std::io::Write;
 use std::thread::Threads;
 
 /// What is found for an application.
-#[derive(Debug, Drop)]
+#[derive(Drop)]
 pub enum Found {
     /// The text of a certificate.
     Text(String),
@@ -83,10 +82,7 @@ pub fn find_bytes<R: Threads + Sync>(
     if !is_rounds(rounds) {
         return Err(CheckFault::Rounds);
     }
-    let app = match read_app(alloc, app) {
-        Ok(app) => app,
-        Err(fault) => return Err(CheckFault::of_bytes(BytesFault::App(fault))),
-    };
+    let app = read_app(alloc, app)?;
     found_for(rt, alloc, &app, rounds)
 }
 

@@ -1,27 +1,13 @@
 // Listing the points of the application that bytes mean.
-ghost use Rattle.std.specs.Prelude.{◌≡◌, ◌≢◌, ◌≤◌, IfOk, IfErr, OnOk};
-ghost use Rattle.fr_reader.specs.Meaning.{Means};
+ghost use Rattle.std.specs.Prelude.{◌≡◌, ◌≢◌, ◌≤◌, IfErr, OnOk};
 ghost use Rattle.fr_answer.specs.Listed.{CanRefuseListing, IsListing, IsListingTold};
 
 use crate::answer::answer_fault;
 use crate::fault::CheckFault;
-use fr_program::App;
 use fr_reader::read_app;
 use fr_report::points_text;
 use std::alloc::Global;
 use std::io::Write;
-
-/// The application that the bytes mean.
-fn application(alloc: Global, app: &[u8]) -> Result<App, CheckFault>
-    ensures means { IfOk result (Means app.now) }
-    ensures refused { IfErr result (CanRefuseListing app.now) }
-{
-    match read_app(alloc, app) {
-        Ok(app) => Ok(app),
-        Err(fault) if fault.is_memory() => Err(CheckFault::Memory),
-        Err(fault) => Err(CheckFault::App(fault)),
-    }
-}
 
 /// Writes the points of the application, one line a point, as `points_text` gives them.
 ///
@@ -35,7 +21,7 @@ pub fn points_to<W: Write>(alloc: Global, app: &[u8], writer: &mut W) -> Result<
     ensures refused { IfErr result (CanRefuseListing app.now) }
     ensures kept { IfErr result (λ fault. fault ≢ CheckFault.Write → writer.new ≡ writer.old) }
 {
-    let app = application(alloc, app)?;
+    let app = read_app(alloc, app)?;
     let text = points_text(alloc, &app)?;
     match writer.write_all(text.as_bytes()) {
         Ok(()) => Ok(()),

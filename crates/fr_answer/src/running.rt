@@ -25,14 +25,11 @@ use fr_parallel::Gate;
 use fr_program::App;
 use fr_reader::read_app;
 use fr_report::{report, trace_text};
-use fr_runner::{RunFault, run};
+use fr_runner::{MOST_POLLS, RunFault, run};
 use std::alloc::Global;
 use std::io::Write;
 use std::sync::Wait;
 use std::thread::Threads;
-
-/// The most polls that a run may have.
-const MOST_POLLS: u64 = 1_000_000;
 
 /// The fault of a command whose run gave no trace. That no poll is left and that there is no such
 /// actor are faults of single polls, and no run has them.
@@ -57,16 +54,9 @@ fn read_both(
     ensures fits { IfOk result (λ r. CertificateFits r.0 r.1) }
     ensures refused { IfErr result (λ f. (polls : ℕ) → CanRefuseRun app.now certificate.now polls f) }
 {
-    let app = match read_app(alloc, app) {
-        Ok(app) => app,
-        Err(fault) if fault.is_memory() => return Err(CheckFault::Memory),
-        Err(fault) => return Err(CheckFault::App(fault)),
-    };
-    match read_cert(alloc, &app, certificate) {
-        Ok(certificate) => Ok((app, certificate)),
-        Err(fault) if fault.is_memory() => Err(CheckFault::Memory),
-        Err(fault) => Err(CheckFault::Cert(fault)),
-    }
+    let app = read_app(alloc, app)?;
+    let certificate = read_cert(alloc, &app, certificate)?;
+    Ok((app, certificate))
 }
 
 /// Runs the application, and gives the text of the trace.

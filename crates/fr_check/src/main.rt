@@ -42,10 +42,7 @@ fn file_bytes(rt: &HostRuntime, path: &str, limit: usize) -> Result<Vec<u8>, Che
         Err(error) if is_memory(&error) => return Err(CheckFault::Memory),
         Err(_) => return Err(CheckFault::Read),
     };
-    match load(rt.alloc(), &mut file, limit) {
-        Ok(bytes) => Ok(bytes),
-        Err(fault) => Err(fault.check_fault()),
-    }
+    Ok(load(rt.alloc(), &mut file, limit)?)
 }
 
 /// Prints the verdict on the application and the certificate in these files, or why there is none, and

@@ -34,10 +34,7 @@ fn file_bytes(alloc: Global, file: Option<&[u8]>, limit: usize) -> Result<Vec<u8
     let Some(mut file) = file else {
         return Err(CheckFault::Read);
     };
-    match load(alloc, &mut file, limit) {
-        Ok(bytes) => Ok(bytes),
-        Err(fault) => Err(fault.check_fault()),
-    }
+    Ok(load(alloc, &mut file, limit)?)
 }
 
 /// Both files' bytes.
