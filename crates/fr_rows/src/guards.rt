@@ -1,6 +1,6 @@
 // The ends that a point owes, the guards that its note implies, deletes of what is in use, and guards that are refused.
+use crate::judged_files::Files;
 use fr_calls::End;
-use fr_cert::read_cert;
 use fr_ends::{EndGuard, EndName, Ends, EndsFault, Guard, guarded, near};
 use fr_program::{ActorId, App, ObjId, VarId};
 use fr_reader::read_app;
@@ -16,6 +16,9 @@ actor = [
  {name="b", kind="task", code=["xStreamBufferSend(sb, 8, 10)", "goto 0"]},
 ]
 "#;
+
+/// How many points its application has.
+const POINTS: usize = 12;
 
 const WRITER: Option<End> = Some(End::Writer);
 
@@ -43,13 +46,12 @@ fn certificate(
 /// The first end that the point with this number owes and whose guard its note doesn't imply, `Some(None)` where there is
 /// none; None where a text is refused or there is no such point.
 fn first_end(alloc: Global, ends: &str, number: usize, note: &str) -> Option<Option<End>> {
-    let app = read_app(alloc, BUFFER.as_bytes()).ok()?;
-    let text = certificate(alloc, ends, app.points(), number, note).ok()?;
-    let certificate = read_cert(alloc, &app, text.as_bytes()).ok()?;
-    if !certificate.fits(&app) || number >= app.points() {
+    let text = certificate(alloc, ends, POINTS, number, note).ok()?;
+    let files = Files::read(alloc, BUFFER, text.as_str())?;
+    if !files.has(number) {
         return None;
     }
-    let first = guarded(&app, &certificate, number);
+    let first = guarded(&files.app, &files.certificate, number);
     Some(first.map(|name| name.end))
 }
 
@@ -146,13 +148,10 @@ fn is_near(
     let app = format!(in alloc;
         "{OBJECTS}actor = [{{name=\"u\", kind=\"task\", code=[\"{call}\", \"goto 0\"]}}, {{name=\"k\", kind=\"task\", code=[\"{delete}\", \"goto 0\"]}}]\n"
     ).ok()?;
-    let app = read_app(alloc, app.as_bytes()).ok()?;
-    let text = format!(in alloc;
-        "{{\"version\":2,\"ends\":[],\"notes\":[{note},{note},{{}},{other},{{}}]}}"
-    ).ok()?;
-    let certificate = read_cert(alloc, &app, text.as_bytes()).ok()?;
-    if certificate.notes.fits(&app) && number < app.points() && app.points() == 5 {
-        Some(near(&app, &certificate.notes, number, 3))
+    let notes = format!(in alloc; "{note},{note},{{}},{other},{{}}").ok()?;
+    let files = Files::with_notes(alloc, app.as_str(), notes.as_str())?;
+    if files.has(number) && files.has(3) {
+        Some(near(&files.app, &files.certificate.notes, number, 3))
     } else {
         None
     }

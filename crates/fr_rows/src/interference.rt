@@ -1,7 +1,6 @@
 // What a point owes to the steps of others: the first point that disturbs its note, in small applications.
-use fr_cert::read_cert;
+use crate::judged_files::Files;
 use fr_interfere::{spoiler, undisturbed};
-use fr_reader::read_app;
 use std::alloc::{AllocError, Global};
 use std::process::Abort;
 
@@ -22,27 +21,32 @@ actor = [
     )
 }
 
-/// The first point that disturbs the note of the point with this number, `Some(None)` where none does; None where a text
-/// is refused, or where `undisturbed` tells something else of some point.
-fn spoiler_at(alloc: Global, app: &str, notes: &str, number: usize) -> Option<Option<usize>> {
-    let text = format!(in alloc; "{{\"version\":2,\"ends\":[],\"notes\":[{notes}]}}").ok()?;
-    let app = read_app(alloc, app.as_bytes()).ok()?;
-    let certificate = read_cert(alloc, &app, text.as_bytes()).ok()?;
-    let notes = certificate.notes;
-    if !notes.fits(&app) || number >= app.points() {
+/// The first point that disturbs the note of the point with this number, as `undisturbed` tells.
+fn first_disturbing(files: &Files, number: usize) -> Option<usize> {
+    if !files.has(number) {
         return None;
     }
-    let first = spoiler(&app, &notes, number);
-    for other in 0..app.points() {
-        if !undisturbed(&app, &notes, number, other) {
-            return if first == Some(other) {
-                Some(first)
-            } else {
-                None
-            };
+    for other in 0..files.app.points() {
+        if !undisturbed(&files.app, &files.certificate.notes, number, other) {
+            return Some(other);
         }
     }
-    if first.is_none() { Some(None) } else { None }
+    None
+}
+
+/// The first point that disturbs the note of the point with this number, `Some(None)` where none does; None where a text
+/// is refused, or where `undisturbed` tells something else.
+fn spoiler_at(alloc: Global, app: &str, notes: &str, number: usize) -> Option<Option<usize>> {
+    let files = Files::with_notes(alloc, app, notes)?;
+    if !files.has(number) {
+        return None;
+    }
+    let first = spoiler(&files.app, &files.certificate.notes, number);
+    if first == first_disturbing(&files, number) {
+        Some(first)
+    } else {
+        None
+    }
 }
 
 /// A line of the task u, the note of t's point, those of u's points, and the first point that disturbs t's note.

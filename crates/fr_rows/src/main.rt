@@ -25,6 +25,8 @@ mod guesses;
 #[cfg(test)]
 mod interference;
 #[cfg(test)]
+mod judged_files;
+#[cfg(test)]
 mod lines;
 #[cfg(test)]
 mod notes_of_objects;

@@ -1,12 +1,12 @@
 // Notes over an application with objects: notes of two tasks that hold in one state, notes of which one implies the other,
 // and counts, lives and ranges that are refused.
-use fr_cert::read_cert;
+use crate::judged_files::Files;
 use fr_notes::{Note, NoteFault, NoteParts, implies, together};
 use fr_program::{ActorId, ObjId, Range, VarId};
 use fr_reader::read_app;
 use std::alloc::Global;
 
-const APP: &[u8] = br#"variable = [{name="x", lo=0, hi=2, init=0}]
+const APP: &str = r#"variable = [{name="x", lo=0, hi=2, init=0}]
 object = [{name="m", kind="mutex", live=true}, {name="r", kind="recursive", live=true}, {name="q", kind="queue", size=4, lo=0, hi=9, live=true}, {name="sb", kind="stream", size=8, live=true}]
 actor = [{name="a", kind="task", code=["goto 0"]}, {name="b", kind="task", code=["goto 0"]}]
 "#;
@@ -14,15 +14,14 @@ actor = [{name="a", kind="task", code=["goto 0"]}, {name="b", kind="task", code=
 /// Of one note and another: whether the one of task a and the other of task b hold in one state, and whether the one
 /// implies the other. None where a note is refused.
 fn compared(alloc: Global, one: &str, other: &str) -> Option<(bool, bool)> {
-    let text = format!(in alloc; "{{\"version\":1,\"ends\":[],\"notes\":[{one},{other}]}}").ok()?;
-    let app = read_app(alloc, APP).ok()?;
-    let certificate = read_cert(alloc, &app, text.as_bytes()).ok()?;
-    let notes = &certificate.notes;
-    if !notes.fits(&app) || app.points() < 2 || app.actors().len() < 2 {
+    let notes = format!(in alloc; "{one},{other}").ok()?;
+    let files = Files::with_notes(alloc, APP, notes.as_str())?;
+    if !files.has(1) || files.app.actors().len() < 2 {
         return None;
     }
-    let (one, other) = (notes.at(&app, 0), notes.at(&app, 1));
-    let meet = together(&app, ActorId(0), one, ActorId(1), other);
+    let notes = &files.certificate.notes;
+    let (one, other) = (notes.at(&files.app, 0), notes.at(&files.app, 1));
+    let meet = together(&files.app, ActorId(0), one, ActorId(1), other);
     Some((meet, implies(one, other)))
 }
 
@@ -83,7 +82,7 @@ fn notes_that_say_less(rt: HostRuntime) {
 
 /// The fault of the note with these parts, `Some(None)` where it is built; None where there is no memory.
 fn fault(alloc: Global, parts: NoteParts) -> Option<Option<NoteFault>> {
-    let app = read_app(alloc, APP).ok()?;
+    let app = read_app(alloc, APP.as_bytes()).ok()?;
     match Note::build(alloc, &app, parts) {
         Ok(_note) => Some(None),
         Err(NoteFault::Memory) => None,

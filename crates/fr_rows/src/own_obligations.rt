@@ -1,9 +1,8 @@
 // What a point owes by itself: the first own obligation that fails, at points of small applications of one task.
+use crate::judged_files::Files;
 use fr_calls::Rule;
-use fr_cert::read_cert;
 use fr_edge::{Own, own};
 use fr_program::{ActorId, Point, Side};
-use fr_reader::read_app;
 use std::alloc::Global;
 use std::process::Abort;
 
@@ -21,11 +20,9 @@ const RETURNING: &str = r#"actor = [{name="t", kind="task", code=["goto 0", "ret
 /// The first own obligation that fails at the point with this number where the points have these notes, `Some(None)`
 /// where all are kept; None where a text is refused or there is no such point. The notes may have several alternatives.
 pub fn own_at(alloc: Global, app: &str, notes: &str, number: usize) -> Option<Option<Own>> {
-    let text = format!(in alloc; "{{\"version\":2,\"ends\":[],\"notes\":[{notes}]}}").ok()?;
-    let app = read_app(alloc, app.as_bytes()).ok()?;
-    let certificate = read_cert(alloc, &app, text.as_bytes()).ok()?;
-    if certificate.notes.fits(&app) && number < app.points() {
-        Some(own(&app, &certificate.notes, number))
+    let files = Files::with_notes(alloc, app, notes)?;
+    if files.has(number) {
+        Some(own(&files.app, &files.certificate.notes, number))
     } else {
         None
     }
