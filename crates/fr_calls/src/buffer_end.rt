@@ -3,7 +3,7 @@ ghost use Rattle.std.specs.Prelude.{◌≡◌};
 ghost use Rattle.fr_calls.specs.BufferEnd.{end_text};
 
 /// An end of a stream or message buffer: sends are at the writer's, receives at the reader's.
-#[derive(Clone, Copy, Debug, PartialEq, Eq)]
+#[derive(Clone, Copy, PartialEq, Eq)]
 pub enum End {
     Writer,
     Reader,

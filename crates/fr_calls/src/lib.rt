@@ -19,7 +19,7 @@ mod worked;
 pub use buffer_end::End;
 pub use content::Content;
 pub use laws::{steps_stay_well_formed, the_start_is_well_formed};
-pub use moves::Moves;
+pub use moves::{Moves, can_time_out, take_can_time_out};
 pub use rules::{Condition, Rule, first_forbidden, is_unsuited, rule_of};
 pub use state::{Place, State};
 pub use way::{Landing, Way, lands_at};

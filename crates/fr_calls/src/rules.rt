@@ -7,7 +7,7 @@ ghost use Rattle.fr_calls.specs.Rule.{number_of, is_at_once, allowed_in_critical
 use fr_program::{Action, App, BlockTime, Call, GiveForm, Instr, Kind, TakeForm, Timing};
 
 /// The twelve rules of use, in the order of their numbers.
-#[derive(Clone, Copy, Debug, PartialEq, Eq)]
+#[derive(Clone, Copy, PartialEq, Eq)]
 pub enum Rule {
     /// 1: one actor at most is inside a send or a reset of a buffer.
     OneWriter,
@@ -59,7 +59,7 @@ impl Rule {
 }
 
 /// What some rules ask of the actor that is about to act.
-#[derive(Clone, Copy, Debug)]
+#[derive(Clone, Copy)]
 pub struct Condition {
     /// It is an interrupt, and no task.
     pub interrupt: bool,

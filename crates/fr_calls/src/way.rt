@@ -8,7 +8,7 @@ ghost use Rattle.fr_program.specs.declared.ids.Side.TheVariants.{Before};
 use fr_program::{ActorId, Call, Instr, Point, Side};
 
 /// Which row of the step table a step goes by. Each place has one row or two.
-#[derive(Clone, Copy, Debug, PartialEq, Eq)]
+#[derive(Clone, Copy, PartialEq, Eq)]
 pub enum Way {
     /// An `if` whose comparison is true, a call that works, and the one row of any other
     /// instruction.
@@ -18,7 +18,7 @@ pub enum Way {
 }
 
 /// Where an actor stands after a step: at a point, or nowhere, since it has ended.
-#[derive(Clone, Copy, Debug, PartialEq, Eq)]
+#[derive(Clone, Copy, PartialEq, Eq)]
 pub enum Landing {
     At(Point),
     Done,

@@ -3,7 +3,7 @@ ghost use Rattle.std.specs.Prelude.{◌≡◌};
 ghost use Rattle.fr_cert.specs.Keys.{key_text, is_key_of};
 
 /// A key that an object of a certificate may have.
-#[derive(Clone, Copy, Debug)]
+#[derive(Clone, Copy)]
 pub(crate) enum Key {
     Version,
     Ends,
@@ -50,7 +50,7 @@ impl Key {
 }
 
 /// An object of a certificate that has keys of its own.
-#[derive(Clone, Copy, Debug)]
+#[derive(Clone, Copy)]
 pub(crate) enum Place {
     Certificate,
     End,

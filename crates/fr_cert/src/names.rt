@@ -14,7 +14,7 @@ use serde_json::Value;
 use std::alloc::Global;
 
 /// What a name can be the name of.
-#[derive(Clone, Copy, Debug)]
+#[derive(Clone, Copy)]
 pub(crate) enum Thing {
     Variable,
     Object,

@@ -19,13 +19,10 @@ use crate::path::Path;
 use crate::ranges::ranges_of;
 use crate::tree::{departs, found_at, known_keys, object_in, within_key, within_position};
 use fr_instr::Names;
-use fr_notes::{Alts, Note, NoteFault, NoteParts};
+use fr_notes::{Alts, MOST_ALTERNATIVES, Note, NoteFault, NoteParts};
 use fr_program::{App, ObjId, Range, VarId};
 use serde_json::{Map, Value};
 use std::alloc::Global;
-
-/// The most alternatives of a note.
-const MOST_ALTERNATIVES: usize = 4;
 
 /// The depth at a key, which is 0 where the object has no such key.
 fn depth_at(alloc: Global, object: &Map<String, Value>, key: Key) -> Result<u8, CertFault>

@@ -17,7 +17,7 @@ use serde_json::{Map, Value, put};
 use std::alloc::{AllocError, Global};
 
 /// What a note says of the objects that it lists by their names alone.
-#[derive(Clone, Copy, Debug)]
+#[derive(Clone, Copy)]
 pub(crate) enum Life {
     Live,
     Dead,

@@ -3,7 +3,7 @@ use fr_calls::Rule;
 use fr_program::Point;
 
 /// The first of its own obligations that fails at a point.
-#[derive(Clone, Copy, Debug, PartialEq, Eq)]
+#[derive(Clone, Copy, PartialEq, Eq)]
 pub enum Own {
     /// The actor doesn't begin with the note of its first point.
     Entry,

@@ -7,7 +7,7 @@ use fr_program::App;
 use std::marker::Model;
 
 /// A note for each point of an application, and guards for the ends of its buffers.
-#[derive(Debug, Drop)]
+#[derive(Drop)]
 pub struct Certificate {
     pub notes: Notes,
     pub ends: Ends,

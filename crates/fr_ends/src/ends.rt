@@ -10,14 +10,14 @@ use std::alloc::Global;
 use std::marker::Model;
 
 /// The writing or the reading end of a stream or message buffer.
-#[derive(Clone, Copy, Debug, PartialEq, Eq)]
+#[derive(Clone, Copy, PartialEq, Eq)]
 pub struct EndName {
     pub buffer: ObjId,
     pub end: End,
 }
 
 /// The guards that a certificate lists, in its order.
-#[derive(Debug, Drop)]
+#[derive(Drop)]
 pub struct Ends {
     listed: Vec<EndGuard>,
 }

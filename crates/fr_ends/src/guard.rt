@@ -7,7 +7,7 @@ use fr_program::{ActorId, App, ObjId, VarId};
 use std::collections::BTreeMap;
 
 /// What keeps two actors from one end of a buffer: in no state do two actors have it.
-#[derive(Debug, Drop)]
+#[derive(Drop)]
 pub enum Guard {
     /// One actor alone.
     Sole(ActorId),
@@ -20,7 +20,7 @@ pub enum Guard {
 }
 
 /// The guard of one end of one buffer.
-#[derive(Debug, Drop)]
+#[derive(Drop)]
 pub struct EndGuard {
     pub end: EndName,
     pub guard: Guard,

@@ -2,12 +2,9 @@
 ghost use Rattle.std.specs.Prelude.{◌≤ℤ◌, ◌<◌, IfOk, IfSome, length, vec_len};
 ghost use Rattle.fr_notes.specs.Fits.{AlternativeFits, NoteFits};
 
-use fr_notes::{Alternative, Claim};
+use fr_notes::{Alternative, Claim, MOST_ALTERNATIVES};
 use fr_program::{App, Range, VarId};
 use std::alloc::{AllocError, Global};
-
-/// The most alternatives that a note has.
-const MOST_ALTERNATIVES: usize = 4;
 
 /// How an end of a range grows that has to: to what it needs, or to the declared end at once.
 #[derive(Clone, Copy, PartialEq, Eq)]

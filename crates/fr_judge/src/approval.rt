@@ -13,7 +13,7 @@ use fr_program::App;
 use std::marker::Model;
 
 /// An application with a certificate for it on which the verdict is `Yes`.
-#[derive(Debug, Drop)]
+#[derive(Drop)]
 pub struct Passed {
     app: App,
     certificate: Certificate,

@@ -5,7 +5,7 @@ use fr_program::Point;
 
 /// What a certificate owes at a point, in the order in which it is judged. Within one kind the
 /// least rule, end or point comes first.
-#[derive(Clone, Copy, Debug, PartialEq, Eq)]
+#[derive(Clone, Copy, PartialEq, Eq)]
 pub enum Part {
     /// The actor doesn't begin with the note of its first point.
     Entry,
@@ -23,7 +23,7 @@ pub enum Part {
 
 /// `Yes` where no part fails at any point, otherwise the least point at which one does, with the
 /// first such part.
-#[derive(Clone, Copy, Debug, PartialEq, Eq)]
+#[derive(Clone, Copy, PartialEq, Eq)]
 pub enum Verdict {
     Yes,
     No { point: Point, part: Part },

@@ -12,7 +12,7 @@ use fr_reader::{ReadFault, read_app};
 use std::alloc::Global;
 
 /// An application that was read, and the verdict on it.
-#[derive(Debug, Drop)]
+#[derive(Drop)]
 pub struct Judged {
     pub app: App,
     pub verdict: Verdict,

@@ -12,8 +12,8 @@ use std::alloc::Global;
 use std::marker::Model;
 use thiserror::Error;
 
-/// The most alternatives that a note has.
-const MOST_ALTERNATIVES: usize = 4;
+/// The most alternatives that a note has (this project's profile).
+pub const MOST_ALTERNATIVES: usize = 4;
 
 /// Why plain notes are not the alternatives of one note.
 #[derive(Clone, Copy, Debug, PartialEq, Eq, Error)]
@@ -31,7 +31,7 @@ pub enum AltsFault {
 
 /// The alternatives of a point's note: up to four plain notes, of which one holds. With none of them
 /// it is the note `Never`.
-#[derive(Debug, Drop)]
+#[derive(Drop)]
 pub struct Alts {
     note: Note,
 }

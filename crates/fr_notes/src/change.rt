@@ -10,7 +10,7 @@ use fr_program::{Comparison, ObjId, Operand, Range, VarId};
 
 /// What a step by one row makes of an alternative: the depths after it, at most one object's new
 /// claim, and at most two variables' new ranges. All else is as before.
-#[derive(Clone, Copy, Debug)]
+#[derive(Clone, Copy)]
 pub struct Change {
     pub crit: u32,
     pub susp: u32,

@@ -3,13 +3,12 @@ ghost use Rattle.std.specs.Prelude.{◌↔◌, IsTrue, map};
 ghost use Rattle.fr_notes.specs.Fits.{CanClaim, ClaimsFit, RangesFit, AlternativeFits, NoteFits};
 ghost use Rattle.fr_notes.specs.View.{ends_of};
 
+use crate::alternatives::MOST_ALTERNATIVES;
 use crate::checks::{is_count, is_narrowing};
 use crate::claim::Claim;
 use crate::note::{Alternative, Note};
 use crate::parts::{object_count, variable_count};
 use fr_program::{App, Kind, ObjId, Range, VarId};
-
-const MOST_ALTERNATIVES: usize = 4;
 
 /// Whether this can be said of something of this kind.
 fn can_claim(kind: Kind, claim: Claim) -> bool

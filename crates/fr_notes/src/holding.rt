@@ -6,7 +6,7 @@ use crate::claim::Claim;
 
 /// What is known of an object before a step: the claims of the actor that moves and of the other
 /// actor, where one is looked at, put together.
-#[derive(Clone, Copy, Debug, PartialEq, Eq)]
+#[derive(Clone, Copy, PartialEq, Eq)]
 pub enum Holding {
     /// Neither of them holds it. It may be live or dead.
     Unheld,

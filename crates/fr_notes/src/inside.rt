@@ -2,7 +2,6 @@
 ghost use Rattle.std.specs.Prelude.{◌≡◌, ◌<◌, ◌≤◌, ◌≤ℤ◌, ◌↔◌, ℕ, pos, IsTrue, Option, Some, None, IfSome, IfNone, length, if◌then◌else◌};
 ghost use Rattle.fr_program.specs.declared.instr.GiveForm.{GiveForm as GiveFormOf};
 ghost use Rattle.fr_program.specs.declared.instr.Timing.{Timing as TimingOf};
-ghost use Rattle.fr_calls.specs.Step.{can_time_out, take_can_time_out};
 ghost use Rattle.fr_notes.specs.Known.{KnownFits};
 ghost use Rattle.fr_program.specs.declared.instr.Operand.{Operand as OperandOf};
 ghost use Rattle.fr_program.specs.declared.instr.BufferKind.{BufferKind as BufferKindOf};
@@ -16,10 +15,8 @@ ghost use Rattle.fr_notes.specs.Spot.{LeavesAt, EndLeaves, claiming};
 use crate::change::Change;
 use crate::holding::Holding;
 use crate::known::Known;
-use fr_calls::{Way, is_unsuited};
-use fr_program::{
-    Action, App, BlockTime, BufferKind, GiveForm, Kind, ObjId, Range, TakeForm, Timing, VarId,
-};
+use fr_calls::{Way, can_time_out, is_unsuited, take_can_time_out};
+use fr_program::{Action, App, BufferKind, GiveForm, Kind, ObjId, Range, TakeForm, Timing, VarId};
 
 /// The live object of a call: its number, its kind, and what is known of it.
 #[derive(Clone, Copy)]
@@ -27,33 +24,6 @@ struct Target {
     object: ObjId,
     kind: Kind,
     holding: Holding,
-}
-
-/// Whether a call with this block time can fail because the time has passed.
-fn passes(time: BlockTime) -> bool
-    ensures { result ≡ can_time_out (Timing.Waits time) }
-{
-    matches!(time, BlockTime::Ticks(_))
-}
-
-/// Whether the call can fail because its block time has passed, or at once from an interrupt.
-fn can_time_out(timing: Timing) -> bool
-    ensures { result ≡ can_time_out timing }
-{
-    match timing {
-        Timing::Waits(time) => passes(time),
-        Timing::FromIsr => true,
-    }
-}
-
-/// Whether a take can fail because its block time has passed, or at once from an interrupt.
-fn take_can_time_out(form: TakeForm) -> bool
-    ensures { result ≡ take_can_time_out form }
-{
-    match form {
-        TakeForm::Plain(time) | TakeForm::Recursive(time) => passes(time),
-        TakeForm::FromIsr => true,
-    }
 }
 
 /// What a take that works makes of a live object; None where it can't work.

@@ -26,7 +26,7 @@ mod reckoning;
 mod steps;
 mod worked;
 
-pub use alternatives::{Alts, AltsFault};
+pub use alternatives::{Alts, AltsFault, MOST_ALTERNATIVES};
 pub use change::Change;
 pub use claim::Claim;
 pub use fault::{NoteFault, NotesFault};

@@ -11,7 +11,7 @@ use std::marker::Model;
 
 /// One alternative of a note: exact depths, a claim for each object and a range for each variable,
 /// by their numbers.
-#[derive(Debug, Drop)]
+#[derive(Drop)]
 pub struct Alternative {
     pub(crate) crit: u8,
     pub(crate) susp: u8,
@@ -85,7 +85,7 @@ impl Alternative {
 
 /// What a certificate says of an actor at a point: one of these alternatives holds. With none of
 /// them it is the note `Never`, which says that the actor never stands there.
-#[derive(Debug, Drop)]
+#[derive(Drop)]
 pub struct Note {
     alternatives: Vec<Alternative>,
 }
@@ -102,7 +102,7 @@ impl Model for Note {
 /// live or dead, and variables anywhere in their declared ranges. Where a number is in a list twice,
 /// what it says is its first entry; `Note::build` checks every entry. A number in `live` or `dead`
 /// that is of no object of the application says nothing of the application's objects.
-#[derive(Debug, Drop)]
+#[derive(Drop)]
 pub struct NoteParts {
     pub held: Vec<(ObjId, u32)>,
     pub crit: u8,

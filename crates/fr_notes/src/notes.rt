@@ -12,7 +12,7 @@ use std::alloc::Global;
 use std::marker::Model;
 
 /// One note for each point of an application, by the points' numbers.
-#[derive(Debug, Drop)]
+#[derive(Drop)]
 pub struct Notes {
     notes: Vec<Note>,
 }

@@ -20,7 +20,7 @@ use std::alloc::Global;
 use std::marker::Model;
 
 /// An application in which no build fault is present.
-#[derive(Debug, Drop)]
+#[derive(Drop)]
 pub struct App {
     parts: Parts,
     /// Every point, in the order of its number.

@@ -25,7 +25,7 @@ pub enum Changed {
 
 /// The numbers, rising, of the points whose steps can change something: anything, the value of each
 /// variable, and whether each object is live.
-#[derive(Debug, Drop)]
+#[derive(Drop)]
 pub struct Changers {
     pub anything: Vec<usize>,
     pub numbers: Vec<Vec<usize>>,

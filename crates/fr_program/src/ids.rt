@@ -20,7 +20,7 @@ pub enum Side {
 }
 
 /// Where an actor that has not ended stands: a side of one of its instructions.
-#[derive(Clone, Copy, Debug, PartialEq, Eq)]
+#[derive(Clone, Copy, PartialEq, Eq)]
 pub struct Point {
     pub actor: ActorId,
     /// The instruction's place in the actor's code, from 0.

@@ -4,14 +4,14 @@ ghost use Rattle.std.specs.Prelude.{◌≡◌};
 use crate::ids::{ObjId, VarId};
 
 /// A number, or the value of a variable.
-#[derive(Clone, Copy, Debug)]
+#[derive(Clone, Copy)]
 pub enum Operand {
     Number(i64),
     Variable(VarId),
 }
 
 /// What a `set` computes of its two operands.
-#[derive(Clone, Copy, Debug)]
+#[derive(Clone, Copy)]
 pub enum Operator {
     Plus,
     Minus,
@@ -19,7 +19,7 @@ pub enum Operator {
 }
 
 /// How an `if` compares its two operands: `<`, `<=`, `>`, `>=`, `==`, `!=`.
-#[derive(Clone, Copy, Debug)]
+#[derive(Clone, Copy)]
 pub enum Comparison {
     Less,
     AtMost,
@@ -30,14 +30,14 @@ pub enum Comparison {
 }
 
 /// How long a task's call may wait: a number of ticks, or `portMAX_DELAY`, which is without limit.
-#[derive(Clone, Copy, Debug)]
+#[derive(Clone, Copy)]
 pub enum BlockTime {
     Ticks(u32),
     MaxDelay,
 }
 
 /// The form of a call that has no block time: the one for tasks, or the one for interrupts.
-#[derive(Clone, Copy, Debug)]
+#[derive(Clone, Copy)]
 pub enum Form {
     Task,
     FromIsr,
@@ -45,7 +45,7 @@ pub enum Form {
 
 /// The form of a call on a queue or a buffer: a task's, with its block time, or the one for
 /// interrupts, which answers at once.
-#[derive(Clone, Copy, Debug)]
+#[derive(Clone, Copy)]
 pub enum Timing {
     Waits(BlockTime),
     FromIsr,
@@ -63,7 +63,7 @@ impl Timing {
 }
 
 /// `xSemaphoreTake`, `xSemaphoreTakeRecursive` or `xSemaphoreTakeFromISR`.
-#[derive(Clone, Copy, Debug)]
+#[derive(Clone, Copy)]
 pub enum TakeForm {
     Plain(BlockTime),
     Recursive(BlockTime),
@@ -71,7 +71,7 @@ pub enum TakeForm {
 }
 
 /// `xSemaphoreGive`, `xSemaphoreGiveRecursive` or `xSemaphoreGiveFromISR`.
-#[derive(Clone, Copy, Debug)]
+#[derive(Clone, Copy)]
 pub enum GiveForm {
     Plain,
     Recursive,
@@ -79,14 +79,14 @@ pub enum GiveForm {
 }
 
 /// Whether a buffer call is one for stream buffers or one for message buffers.
-#[derive(Clone, Copy, Debug)]
+#[derive(Clone, Copy)]
 pub enum BufferKind {
     Stream,
     Message,
 }
 
 /// What a create call makes.
-#[derive(Clone, Copy, Debug)]
+#[derive(Clone, Copy)]
 pub enum CreatedKind {
     Queue,
     Binary,
@@ -98,7 +98,7 @@ pub enum CreatedKind {
 }
 
 /// What a delete call takes: `vSemaphoreDelete` is for semaphores and mutexes of every kind.
-#[derive(Clone, Copy, Debug)]
+#[derive(Clone, Copy)]
 pub enum DeletedKind {
     Queue,
     Semaphore,
@@ -108,7 +108,7 @@ pub enum DeletedKind {
 
 /// What an object call does. Such a call has a begin and an end, and between them its actor is
 /// inside it. `or_else` is the instruction that follows a failure, where the line names one.
-#[derive(Clone, Copy, Debug)]
+#[derive(Clone, Copy)]
 pub enum Action {
     QueueSend {
         value: Operand,
@@ -182,7 +182,7 @@ impl Action {
 }
 
 /// A kernel call.
-#[derive(Clone, Copy, Debug)]
+#[derive(Clone, Copy)]
 pub enum Call {
     EnterCritical(Form),
     ExitCritical(Form),
@@ -224,7 +224,7 @@ impl Call {
 }
 
 /// One line of an actor's code. A target is an instruction's place in that code, from 0.
-#[derive(Clone, Copy, Debug)]
+#[derive(Clone, Copy)]
 pub enum Instr {
     Set {
         target: VarId,

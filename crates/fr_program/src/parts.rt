@@ -3,7 +3,7 @@ use crate::ids::ActorId;
 use crate::instr::Instr;
 
 /// What an object is, with the keys that only its kind has.
-#[derive(Clone, Copy, Debug)]
+#[derive(Clone, Copy)]
 pub enum Kind {
     /// Holds up to `size` values from `lo` to `hi`.
     Queue { size: i64, lo: i64, hi: i64 },
@@ -19,7 +19,7 @@ pub enum Kind {
 }
 
 /// Whether an actor is a task or an interrupt's handler.
-#[derive(Clone, Copy, Debug, PartialEq)]
+#[derive(Clone, Copy, PartialEq)]
 pub enum ActorKind {
     Task,
     Interrupt,
@@ -27,7 +27,7 @@ pub enum ActorKind {
 
 /// A variable: a whole number from `lo` to `hi`, at `init` when the scheduler starts. One with an
 /// owner is named in its owner's code alone; one with none is shared.
-#[derive(Debug, Drop)]
+#[derive(Drop)]
 pub struct Variable {
     pub name: String,
     pub lo: i64,
@@ -37,7 +37,7 @@ pub struct Variable {
 }
 
 /// A kernel object, and whether it exists when the scheduler starts.
-#[derive(Debug, Drop)]
+#[derive(Drop)]
 pub struct Object {
     pub name: String,
     pub kind: Kind,
@@ -45,7 +45,7 @@ pub struct Object {
 }
 
 /// A task or an interrupt, with its code.
-#[derive(Debug, Drop)]
+#[derive(Drop)]
 pub struct Actor {
     pub name: String,
     pub kind: ActorKind,
@@ -53,7 +53,7 @@ pub struct Actor {
 }
 
 /// What an application is made of. A thing's number is its place in its list.
-#[derive(Debug, Drop)]
+#[derive(Drop)]
 pub struct Parts {
     pub variables: Vec<Variable>,
     pub objects: Vec<Object>,

@@ -2,7 +2,7 @@
 ghost use Rattle.std.specs.Prelude.{◌≡◌, ◌≤ℤ◌, ◌<ℤ◌, ◌+ℤ◌, ◌-ℤ◌, ◌↔◌, ℤ, pos, IsTrue, IfSome, IfNone};
 
 /// The whole numbers from `lo` to `hi`, both of them included. There is at least one.
-#[derive(Clone, Copy, Debug, PartialEq)]
+#[derive(Clone, Copy, PartialEq)]
 pub struct Range {
     pub lo: i128,
     pub hi: i128,

@@ -10,7 +10,7 @@ use fr_program::{ActorId, App, ObjId, Point, Side};
 use std::fmt;
 
 /// A point with its number and its actor's name.
-#[derive(Clone, Copy, Debug)]
+#[derive(Clone, Copy)]
 pub struct ShownPoint<'a> {
     number: usize,
     actor: &'a str,

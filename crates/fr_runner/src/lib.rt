@@ -13,6 +13,6 @@ mod trace;
 mod turn;
 
 pub use fault::RunFault;
-pub use machine::Machine;
+pub use machine::{MOST_POLLS, Machine};
 pub use threads::run;
 pub use trace::{Entry, Trace};

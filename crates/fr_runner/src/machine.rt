@@ -16,11 +16,12 @@ use fr_program::ActorId;
 use std::alloc::Global;
 use std::marker::Model;
 
-const MOST_POLLS: u64 = 1_000_000;
+/// The most polls that a run has (this project's profile).
+pub const MOST_POLLS: u64 = 1_000_000;
 
 /// An application that has passed, and where it is in a run of it: the entries so far replay from
 /// the start to the state, in which the note of each actor that isn't done holds.
-#[derive(Debug, Drop)]
+#[derive(Drop)]
 pub struct Machine<'a> {
     passed: &'a Passed,
     words: Vec<u64>,

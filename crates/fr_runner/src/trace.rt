@@ -2,7 +2,7 @@
 use fr_program::ActorId;
 
 /// What one poll of an actor did.
-#[derive(Clone, Copy, Debug, PartialEq, Eq)]
+#[derive(Clone, Copy, PartialEq, Eq)]
 pub enum Entry {
     /// The actor stepped by this choice.
     Stepped(ActorId, i64),
@@ -11,7 +11,7 @@ pub enum Entry {
 }
 
 /// The entries of a run in their order, and the words that picked its choices.
-#[derive(Debug, Drop)]
+#[derive(Drop)]
 pub struct Trace {
     pub entries: Vec<Entry>,
     pub words: Vec<u64>,
