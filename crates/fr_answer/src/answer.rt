@@ -11,15 +11,13 @@ ghost use Rattle.fr_answer.specs.Checked.{
 };
 
 use crate::check::check_with;
+use crate::exit::MACHINE;
 use crate::fault::{CheckFault, fault_line, status};
 use fr_parallel::Gate;
 use std::alloc::{AllocError, Global};
 use std::io::Write;
 use std::sync::Wait;
 use std::thread::Threads;
-
-/// The exit status where the machine failed.
-const MACHINE: u8 = 3;
 
 // The fault's line with its newline.
 fn whole_line(alloc: Global, fault: &CheckFault) -> Result<String, AllocError>

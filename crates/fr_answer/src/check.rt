@@ -3,6 +3,7 @@ ghost use Rattle.std.specs.Prelude.{◌≡◌, ◌≢◌, ◌≤◌, ◌↔◌, 
 ghost use Rattle.fr_parallel.specs.Kept.{IsNoCrew};
 ghost use Rattle.fr_answer.specs.Checked.{IsAnswer, IsSafeText, CanRefuse, IsRefused, status_of};
 
+use crate::exit::{DONE, NO};
 use crate::fault::{CheckFault, status};
 use fr_judge::Verdict;
 use fr_parallel::{Gate, judge_bytes};
@@ -17,8 +18,8 @@ fn status_of(verdict: &Verdict) -> u8
     ensures { result ≡ status_of verdict.now }
 {
     match verdict {
-        Verdict::Yes => 0,
-        Verdict::No { .. } => 1,
+        Verdict::Yes => DONE,
+        Verdict::No { .. } => NO,
     }
 }
 

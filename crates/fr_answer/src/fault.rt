@@ -3,6 +3,7 @@ ghost use Rattle.std.specs.Prelude.{◌≡◌, IfOk, string_bytes};
 ghost use Rattle.fr_answer.specs.declared.fault.CheckFault.TheVariants.{Memory};
 ghost use Rattle.fr_answer.specs.Checked.{fault_status, line_of};
 
+use crate::exit::{MACHINE, REFUSED};
 use fr_cert::CertFault;
 use fr_parallel::{BytesFault, ParFault};
 use fr_reader::ReadFault;
@@ -95,8 +96,8 @@ pub fn status(fault: &CheckFault) -> u8
         | CheckFault::Cert(_)
         | CheckFault::Workers
         | CheckFault::Rounds
-        | CheckFault::Polls => 2,
-        CheckFault::Memory | CheckFault::Thread | CheckFault::Read | CheckFault::Write => 3,
+        | CheckFault::Polls => REFUSED,
+        CheckFault::Memory | CheckFault::Thread | CheckFault::Read | CheckFault::Write => MACHINE,
     }
 }
 

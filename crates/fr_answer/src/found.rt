@@ -12,6 +12,7 @@ ghost use Rattle.fr_answer.specs.Found.{
   found_line,
 };
 
+use crate::exit::{DONE, NO};
 use crate::fault::CheckFault;
 use fr_cert::write_cert;
 use fr_ends::Certificate;
@@ -98,8 +99,8 @@ pub fn tell_found<W: Write>(found: &Found, writer: &mut W) -> Result<u8, CheckFa
     ensures refused { IfErr result (λ fault. fault ≡ CheckFault.Write) }
 {
     let (line, status) = match found {
-        Found::Text(_) => (b"found\n".as_slice(), 0),
-        Found::NotFound => (b"not found\n".as_slice(), 1),
+        Found::Text(_) => (b"found\n".as_slice(), DONE),
+        Found::NotFound => (b"not found\n".as_slice(), NO),
     };
     match writer.write_all(line) {
         Ok(()) => Ok(status),

@@ -7,6 +7,7 @@
 
 mod answer;
 mod check;
+mod exit;
 mod fault;
 mod file;
 mod found;
@@ -16,6 +17,7 @@ mod words;
 
 pub use answer::{answer_check, answer_fault};
 pub use check::{check_to, check_with};
+pub use exit::{DONE, MACHINE, NO, REFUSED};
 pub use fault::{CheckFault, fault_line, status};
 pub use file::{LoadFault, load};
 pub use found::{Found, find_bytes, tell_found};

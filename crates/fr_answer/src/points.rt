@@ -3,6 +3,7 @@ ghost use Rattle.std.specs.Prelude.{◌≡◌, ◌≢◌, ◌≤◌, IfErr, OnOk
 ghost use Rattle.fr_answer.specs.Listed.{CanRefuseListing, IsListing, IsListingTold};
 
 use crate::answer::answer_fault;
+use crate::exit::DONE;
 use crate::fault::CheckFault;
 use fr_reader::read_app;
 use fr_report::points_text;
@@ -45,7 +46,7 @@ pub fn answer_points<O: Write, E: Write>(alloc: Global, app: &[u8], out: &mut O,
     ensures most { result ≤ 3 }
 {
     match points_to(alloc, app, out) {
-        Ok(()) => 0,
+        Ok(()) => DONE,
         Err(fault) => answer_fault(alloc, &fault, err),
     }
 }

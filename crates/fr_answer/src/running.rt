@@ -17,6 +17,7 @@ ghost use Rattle.fr_answer.specs.Ran.{
 };
 
 use crate::answer::answer_fault;
+use crate::exit::{DONE, NO};
 use crate::fault::CheckFault;
 use fr_cert::read_cert;
 use fr_ends::Certificate;
@@ -98,9 +99,9 @@ fn output<R: Threads + Wait + Sync, G: Gate>(
         (λ f. (app certificate : List ℕ) → CanRefuseRun app certificate polls f) }
 {
     match Passed::check(app, certificate) {
-        Ok(passed) => Ok((0, run_text(rt, alloc, &passed, polls, words, gate)?)),
+        Ok(passed) => Ok((DONE, run_text(rt, alloc, &passed, polls, words, gate)?)),
         Err((app, _, verdict)) => match report(alloc, &app, &verdict) {
-            Ok(text) => Ok((1, text)),
+            Ok(text) => Ok((NO, text)),
             Err(_) => Err(CheckFault::Memory),
         },
     }

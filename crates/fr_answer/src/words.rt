@@ -4,6 +4,7 @@ ghost use Rattle.std.specs.Io.KnownBytes.{Appends};
 ghost use Rattle.fr_answer.specs.declared.words.WordsFault.TheVariants.{Memory, Bad};
 ghost use Rattle.fr_answer.specs.Words.{AreWords, IsWord};
 
+use crate::exit::{MACHINE, REFUSED};
 use std::alloc::{AllocError, AllocFailed, Global};
 use std::io::Write;
 
@@ -81,12 +82,12 @@ pub fn answer_words<W: Write>(fault: WordsFault, writer: &mut W) -> u8
 {
     match fault {
         WordsFault::Bad => match writer.write_all(b"refused: words\n") {
-            Ok(()) => 2,
-            Err(_) => 3,
+            Ok(()) => REFUSED,
+            Err(_) => MACHINE,
         },
         WordsFault::Memory => {
             let _written = writer.write_all(b"machine: memory\n");
-            3
+            MACHINE
         }
     }
 }

@@ -14,7 +14,7 @@ mod words;
 use clap::error::ErrorKind;
 use finding::find;
 use fr_answer::{
-    CheckFault, MOST_APP_BYTES, MOST_CERTIFICATE_BYTES, answer_check, answer_fault, load,
+    CheckFault, MOST_APP_BYTES, MOST_CERTIFICATE_BYTES, REFUSED, answer_check, answer_fault, load,
 };
 use fr_parallel::Open;
 use listing::list_points;
@@ -25,8 +25,6 @@ use std::sync::Wait;
 use std::thread::Threads;
 use std::{env, io};
 use words::{Request, asked, matched};
-
-const REFUSED: u8 = 2;
 
 /// Whether an allocation was refused.
 fn is_memory(error: &io::Error) -> bool {

@@ -54,14 +54,13 @@ mod workers;
 
 use answer::{Answer, Call};
 use files::names_in;
+use fr_answer::MACHINE;
 use row::{Cut, Row};
 use std::env;
 use std::io::{self, ErrorKind};
 use std::process::ExitCode;
 use std::sync::Wait;
 use std::thread::Threads;
-
-const MACHINE: u8 = 3;
 
 /// Prints the row with the answer that it has to get and the one that it got.
 fn tell_difference(
