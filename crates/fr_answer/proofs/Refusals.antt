@@ -24,7 +24,7 @@ app-refused Q f none refused = by-cause (app_is_memory f) refl
     by-cause true e = none
     by-cause false e = refused e
 
--- the same of the certificate's text
+-- what holds of want of memory, and of a fault that the certificate's text has, holds of what it comes to
 pub cert-refused : (Q : CheckFault → Type 0) (f : CertFault) → Q Memory → (cert_is_memory f ≡ false → Q (Cert f)) → Q (cert_fault f)
 cert-refused Q f none refused = by-cause (cert_is_memory f) refl
   where

@@ -9,7 +9,7 @@
 -- | IsSafeText            | the bytes mean an application that is safe                                    |
 -- | HasVerdict            | there is a verdict on the bytes                                               |
 -- | app_fault, cert_fault | the fault of a check that a refused text comes to; inner ones of memory are one |
--- | check_fault           | the same of bytes without a verdict                                           |
+-- | check_fault           | the fault of a check that bytes without a verdict come to                     |
 -- | load_fault            | the fault of a check whose file couldn't be read                              |
 -- | CanRefuse, IsRefused  | this fault can be the answer to the bytes and workers; one of status 2 can    |
 -- | IsTold                | such a fault of status 2 was written as its line                              |

@@ -16,7 +16,7 @@ pub enum LoadFault {
     Device,
 }
 
-/// A file that couldn't be read.
+/// A file that couldn't be read: want of memory is `Memory`, and a read that failed is `Read`.
 impl From<LoadFault> for CheckFault {
     ghost from_gives = { λ fault result. result ≡ load_fault fault };
 

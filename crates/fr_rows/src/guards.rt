@@ -17,7 +17,7 @@ actor = [
 ]
 "#;
 
-/// How many points its application has.
+/// How many points the application of `BUFFER` has.
 const POINTS: usize = 12;
 
 const WRITER: Option<End> = Some(End::Writer);
