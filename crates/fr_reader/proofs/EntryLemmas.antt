@@ -1,10 +1,13 @@
 -- One more entry of an array, and one more thing that it means.
-use Rattle.std.proofs.Common.{◌≡◌, ℕ, ◌+◌, ◌<◌, ◌≤◌, List, [], ◌∷◌, ◌++◌, length, get_or, take, refl, ap, ◌∙◌, subst, map}
+use Rattle.std.proofs.Common.{◌≡◌, ℕ, ◌+◌, ◌<◌, ◌≤◌, List, [], ◌∷◌, ◌++◌, length, get_or, take, refl, sym, ap, ◌∙◌, subst, map}
 use Rattle.std.proofs.lemmas.List.{take_more, take_all}
 use Rattle.toml.specs.Data.{Data}
 use Rattle.toml.specs.View.{items_view, view}
 use Rattle.toml.specs.declared.value.Value.{Value}
+use Rattle.toml.proofs.Views.{get_item_within}
 use Rattle.fr_reader.specs.Texts.{Each}
+use Rattle.fr_reader.specs.Faults.{InEach, Standing}
+use Rattle.fr_reader.specs.declared.fault.ReadFault.{ReadFault}
 
 pub each_push : {A : Type 0} (R : Data → A → Type 0) (xs : List Value) (x : Value) (vs : List A) (v : A) → Each R (items_view xs) vs → R (view x) v
     → Each R (items_view (xs ++ x ∷ [])) (vs ++ v ∷ [])
@@ -26,6 +29,14 @@ each_more R f xs ys i d vs ws v same within h is p e =
     let here : d ≡ get_or xs i d = is ∙ ap (λ zs. get_or zs i d) same in
     rw (take_more xs i d (subst (λ zs. i < length zs) same within), e, map-push f vs v)
     (each_push R (take i xs) (get_or xs i d) (map f vs) (f v) h (subst P here p))
+
+-- an entry that has a fault
+pub each_wrong : (F : ℕ → Data → ReadFault → Type 0) (xs ys : List Value) (i : ℕ) (d : Value) (f : ReadFault) → ys ≡ xs → i < length ys → d ≡ get_or ys i d
+    → Standing (F i (view d)) f → Standing (InEach F (items_view xs)) f
+each_wrong F xs ys i d f same within is wrong named =
+    let P : Value → Type 0 = λ x. F i (view x) f in
+    let here : d ≡ get_or xs i d = is ∙ ap (λ zs. get_or zs i d) same in
+    (i, view (get_or xs i d), sym (get_item_within xs i d (subst (λ zs. i < length zs) same within)), subst P here (wrong named))
 
 -- its end
 pub each_all : {A B : Type 0} (R : Data → A → Type 0) (f : B → A) (xs ys : List Value) (i : ℕ) (vs : List B) → ys ≡ xs → length ys ≤ i

@@ -19,9 +19,9 @@ use Rattle.fr_program.proofs.FaultLemmas.{free_of}
 use Rattle.fr_instr.specs.Names.{NamesOf}
 use Rattle.fr_instr.specs.Lines.{IsLine}
 use Rattle.fr_instr.proofs.LineLaws.{no_line}
-use Rattle.fr_reader.specs.Keys.{key_text, field, suits, is_own_key, IsKeyOf, IsRequired, IsListKey, kind_word, kind_named, actor_word}
+use Rattle.fr_reader.specs.Keys.{key_text, field, suits, is_own_key, IsKeyOf, IsRequired, kind_word, kind_named, actor_word}
 use Rattle.fr_reader.specs.Texts.{VariableText, ActorText, Texts, AreKnown, IsVariable, IsObject, IsActor, HasKind, IsTableOf, IsText, Each, EachAt, AreTexts}
-use Rattle.fr_reader.specs.Faults.{is_memory, InTable, InVariable, InKind, InObject, InActor, InEntry, InLine as InLineOf, InEach, InEachAt, InApplication}
+use Rattle.fr_reader.specs.Faults.{is_memory, InTable, InVariable, InKind, InObject, InActor, InEntry, InEntryAt, InLine as InLineOf, InEach, InEachAt, InApplication}
 use Rattle.fr_reader.specs.Meaning.{names_in, actors_in, lists_in, AreNames, IsOwner, IsOwned, IsCoded, Says, Means}
 use Rattle.fr_reader.specs.Stands.{StandsTwice, InNames, IsNoOwner, InOwners, InLines, InCode, InBuild, InTexts, InBytes, Stands}
 use Rattle.fr_reader.specs.declared.key.Key.{Key}
@@ -120,6 +120,10 @@ in_no_entry : {A : Type 0} (list : Key) (n : TableName) (R : Members → A → T
 in_no_entry list n R F f none (table ms) x h s = none h.0 x h.2 (subst (λ m. F m f) (same_table ms h.0 h.1) s)
 in_no_entry list n R F f none d x h s = let e = h.1 in cc
 
+in_no_list : {A : Type 0} (list : Key) (named : ℕ → TableName) (R : Members → A → Type 0) (F : TableName → Members → ReadFault → Type 0) (f : ReadFault)
+    → ((n : TableName) (ms : Members) (x : A) → R ms x → F n ms f → ⊥) → (o : Option Data) (xs : List A) → EachAt (IsTableOf R) o xs → InEachAt (InEntryAt list named F) o f → ⊥
+in_no_list list named R F f none = in_no_at (IsTableOf R) (InEntryAt list named F) f (λ i. in_no_entry list (named i) R (F (named i)) f (none (named i)))
+
 in_no_line : (n : TableName) (f : ReadFault) (d : Data) (t : List ℕ) → IsText d t → InLineOf n d f → ⊥
 in_no_line n f d t h s = never (as_str d) t s.1 (ap as_str h)
 
@@ -136,34 +140,22 @@ in_no_actor n ms a f h (inr (inr s)) =
     let same = same_array s.0 h.code.0 (both (field key.Code ms) (array s.0) (array h.code.0) s.1 h.code.1) in
     in_no_each IsText (λ i. InLineOf n) f (λ i. in_no_line n f) h.code.0 a.lines h.code.2 (subst (λ ds. InEach (λ i. InLineOf n) ds f) same s.2)
 
-list_fits : {A : Type 0} (R : Data → A → Type 0) (k : Key) → IsListKey k → (o : Option Data) (xs : List A) → EachAt R o xs → Fits k o
-list_fits R key.Variable l None xs h = λ r. r
-list_fits R key.Object l None xs h = λ r. r
-list_fits R key.Actor l None xs h = λ r. r
-list_fits R key.Variable l (Some (array ds)) xs h = refl
-list_fits R key.Object l (Some (array ds)) xs h = refl
-list_fits R key.Actor l (Some (array ds)) xs h = refl
-list_fits R k l None xs h = absurd l
-list_fits R k l (Some (array ds)) xs h = absurd l
-list_fits R k l (Some d) xs h = absurd h
+list_fits : {A : Type 0} (R : Data → A → Type 0) (k : Key) → (IsRequired k → ⊥) → ((ds : Items) → suits k (array ds) ≡ true) → (o : Option Data) (xs : List A) → EachAt R o xs → Fits k o
+list_fits R k free suit None xs h = free
+list_fits R k free suit (Some (array ds)) xs h = suit ds
+list_fits R k free suit (Some d) xs h = absurd h
 
 root_fits : (root : Members) (t : Texts) → AreTexts root t → (k : Key) → IsKeyOf table_kind.Application k → Fits k (field k root)
-root_fits root t h key.Variable known = list_fits (IsTableOf IsVariable) key.Variable tt (field key.Variable root) t.variables h.variables
-root_fits root t h key.Object known = list_fits (IsTableOf IsObject) key.Object tt (field key.Object root) t.objects h.objects
-root_fits root t h key.Actor known = list_fits (IsTableOf IsActor) key.Actor tt (field key.Actor root) t.actors h.actors
+root_fits root t h key.Variable known = list_fits (IsTableOf IsVariable) key.Variable (λ r. r) (λ ds. refl) (field key.Variable root) t.variables h.variables
+root_fits root t h key.Object known = list_fits (IsTableOf IsObject) key.Object (λ r. r) (λ ds. refl) (field key.Object root) t.objects h.objects
+root_fits root t h key.Actor known = list_fits (IsTableOf IsActor) key.Actor (λ r. r) (λ ds. refl) (field key.Actor root) t.actors h.actors
 root_fits root t h k known = absurd (false≢true known)
 
 in_no_application : (root : Members) (t : Texts) (f : ReadFault) → AreTexts root t → InApplication root f → ⊥
 in_no_application root t f h (inl s) = in_no_table table_kind.Application name.Whole root f (record { fits = root_fits root t h; only = h.only }) s
-in_no_application root t f h (inr (inl s)) =
-    in_no_at (IsTableOf IsVariable) (λ i. InEntry key.Variable (name.Variable i) (InVariable (name.Variable i))) f
-    (λ i. in_no_entry key.Variable (name.Variable i) IsVariable (InVariable (name.Variable i)) f (λ ms v. in_no_variable (name.Variable i) ms v f)) (field key.Variable root) t.variables h.variables s
-in_no_application root t f h (inr (inr (inl s))) =
-    in_no_at (IsTableOf IsObject) (λ i. InEntry key.Object (name.Object i) (InObject (name.Object i))) f
-    (λ i. in_no_entry key.Object (name.Object i) IsObject (InObject (name.Object i)) f (λ ms o. in_no_object (name.Object i) ms o f)) (field key.Object root) t.objects h.objects s
-in_no_application root t f h (inr (inr (inr s))) =
-    in_no_at (IsTableOf IsActor) (λ i. InEntry key.Actor (name.Actor i) (InActor (name.Actor i))) f
-    (λ i. in_no_entry key.Actor (name.Actor i) IsActor (InActor (name.Actor i)) f (λ ms a. in_no_actor (name.Actor i) ms a f)) (field key.Actor root) t.actors h.actors s
+in_no_application root t f h (inr (inl s)) = in_no_list key.Variable name.Variable IsVariable InVariable f (λ n ms v. in_no_variable n ms v f) (field key.Variable root) t.variables h.variables s
+in_no_application root t f h (inr (inr (inl s))) = in_no_list key.Object name.Object IsObject InObject f (λ n ms o. in_no_object n ms o f) (field key.Object root) t.objects h.objects s
+in_no_application root t f h (inr (inr (inr s))) = in_no_list key.Actor name.Actor IsActor InActor f (λ n ms a. in_no_actor n ms a f) (field key.Actor root) t.actors h.actors s
 
 -- ---- faults of texts
 

@@ -22,12 +22,9 @@ pub apart : (t : List ℕ) (ks : List (List ℕ)) → list_any (bytes_eq t) ks �
 apart t ks none k d below same =
     true≢false (sym (list_any-from_Contains nat_list_eq_equiv t ks (subst (Contains ks) same (Contains-get_or ks k d below))) ∙ none)
 
--- a text that a test finds is in the list, and one that it doesn't find isn't
+-- a text that a test finds is in the list
 pub found : (t : List ℕ) (ks : List (List ℕ)) → list_any (bytes_eq t) ks ≡ true → Contains ks t
 found t ks some = Contains-from_any (λ x y. (bytes_decides x y).0) t ks some
-
-pub not_found : (t : List ℕ) (ks : List (List ℕ)) → list_any (bytes_eq t) ks ≡ false → Contains ks t → ⊥
-not_found t ks none there = true≢false (sym (list_any-from_Contains nat_list_eq_equiv t ks there) ∙ none)
 
 -- one more name
 pub names_push : (keys : List (Bor (List ℕ))) (x : Bor (List ℕ)) → list_any (λ key. bytes_eq x.now key.now) keys ≡ false → IsName x.now

@@ -1,7 +1,7 @@
 -- Two lists that agree place by place: one more of each.
-use Rattle.std.proofs.Common.{◌≡◌, ℕ, ◌+◌, ◌<◌, ◌≤◌, List, [], ◌∷◌, ◌++◌, length, get_or, take, map, slice_get, Some, zero, suc, refl, subst, arith}
+use Rattle.std.proofs.Common.{◌≡◌, ℕ, ◌+◌, ◌<◌, List, [], ◌∷◌, ◌++◌, length, get_or, take, map, slice_get, Some, zero, suc, refl, arith}
 use Rattle.std.specs.List.{AllZip}
-use Rattle.std.proofs.lemmas.List.{take_more, take_all, map-append}
+use Rattle.std.proofs.lemmas.List.{take_more, map-append}
 
 zip_push : {A B : Type 0} (R : A → B → Type 0) (xs : List A) (ys : List B) (x : A) (y : B) → AllZip R xs ys → R x y → AllZip R (xs ++ x ∷ []) (ys ++ y ∷ [])
 zip_push R [] [] x y h p = (p, tt)
@@ -16,11 +16,6 @@ pub zip_more : {A B C D : Type 0} (R : C → D → Type 0) (f : A → C) (g : B 
 zip_more R f g xs i d ys zs y within h p e =
     rw (take_more xs i d within, e, map-append f (take i xs) (get_or xs i d ∷ []), map-append g ys (y ∷ []))
     (zip_push R (map f (take i xs)) (map g ys) (f (get_or xs i d)) (g y) h p)
-
--- its end
-pub zip_all : {A B C D : Type 0} (R : C → D → Type 0) (f : A → C) (g : B → D) (xs : List A) (i : ℕ) (ys : List B) → length xs ≤ i
-    → AllZip R (map f (take i xs)) (map g ys) → AllZip R (map f xs) (map g ys)
-zip_all R f g xs i ys end h = subst (λ zs. AllZip R (map f zs) (map g ys)) (take_all i xs end) h
 
 -- the thing at a place, seen through a view
 pub get_mapped : {A C : Type 0} (f : A → C) (xs : List A) (i : ℕ) (d : A) → i < length xs → slice_get (map f xs) i ≡ Some (f (get_or xs i d))

@@ -6,7 +6,8 @@
 -- | InTable, InVariable        | a key of a table is missing, of a wrong type or unknown                        |
 -- | InKind                     | the key `kind` is missing, or says no kind                                     |
 -- | InObject, InLine, InActor  | the same of an object's table, of an entry of the code, of an actor's table    |
--- | InEntry, InEach, InEachAt  | the fault is present in an entry of an array, in some entry, at a list's key    |
+-- | InEntry, InEntryAt         | the fault is present in an entry of an array, whose name is by its place        |
+-- | InEach, InEachAt           | it is present in some entry of an array, of what is at a list's key             |
 -- | InApplication              | the fault is present in the table of the whole text                            |
 use Rattle.std.specs.Prelude.{◌≡◌, ◌⊎◌, ℕ, List, Bool, true, false, Option, Some, None, string_bytes}
 use Rattle.toml.specs.Data.{Data, string, array, table, Items, Members, get_member, get_item, as_str}
@@ -60,6 +61,10 @@ abbrev pub InEntry : Key → TableName → (Members → ReadFault → Type 0) �
 InEntry list name F (table ms) f = F ms f
 InEntry list name F d f = f ≡ fault.WrongType name list
 
+-- the same, where the name is by the entry's place
+abbrev pub InEntryAt : Key → (ℕ → TableName) → (TableName → Members → ReadFault → Type 0) → ℕ → Data → ReadFault → Type 0
+InEntryAt list named F i = InEntry list (named i) (F (named i))
+
 -- the fault is present in some entry
 abbrev pub InEach : (ℕ → Data → ReadFault → Type 0) → Items → ReadFault → Type 0
 InEach F ds f = (i : ℕ) × (d : Data) × (get_item i ds ≡ Some d) × F i d f
@@ -81,6 +86,6 @@ InEachAt F (Some d) f = ⊥
 -- the fault is present in the table of the whole text: at one of its keys, or in an entry of one of the three lists
 abbrev pub InApplication : Members → ReadFault → Type 0
 InApplication root f = InTable table_kind.Application name.Whole root f
-    ⊎ (InEachAt (λ i. InEntry key.Variable (name.Variable i) (InVariable (name.Variable i))) (field key.Variable root) f
-    ⊎ (InEachAt (λ i. InEntry key.Object (name.Object i) (InObject (name.Object i))) (field key.Object root) f
-    ⊎ InEachAt (λ i. InEntry key.Actor (name.Actor i) (InActor (name.Actor i))) (field key.Actor root) f))
+    ⊎ (InEachAt (InEntryAt key.Variable name.Variable InVariable) (field key.Variable root) f
+    ⊎ (InEachAt (InEntryAt key.Object name.Object InObject) (field key.Object root) f
+    ⊎ InEachAt (InEntryAt key.Actor name.Actor InActor) (field key.Actor root) f))

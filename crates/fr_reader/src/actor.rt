@@ -4,7 +4,7 @@ ghost use Rattle.toml.specs.Data.{string, array};
 ghost use Rattle.toml.specs.View.{view, table_view, array_view};
 ghost use Rattle.fr_reader.specs.Keys.{field, actor_word};
 ghost use Rattle.fr_reader.specs.Texts.{IsActor, IsTableOf, IsText, Each};
-ghost use Rattle.fr_reader.specs.Faults.{InTable, InKind, InActor, InLine, InEntry, InEach, Standing};
+ghost use Rattle.fr_reader.specs.Faults.{InTable, InKind, InActor, InLine, InEntry, InEntryAt, InEach, Standing};
 ghost use Rattle.fr_reader.specs.Views.{actor_text, line_text};
 
 use crate::fault::ReadFault;
@@ -111,7 +111,7 @@ fn entry_of(alloc: Global, value: &Value, name: TableName) -> Result<ActorText<'
 /// The actors that an array means, in its order.
 pub(crate) fn actors_of(alloc: Global, array: &Array) -> Result<Vec<ActorText<'_>>, ReadFault>
     ensures ok { IfOk result (λ xs. Each (IsTableOf IsActor) (array_view array.now) (map actor_text xs.items)) }
-    ensures err { IfErr result (Standing (InEach (λ i. InEntry Key.Actor (TableName.Actor i) (InActor (TableName.Actor i))) (array_view array.now))) }
+    ensures err { IfErr result (Standing (InEach (InEntryAt Key.Actor TableName.Actor InActor) (array_view array.now))) }
 {
     let mut actors = Vec::new(alloc);
     for (index, value) in array.iter().enumerate() {

@@ -4,7 +4,7 @@ ghost use Rattle.toml.specs.Data.{string};
 ghost use Rattle.toml.specs.View.{view, table_view, array_view};
 ghost use Rattle.fr_reader.specs.Keys.{field, kind_word, kind_named};
 ghost use Rattle.fr_reader.specs.Texts.{IsObject, HasKind, IsTableOf, Each};
-ghost use Rattle.fr_reader.specs.Faults.{InTable, InKind, InObject, InEntry, InEach, Standing};
+ghost use Rattle.fr_reader.specs.Faults.{InTable, InKind, InObject, InEntry, InEntryAt, InEach, Standing};
 ghost use Rattle.fr_reader.specs.Views.{object_text};
 
 use crate::fault::ReadFault;
@@ -117,7 +117,7 @@ fn entry_of(alloc: Global, value: &Value, name: TableName) -> Result<ObjectText<
 /// The objects that an array means, in its order.
 pub(crate) fn objects_of(alloc: Global, array: &Array) -> Result<Vec<ObjectText<'_>>, ReadFault>
     ensures ok { IfOk result (λ os. Each (IsTableOf IsObject) (array_view array.now) (map object_text os.items)) }
-    ensures err { IfErr result (Standing (InEach (λ i. InEntry Key.Object (TableName.Object i) (InObject (TableName.Object i))) (array_view array.now))) }
+    ensures err { IfErr result (Standing (InEach (InEntryAt Key.Object TableName.Object InObject) (array_view array.now))) }
 {
     let mut objects = Vec::new(alloc);
     for (index, value) in array.iter().enumerate() {

@@ -4,7 +4,7 @@ ghost use Rattle.toml.specs.Data.{string};
 ghost use Rattle.toml.specs.View.{view, table_view, array_view};
 ghost use Rattle.fr_reader.specs.Keys.{field};
 ghost use Rattle.fr_reader.specs.Texts.{IsVariable, IsTableOf, Each};
-ghost use Rattle.fr_reader.specs.Faults.{InTable, InVariable, InEntry, InEach, Standing};
+ghost use Rattle.fr_reader.specs.Faults.{InTable, InVariable, InEntry, InEntryAt, InEach, Standing};
 ghost use Rattle.fr_reader.specs.Views.{variable_text};
 
 use crate::fault::ReadFault;
@@ -65,7 +65,7 @@ fn entry_of(alloc: Global, value: &Value, name: TableName) -> Result<VariableTex
 /// The variables that an array means, in its order.
 pub(crate) fn variables_of(alloc: Global, array: &Array) -> Result<Vec<VariableText<'_>>, ReadFault>
     ensures ok { IfOk result (λ vs. Each (IsTableOf IsVariable) (array_view array.now) (map variable_text vs.items)) }
-    ensures err { IfErr result (Standing (InEach (λ i. InEntry Key.Variable (TableName.Variable i) (InVariable (TableName.Variable i))) (array_view array.now))) }
+    ensures err { IfErr result (Standing (InEach (InEntryAt Key.Variable TableName.Variable InVariable) (array_view array.now))) }
 {
     let mut variables = Vec::new(alloc);
     for (index, value) in array.iter().enumerate() {

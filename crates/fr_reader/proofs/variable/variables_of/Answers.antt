@@ -1,31 +1,17 @@
-use Rattle.std.proofs.Common.{◌≡◌, ◌<◌, length, get_or, sym, ap, ◌∙◌, subst}
 use Rattle.std.proofs.lemmas.Result.{err_from_is_err_and}
-use Rattle.toml.specs.View.{view}
-use Rattle.toml.specs.declared.value.Value.{Value}
-use Rattle.toml.proofs.Views.{get_item_within}
 use Rattle.fr_reader.specs.Texts.{IsTableOf, IsVariable}
-use Rattle.fr_reader.specs.Faults.{InEntry, InVariable}
+use Rattle.fr_reader.specs.Faults.{InEntryAt, InVariable}
 use Rattle.fr_reader.specs.Views.{variable_text}
 use Rattle.fr_reader.specs.declared.key.Key.TheVariants as key
 use Rattle.fr_reader.specs.declared.key.TableName.TheVariants as name
-use Rattle.fr_reader.proofs.EntryLemmas.{each_more, each_all}
+use Rattle.fr_reader.proofs.EntryLemmas.{each_more, each_wrong, each_all}
 use Rattle.fr_reader.proofs.variable.variables_of.Goals as goal
 
 pub returns-in_err-entry_of-clause-err : goal.returns-in_err-entry_of-clause-err
 returns-in_err-entry_of-clause-err c =
     let p = err_from_is_err_and c.from_residual.result c.from_residual.ensures.1 in
-    let xs = c.args.array.now.items in
-    let same = c.deref-value-items.ensures.value in
-    let P : Value → Type 0 = λ x. InEntry key.Variable (name.Variable c.loop-index.index) (InVariable (name.Variable c.loop-index.index)) (view x) c.in_err-entry_of.field-0.0 in
-    let here : c.value-item.result ≡ get_or xs c.loop-index.index c.value-item.result =
-    c.value-item.is ∙ ap (λ ys. get_or ys c.loop-index.index c.value-item.result) same in
-    let within : c.loop-index.index < length xs = subst (λ ys. c.loop-index.index < length ys) same c.loop-index-test.true in
-    rw (p.1, p.2) (λ named. (
-      c.loop-index.index,
-      view (get_or xs c.loop-index.index c.value-item.result),
-      sym (get_item_within xs c.loop-index.index c.value-item.result within),
-      subst P here (c.in_err-entry_of.ensures.err named),
-    ))
+    rw (p.1, p.2) (each_wrong (InEntryAt key.Variable name.Variable InVariable) c.args.array.now.items _ c.loop-index.index c.value-item.result c.in_err-entry_of.field-0.0
+    c.deref-value-items.ensures.value c.loop-index-test.true c.value-item.is c.in_err-entry_of.ensures.err)
 
 pub loop-index-preserved : goal.loop-index-preserved
 loop-index-preserved c =
