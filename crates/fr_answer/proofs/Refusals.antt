@@ -5,16 +5,19 @@ use Rattle.fr_reader.specs.declared.fault.ReadFault.{ReadFault}
 use Rattle.fr_reader.specs.Faults.{is_memory as app_is_memory}
 use Rattle.fr_cert.specs.declared.fault.CertFault.{CertFault}
 use Rattle.fr_cert.specs.Faults.{is_memory as cert_is_memory}
+use Rattle.fr_judge.specs.declared.text.TextFault.{TextFault}
+use Rattle.fr_judge.specs.declared.text.TextFault.TheVariants.{Memory as NoText, App as AppText, Cert as CertText}
+use Rattle.fr_judge.specs.Texts.{IsFaultOfTexts}
 use Rattle.fr_judge.specs.declared.part.Verdict.{Verdict}
 use Rattle.fr_judge.specs.declared.part.Verdict.TheVariants.{Yes, No}
 use Rattle.fr_parallel.specs.declared.bytes.BytesFault.{BytesFault}
 use Rattle.fr_parallel.specs.declared.bytes.BytesFault.TheVariants.{Par, App as AppRefused, Cert as CertRefused}
 use Rattle.fr_parallel.specs.declared.fault.ParFault.TheVariants.{Memory as NoMemory, Workers as NoWorkers, Threads as NoThreads}
-use Rattle.fr_parallel.specs.Bytes.{FaultStands}
+use Rattle.fr_parallel.specs.Bytes.{bytes_fault, IsFaultOfBytes}
 use Rattle.fr_parallel.specs.Kept.{IsNoCrew}
 use Rattle.fr_answer.specs.declared.fault.CheckFault.{CheckFault}
-use Rattle.fr_answer.specs.declared.fault.CheckFault.TheVariants.{App, Cert, Workers, Rounds, Polls, Memory, Thread, Read, Write}
-use Rattle.fr_answer.specs.Checked.{status_of, fault_status, app_fault, cert_fault, check_fault, CanRefuse}
+use Rattle.fr_answer.specs.declared.fault.CheckFault.TheVariants.{App, Cert, Memory}
+use Rattle.fr_answer.specs.Checked.{status_of, app_fault, cert_fault, check_fault, IsAppRefused, IsCertRefused, CanRefuse}
 
 -- what holds of want of memory, and of a fault that the application's text has, holds of what it comes to
 pub app-refused : (Q : CheckFault → Type 0) (f : ReadFault) → Q Memory → (app_is_memory f ≡ false → Q (App f)) → Q (app_fault f)
@@ -32,35 +35,21 @@ cert-refused Q f none refused = by-cause (cert_is_memory f) refl
     by-cause true e = none
     by-cause false e = refused e
 
-pub refused-by : (a c : List ℕ) (w : ℕ) (f : BytesFault) → FaultStands a c f → (f ≡ Par NoWorkers → IsNoCrew w) → CanRefuse a c w (check_fault f)
+-- so does what holds of each fault that the texts have, of the fault that they are refused by
+pub text-refused : (Q : CheckFault → Type 0) (a c : List ℕ) → Q Memory → ((f : ReadFault) → IsAppRefused a f → Q (App f)) → ((f : CertFault) → IsCertRefused a c f → Q (Cert f))
+    → (f : TextFault) → IsFaultOfTexts a c f → Q (check_fault (bytes_fault f))
+text-refused Q a c none app cert NoText s = none
+text-refused Q a c none app cert (AppText f) s = app-refused Q f none (λ e. app f (e, s e))
+text-refused Q a c none app cert (CertText f) s = cert-refused Q f none (λ e. cert f (e, (s.0, s.1, s.2 e)))
+
+pub refused-by : (a c : List ℕ) (w : ℕ) (f : BytesFault) → IsFaultOfBytes a c f → (f ≡ Par NoWorkers → IsNoCrew w) → CanRefuse a c w (check_fault f)
 refused-by a c w (Par NoMemory) s none = tt
 refused-by a c w (Par NoWorkers) s none = none refl
 refused-by a c w (Par NoThreads) s none = tt
-refused-by a c w (AppRefused f) s none = app-refused (CanRefuse a c w) f tt (λ e. (e, s))
-refused-by a c w (CertRefused f) s none = cert-refused (CanRefuse a c w) f tt (λ e. (e, s))
+refused-by a c w (AppRefused f) s none = text-refused (CanRefuse a c w) a c tt (λ g h. h) (λ g h. h) (AppText f) s
+refused-by a c w (CertRefused f) s none = text-refused (CanRefuse a c w) a c tt (λ g h. h) (λ g h. h) (CertText f) s
 
 -- the status 0 is that of a yes
 pub zero-yes : (v : Verdict) → status_of v ≡ 0 → v ≡ Yes
 zero-yes Yes e = refl
 zero-yes (No p part) e = absurd (omega (arith, e))
-
--- a verdict's status is not that of a fault
-pub verdict-status : (v : Verdict) → status_of v ≤ 1
-verdict-status Yes = omega arith
-verdict-status (No p part) = omega arith
-
-pub fault-status : (f : CheckFault) → (2 ≤ fault_status f) × (fault_status f ≤ 3)
-fault-status (App f) = (omega arith, omega arith)
-fault-status (Cert f) = (omega arith, omega arith)
-fault-status Workers = (omega arith, omega arith)
-fault-status Rounds = (omega arith, omega arith)
-fault-status Polls = (omega arith, omega arith)
-fault-status Memory = (omega arith, omega arith)
-fault-status Thread = (omega arith, omega arith)
-fault-status Read = (omega arith, omega arith)
-fault-status Write = (omega arith, omega arith)
-
--- a fault of the writer has the status 3
-pub not-write : (f : CheckFault) → fault_status f ≡ 2 → f ≡ Write → ⊥
-not-write Write e h = absurd (omega (arith, e))
-not-write f e h = cc

@@ -11,8 +11,10 @@
 -- | app_fault, cert_fault | the fault of a check that a refused text comes to; inner ones of memory are one |
 -- | check_fault           | the fault of a check that bytes without a verdict come to                     |
 -- | load_fault            | the fault of a check whose file couldn't be read                              |
+-- | IsAppRefused          | the application's bytes have this fault, which isn't want of memory           |
+-- | IsCertRefused         | the certificate's bytes have, for the application that the other ones mean    |
 -- | CanRefuse, IsRefused  | this fault can be the answer to the bytes and workers; one of status 2 can    |
--- | IsTold                | such a fault of status 2 was written as its line                              |
+-- | IsTold                | a fault of status 2 was written as its line                                   |
 use Rattle.std.specs.Prelude.{◌≡◌, ◌++◌, ℕ, List, Option, false, codes, if◌then◌else◌}
 use Rattle.std.specs.Io.KnownBytes.{Appends}
 use Rattle.fr_program.specs.Program.{Program}
@@ -21,16 +23,17 @@ use Rattle.fr_reader.specs.declared.fault.ReadFault.{ReadFault}
 use Rattle.fr_reader.specs.FaultText.{fault_text}
 use Rattle.fr_reader.specs.Meaning.{Means}
 use Rattle.fr_reader.specs.Faults.{is_memory as app_is_memory}
+use Rattle.fr_reader.specs.Stands.{Stands}
 -- how many bytes the text of a certificate has at the most, which no file that is read may exceed
 pub use Rattle.fr_cert.specs.Meaning.{most_bytes}
 use Rattle.fr_cert.specs.declared.fault.CertFault.{CertFault}
 use Rattle.fr_cert.specs.FaultText.{text_of}
 use Rattle.fr_cert.specs.Faults.{is_memory as cert_is_memory}
+use Rattle.fr_cert.specs.Present.{IsPresent}
 use Rattle.fr_judge.specs.Texts.{IsJudged}
 use Rattle.fr_parallel.specs.declared.bytes.BytesFault.{BytesFault}
 use Rattle.fr_parallel.specs.declared.bytes.BytesFault.TheVariants.{Par, App as AppRefused, Cert as CertRefused}
 use Rattle.fr_parallel.specs.declared.fault.ParFault.TheVariants.{Memory as NoMemory, Workers as NoWorkers, Threads as NoThreads}
-use Rattle.fr_parallel.specs.Bytes.{FaultStands}
 use Rattle.fr_parallel.specs.Kept.{IsNoCrew}
 use Rattle.fr_judge.specs.declared.part.Verdict.{Verdict}
 use Rattle.fr_judge.specs.declared.part.Verdict.TheVariants.{Yes, No}
@@ -108,11 +111,19 @@ abbrev pub load_fault : LoadFault → CheckFault
 load_fault NotHeld = Memory
 load_fault Device = Read
 
+-- the application's bytes have this fault, which isn't want of memory
+abbrev pub IsAppRefused : List ℕ → ReadFault → Type 0
+IsAppRefused app f = (app_is_memory f ≡ false) × Stands app f
+
+-- the certificate's bytes have this fault, which isn't want of memory, for the application that the other bytes mean
+abbrev pub IsCertRefused : List ℕ → List ℕ → CertFault → Type 0
+IsCertRefused app certificate f = (cert_is_memory f ≡ false) × ((P : Program) × Means app P × IsPresent P certificate f)
+
 -- the fault is present in the bytes or in the number of workers; or the machine had no memory or no thread; or the writer
 -- failed, which hides no refusal: the number of workers is good, and there is a verdict
 abbrev pub CanRefuse : List ℕ → List ℕ → ℕ → CheckFault → Type 0
-CanRefuse app certificate workers (App f) = (app_is_memory f ≡ false) × FaultStands app certificate (AppRefused f)
-CanRefuse app certificate workers (Cert f) = (cert_is_memory f ≡ false) × FaultStands app certificate (CertRefused f)
+CanRefuse app certificate workers (App f) = IsAppRefused app f
+CanRefuse app certificate workers (Cert f) = IsCertRefused app certificate f
 CanRefuse app certificate workers Workers = IsNoCrew workers
 CanRefuse app certificate workers Memory = Unit {0}
 CanRefuse app certificate workers Thread = Unit {0}
@@ -123,8 +134,7 @@ CanRefuse app certificate workers fault = ⊥
 abbrev pub IsRefused : List ℕ → List ℕ → ℕ → Type 0
 IsRefused app certificate workers = (fault : CheckFault) × CanRefuse app certificate workers fault × (fault_status fault ≡ 2)
 
--- the bytes or the number of workers are refused by a fault of status 2, and its line with a newline was written after
--- what the writer had, and nothing else
-abbrev pub IsTold : List ℕ → List ℕ → ℕ → Option (List ℕ) → Option (List ℕ) → Type 0
-IsTold app certificate workers old new =
-    (fault : CheckFault) × CanRefuse app certificate workers fault × (fault_status fault ≡ 2) × Appends old new (whole_line fault)
+-- what was asked for is refused by a fault of status 2, one of those that can be the answer, and its line with a newline
+-- was written after what the writer had, and nothing else
+abbrev pub IsTold : (CheckFault → Type 0) → Option (List ℕ) → Option (List ℕ) → Type 0
+IsTold Can old new = (fault : CheckFault) × Can fault × (fault_status fault ≡ 2) × Appends old new (whole_line fault)

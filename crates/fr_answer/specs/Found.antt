@@ -7,18 +7,16 @@
 -- | CanRefuseFind  | this fault can be the answer to the bytes and the number of rounds                   |
 -- | found_status   | the exit status for what is found                                                    |
 -- | found_line     | the line for what is found, with its newline                                         |
-use Rattle.std.specs.Prelude.{◌≡◌, ℕ, List, [], false, codes, string_bytes}
+use Rattle.std.specs.Prelude.{◌≡◌, ℕ, List, codes, string_bytes}
 use Rattle.fr_program.specs.Program.{Program}
 use Rattle.fr_reader.specs.Meaning.{Means}
-use Rattle.fr_reader.specs.Faults.{is_memory as app_is_memory}
 use Rattle.fr_ends.specs.Certificate.{Certificate}
 use Rattle.fr_ends.specs.Fits.{CertificateFits}
 use Rattle.fr_cert.specs.Written.{cert_text}
-use Rattle.fr_parallel.specs.declared.bytes.BytesFault.TheVariants.{App as AppRefused}
-use Rattle.fr_parallel.specs.Bytes.{FaultStands}
 use Rattle.fr_finder.specs.Found.{IsNoRounds}
 use Rattle.fr_answer.specs.declared.fault.CheckFault.{CheckFault}
 use Rattle.fr_answer.specs.declared.fault.CheckFault.TheVariants.{App, Rounds, Memory}
+use Rattle.fr_answer.specs.Checked.{IsAppRefused}
 use Rattle.fr_answer.specs.declared.found.Found.{Found}
 use Rattle.fr_answer.specs.declared.found.Found.TheVariants.{Text, NotFound}
 
@@ -33,7 +31,7 @@ IsFound app found = (P : Program) × Means app P × IsWrittenFor P found
 
 -- the fault is present in the bytes or in the number of rounds, or the machine had no memory
 abbrev pub CanRefuseFind : List ℕ → ℕ → CheckFault → Type 0
-CanRefuseFind app rounds (App f) = (app_is_memory f ≡ false) × FaultStands app [] (AppRefused f)
+CanRefuseFind app rounds (App f) = IsAppRefused app f
 CanRefuseFind app rounds Rounds = IsNoRounds rounds
 CanRefuseFind app rounds Memory = Unit {0}
 CanRefuseFind app rounds fault = ⊥

@@ -8,16 +8,12 @@
 -- | IsRunAnswer      | the status and what was written are those of the verdict on the bytes              |
 -- | run_fault        | the fault of a command whose run gave no trace                                     |
 -- | CanRefuseRun     | this fault can be the answer to the bytes and the number of polls                  |
--- | IsRunTold        | such a fault of status 2 was written as its line                                   |
-use Rattle.std.specs.Prelude.{◌≡◌, ◌<◌, ℕ, List, Option, false}
+use Rattle.std.specs.Prelude.{◌≡◌, ◌<◌, ℕ, List, Option}
 use Rattle.std.specs.Io.KnownBytes.{Appends}
 use Rattle.fr_program.specs.Program.{Program}
-use Rattle.fr_reader.specs.Faults.{is_memory as app_is_memory}
-use Rattle.fr_cert.specs.Faults.{is_memory as cert_is_memory}
 use Rattle.fr_ends.specs.Certificate.{Certificate}
 use Rattle.fr_judge.specs.Told.{TellsVerdict}
-use Rattle.fr_judge.specs.Texts.{IsJudged, FaultStands}
-use Rattle.fr_judge.specs.declared.text.TextFault.TheVariants.{App as AppText, Cert as CertText}
+use Rattle.fr_judge.specs.Texts.{IsJudged}
 use Rattle.fr_judge.specs.declared.part.Verdict.{Verdict}
 use Rattle.fr_judge.specs.declared.part.Verdict.TheVariants.{Yes, No}
 use Rattle.fr_runner.specs.declared.fault.RunFault.{RunFault}
@@ -28,7 +24,7 @@ use Rattle.fr_report.specs.Report.{report_text}
 use Rattle.fr_report.specs.Trace.{trace_text}
 use Rattle.fr_answer.specs.declared.fault.CheckFault.{CheckFault}
 use Rattle.fr_answer.specs.declared.fault.CheckFault.TheVariants.{App, Cert, Polls, Memory, Thread, Write}
-use Rattle.fr_answer.specs.Checked.{status_of, fault_status, whole_line, HasVerdict}
+use Rattle.fr_answer.specs.Checked.{status_of, HasVerdict, IsAppRefused, IsCertRefused}
 
 -- the most polls that a run may have
 abbrev pub most_polls : ℕ
@@ -63,16 +59,10 @@ IsRunAnswer app certificate polls words status old new =
 -- the fault is present in the bytes or in the number of polls; or the machine had no memory or no thread; or the writer
 -- failed, which hides no refusal: there is a verdict, and there are not too many polls
 abbrev pub CanRefuseRun : List ℕ → List ℕ → ℕ → CheckFault → Type 0
-CanRefuseRun app certificate polls (App f) = (app_is_memory f ≡ false) × FaultStands app certificate (AppText f)
-CanRefuseRun app certificate polls (Cert f) = (cert_is_memory f ≡ false) × FaultStands app certificate (CertText f)
+CanRefuseRun app certificate polls (App f) = IsAppRefused app f
+CanRefuseRun app certificate polls (Cert f) = IsCertRefused app certificate f
 CanRefuseRun app certificate polls Polls = most_polls < polls
 CanRefuseRun app certificate polls Memory = Unit {0}
 CanRefuseRun app certificate polls Thread = Unit {0}
 CanRefuseRun app certificate polls Write = HasVerdict app certificate × (most_polls < polls → ⊥)
 CanRefuseRun app certificate polls fault = ⊥
-
--- the bytes or the number of polls are refused by a fault of status 2, and its line with a newline was written after
--- what the writer had, and nothing else
-abbrev pub IsRunTold : List ℕ → List ℕ → ℕ → Option (List ℕ) → Option (List ℕ) → Type 0
-IsRunTold app certificate polls old new =
-    (fault : CheckFault) × CanRefuseRun app certificate polls fault × (fault_status fault ≡ 2) × Appends old new (whole_line fault)

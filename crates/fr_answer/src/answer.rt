@@ -3,6 +3,7 @@ ghost use Rattle.std.specs.Prelude.{◌≡◌, ◌≤◌, ◌++◌, IfOk, codes,
 ghost use Rattle.std.specs.Io.KnownBytes.{Appends};
 ghost use Rattle.fr_parallel.specs.Kept.{IsNoCrew};
 ghost use Rattle.fr_answer.specs.Checked.{
+  CanRefuse,
   IsAnswer,
   IsSafeText,
   IsTold,
@@ -68,12 +69,11 @@ pub fn answer_check<R: Threads + Wait + Sync, G: Gate, O: Write, E: Write>(
     out: &mut O,
     err: &mut E,
 ) -> u8
-    ensures yes { result ≡ 0 → IsAnswer app.now certificate.now 0 (O.contents out.old) (O.contents out.new) }
+    ensures answer { result ≤ 1 → IsAnswer app.now certificate.now result (O.contents out.old) (O.contents out.new) }
     ensures safe { result ≡ 0 → IsSafeText app.now }
-    ensures no { result ≡ 1 → IsAnswer app.now certificate.now 1 (O.contents out.old) (O.contents out.new) }
     ensures quiet { result ≤ 1 → err.new ≡ err.old }
     ensures workers { IsNoCrew workers → 2 ≤ result }
-    ensures refused { result ≡ 2 → IsTold app.now certificate.now workers (E.contents err.old) (E.contents err.new) }
+    ensures refused { result ≡ 2 → IsTold (CanRefuse app.now certificate.now workers) (E.contents err.old) (E.contents err.new) }
     ensures kept { result ≡ 2 → out.new ≡ out.old }
     ensures most { result ≤ 3 }
 {

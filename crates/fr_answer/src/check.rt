@@ -70,9 +70,8 @@ pub fn check_to<R: Threads + Wait + Sync, G: Gate, W: Write>(
     gate: &G,
     writer: &mut W,
 ) -> u8
-    ensures yes { result ≡ 0 → IsAnswer app.now certificate.now 0 (W.contents writer.old) (W.contents writer.new) }
+    ensures answer { result ≤ 1 → IsAnswer app.now certificate.now result (W.contents writer.old) (W.contents writer.new) }
     ensures safe { result ≡ 0 → IsSafeText app.now }
-    ensures no { result ≡ 1 → IsAnswer app.now certificate.now 1 (W.contents writer.old) (W.contents writer.new) }
     ensures workers { IsNoCrew workers → result ≡ 2 }
     ensures refused { result ≡ 2 → IsRefused app.now certificate.now workers }
     ensures kept { result ≡ 2 → writer.new ≡ writer.old }

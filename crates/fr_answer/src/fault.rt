@@ -5,6 +5,7 @@ ghost use Rattle.fr_answer.specs.Checked.{fault_status, line_of};
 
 use crate::exit::{MACHINE, REFUSED};
 use fr_cert::CertFault;
+use fr_judge::TextFault;
 use fr_parallel::{BytesFault, ParFault};
 use fr_reader::ReadFault;
 use std::alloc::{AllocError, Global};
@@ -76,6 +77,18 @@ impl From<BytesFault> for CheckFault {
             BytesFault::App(fault) => CheckFault::from(fault),
             BytesFault::Cert(fault) => CheckFault::from(fault),
         }
+    }
+}
+
+/// Texts that are refused.
+impl From<TextFault> for CheckFault {
+    ghost use Rattle.fr_parallel.specs.Bytes.{bytes_fault};
+    ghost use Rattle.fr_answer.specs.Checked.{check_fault};
+
+    ghost from_gives = { λ fault result. result ≡ check_fault (bytes_fault fault) };
+
+    fn from(fault: TextFault) -> CheckFault {
+        CheckFault::from(BytesFault::from(fault))
     }
 }
 

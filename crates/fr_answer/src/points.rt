@@ -1,6 +1,7 @@
 // Listing the points of the application that bytes mean.
 ghost use Rattle.std.specs.Prelude.{◌≡◌, ◌≢◌, ◌≤◌, IfErr, OnOk};
-ghost use Rattle.fr_answer.specs.Listed.{CanRefuseListing, IsListing, IsListingTold};
+ghost use Rattle.fr_answer.specs.Checked.{IsTold};
+ghost use Rattle.fr_answer.specs.Listed.{CanRefuseListing, IsListing};
 
 use crate::answer::answer_fault;
 use crate::exit::DONE;
@@ -40,7 +41,7 @@ pub fn points_to<W: Write>(alloc: Global, app: &[u8], writer: &mut W) -> Result<
 pub fn answer_points<O: Write, E: Write>(alloc: Global, app: &[u8], out: &mut O, err: &mut E) -> u8
     ensures listed { result ≡ 0 → IsListing app.now (O.contents out.old) (O.contents out.new) }
     ensures quiet { result ≡ 0 → err.new ≡ err.old }
-    ensures refused { result ≡ 2 → IsListingTold app.now (E.contents err.old) (E.contents err.new) }
+    ensures refused { result ≡ 2 → IsTold (CanRefuseListing app.now) (E.contents err.old) (E.contents err.new) }
     ensures kept { result ≡ 2 → out.new ≡ out.old }
     ensures never { result ≢ 1 }
     ensures most { result ≤ 3 }

@@ -1,17 +1,14 @@
 // Running the application that bytes mean, where it passes with its certificate.
 ghost use Rattle.std.specs.Prelude.{◌≡◌, ◌≢◌, ◌<◌, ◌≤◌, ℕ, List, IfOk, IfErr, Err, string_bytes};
 ghost use Rattle.fr_calls.specs.Run.{IsSafe};
-ghost use Rattle.fr_reader.specs.Meaning.{Means as AppMeans};
-ghost use Rattle.fr_cert.specs.Meaning.{Means as CertMeans};
 ghost use Rattle.fr_ends.specs.Fits.{CertificateFits};
 ghost use Rattle.fr_judge.specs.declared.part.Verdict.TheVariants.{Yes};
-ghost use Rattle.fr_answer.specs.Checked.{IsSafeText};
+ghost use Rattle.fr_answer.specs.Checked.{IsSafeText, IsTold};
 ghost use Rattle.fr_answer.specs.Ran.{
   CanRefuseRun,
   IsOutput,
   IsOutputFor,
   IsRunAnswer,
-  IsRunTold,
   most_polls,
   run_fault,
 };
@@ -19,12 +16,10 @@ ghost use Rattle.fr_answer.specs.Ran.{
 use crate::answer::answer_fault;
 use crate::exit::{DONE, NO};
 use crate::fault::CheckFault;
-use fr_cert::read_cert;
 use fr_ends::Certificate;
-use fr_judge::Passed;
+use fr_judge::{Passed, read_both};
 use fr_parallel::Gate;
 use fr_program::App;
-use fr_reader::read_app;
 use fr_report::{report, trace_text};
 use fr_runner::{MOST_POLLS, RunFault, run};
 use std::alloc::Global;
@@ -42,22 +37,6 @@ fn run_fault(fault: RunFault) -> CheckFault
         RunFault::Threads => CheckFault::Thread,
         RunFault::Memory | RunFault::Spent | RunFault::NoActor => CheckFault::Memory,
     }
-}
-
-/// The application that the first bytes mean, and the certificate for it that the second ones mean.
-fn read_both(
-    alloc: Global,
-    app: &[u8],
-    certificate: &[u8],
-) -> Result<(App, Certificate), CheckFault>
-    ensures app { IfOk result (λ r. AppMeans app.now r.0) }
-    ensures certificate { IfOk result (λ r. CertMeans r.0 certificate.now r.1) }
-    ensures fits { IfOk result (λ r. CertificateFits r.0 r.1) }
-    ensures refused { IfErr result (λ f. (polls : ℕ) → CanRefuseRun app.now certificate.now polls f) }
-{
-    let app = read_app(alloc, app)?;
-    let certificate = read_cert(alloc, &app, certificate)?;
-    Ok((app, certificate))
 }
 
 /// Runs the application, and gives the text of the trace.
@@ -165,12 +144,11 @@ pub fn answer_run<R: Threads + Wait + Sync, G: Gate, O: Write, E: Write>(
     out: &mut O,
     err: &mut E,
 ) -> u8
-    ensures yes { result ≡ 0 → IsRunAnswer app.now certificate.now polls words.now 0 (O.contents out.old) (O.contents out.new) }
+    ensures answer { result ≤ 1 → IsRunAnswer app.now certificate.now polls words.now result (O.contents out.old) (O.contents out.new) }
     ensures safe { result ≡ 0 → IsSafeText app.now }
-    ensures no { result ≡ 1 → IsRunAnswer app.now certificate.now polls words.now 1 (O.contents out.old) (O.contents out.new) }
     ensures quiet { result ≤ 1 → err.new ≡ err.old }
     ensures polls { most_polls < polls → 2 ≤ result }
-    ensures refused { result ≡ 2 → IsRunTold app.now certificate.now polls (E.contents err.old) (E.contents err.new) }
+    ensures refused { result ≡ 2 → IsTold (CanRefuseRun app.now certificate.now polls) (E.contents err.old) (E.contents err.new) }
     ensures kept { result ≡ 2 → out.new ≡ out.old }
     ensures most { result ≤ 3 }
 {

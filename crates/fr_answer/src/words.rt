@@ -2,7 +2,7 @@
 ghost use Rattle.std.specs.Prelude.{◌≡◌, ◌≤◌, ℕ, List, IfOk, IfSome, IfNone, IsErrOf, codes};
 ghost use Rattle.std.specs.Io.KnownBytes.{Appends};
 ghost use Rattle.fr_answer.specs.declared.words.WordsFault.TheVariants.{Memory, Bad};
-ghost use Rattle.fr_answer.specs.Words.{AreWords, IsWord};
+ghost use Rattle.fr_answer.specs.Words.{AreWords, IsRunWord};
 
 use crate::exit::{MACHINE, REFUSED};
 use std::alloc::{AllocError, AllocFailed, Global};
@@ -35,8 +35,8 @@ impl<T: Drop> From<AllocFailed<T>> for WordsFault {
 
 /// The word that the text is. `parse` alone would take a plus before the digits.
 fn word_of(text: &str) -> Option<u64>
-    ensures some { IfSome result (IsWord text.now) }
-    ensures none { IfNone result ((word : ℕ) → IsWord text.now word → ⊥) }
+    ensures some { IfSome result (IsRunWord text.now) }
+    ensures none { IfNone result ((word : ℕ) → IsRunWord text.now word → ⊥) }
 {
     if text.starts_with('+') {
         return None;

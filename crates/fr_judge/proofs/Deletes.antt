@@ -13,7 +13,7 @@ use Rattle.fr_program.specs.Program.{Program}
 use Rattle.fr_program.specs.Fault.{IsFaultless}
 use Rattle.fr_program.specs.Lookup.{IsPoint, instr_of}
 use Rattle.fr_program.specs.Points.{point_number}
-use Rattle.fr_program.specs.PointNumbers.{PointsAreNumbered}
+use Rattle.fr_program.proofs.PointLaws.{points_are_numbered}
 use Rattle.fr_program.specs.declared.changers.Changed.TheVariants.{Life}
 use Rattle.fr_program.specs.Changers.{changes_at, is_changer, changers_of}
 use Rattle.fr_program.proofs.ChangerLists.{AreChecked, checked-point}
@@ -35,12 +35,12 @@ module _ (P : Program) (notes : List Note) (p q : Point) where
       apart s instr e = refl
 
 -- where those of the object's creates and deletes whose places come before are none, no delete with such a place is
-pub checked-near : (P : Program) → PointsAreNumbered P → (notes : List Note) (p : Point) (o : ObjId) → used_inside p.side (instr_of P p) ≡ Some o → (items : List ℕ) → items ≡ changers_of P (Life o) →
+pub checked-near : (P : Program) (notes : List Note) (p : Point) (o : ObjId) → used_inside p.side (instr_of P p) ≡ Some o → (items : List ℕ) → items ≡ changers_of P (Life o) →
     (bound : ℕ) → AreChecked P (λ q. Near P notes p q) items bound → (q : Point) → IsPoint P q → ((j : ℕ) → j < length items → get_or items j 0 ≡ point_number P q → j < bound) → Near P notes p q
-checked-near P numbered notes p o used items same bound checked q at place = by_change (is_changer P (Life o) q) refl
+checked-near P notes p o used items same bound checked q at place = by_change (is_changer P (Life o) q) refl
   where
     by_change : (b : Bool) → is_changer P (Life o) q ≡ b → Near P notes p q
-    by_change true e = checked-point P (Life o) items same (λ r. Near P notes p r) numbered bound checked q at e place
+    by_change true e = checked-point P (Life o) items same (λ r. Near P notes p r) (points_are_numbered P) bound checked q at e place
     by_change false e = undeleted-near P notes p q o used e
 
 -- the object of a call is one of the application's

@@ -3,12 +3,12 @@
 use Rattle.std.proofs.Common.{◌≡◌, ℕ, Option, Some, None, Bool, true, false, refl, sym, ap, ◌∙◌, subst, inl, inr, ⊎_elim}
 use Rattle.std.specs.Prelude.{◌⊎◌, IsTrue}
 use Rattle.std.proofs.lemmas.Option.{same_Some}
+use Rattle.std.proofs.lemmas.Bool.{false≢true}
 use Rattle.std.proofs.lemmas.Bool.Decides.{eqb_tells}
 use Rattle.fr_program.specs.declared.instr.Instr.{Instr}
 use Rattle.fr_program.specs.declared.instr.Instr.TheVariants.{Call as Calls}
-use Rattle.fr_program.specs.declared.instr.Call.TheVariants.{Delete, On}
+use Rattle.fr_program.specs.declared.instr.Call.TheVariants.{On}
 use Rattle.fr_program.specs.declared.instr.Action.{Action}
-use Rattle.fr_program.specs.declared.instr.DeletedKind.{DeletedKind}
 use Rattle.fr_program.specs.declared.ids.ActorId.{ActorId}
 use Rattle.fr_program.specs.declared.ids.ObjId.{ObjId}
 use Rattle.fr_program.specs.declared.ids.Point.{Point}
@@ -20,6 +20,10 @@ use Rattle.fr_calls.specs.declared.buffer_end.End.{End}
 use Rattle.fr_calls.specs.Rule.{is_at_end}
 use Rattle.fr_edge.specs.Own.{is_own}
 use Rattle.fr_ends.specs.Certificate.{Certificate}
+use Rattle.fr_ends.specs.Implied.{called_inside}
+use Rattle.fr_ends.specs.Nearness.{deletes_used}
+use Rattle.fr_ends.proofs.GuardLaws.{called-found}
+use Rattle.fr_ends.proofs.NearLaws.{clash-found, found-clash}
 use Rattle.fr_judge.specs.Part.{Part, EntryPart, RulePart, GoesPart, GuardPart, NearPart, SpoiledPart, IsKept}
 use Rattle.fr_judge.specs.Owed.{IsInsideDeleted, IsOwed, OnlyOwedPartsFail}
 
@@ -64,73 +68,38 @@ has-side-or Inside i = inr (λ h. h)
 point-or : (P : Program) (q : Point) → Decided (IsPoint P q)
 point-or P q = some-or (instr_of P q) (λ i. HasSide i q.side) (has-side-or q.side)
 
--- an instruction that is a call on this object at this end, a call on some object, a delete of this object
-abbrev IsOnEnd : ℕ → End → Instr → Type 0
-IsOnEnd o end i = (n : ObjId) × (action : Action) × (n.0 ≡ o) × IsTrue (is_at_end end action) × (i ≡ Calls (On n action))
-
-on-end-or : (o : ℕ) (end : End) (i : Instr) → Decided (IsOnEnd o end i)
-on-end-or o end (Calls (On n action)) =
-    ⊎_elim (λ h. inl (n, action, h.0, h.1, refl)) (λ h. inr (λ x. h (same x.0 x.1 x.2 x.3 x.4))) (both-or (number-or n.0 o) (true-or (is_at_end end action)))
+-- the call that the point is inside is on this buffer at this end, or it isn't
+end-or : (P : Program) (p : Point) (b : ℕ) (end : End) → Decided (IsOwed P p (GuardPart b end))
+end-or P p b end = by-call (called_inside p.side (instr_of P p)) refl
   where
-    same : (m : ObjId) (other : Action) → m.0 ≡ o → IsTrue (is_at_end end other) → Calls (On n action) ≡ Calls (On m other) → (n.0 ≡ o) × IsTrue (is_at_end end action)
-    same m other e h k =
-        let f : n ≡ m = cc in
-        let g : action ≡ other = cc in (ap (λ i. i.0) f ∙ e, subst (λ a. IsTrue (is_at_end end a)) (sym g) h)
-on-end-or o end i = inr (λ x. let e = x.4 in cc)
+    called : (x : IsOwed P p (GuardPart b end)) → called_inside p.side (instr_of P p) ≡ Some (x.1.0, x.0)
+    called x = rw (x.1.2, x.1.3) refl
 
-owes-end : (P : Program) (p : Point) (o : ℕ) (end : End) → Decided (IsOwed P p (GuardPart o end))
-owes-end P p o end =
-    ⊎_elim (λ h. inl (h.1.2.1, (h.1.2.0, h.1.2.2, h.0, h.1.1 ∙ ap (λ i. Some i) h.1.2.4), h.1.2.3))
-    (λ h. inr (λ x. h (x.1.2, (_, x.1.3, (x.1.0, x.0, x.1.1, x.2, refl)))))
-    (both-or (side-or p.side Inside) (some-or (instr_of P p) (IsOnEnd o end) (on-end-or o end)))
+    by-call : (c : Option (ObjId × Action)) → called_inside p.side (instr_of P p) ≡ c → Decided (IsOwed P p (GuardPart b end))
+    by-call None e = inr (λ x. let f = sym e ∙ called x in cc)
+    by-call (Some c) e =
+        let there = called-found P p c.0 c.1 e in
+        ⊎_elim (λ h. inl (c.1, (c.0, h.0, there.side, there.is), h.1))
+        (λ no. inr (λ x. no (subst (λ d. (d.0.0 ≡ b) × IsTrue (is_at_end end d.1)) (same_Some _ _ (sym (called x) ∙ e)) (x.1.1, x.2))))
+        (both-or (number-or c.0.0 b) (true-or (is_at_end end c.1)))
 
--- a call on some object, a delete of some object
-abbrev IsCall : Instr → Type 0
-IsCall i = (n : ObjId) × (action : Action) × (i ≡ Calls (On n action))
-
-call-or : (i : Instr) → Decided (IsCall i)
-call-or (Calls (On n action)) = inl (n, action, refl)
-call-or i = inr (λ x. let e = x.2 in cc)
-
-abbrev IsDelete : Instr → Type 0
-IsDelete i = (kind : DeletedKind) × (m : ObjId) × (i ≡ Calls (Delete kind m))
-
-delete-or : (i : Instr) → Decided (IsDelete i)
-delete-or (Calls (Delete kind m)) = inl (kind, m, refl)
-delete-or i = inr (λ x. let e = x.2 in cc)
-
-module _ (P : Program) (p q : Point) where
-  -- the call's object is the deleted one, or it isn't
-  same-object-or : (n m : ObjId) (action : Action) (kind : DeletedKind) → p.side ≡ Inside → instr_of P p ≡ Some (Calls (On n action)) → q.side ≡ Before → instr_of P q ≡ Some (Calls (Delete kind m)) → Decided (IsInsideDeleted P p q)
-  same-object-or n m action kind s is z del =
-      ⊎_elim (λ e. inl (n.0, action, (n, refl, s, is), (kind, m, e, z, del)))
-      (λ ne. inr (λ x. ne (ap (λ i. i.0) (deleted x.3.1 x.3.0 x.3.4) ∙ x.3.2 ∙ sym x.2.1 ∙ sym (ap (λ i. i.0) (called x.2.0 x.1 x.2.3)))))
-      (number-or m.0 n.0)
-    where
-      called : (n' : ObjId) (other : Action) → instr_of P p ≡ Some (Calls (On n' other)) → n ≡ n'
-      called n' other e = let f = same_Some _ _ (sym is ∙ e) in cc
-
-      deleted : (m' : ObjId) (kind' : DeletedKind) → instr_of P q ≡ Some (Calls (Delete kind' m')) → m ≡ m'
-      deleted m' kind' e = let f = same_Some _ _ (sym del ∙ e) in cc
-
-  inside-deleted-or : Decided (IsInsideDeleted P p q)
-  inside-deleted-or =
-      ⊎_elim (λ s. ⊎_elim (λ i. ⊎_elim (λ z. ⊎_elim (λ j.
-      same-object-or i.2.0 j.2.1 i.2.1 j.2.0 s (i.1 ∙ ap (λ k. Some k) i.2.2) z (j.1 ∙ ap (λ k. Some k) j.2.2))
-      (λ no. inr (λ x. no (_, x.3.4, (x.3.0, x.3.1, refl)))) (some-or (instr_of P q) IsDelete delete-or))
-      (λ no. inr (λ x. no x.3.3)) (side-or q.side Before))
-      (λ no. inr (λ x. no (_, x.2.3, (x.2.0, x.1, refl)))) (some-or (instr_of P p) IsCall call-or))
-      (λ no. inr (λ x. no x.2.2)) (side-or p.side Inside)
+-- the one point is inside a call on the object that the other one deletes, or it isn't
+deleted-or : (P : Program) (p q : Point) → Decided (IsInsideDeleted P p q)
+deleted-or P p q = by-test (deletes_used P p q) refl
+  where
+    by-test : (b : Bool) → deletes_used P p q ≡ b → Decided (IsInsideDeleted P p q)
+    by-test true e = let c = found-clash P p q e in inl (c.object, c.action, c.inside, c.deletes)
+    by-test false e = inr (λ x. false≢true (sym e ∙ clash-found P p q (record { object = x.0; action = x.1; inside = x.2; deletes = x.3 })))
 
 -- whether the point owes the part
 owed-or : (P : Program) (p : Point) (part : Part) → Decided (IsOwed P p part)
 owed-or P p EntryPart = both-or (number-or p.pc 0) (side-or p.side Before)
 owed-or P p (RulePart rule) = some-or (instr_of P p) (λ i. IsTrue (is_own i rule)) (λ i. true-or (is_own i rule))
 owed-or P p (GoesPart t) = both-or (point-or P t) (actor-or t.actor p.actor)
-owed-or P p (GuardPart buffer end) = owes-end P p buffer end
+owed-or P p (GuardPart buffer end) = end-or P p buffer end
 owed-or P p (NearPart q) =
-    ⊎_elim (λ h. ⊎_elim (λ n. ⊎_elim (λ d. inl (h, n, d)) (λ no. inr (λ x. no x.2)) (inside-deleted-or P p q)) (λ no. inr (λ x. no x.1)) (not-or (actor-or q.actor p.actor)))
-    (λ no. inr (λ x. no x.0)) (point-or P q)
+    ⊎_elim (λ h. inl (h.0, h.1.0, h.1.1)) (λ no. inr (λ x. no (x.0, (x.1, x.2))))
+    (both-or (point-or P q) (both-or (not-or (actor-or q.actor p.actor)) (deleted-or P p q)))
 owed-or P p (SpoiledPart q) = both-or (point-or P q) (not-or (actor-or q.actor p.actor))
 
 -- what isn't owed is kept

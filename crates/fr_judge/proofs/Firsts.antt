@@ -6,7 +6,7 @@ use Rattle.std.proofs.lemmas.Option.{same_Some}
 use Rattle.fr_program.specs.declared.ids.Point.{Point}
 use Rattle.fr_program.specs.Program.{Program}
 use Rattle.fr_program.specs.Points.{points_of, point_number}
-use Rattle.fr_program.specs.PointNumbers.{PointsAreNumbered}
+use Rattle.fr_program.proofs.PointLaws.{points_are_numbered}
 use Rattle.fr_program.specs.Fault.{IsFaultless}
 use Rattle.fr_calls.specs.declared.buffer_end.End.{End}
 use Rattle.fr_calls.specs.declared.buffer_end.End.TheVariants.{Writer, Reader}
@@ -24,7 +24,7 @@ use Rattle.fr_judge.specs.declared.part.Part.TheVariants.{Guard as TellsGuard, N
 use Rattle.fr_judge.specs.Part.{Part, EntryPart, RulePart, GoesPart, GuardPart, NearPart, SpoiledPart, IsKept, end_number, place_in_order}
 use Rattle.fr_judge.specs.Verdict.{KeepsAll, IsFirstPart}
 use Rattle.fr_judge.specs.Deleter.{IsDeleter}
-use Rattle.fr_judge.specs.Told.{part_of_own, TellsFirst, IsOf}
+use Rattle.fr_judge.specs.Told.{part_of_own, TellsFirst, IsPartOf}
 use Rattle.fr_judge.proofs.Telling.{failing-is-of}
 
 -- of two ends, the one that comes first is the writer's
@@ -101,19 +101,19 @@ module _ (P : Program) (C : Certificate) (p : Point) where
       same (NearPart r) e l = λ is. deleter.2 r is l is
       same other e l = absurd (omega arith)
 
-  pub spoiled-first : PointsAreNumbered P → (q : Point) (k : ℕ) → slice_get (points_of P) k ≡ Some q → IsFirstOwn P C.notes p None → IsFirstEnd P C p None → IsDeleter P C.notes p None → IsSpoiler P C.notes p (Some k) → TellsFirst P C p (Some (TellsSpoiled q))
-  spoiled-first numbered q k at own guards near spoiler = (SpoiledPart q, refl, first (SpoiledPart q) fails (λ other l. deletes-kept own guards near other l) same)
+  pub spoiled-first : (q : Point) (k : ℕ) → slice_get (points_of P) k ≡ Some q → IsFirstOwn P C.notes p None → IsFirstEnd P C p None → IsDeleter P C.notes p None → IsSpoiler P C.notes p (Some k) → TellsFirst P C p (Some (TellsSpoiled q))
+  spoiled-first q k at own guards near spoiler = (SpoiledPart q, refl, first (SpoiledPart q) fails (λ other l. deletes-kept own guards near other l) same)
     where
       number : point_number P q ≡ k
-      number = (numbered.listed k q at).1
+      number = ((points_are_numbered P).listed k q at).1
 
       fails : Undisturbed P C.notes p q → ⊥
-      fails = subst (λ r. Undisturbed P C.notes p r → ⊥) (same_Some _ _ (sym (numbered.at spoiler.0 spoiler.1) ∙ subst (λ n. slice_get (points_of P) n ≡ Some q) (sym spoiler.2) at)) spoiler.3
+      fails = subst (λ r. Undisturbed P C.notes p r → ⊥) (same_Some _ _ (sym ((points_are_numbered P).at spoiler.0 spoiler.1) ∙ subst (λ n. slice_get (points_of P) n ≡ Some q) (sym spoiler.2) at)) spoiler.3
 
       same : (other : Part) → (place_in_order P other).0 ≡ 5 → (place_in_order P other).1 < point_number P q → IsKept P C p other
       same (SpoiledPart r) e l = λ is. spoiler.4 r is (omega (arith, l, number)) is
       same other e l = absurd (omega arith)
 
 -- what is told of a point is of the application
-pub first-is-of : (P : Program) → IsFaultless P → (C : Certificate) (p : Point) (told : Told) → TellsFirst P C p (Some told) → IsOf P told
-first-is-of P faultless C p told first = subst (λ t. IsOf P t) (sym first.1) (failing-is-of P faultless C p first.0 first.2.fails)
+pub first-is-of : (P : Program) → IsFaultless P → (C : Certificate) (p : Point) (told : Told) → TellsFirst P C p (Some told) → IsPartOf P told
+first-is-of P faultless C p told first = subst (λ t. IsPartOf P t) (sym first.1) (failing-is-of P faultless C p first.0 first.2.fails)

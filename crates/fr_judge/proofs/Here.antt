@@ -1,5 +1,5 @@
 -- An actor that is at a point has the point's instruction, and steps by a row of it.
-use Rattle.std.proofs.Common.{◌≡◌, ℕ, zero, suc, List, [], ◌∷◌, get_or, set, Some, sym, ap, ◌∙◌, subst}
+use Rattle.std.proofs.Common.{◌≡◌, ℕ, List, Some, sym, ap, ◌∙◌, subst}
 use Rattle.std.specs.Prelude.{ℤ, IsTrue}
 use Rattle.std.proofs.lemmas.Option.{same_Some}
 use Rattle.fr_program.specs.declared.instr.Instr.{Instr}
@@ -7,7 +7,7 @@ use Rattle.fr_program.specs.declared.ids.Point.{Point}
 use Rattle.fr_program.specs.declared.ids.Side.{Side}
 use Rattle.fr_program.specs.Program.{Program}
 use Rattle.fr_program.specs.Lookup.{instr_at, instr_of}
-use Rattle.fr_calls.specs.State.{State, Place, At, Done, goes_to}
+use Rattle.fr_calls.specs.State.{State, At, goes_to}
 use Rattle.fr_calls.specs.declared.rules.Rule.{Rule}
 use Rattle.fr_calls.specs.Rule.{Stands, Breaches}
 use Rattle.fr_calls.specs.declared.way.Way.{Way}
@@ -15,12 +15,6 @@ use Rattle.fr_calls.specs.Step.{StepBy, Row, landing, transition}
 use Rattle.fr_notes.specs.Note.{Note}
 use Rattle.fr_notes.specs.Noted.{IsAt, Noted}
 use Rattle.fr_edge.specs.Own.{KeepsRule, is_own}
-
--- an actor that was moved to a place is there
-pub landed : (l : List Place) (a : ℕ) (p : Place) (pc : ℕ) (side : Side) → get_or (set l a p) a Done ≡ At pc side → p ≡ At pc side
-landed [] a p pc side e = cc
-landed (x ∷ l) zero p pc side e = e
-landed (x ∷ l) (suc a) p pc side e = landed l a p pc side e
 
 module _ (P : Program) (p : Point) (i : Instr) (is : instr_of P p ≡ Some i) where
   -- it is at the point's side, and before or inside that instruction

@@ -4,7 +4,7 @@ use Rattle.std.specs.Prelude.{slice_get}
 use Rattle.fr_program.specs.declared.ids.Point.{Point}
 use Rattle.fr_program.specs.Program.{Program}
 use Rattle.fr_program.specs.Points.{points_of}
-use Rattle.fr_program.specs.PointNumbers.{PointsAreNumbered}
+use Rattle.fr_program.proofs.PointLaws.{points_are_numbered}
 use Rattle.fr_program.specs.Fault.{IsFaultless}
 use Rattle.fr_calls.specs.Run.{IsSafe}
 use Rattle.fr_ends.specs.Certificate.{Certificate}
@@ -21,13 +21,13 @@ use Rattle.fr_judge.proofs.Telling.{fitting-distinct}
 abbrev pub KeepsBelow : Program → Certificate → ℕ → Type 0
 KeepsBelow P C n = IsSoBelow P (λ p. KeepsAll P C p) n
 
-module _ (P : Program) (C : Certificate) (numbered : PointsAreNumbered P) where
+module _ (P : Program) (C : Certificate) where
   pub all-keep : KeepsBelow P C (length (points_of P)) → IsCertified P C
-  all-keep below = at-each P numbered (λ p. KeepsAll P C p) below
+  all-keep below = at-each P (λ p. KeepsAll P C p) below
 
   pub first-failure : (n : ℕ) (p : Point) (told : Told) → KeepsBelow P C n → slice_get (points_of P) n ≡ Some p → TellsFirst P C p (Some told) → TellsVerdict P C (TellsNo p told)
   first-failure n p told below e first =
-      let listed = numbered.listed n p e in
+      let listed = (points_are_numbered P).listed n p e in
       let f : Told → _ = TellsNo p in
       (No p first.0, ap f first.1, record { point = listed.0; first = first.2; before = λ q is lt. below q is (omega (arith, lt, listed.1)) })
 

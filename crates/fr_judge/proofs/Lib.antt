@@ -1,15 +1,9 @@
 pub mod Turns
 pub mod Induction
-pub mod Numbers
 pub mod Failing
 pub mod Unique
 pub mod Here
-pub mod Round
 pub mod WorkedVerdicts
-pub mod WorkedWriters
-pub mod WorkedParts
-pub mod WorkedFaultless
-pub mod WritersFaultless
 pub mod Telling
 pub mod Walks
 pub mod Deletes

@@ -12,7 +12,7 @@ use Rattle.fr_ends.specs.Guard.{EndGuard, Guard, Sole, ByMutex, InCritical, Turn
 use Rattle.fr_ends.specs.Certificate.{Certificate, HasDistinctTurns, AllHaveDistinctTurns}
 use Rattle.fr_ends.specs.Fits.{GuardFits, EndFits}
 use Rattle.fr_judge.specs.Part.{Part, EntryPart, RulePart, GoesPart, GuardPart, NearPart, SpoiledPart, IsKept}
-use Rattle.fr_judge.specs.Told.{told_part, IsOf}
+use Rattle.fr_judge.specs.Told.{told_part, IsPartOf}
 use Rattle.fr_judge.proofs.Failing.{failing-owed}
 
 -- a rule that a point owes by itself is none of 1 and 2
@@ -23,7 +23,7 @@ own-number i rule h = omega arith
 
 module _ (P : Program) (faultless : IsFaultless P) (C : Certificate) (p : Point) where
   -- a part that isn't kept names what the application has
-  pub failing-is-of : (part : Part) → (IsKept P C p part → ⊥) → IsOf P (told_part part)
+  pub failing-is-of : (part : Part) → (IsKept P C p part → ⊥) → IsPartOf P (told_part part)
   failing-is-of EntryPart h = tt
   failing-is-of (RulePart rule) h = let o = failing-owed P C p (RulePart rule) h in own-number o.0 rule o.2
   failing-is-of (GoesPart t) h = (failing-owed P C p (GoesPart t) h).0

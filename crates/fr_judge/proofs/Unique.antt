@@ -16,7 +16,7 @@ use Rattle.fr_ends.specs.Certificate.{Certificate}
 use Rattle.fr_judge.specs.Part.{Part, EntryPart, RulePart, GoesPart, GuardPart, NearPart, SpoiledPart, end_number, place_in_order, ComesBefore}
 use Rattle.fr_judge.specs.Verdict.{Yes, No, IsFirstPart, IsVerdictOne}
 use Rattle.fr_judge.specs.Owed.{IsOwed}
-use Rattle.fr_judge.proofs.Numbers.{same-point}
+use Rattle.fr_judge.proofs.Walks.{same-point}
 use Rattle.fr_judge.proofs.Failing.{failing-owed}
 
 abbrev rules_by_number : List Rule

@@ -1,72 +1,151 @@
--- The worked verdicts: the parts before the failing one are kept, and the failing one has a state to show.
-use Rattle.std.proofs.Common.{◌≡◌, ◌≢◌, ℕ, zero, suc, ◌<◌, [], refl, sym, ap, ◌∙◌, subst, inl, inr, ⊎_elim, arith}
-use Rattle.std.specs.Prelude.{pos, IsTrue}
+-- The worked verdicts. Both applications have one point. The step of `goto 0` changes nothing and comes back to it, so
+-- every part is kept. Before `return` the parts that come before rule 11 are kept, and the start shows that rule 11 isn't.
+use Rattle.std.proofs.Common.{◌≡◌, ℕ, zero, suc, ◌<◌, ◌≤◌, List, [], ◌∷◌, length, Some, refl, sym, ap, ◌∙◌, subst, inl, inr, ⊎_elim, true≢false, arith}
+use Rattle.std.specs.Prelude.{ℤ, IsTrue, Contains, ◌||◌, true, All}
+use Rattle.std.specs.Cmp.Lexicographic.{nat_list_eq_equiv}
 use Rattle.std.proofs.lemmas.Int.{ints}
 use Rattle.std.proofs.lemmas.Option.{same_Some}
+use Rattle.std.proofs.lemmas.List.Elements.{All-cons, All-nil}
+use Rattle.std.proofs.lemmas.Map.Views.{list_any-from_Contains}
 use Rattle.fr_program.specs.declared.instr.Instr.{Instr}
 use Rattle.fr_program.specs.declared.instr.Instr.TheVariants.{Goto, Return}
 use Rattle.fr_program.specs.declared.ids.Point.{Point}
 use Rattle.fr_program.specs.declared.ids.Side.{Side}
 use Rattle.fr_program.specs.declared.ids.Side.TheVariants.{Before, Inside}
-use Rattle.fr_program.specs.Lookup.{HasSide, IsPlace, IsPoint}
-use Rattle.fr_program.specs.Points.{point_number}
-use Rattle.fr_calls.specs.State.{State, At, Exists, IsWellFormed, place_of, value_of, suspension_of, start, write, goes_to}
+use Rattle.fr_program.specs.Limits.{IsName, is_letter, is_digit, reserved, VariableInLimits, KindInLimits, most_instructions}
+use Rattle.fr_program.specs.Fault.{EachInstr, EndsWell, IsFaultless}
+use Rattle.fr_program.specs.Lookup.{HasSide, IsPlace, IsPoint, actor_at}
+use Rattle.fr_program.specs.Program.{ActorOf}
+use Rattle.fr_calls.specs.State.{State, At, Exists, IsWellFormed, place_of, start, goes_to}
 use Rattle.fr_calls.specs.declared.rules.Rule.{Rule}
 use Rattle.fr_calls.specs.declared.rules.Rule.TheVariants.{OneWriter, OneReader, GivenByHolder, IsLive, LifeInOrder, EndsInOrder, InRange}
 use Rattle.fr_calls.specs.Rule.{Breaches, number_of}
-use Rattle.fr_calls.specs.declared.way.Way.TheVariants.{Then}
-use Rattle.fr_calls.specs.Step.{StepBy}
-use Rattle.fr_calls.proofs.Free.{before-free, no-use}
-use Rattle.fr_notes.specs.Note.{HoldsOne, Within, range_of}
-use Rattle.fr_notes.specs.Noted.{NotedBy}
-use Rattle.fr_edge.specs.Own.{is_own}
-use Rattle.fr_interfere.specs.Undisturbed.{Undisturbed}
+use Rattle.fr_calls.specs.declared.way.Way.{Way}
+use Rattle.fr_calls.specs.declared.way.Way.TheVariants.{Then, Else}
+use Rattle.fr_calls.specs.Step.{StepBy, Row, landing, transition}
+use Rattle.fr_notes.specs.Note.{Alternative, HoldsOne}
+use Rattle.fr_notes.specs.Noted.{note_at, IsAt}
+use Rattle.fr_edge.specs.Own.{Goes, is_own}
+use Rattle.fr_ends.specs.Certificate.{HasDistinctTurns}
 use Rattle.fr_judge.specs.Part.{Part, EntryPart, RulePart, GoesPart, GuardPart, NearPart, SpoiledPart, IsKept, ComesBefore, place_in_order}
-use Rattle.fr_judge.specs.WorkedVerdicts.{first, plain, alone, one_note, set_2, spoiling, x_declared, three_notes, RoundIsYes, ReturnIsNo, SpoilingIsNo}
-use Rattle.fr_judge.proofs.Numbers.{same-point}
-use Rattle.fr_judge.proofs.Here.{rule-kept}
-use Rattle.fr_judge.proofs.Round.{only-one, rules-kept, goes-kept, guard-kept, near-kept}
+use Rattle.fr_judge.specs.WorkedVerdicts.{only_line, only_point, silent, one_note, RoundIsYes, RoundIsCertified, ReturnIsNo}
+use Rattle.fr_judge.proofs.Here.{rule-kept, steps-by}
+
+-- one point, where the instruction is no object call
 
 none : ⊥ → ⊥
 none h = h
 
--- an application of one task with one instruction that is no object call has one point
-one-place : (i : Instr) → (HasSide i Inside → ⊥) → (a pc : ℕ) (side : Side) → IsPlace (alone i) a pc side → (a ≡ 0) × (pc ≡ 0) × (side ≡ Before)
+one-place : (i : Instr) → (HasSide i Inside → ⊥) → (a pc : ℕ) (side : Side) → IsPlace (only_line i) a pc side → (a ≡ 0) × (pc ≡ 0) × (side ≡ Before)
 one-place i free zero zero Before x = (refl, refl, refl)
 one-place i free zero zero Inside x = absurd (free (subst (λ j. HasSide j Inside) (sym (same_Some _ _ x.1)) x.2))
 one-place i free zero (suc pc) side x = let e = x.1 in cc
 one-place i free (suc a) pc side x = let e = x.1 in cc
 
-one-point : (i : Instr) → (HasSide i Inside → ⊥) → (p : Point) → IsPoint (alone i) p → p ≡ first 0
+one-point : (i : Instr) → (HasSide i Inside → ⊥) → (p : Point) → IsPoint (only_line i) p → p ≡ only_point
 one-point i free p x =
     let e = one-place i free p.actor.0 p.pc p.side x in
     let point : ℕ → ℕ → Side → Point = λ a pc side. record { actor = record { 0 = a }; pc = pc; side = side } in
     ap (λ a. point a p.pc p.side) e.0 ∙ ap (λ pc. point 0 pc p.side) e.1 ∙ ap (λ side. point 0 0 side) e.2
 
--- the note that says nothing holds of actor 0 at the start
-nothing-holds : (i : Instr) → HoldsOne (plain []) 0 (start (alone i))
-nothing-holds i = record { critical = refl; suspended = refl; objects = λ o. refl; variables = λ x. (omega (arith, ints), omega (arith, ints)) }
+-- the note holds of the actor at the start
+silent-holds : (i : Instr) → HoldsOne silent 0 (start (only_line i))
+silent-holds i = record { critical = refl; suspended = refl; objects = λ o. refl; variables = λ x. (omega (arith, ints), omega (arith, ints)) }
 
-start-formed : (i : Instr) → IsWellFormed (alone i) (start (alone i))
-start-formed i = record { actors = refl; suspensions = refl; variables = refl; objects = refl; places = places; contents = λ o. tt; critical = tt }
+-- the parts of `goto 0`
+
+round-free : (rule : Rule) → IsTrue (is_own (Goto 0) rule) → (S : State) → Breaches (only_line (Goto 0)) S 0 Before (Goto 0) rule → ⊥
+round-free OneWriter own S b = cc
+round-free OneReader own S b = cc
+round-free GivenByHolder own S b = b
+round-free IsLive own S b = let e = b.1 in cc
+round-free LifeInOrder own S b = b
+round-free InRange own S b = b
+round-free rule own S b = cc
+
+-- the step leads to the same place and changes nothing else
+round-back : (way : Way) (S : State) (c : ℤ) (S' : State) → IsAt S only_point → StepBy (only_line (Goto 0)) way S 0 c S' → S' ≡ goes_to 0 (At 0 Before) S
+round-back way S c S' at t =
+    let by = steps-by (only_line (Goto 0)) only_point (Goto 0) refl way S c S' at t in by-way way by.0 by.1 by.2
   where
-    places : (a : ℕ) → Exists (alone i) a (place_of (start (alone i)) a)
-    places zero = (i, refl, tt)
-    places (suc a) = tt
+    by-way : (way : Way) (mid : State) → Row (only_line (Goto 0)) (transition S 0 c mid) Before (Goto 0) way → S' ≡ goes_to 0 (landing 0 Before (Goto 0) way) mid → S' ≡ goes_to 0 (At 0 Before) S
+    by-way Then mid row moved = moved ∙ ap (λ T. goes_to 0 (At 0 Before) T) row.1
+    by-way Else mid row moved = elim row [ ]
 
-round-kept : (part : Part) → IsKept (alone (Goto 0)) one_note (first 0) part
-round-kept EntryPart = λ pc side. (plain [], (0, omega arith, refl), nothing-holds (Goto 0))
-round-kept (RulePart rule) = rules-kept (alone (Goto 0)) one_note (plain []) refl refl rule
-round-kept (GoesPart t) = goes-kept (alone (Goto 0)) one_note (plain []) refl refl t
-round-kept (GuardPart buffer end) = guard-kept (alone (Goto 0)) one_note (plain []) refl refl buffer end
-round-kept (NearPart q) = near-kept (alone (Goto 0)) one_note (plain []) refl refl q
+round-goes : (t : Point) → Goes (only_line (Goto 0)) one_note.notes only_point t
+round-goes t at same m inside way can = (
+  m,
+  subst (λ q. Contains (note_at (only_line (Goto 0)) one_note.notes q) m) (sym (one-point (Goto 0) none t at)) inside,
+  λ T d T' by step lands.
+      subst (λ U. HoldsOne m 0 U) (sym (round-back way T d T' by.at step)) (unmoved T by.holds),
+)
+  where
+    unmoved : (T : State) → HoldsOne m 0 T → HoldsOne m 0 (goes_to 0 (At 0 Before) T)
+    unmoved T h = record { critical = h.critical; suspended = h.suspended; objects = h.objects; variables = h.variables }
+
+not-inside : Before ≡ Inside → ⊥
+not-inside e = cc
+
+round-kept : (part : Part) → IsKept (only_line (Goto 0)) one_note only_point part
+round-kept EntryPart = λ pc side. (silent, (0, omega arith, refl), silent-holds (Goto 0))
+round-kept (RulePart rule) = rule-kept (only_line (Goto 0)) only_point (Goto 0) refl one_note.notes rule (λ S noted own. round-free rule own S)
+round-kept (GoesPart t) = round-goes t
+round-kept (GuardPart buffer end) = λ action inside. absurd (not-inside inside.2)
+round-kept (NearPart q) = λ at apart o action inside. absurd (not-inside inside.2)
 round-kept (SpoiledPart q) = λ at apart. absurd (apart (ap (λ p. p.actor) (one-point (Goto 0) none q at)))
 
 pub round-is-yes : RoundIsYes
-round-is-yes p x part = subst (λ q. IsKept (alone (Goto 0)) one_note q part) (sym (one-point (Goto 0) none p x)) (round-kept part)
+round-is-yes p x part =
+    subst (λ q. IsKept (only_line (Goto 0)) one_note q part) (sym (one-point (Goto 0) none p x)) (round-kept part)
 
--- a return breaches no rule of less than 11
-return-free : (rule : Rule) → number_of rule < 11 → IsTrue (is_own Return rule) → (S : State) → Breaches (alone Return) S 0 Before Return rule → ⊥
+-- the application of `goto 0` has no fault
+
+-- what is true of the one instruction is true of each
+each : (F : ℕ → Instr → Type 0) → F 0 (Goto 0) → EachInstr (only_line (Goto 0)) F
+each F h zero zero i e = subst (λ j. F 0 j) (same_Some _ _ e) h
+each F h zero (suc pc) i e = cc
+each F h (suc a) pc i e = cc
+
+-- and of the one actor
+one-actor : (Q : ActorOf → Type 0) → Q (actor_at (only_line (Goto 0)) 0) → All Q (only_line (Goto 0)).actors
+one-actor Q h = All-cons Q _ [] h (All-nil Q)
+
+t-is-name : IsName (116 ∷ [])
+t-is-name = record {
+  some = omega arith;
+  short = omega arith;
+  letters = All-cons (λ c. (is_letter c || is_digit c) ≡ true) 116 [] refl (All-nil (λ c. (is_letter c || is_digit c) ≡ true));
+  first = refl;
+  free = λ h. true≢false (sym (list_any-from_Contains nat_list_eq_equiv (116 ∷ []) reserved h));
+}
+
+round-faultless : IsFaultless (only_line (Goto 0))
+round-faultless = record {
+  small = record { actors = omega arith; variables = omega arith; objects = omega arith; code = one-actor (λ a. length a.code ≤ most_instructions) (omega arith) };
+  limits = record { variables = All-nil VariableInLimits; objects = All-nil (λ o. KindInLimits o.kind); code = each _ tt };
+  targets = each _ (omega arith);
+  ends = one-actor EndsWell (0, refl, tt);
+  shared = each _ (omega arith);
+  owners = each _ (All-nil _);
+  kinds = each _ tt;
+  forms = each _ tt;
+  results = each _ tt;
+  operands = each _ tt;
+  names = record {
+    names = All-cons IsName (116 ∷ []) [] t-is-name (All-nil IsName);
+    once = λ i j d l h e. absurd (omega (arith, l, h));
+    things = each _ (All-nil _, tt);
+    owners = All-nil _;
+  };
+}
+
+pub round-is-certified : RoundIsCertified
+round-is-certified = record { faultless = round-faultless; turns = All-nil (λ e. HasDistinctTurns e.guard); kept = round-is-yes }
+
+-- the parts of `return`
+
+-- it breaches no rule of less than 11
+return-free : (rule : Rule) → number_of rule < 11 → IsTrue (is_own Return rule) → (S : State) → Breaches (only_line Return) S 0 Before Return rule → ⊥
 return-free OneWriter l own S b = cc
 return-free OneReader l own S b = cc
 return-free GivenByHolder l own S b = b
@@ -80,82 +159,31 @@ later-kind : {Q : Type 0} (m k n : ℕ) → 1 < m → ComesBefore (m, k) (1, n) 
 later-kind m k n l (inl h) = absurd (omega (arith, l, h))
 later-kind m k n l (inr h) = absurd (omega (arith, l, h.0))
 
-return-parts : (other : Part) → ComesBefore (place_in_order (alone Return) other) (1, 11) → IsKept (alone Return) one_note (first 0) other
-return-parts EntryPart h = λ pc side. (plain [], (0, omega arith, refl), nothing-holds Return)
+return-parts : (other : Part) → ComesBefore (place_in_order (only_line Return) other) (1, 11) → IsKept (only_line Return) one_note only_point other
+return-parts EntryPart h = λ pc side. (silent, (0, omega arith, refl), silent-holds Return)
 return-parts (RulePart rule) h =
-    rule-kept (alone Return) (first 0) Return refl one_note.notes rule (λ S noted own. return-free rule (⊎_elim (λ l. absurd (omega (arith, l))) (λ l. l.1) h) own S)
+    rule-kept (only_line Return) only_point Return refl one_note.notes rule (λ S noted own. return-free rule (⊎_elim (λ l. absurd (omega (arith, l))) (λ l. l.1) h) own S)
 return-parts (GoesPart t) h = later-kind 2 _ 11 (omega arith) h
 return-parts (GuardPart buffer end) h = later-kind 3 _ 11 (omega arith) h
 return-parts (NearPart q) h = later-kind 4 _ 11 (omega arith) h
 return-parts (SpoiledPart q) h = later-kind 5 _ 11 (omega arith) h
 
-return-fails : IsKept (alone Return) one_note (first 0) (RulePart EndsInOrder) → ⊥
+start-formed : IsWellFormed (only_line Return) (start (only_line Return))
+start-formed = record { actors = refl; suspensions = refl; variables = refl; objects = refl; places = places; contents = λ o. tt; critical = tt }
+  where
+    places : (a : ℕ) → Exists (only_line Return) a (place_of (start (only_line Return)) a)
+    places zero = (Return, refl, tt)
+    places (suc a) = tt
+
+return-fails : IsKept (only_line Return) one_note only_point (RulePart EndsInOrder) → ⊥
 return-fails kept =
-    kept Return refl refl (start (alone Return))
-    (record { formed = start-formed Return; at = refl; holds = (plain [], (0, omega arith, refl), nothing-holds Return) })
+    kept Return refl refl (start (only_line Return))
+    (record { formed = start-formed; at = refl; holds = (silent, (0, omega arith, refl), silent-holds Return) })
     (record { side = Before; instr = Return; stands = record { pc = 0; at = refl; is = refl }; breaches = refl })
 
 pub return-is-no : ReturnIsNo
 return-is-no = record {
   point = (Return, refl, tt);
   first = record { fails = return-fails; before = return-parts };
-  before = λ q x l other. absurd (omega (arith, l));
-}
-
--- the state in which x is 0, or another number, and both tasks stand where they begin
-x-holds : (a : ℕ) → (a < 2) → HoldsOne x_declared a (start spoiling)
-x-holds a l = record { critical = refl; suspended = suspended a; objects = λ o. refl; variables = variables }
-  where
-    suspended : (a : ℕ) → suspension_of (start spoiling) a ≡ 0
-    suspended zero = refl
-    suspended (suc zero) = refl
-    suspended (suc (suc a)) = refl
-
-    variables : (x : ℕ) → Within (range_of x_declared x) (value_of (start spoiling) x)
-    variables zero = (omega (arith, ints), omega (arith, ints))
-    variables (suc x) = (omega (arith, ints), omega (arith, ints))
-
-spoiling-formed : IsWellFormed spoiling (start spoiling)
-spoiling-formed = record { actors = refl; suspensions = refl; variables = refl; objects = refl; places = places; contents = λ o. tt; critical = tt }
-  where
-    places : (a : ℕ) → Exists spoiling a (place_of (start spoiling) a)
-    places zero = (Goto 0, refl, tt)
-    places (suc zero) = (set_2, refl, tt)
-    places (suc (suc a)) = tt
-
-abbrev spoiled : State
-spoiled = goes_to 1 (At 1 Before) (write 0 (pos 2) (start spoiling))
-
-spoiling-step : StepBy spoiling Then (start spoiling) 1 (pos 0) spoiled
-spoiling-step =
-    record { pc = 0; side = Before; instr = set_2; at = refl; is = refl; free = before-free spoiling (start spoiling) 1 set_2 refl none (no-use spoiling (start spoiling) 1 set_2 Before refl); mid = write 0 (pos 2) (start spoiling); row = (refl, refl); moved = refl }
-
-spoiling-fails : Undisturbed spoiling three_notes.notes (first 0) (first 1) → ⊥
-spoiling-fails kept =
-    let by0 : NotedBy spoiling (first 0) x_declared (start spoiling) = record { formed = spoiling-formed; at = refl; holds = x-holds 0 (omega arith) } in
-    let by1 : NotedBy spoiling (first 1) x_declared (start spoiling) = record { formed = spoiling-formed; at = refl; holds = x-holds 1 (omega arith) } in
-    let apart : (first 1).actor ≢ (first 0).actor = λ e. let z : ◌≡◌ {A = ℕ} 1 0 = ap (λ i. i.0) e in absurd (omega arith) in
-    let k = kept (set_2, refl, tt) apart x_declared x_declared (0, omega arith, refl) (0, omega arith, refl) Then (start spoiling, pos 0, spoiled, (by0, by1), spoiling-step, tt) in
-    let same = only-one x_declared k.0 k.1 in
-    let after = subst (λ n. HoldsOne n 0 spoiled) same (k.2 (start spoiling) (pos 0) spoiled (by0, by1) spoiling-step) in
-    absurd (omega (arith, ints, (after.variables 0).1))
-
--- a point with a number below 1 is the first one
-number-0 : (q : Point) → IsPoint spoiling q → point_number spoiling q < 1 → q ≡ first 0
-number-0 q x l = same-point spoiling q (first 0) x (Goto 0, refl, tt) (omega (arith, l))
-
-spoiling-parts : (other : Part) → ComesBefore (place_in_order spoiling other) (5, 1) → IsKept spoiling three_notes (first 0) other
-spoiling-parts EntryPart h = λ pc side. (x_declared, (0, omega arith, refl), x-holds 0 (omega arith))
-spoiling-parts (RulePart rule) h = rules-kept spoiling three_notes x_declared refl refl rule
-spoiling-parts (GoesPart t) h = goes-kept spoiling three_notes x_declared refl refl t
-spoiling-parts (GuardPart buffer end) h = guard-kept spoiling three_notes x_declared refl refl buffer end
-spoiling-parts (NearPart q) h = near-kept spoiling three_notes x_declared refl refl q
-spoiling-parts (SpoiledPart q) h = λ at apart.
-    absurd (apart (ap (λ p. p.actor) (number-0 q at (⊎_elim (λ l. absurd (omega (arith, l))) (λ l. l.1) h))))
-
-pub spoiling-is-no : SpoilingIsNo
-spoiling-is-no = record {
-  point = (Goto 0, refl, tt);
-  first = record { fails = spoiling-fails; before = spoiling-parts };
   before = λ q x l other. absurd (omega (arith, l));
 }

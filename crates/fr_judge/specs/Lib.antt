@@ -3,8 +3,6 @@ pub mod Verdict
 pub mod Owed
 pub mod Sound
 pub mod WorkedVerdicts
-pub mod WorkedWriters
-pub mod WorkedParts
 pub mod Told
 pub mod Deleter
 pub mod Texts

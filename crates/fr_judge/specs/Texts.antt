@@ -4,7 +4,7 @@
 -- |------------------|--------------------------------------------------------------------------------------|
 -- | IsJudged         | the bytes mean this application and a certificate on which this is the verdict        |
 -- | IsAnswerOne      | the bytes have one such answer at the most                                           |
--- | FaultStands      | the fault is present in the bytes; the application's come before the certificate's    |
+-- | IsFaultOfTexts   | the fault is present in the bytes; the application's come before the certificate's    |
 use Rattle.std.specs.Prelude.{◌≡◌, ℕ, List}
 use Rattle.fr_program.specs.Program.{Program}
 use Rattle.fr_reader.specs.Meaning.{Means as AppMeans}
@@ -30,7 +30,7 @@ IsAnswerOne =
     IsJudged app certificate Q other → (P ≡ Q) × (one ≡ other)
 
 -- the fault is present in the application's bytes, or in the certificate's for the application that was read
-abbrev pub FaultStands : List ℕ → List ℕ → TextFault → Type 0
-FaultStands app certificate Memory = Unit {0}
-FaultStands app certificate (App f) = AppStanding (StandsInApp app) f
-FaultStands app certificate (Cert f) = (P : Program) × AppMeans app P × CertStanding (IsCertPresent P certificate) f
+abbrev pub IsFaultOfTexts : List ℕ → List ℕ → TextFault → Type 0
+IsFaultOfTexts app certificate Memory = Unit {0}
+IsFaultOfTexts app certificate (App f) = AppStanding (StandsInApp app) f
+IsFaultOfTexts app certificate (Cert f) = (P : Program) × AppMeans app P × CertStanding (IsCertPresent P certificate) f

@@ -6,7 +6,7 @@
 -- | part_of_own             | the part that an own obligation is                                            |
 -- | TellsFirst              | what is told is the first part that isn't kept at a point, or that all are    |
 -- | TellsVerdict            | what is told is the verdict                                                   |
--- | IsOf, Speaks            | a part names only what the application has, and so does a verdict             |
+-- | IsPartOf, Speaks        | a part names only what the application has, and so does a verdict             |
 use Rattle.std.specs.Prelude.{◌≡◌, ◌≤◌, ◌<◌, Option, None, Some, length}
 use Rattle.fr_program.specs.declared.ids.Point.{Point}
 use Rattle.fr_program.specs.Program.{Program}
@@ -52,15 +52,15 @@ abbrev pub TellsVerdict : Program → Certificate → ToldVerdict → Type 0
 TellsVerdict P C told = (verdict : Verdict) × (told ≡ told_verdict verdict) × IsVerdict P C verdict
 
 -- the part names a rule that a point can owe by itself, or a point or a buffer of the application
-abbrev pub IsOf : Program → Told → Type 0
-IsOf P Entry = Unit {0}
-IsOf P (Rule rule) = 3 ≤ number_of rule
-IsOf P (Goes t) = IsPoint P t
-IsOf P (Guard e) = e.buffer.0 < length P.objects
-IsOf P (Near q) = IsPoint P q
-IsOf P (Spoiled q) = IsPoint P q
+abbrev pub IsPartOf : Program → Told → Type 0
+IsPartOf P Entry = Unit {0}
+IsPartOf P (Rule rule) = 3 ≤ number_of rule
+IsPartOf P (Goes t) = IsPoint P t
+IsPartOf P (Guard e) = e.buffer.0 < length P.objects
+IsPartOf P (Near q) = IsPoint P q
+IsPartOf P (Spoiled q) = IsPoint P q
 
 -- the verdict names a point of the application, and a part of it
 abbrev pub Speaks : Program → ToldVerdict → Type 0
 Speaks P TellsYes = Unit {0}
-Speaks P (TellsNo p told) = IsPoint P p × IsOf P told
+Speaks P (TellsNo p told) = IsPoint P p × IsPartOf P told

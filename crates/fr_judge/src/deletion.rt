@@ -36,7 +36,6 @@ fn first_delete(app: &App, notes: &Notes, number: usize, object: ObjId) -> Optio
     ensures { (p : PointOf) → slice_get (points_of app.now) number ≡ Some p →
         used_inside p.side (instr_of app.now p) ≡ Some object → IsDeleter app.now notes.now p result }
 {
-    app.recall_numbered();
     for other in app.changers(Changed::Life(object)) {
         if !near(app, notes, number, *other) {
             return Some(app.point(*other));

@@ -18,6 +18,6 @@ pub use laws::{
     the_answer_is_one, the_start_keeps_notes, the_verdict_is_one, yes_is_safe,
 };
 pub use part::{Part, Verdict};
-pub use text::{Judged, TextFault, judge_text};
+pub use text::{Judged, TextFault, judge_text, read_both};
 pub use verdict::{job, job_given, judge};
-pub use worked::{parts_as_worked, two_writers_are_certified, verdicts_as_worked};
+pub use worked::verdicts_as_worked;

@@ -1,12 +1,16 @@
 // From the bytes of an application and of a certificate to the verdict.
 ghost use Rattle.std.specs.Prelude.{◌≡◌, IfOk, IfErr};
 ghost use Rattle.fr_calls.specs.Run.{IsSafe};
+ghost use Rattle.fr_reader.specs.Meaning.{Means as AppMeans};
+ghost use Rattle.fr_cert.specs.Meaning.{Means as CertMeans};
+ghost use Rattle.fr_ends.specs.Fits.{CertificateFits};
 ghost use Rattle.fr_judge.specs.Told.{Speaks};
-ghost use Rattle.fr_judge.specs.Texts.{IsJudged, FaultStands};
+ghost use Rattle.fr_judge.specs.Texts.{IsJudged, IsFaultOfTexts};
 
 use crate::part::Verdict;
 use crate::verdict::judge;
 use fr_cert::{CertFault, read_cert};
+use fr_ends::Certificate;
 use fr_program::App;
 use fr_reader::{ReadFault, read_app};
 use std::alloc::Global;
@@ -30,6 +34,32 @@ pub enum TextFault {
     Cert(CertFault),
 }
 
+/// The application that the first bytes mean, and the certificate for it that the second ones mean.
+///
+/// # Errors
+///
+/// A fault that is present in the bytes, the application's before the certificate's. `is_memory` of both tells the refusal
+/// of an allocation.
+pub fn read_both(
+    alloc: Global,
+    app: &[u8],
+    certificate: &[u8],
+) -> Result<(App, Certificate), TextFault>
+    ensures app { IfOk result (λ r. AppMeans app.now r.0) }
+    ensures certificate { IfOk result (λ r. CertMeans r.0 certificate.now r.1) }
+    ensures fits { IfOk result (λ r. CertificateFits r.0 r.1) }
+    ensures fault { IfErr result (IsFaultOfTexts app.now certificate.now) }
+{
+    let app = match read_app(alloc, app) {
+        Ok(app) => app,
+        Err(fault) => return Err(TextFault::App(fault)),
+    };
+    match read_cert(alloc, &app, certificate) {
+        Ok(certificate) => Ok((app, certificate)),
+        Err(fault) => Err(TextFault::Cert(fault)),
+    }
+}
+
 /// Reads the application, then the certificate for it, and judges it.
 ///
 /// Ok is the application that the first bytes mean, and the verdict on it and on the certificate
@@ -41,16 +71,9 @@ pub fn judge_text(alloc: Global, app: &[u8], certificate: &[u8]) -> Result<Judge
     ensures judged { IfOk result (λ judged. IsJudged app.now certificate.now judged.app judged.verdict) }
     ensures safe { IfOk result (λ judged. judged.verdict ≡ Verdict.Yes → IsSafe judged.app) }
     ensures speaks { IfOk result (λ judged. Speaks judged.app judged.verdict) }
-    ensures stands { IfErr result (FaultStands app.now certificate.now) }
+    ensures stands { IfErr result (IsFaultOfTexts app.now certificate.now) }
 {
-    let app = match read_app(alloc, app) {
-        Ok(app) => app,
-        Err(fault) => return Err(TextFault::App(fault)),
-    };
-    let certificate = match read_cert(alloc, &app, certificate) {
-        Ok(certificate) => certificate,
-        Err(fault) => return Err(TextFault::Cert(fault)),
-    };
+    let (app, certificate) = read_both(alloc, app, certificate)?;
     let verdict = judge(&app, &certificate);
     Ok(Judged { app, verdict })
 }

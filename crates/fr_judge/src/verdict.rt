@@ -6,7 +6,7 @@ ghost use Rattle.fr_calls.specs.Run.{IsSafe};
 ghost use Rattle.fr_edge.specs.declared.failure.Own.{Own as OwnPart};
 ghost use Rattle.fr_ends.specs.Fits.{CertificateFits};
 ghost use Rattle.fr_interfere.specs.Staying.{AllStay};
-ghost use Rattle.fr_judge.specs.Told.{TellsFirst, TellsVerdict, IsOf, Speaks, part_of_own};
+ghost use Rattle.fr_judge.specs.Told.{TellsFirst, TellsVerdict, IsPartOf, Speaks, part_of_own};
 
 use crate::deletion::deleter;
 use crate::part::{Part, Verdict};
@@ -35,7 +35,7 @@ pub fn job(app: &App, certificate: &Certificate, number: usize) -> Option<Part>
     requires fits { CertificateFits app.now certificate.now }
     ensures first { (p : PointOf) → slice_get (points_of app.now) number ≡ Some p →
         TellsFirst app.now certificate.now p result }
-    ensures speaks { IfSome result (λ part. IsOf app.now part) }
+    ensures speaks { IfSome result (λ part. IsPartOf app.now part) }
 {
     let stay = all_stay(app, &certificate.notes);
     job_given(app, certificate, stay, number)
@@ -50,7 +50,7 @@ pub fn job_given(app: &App, certificate: &Certificate, stay: bool, number: usize
     requires stay { IsTrue stay → AllStay app.now certificate.now.notes }
     ensures first { (p : PointOf) → slice_get (points_of app.now) number ≡ Some p →
         TellsFirst app.now certificate.now p result }
-    ensures speaks { IfSome result (λ part. IsOf app.now part) }
+    ensures speaks { IfSome result (λ part. IsPartOf app.now part) }
 {
     app.recall_faultless();
     app.recall_numbered();

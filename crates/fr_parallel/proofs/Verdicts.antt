@@ -34,8 +34,8 @@ module _ (P : Program) (C : Certificate) where
 
   pub tells-yes : ((k : ℕ) → k < length (points_of P) → KeepsAt P C k) → TellsVerdict P C TellsYes
   tells-yes keeps =
-      (Yes, refl, all-keep P C (points_are_numbered P) (keeps-below (length (points_of P)) keeps))
+      (Yes, refl, all-keep P C (keeps-below (length (points_of P)) keeps))
 
   pub tells-no : (n : ℕ) (p : Point) (told : Told) → slice_get (points_of P) n ≡ Some p → TellsFirst P C p (Some told) → ((k : ℕ) → k < n → KeepsAt P C k) → TellsVerdict P C (TellsNo p told)
   tells-no n p told at first keeps =
-      first-failure P C (points_are_numbered P) n p told (keeps-below n keeps) at first
+      first-failure P C n p told (keeps-below n keeps) at first

@@ -6,15 +6,15 @@ ghost use Rattle.fr_judge.specs.Texts.{IsJudged};
 ghost use Rattle.fr_judge.specs.Told.{Speaks};
 ghost use Rattle.fr_parallel.specs.declared.bytes.BytesFault.TheVariants.{Par};
 ghost use Rattle.fr_parallel.specs.declared.fault.ParFault.TheVariants.{Workers};
-ghost use Rattle.fr_parallel.specs.Bytes.{FaultStands};
+ghost use Rattle.fr_parallel.specs.Bytes.{IsFaultOfBytes};
 ghost use Rattle.fr_parallel.specs.Kept.{IsNoCrew};
 
 use crate::fault::ParFault;
 use crate::gate::Gate;
-use crate::verdict::{is_crew, judge_with};
-use fr_cert::{CertFault, read_cert};
-use fr_judge::Judged;
-use fr_reader::{ReadFault, read_app};
+use crate::verdict::{is_crew, judge_by};
+use fr_cert::CertFault;
+use fr_judge::{Judged, TextFault, read_both};
+use fr_reader::ReadFault;
 use std::alloc::Global;
 use std::sync::Wait;
 use std::thread::Threads;
@@ -32,6 +32,21 @@ pub enum BytesFault {
     /// The certificate's bytes are refused, for the application that was read.
     #[error("{0}")]
     Cert(CertFault),
+}
+
+/// Texts that are refused, each by its own fault.
+impl From<TextFault> for BytesFault {
+    ghost use Rattle.fr_parallel.specs.Bytes.{bytes_fault};
+
+    ghost from_gives = { λ fault result. result ≡ bytes_fault fault };
+
+    fn from(fault: TextFault) -> BytesFault {
+        match fault {
+            TextFault::Memory => BytesFault::Par(ParFault::Memory),
+            TextFault::App(fault) => BytesFault::App(fault),
+            TextFault::Cert(fault) => BytesFault::Cert(fault),
+        }
+    }
 }
 
 /// Reads the application, then the certificate for it, and judges it by this many workers, each in a thread of its own.
@@ -58,20 +73,13 @@ pub fn judge_bytes<R: Threads + Wait + Sync, G: Gate>(
     ensures safe { IfOk result (λ judged. judged.verdict ≡ Yes → IsSafe judged.app) }
     ensures speaks { IfOk result (λ judged. Speaks judged.app judged.verdict) }
     ensures workers { IsErrOf result (Par Workers) ↔ IsNoCrew workers }
-    ensures stands { IfErr result (FaultStands app.now certificate.now) }
+    ensures fault { IfErr result (IsFaultOfBytes app.now certificate.now) }
 {
     if !is_crew(workers) {
         return Err(BytesFault::Par(ParFault::Workers));
     }
-    let app = match read_app(alloc, app) {
-        Ok(app) => app,
-        Err(fault) => return Err(BytesFault::App(fault)),
-    };
-    let certificate = match read_cert(alloc, &app, certificate) {
-        Ok(certificate) => certificate,
-        Err(fault) => return Err(BytesFault::Cert(fault)),
-    };
-    match judge_with(rt, alloc, &app, &certificate, workers, gate) {
+    let (app, certificate) = read_both(alloc, app, certificate)?;
+    match judge_by(rt, alloc, &app, &certificate, workers, gate) {
         Ok(verdict) => Ok(Judged { app, verdict }),
         Err(fault) => Err(BytesFault::Par(fault)),
     }

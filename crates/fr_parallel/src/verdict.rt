@@ -1,5 +1,5 @@
 // The verdict, found by several workers.
-ghost use Rattle.std.specs.Prelude.{◌≡◌, ◌↔◌, length, IfOk, OnOk, IfErr, IsErrOf, Some, IsTrue};
+ghost use Rattle.std.specs.Prelude.{◌≡◌, ◌≢◌, ◌↔◌, length, IfOk, IfErr, IsErrOf, Some, IsTrue};
 ghost use Rattle.fr_board.specs.Tally.{IsNewBoard, IsSeatCount};
 ghost use Rattle.fr_program.specs.Points.{points_of};
 ghost use Rattle.fr_calls.specs.Run.{IsSafe};
@@ -29,15 +29,15 @@ pub(crate) fn is_crew(workers: usize) -> bool
 
 // A board with a job for each point, and a pass for each worker.
 fn board_for(alloc: Global, app: &App, workers: usize) -> Result<(Board, Vec<Pass>), ParFault>
+    requires { IsSeatCount workers }
     ensures new { IfOk result (λ r. IsNewBoard (length (points_of app.now)) workers r.0 r.1.items) }
-    ensures count { OnOk result (IsSeatCount workers) }
-    ensures fault { IfErr result (λ e. (e ≡ Workers) ↔ IsNoCrew workers) }
+    ensures fault { IfErr result (λ e. e ≢ Workers) }
 {
     app.recall_faultless();
     match Board::new(alloc, app.points() as u64, workers) {
         Ok(made) => Ok(made),
         Err(BoardFault::Memory) => Err(ParFault::Memory),
-        Err(BoardFault::Seats) => Err(ParFault::Workers),
+        Err(BoardFault::Seats) => unreachable!(),
         Err(BoardFault::Jobs) => unreachable!(),
     }
 }
@@ -71,6 +71,31 @@ fn verdict_at(app: &App, certificate: &Certificate, least: Option<u64>) -> Verdi
     }
 }
 
+/// The same as `judge_with`, by 1 to 64 workers.
+pub(crate) fn judge_by<R: Threads + Wait + Sync, G: Gate>(
+    rt: &R,
+    alloc: Global,
+    app: &App,
+    certificate: &Certificate,
+    workers: usize,
+    gate: &G,
+) -> Result<Verdict, ParFault>
+    requires fits { CertificateFits app.now certificate.now }
+    requires workers { IsSeatCount workers }
+    ensures verdict { IfOk result (λ v. TellsVerdict app.now certificate.now v) }
+    ensures safe { IfOk result (λ v. v ≡ Yes → IsSafe app.now) }
+    ensures speaks { IfOk result (λ v. Speaks app.now v) }
+    ensures fault { IfErr result (λ e. e ≢ Workers) }
+{
+    let (board, passes) = board_for(alloc, app, workers)?;
+    let all = worked_by_all(rt, alloc, app, certificate, &board, passes, gate)?;
+    app.recall_faultless();
+    match board.finish(all) {
+        Ok(tally) => Ok(verdict_at(app, certificate, tally.least)),
+        Err(_) => unreachable!(),
+    }
+}
+
 /// The verdict on an application and a certificate that fits it, found by this many workers, each in a thread of its own.
 ///
 /// It is the one verdict of both, whichever worker judges what and in whatever order. A `Yes` says that no state of any run of the
@@ -94,11 +119,8 @@ pub fn judge_with<R: Threads + Wait + Sync, G: Gate>(
     ensures speaks { IfOk result (λ v. Speaks app.now v) }
     ensures workers { IsErrOf result Workers ↔ IsNoCrew workers }
 {
-    let (board, passes) = board_for(alloc, app, workers)?;
-    let all = worked_by_all(rt, alloc, app, certificate, &board, passes, gate)?;
-    app.recall_faultless();
-    match board.finish(all) {
-        Ok(tally) => Ok(verdict_at(app, certificate, tally.least)),
-        Err(_) => unreachable!(),
+    if !is_crew(workers) {
+        return Err(ParFault::Workers);
     }
+    judge_by(rt, alloc, app, certificate, workers, gate)
 }

@@ -1,7 +1,7 @@
 // The report of a verdict.
 ghost use Rattle.std.specs.Prelude.{◌≡◌, IfOk, string_bytes};
 ghost use Rattle.fr_program.specs.Lookup.{IsPoint};
-ghost use Rattle.fr_judge.specs.Told.{Speaks, IsOf};
+ghost use Rattle.fr_judge.specs.Told.{Speaks, IsPartOf};
 ghost use Rattle.fr_report.specs.Report.{report_text, part_text};
 
 use crate::shown::{ShownPoint, object_name, rule_text};
@@ -25,7 +25,7 @@ pub fn report(alloc: Global, app: &App, verdict: &Verdict) -> Result<String, All
 
 fn refusal(alloc: Global, app: &App, point: Point, part: Part) -> Result<String, AllocError>
     requires point { IsPoint app.now point }
-    requires part { IsOf app.now part }
+    requires part { IsPartOf app.now part }
     ensures { IfOk result (λ text. string_bytes text ≡ report_text app.now (Verdict.No point part)) }
 {
     let at = ShownPoint::of(app, point);
@@ -34,7 +34,7 @@ fn refusal(alloc: Global, app: &App, point: Point, part: Part) -> Result<String,
 }
 
 fn part_text(alloc: Global, app: &App, part: Part) -> Result<String, AllocError>
-    requires { IsOf app.now part }
+    requires { IsPartOf app.now part }
     ensures { IfOk result (λ text. string_bytes text ≡ part_text app.now part) }
 {
     match part {

@@ -6,7 +6,7 @@ use Rattle.fr_answer.proofs.check.check_with.Goals as goal
 pub returns-in_err-judged-clause-refused : goal.returns-in_err-judged-clause-refused
 returns-in_err-judged-clause-refused g c =
     let p = err_from_is_err_and c.from_residual.result c.from_residual.ensures.1 in
-    rw (p.1, p.2) (refused-by c.args.app.now c.args.certificate.now c.args.workers c.in_err-judged.field-0.0 c.in_err-judged.ensures.stands
+    rw (p.1, p.2) (refused-by c.args.app.now c.args.certificate.now c.args.workers c.in_err-judged.field-0.0 c.in_err-judged.ensures.fault
     (λ e. c.in_err-judged.ensures.workers.0 (ap Err e)))
 
 pub returns-in-Ok-clause-safe : goal.returns-in-Ok-clause-safe

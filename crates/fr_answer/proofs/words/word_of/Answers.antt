@@ -3,7 +3,7 @@ use Rattle.std.proofs.Common.{◌≢◌, ◌∙◌, get_or, sym, subst, arith, O
 use Rattle.std.proofs.lemmas.Bool.{false≢true}
 use Rattle.std.proofs.lemmas.Str.Pattern.{starts_char}
 use Rattle.std.proofs.lemmas.Str.Parse.{parse_plain}
-use Rattle.fr_answer.specs.Words.{IsWord}
+use Rattle.fr_answer.specs.Words.{IsRunWord}
 use Rattle.fr_answer.proofs.WordsLaws.{own, word-by}
 use Rattle.fr_answer.proofs.words.word_of.Goals as goal
 
@@ -15,6 +15,6 @@ returns c =
     let h = word-by text c.parse.result number in
     let same = sym c.ok.ensures.value in
     record {
-      some = subst (λ (o : Option ℕ). IfSome o (IsWord text)) same h.0;
-      none = subst (λ (o : Option ℕ). IfNone o ((w : ℕ) → IsWord text w → ⊥)) same h.1;
+      some = subst (λ (o : Option ℕ). IfSome o (IsRunWord text)) same h.0;
+      none = subst (λ (o : Option ℕ). IfNone o ((w : ℕ) → IsRunWord text w → ⊥)) same h.1;
     }

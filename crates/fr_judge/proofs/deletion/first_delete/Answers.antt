@@ -1,6 +1,7 @@
 -- The list rises, so the first of its points that is a danger is the one with the least number.
 use Rattle.std.proofs.Common.{arith}
 use Rattle.fr_program.specs.declared.changers.Changed.TheVariants.{Life}
+use Rattle.fr_program.proofs.PointLaws.{points_are_numbered}
 use Rattle.fr_program.proofs.ChangerLists.{checked-more, number-below, earlier}
 use Rattle.fr_ends.specs.Guarded.{Near}
 use Rattle.fr_judge.proofs.Deletes.{checked-near}
@@ -28,14 +29,14 @@ returns-then-not-near c = λ p here used.
     let same = c.changers-other-items.ensures in
     let i = c.loop-other.other-index in
     let q = c.point.result in
-    let listed = c.recall_numbered.ensures.listed _ q c.point.ensures in (
+    let listed = (points_are_numbered P).listed _ q c.point.ensures in (
       listed.0,
       λ near.
           let t = (c.near.ensures p q here c.point.ensures).1 near in
           let f = c.if-not-near.true in cc,
-      λ other is less. checked-near P c.recall_numbered.ensures c.args.notes.now p c.args.object used items same i (c.loop-other.invariant p here) other is (λ j long number. earlier P (Life c.args.object) items same j i long (omega (arith, number, less, listed.1))),
+      λ other is less. checked-near P c.args.notes.now p c.args.object used items same i (c.loop-other.invariant p here) other is (λ j long number. earlier P (Life c.args.object) items same j i long (omega (arith, number, less, listed.1))),
     )
 
 pub returns : goal.returns
 returns c = λ p here used q is.
-    checked-near c.args.app.now c.recall_numbered.ensures c.args.notes.now p c.args.object used c.changers-other-items.result.now c.changers-other-items.ensures c.loop-other.other-index (c.loop-other.invariant p here) q is (λ j long number. omega (arith, long, c.loop-other-test.false)) is
+    checked-near c.args.app.now c.args.notes.now p c.args.object used c.changers-other-items.result.now c.changers-other-items.ensures c.loop-other.other-index (c.loop-other.invariant p here) q is (λ j long number. omega (arith, long, c.loop-other-test.false)) is

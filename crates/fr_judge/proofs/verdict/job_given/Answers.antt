@@ -44,7 +44,7 @@ returns-in-Some-spoiler_given-clause-first c = λ p e.
     let own = subst (λ ns. IsFirstOwn P ns p None) notes (c.in_default.ensures p e) in
     let near = subst (λ ns. IsDeleter P ns p None) notes (c.in_default-deleter.ensures p e) in
     let spoiler = subst (λ ns. IsSpoiler P ns p (Some c.in-Some-spoiler_given.other)) notes (c.in-Some-spoiler_given.ensures p e) in
-    spoiled-first P c.args.certificate.now p c.recall_numbered.ensures c.point.result c.in-Some-spoiler_given.other c.point.ensures own (c.in_default-guarded.ensures.first p e) near spoiler
+    spoiled-first P c.args.certificate.now p c.point.result c.in-Some-spoiler_given.other c.point.ensures own (c.in_default-guarded.ensures.first p e) near spoiler
 
 pub returns-in-None-clause-first : goal.returns-in-None-clause-first
 returns-in-None-clause-first c = λ p e.

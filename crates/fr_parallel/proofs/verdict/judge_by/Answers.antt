@@ -5,7 +5,7 @@ use Rattle.fr_judge.specs.Told.{TellsVerdict}
 use Rattle.fr_judge.proofs.Judging.{yes-safe}
 use Rattle.fr_parallel.specs.Kept.{KeepsAt}
 use Rattle.fr_parallel.proofs.Least.{all-done, tally-least}
-use Rattle.fr_parallel.proofs.verdict.judge_with.Goals as goal
+use Rattle.fr_parallel.proofs.verdict.judge_by.Goals as goal
 
 pub verdict_at-requires-clause-least : goal.verdict_at-requires-clause-least
 verdict_at-requires-clause-least g c =
