@@ -18,8 +18,8 @@ use Rattle.fr_ends.proofs.TurnLemmas.{RisesFrom, rises_whole, none_below, later_
 use Rattle.fr_cert.specs.Keys.{key_text, field, names_in}
 use Rattle.fr_cert.specs.declared.key.Key.TheVariants as key
 use Rattle.fr_cert.specs.declared.key.Place.TheVariants as place
-use Rattle.fr_cert.specs.Shapes.{IsObject, EachEntry, EachMember}
-use Rattle.fr_cert.specs.Meaning.{IsTurnNumber, IsTurnValue, AreTurnValues, IsGuard, IsEnd}
+use Rattle.fr_cert.specs.Shapes.{IsObject, EachEntry, EachMember, IsNamed}
+use Rattle.fr_cert.specs.Meaning.{IsTurnNumber, AreTurnValues, IsGuard, IsEnd, IsFitEnd}
 use Rattle.fr_cert.specs.Written.{with_values, guard_tree, end_tree, ends_tree}
 use Rattle.fr_cert.proofs.GivenLemmas.{given, given-cons, put_named, actor_place, object_place, variable_place}
 use Rattle.fr_cert.proofs.NotesAgain.{integer_again, known_more, none_known}
@@ -37,7 +37,7 @@ IsTurn P v = (v.0 < length P.actors) × IsNumber v.1
 -- the object that gives these values beside those that are given already
 record Turns (P : Program) (least : ℕ) (vs xs : List (ℕ × ℤ)) (ms : Members) : Type 0 where
   ys : List (ℕ × ℤ)
-  named : EachMember (IsTurnValue (names_in P)) ms ys
+  named : EachMember (IsNamed (names_in P).actors IsTurnNumber) ms ys
   before : (a : ℕ) → a < least → given ys a ≡ given xs a
   after : (a : ℕ) → least ≤ a → given ys a ≡ value_for vs a
 
@@ -52,7 +52,7 @@ differ a b other = go (nat_eq a b) refl
     go true e = absurd (other ((Decides-eqb a b).0 e))
     go false e = e
 
-turns : (P : Program) (vs : List (ℕ × ℤ)) (least : ℕ) (ms : Members) (xs : List (ℕ × ℤ)) → IsFaultless P → RisesFrom least vs → All (IsTurn P) vs → EachMember (IsTurnValue (names_in P)) ms xs → ((a : ℕ) → least ≤ a → given xs a ≡ None)
+turns : (P : Program) (vs : List (ℕ × ℤ)) (least : ℕ) (ms : Members) (xs : List (ℕ × ℤ)) → IsFaultless P → RisesFrom least vs → All (IsTurn P) vs → EachMember (IsNamed (names_in P).actors IsTurnNumber) ms xs → ((a : ℕ) → least ≤ a → given xs a ≡ None)
     → Turns P least vs xs (with_values P vs ms)
 unfolding with_values
 turns P [] least ms xs faultless rises fits named fresh = record { ys = xs; named = named; before = λ a below. refl; after = fresh }
@@ -131,6 +131,8 @@ end_again P e faultless fits =
       },
     )
 
-pub ends_again : (P : Program) (es : List EndGuard) → IsFaultless P → All (EndFits P) es → EachEntry (IsObject (IsEnd (names_in P))) (ends_tree P es) es
+pub ends_again : (P : Program) (es : List EndGuard) → IsFaultless P → All (EndFits P) es → EachEntry (IsFitEnd P) (ends_tree P es) es
 ends_again P [] faultless fits = tt
-ends_again P (e ∷ es) faultless fits = (end_again P e faultless (All-head (EndFits P) e es fits), ends_again P es faultless (All-tail (EndFits P) e es fits))
+ends_again P (e ∷ es) faultless fits =
+    let fit = All-head (EndFits P) e es fits in
+    ((end_again P e faultless fit, fit), ends_again P es faultless (All-tail (EndFits P) e es fits))

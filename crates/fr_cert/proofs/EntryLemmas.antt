@@ -1,7 +1,8 @@
 -- One more entry of a list, and one more thing that it means.
-use Rattle.std.proofs.Common.{◌≡◌, ℕ, zero, suc, ◌+◌, ◌<◌, ◌≤◌, List, [], ◌∷◌, ◌++◌, Some, length, get_or, take, sym, ap, ◌∙◌, subst, arith}
-use Rattle.std.proofs.lemmas.List.{take_more, take_all, get_or-take, length-take-le}
-use Rattle.serde_json.specs.Data.{Data}
+use Rattle.std.proofs.Common.{◌≡◌, ℕ, zero, suc, ◌+◌, ◌<◌, List, [], ◌∷◌, ◌++◌, Some, All, length, get_or, map, take, sym, ap, ◌∙◌, subst, arith}
+use Rattle.std.proofs.lemmas.List.Elements.{All-cons, All-nil}
+use Rattle.std.proofs.lemmas.List.{map-id, take_more, get_or-take, length-take-le}
+use Rattle.serde_json.specs.Data.{Data, Items, no_items, item}
 use Rattle.serde_json.specs.Events.{items_len}
 use Rattle.serde_json.specs.Find.{get_item}
 use Rattle.serde_json.specs.View.{items_view, view}
@@ -26,10 +27,6 @@ entries_more M vs ws i v xs x same within is h p =
     let here : v ≡ get_or vs i v = is ∙ ap (λ us. get_or us i v) same in
     let there : M (view (get_or vs i v)) x = subst (λ u. M (view u) x) here p in
     rw (take_more vs i v (subst (λ us. i < length us) same within)) (entry_push M (take i vs) (get_or vs i v) xs x h there)
-
--- its end
-pub entries_all : {A : Type 0} (M : Data → A → Type 0) (vs ws : List Value) (i : ℕ) (xs : List A) → ws ≡ vs → length ws ≤ i → EachEntry M (items_view (take i vs)) xs → EachEntry M (items_view vs) xs
-entries_all M vs ws i xs same end h = subst (λ us. EachEntry M (items_view us) xs) (take_all i vs (subst (λ us. length us ≤ i) same end)) h
 
 -- the entry of this turn
 pub entry_here : (vs ws : List Value) (i : ℕ) (v : Value) → ws ≡ vs → i < length ws → v ≡ get_or ws i v → get_item i (items_view vs) ≡ Some (view v)
@@ -65,3 +62,14 @@ earlier M vs ws i xs k v e same within h in_xs =
       there = sym (get_item_within vs k v (omega (arith, before, in_vs)));
       means = subst (λ u. M (view u) (get_or xs k e)) place meant.1;
     }
+
+-- what each entry means, and what holds of all things beside it
+pub each_both : {A : Type 0} (M : Data → A → Type 0) (Q : A → Type 0) (ds : Items) (xs : List A) → EachEntry (λ d x. M d x × Q x) ds xs → EachEntry M ds xs × All Q xs
+each_both M Q no_items [] h = (tt, All-nil Q)
+each_both M Q no_items (x ∷ xs) h = absurd h
+each_both M Q (item d ds) [] h = absurd h
+each_both M Q (item d ds) (x ∷ xs) h = let rest = each_both M Q ds xs h.1 in ((h.0.0, rest.0), All-cons Q x xs h.0.1 rest.1)
+
+-- the same where what was read is what is meant
+pub each_same : {A : Type 0} (M : Data → A → Type 0) (Q : A → Type 0) (ds : Items) (xs ys : List A) → EachEntry (λ d x. M d x × Q x) ds (map (λ x. x) xs) → ys ≡ xs → EachEntry M ds ys × All Q ys
+each_same M Q ds xs ys h same = each_both M Q ds ys (subst (EachEntry (λ d x. M d x × Q x) ds) (map-id xs ∙ sym same) h)

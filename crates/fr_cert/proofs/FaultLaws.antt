@@ -1,25 +1,23 @@
 -- Bytes in which a fault is present mean no certificate: at each level, a value that means something has no fault of
 -- that level.
-use Rattle.std.proofs.Common.{◌≡◌, ◌<◌, ◌≤◌, ◌<ℤ◌, ◌≤ℤ◌, ℕ, ℤ, zero, suc, pos, List, [], ◌∷◌, Some, None, All, codes, length, get_or, refl, sym, ap, ◌∙◌, subst, arith, inl, inr}
+use Rattle.std.proofs.Common.{◌≡◌, ◌<◌, ◌≤◌, ◌<ℤ◌, ◌≤ℤ◌, ℕ, ℤ, zero, suc, pos, List, [], ◌∷◌, Some, None, AllPairs, ◌⊎◌, codes, length, get_or, refl, sym, ap, ◌∙◌, subst, arith, inl, inr}
 use Rattle.std.proofs.lemmas.Bool.{false≢true}
 use Rattle.std.proofs.lemmas.Int.{ints}
-use Rattle.std.proofs.lemmas.List.Elements.{All-head, All-tail}
 use Rattle.serde_json.specs.Data.{Data, Items, no_items, item, Members, no_members, member}
 use Rattle.serde_json.specs.Events.{items_len}
 use Rattle.serde_json.specs.Find.{get_item, as_array, as_object, as_str}
 use Rattle.serde_json.specs.Read.{read}
 use Rattle.fr_program.specs.Program.{Program}
 use Rattle.fr_program.specs.Limits.{IsNumber}
-use Rattle.fr_program.specs.Points.{points_of}
 use Rattle.fr_instr.specs.Names.{NamesOf, place_of}
 use Rattle.fr_notes.specs.Note.{Note}
 use Rattle.fr_ends.specs.Certificate.{Certificate}
 use Rattle.fr_ends.specs.Guard.{Sole, ByMutex, InCritical, Turn, EndGuard}
-use Rattle.fr_ends.specs.Fits.{EndFits, EndsFit}
+use Rattle.fr_ends.specs.Fits.{EndFits, AreOfOneEnd}
 use Rattle.fr_cert.specs.Keys.{AreKnown, field, integer_of, end_at, names_in}
-use Rattle.fr_cert.specs.Shapes.{At, OrDefault, IsObject, IsList, EachEntry, EachMember, Names, AreNames, IsDepth, AreEnds, IsSpan}
-use Rattle.fr_cert.specs.Meaning.{NoteText, IsNoteText, NoteTextFits, IsTurnNumber, IsHeldCount, IsRange, IsTurnValue, AreTurnValues, IsAlternative, IsPlainNote, IsNote, IsGuardObject, IsGuard, IsEndName, IsEnd, IsVersion, IsCertificate, Means}
-use Rattle.fr_cert.specs.Faults.{InKeys, InField, InNeeded, InObject, InList, InEntries, InMembers, InNamed, InDepth, InName, InNames, InEnds, InSpan}
+use Rattle.fr_cert.specs.Shapes.{At, OrDefault, IsObject, IsList, EachEntry, EachMember, IsNamed, Names, AreNames, IsDepth, AreEnds, IsSpan}
+use Rattle.fr_cert.specs.Meaning.{NoteText, IsNoteText, NoteTextFits, IsTurnNumber, AreTurnValues, IsAlternative, IsPlainNote, IsNote, AreNotes, IsGuardObject, IsGuard, IsEndName, IsEnd, IsFitEnd, AreFitEnds, IsVersion, IsCertificate, Means}
+use Rattle.fr_cert.specs.Faults.{InKeys, InField, InNeeded, InObject, InList, InEntries, InMembers, InNamed, InDepth, InName, IsTwice, InNames, InEnds, InSpan}
 use Rattle.fr_cert.specs.Present.{InKeysOfNote, InAlternative, InAlternatives, InNote, InNotes, InTurnValue, InGuardObject, InGuard, InEndName, InKeysOfEnd, InEnd, InAllEnds, InVersion, InCertificate, InTree, InBytes, IsPresent}
 use Rattle.fr_cert.specs.declared.key.Key.{Key}
 use Rattle.fr_cert.specs.declared.key.Key.TheVariants as key
@@ -27,7 +25,7 @@ use Rattle.fr_cert.specs.declared.key.Place.{Place}
 use Rattle.fr_cert.specs.declared.key.Place.TheVariants as place
 use Rattle.fr_cert.specs.declared.fault.CertFault.{CertFault}
 use Rattle.fr_cert.specs.declared.fault.CertFault.TheVariants as fault
-use Rattle.fr_cert.proofs.Laws.{both, never, one_at, one_name, one_text, one_version, one_end, one_end_value, unknown, apart, list_apart, object_apart}
+use Rattle.fr_cert.proofs.Laws.{both, never, one_at, one_name, one_text, one_version, one_end, one_fit_end, unknown, apart, list_apart, object_apart}
 
 -- ---- values by their shape
 
@@ -82,10 +80,12 @@ free_members M F free (member name d ms) [] f h s = absurd h
 free_members M F free (member name d ms) (x ∷ xs) f h (inl s) = free name d x f h.0 s
 free_members M F free (member name d ms) (x ∷ xs) f h (inr s) = free_members M F free ms xs f h.1 s
 
-free_named : {A : Type 0} (names : List (List ℕ)) (M : Data → A → Type 0) (F : Data → CertFault → Type 0) → Free M F
-    → (name : List ℕ) (d : Data) (n : ℕ) (x : A) (f : CertFault) → place_of names name ≡ Some n → M d x → InNamed names F name d f → ⊥
-free_named names M F free name d n x f is h (inl s) = never (place_of names name) n s.0 is
-free_named names M F free name d n x f is h (inr s) = free d x s.0 h s.1
+free_named : {A : Type 0} (names : List (List ℕ)) (M : Data → A → Type 0) (F : Data → CertFault → Type 0) → Free M F → FreeIn (EachMember (IsNamed names M)) (InMembers (InNamed names F))
+free_named {A} names M F free = free_members (IsNamed names M) (InNamed names F) here
+  where
+    here : (name : List ℕ) → Free (IsNamed names M name) (InNamed names F name)
+    here name d x f h (inl s) = never (place_of names name) x.0 s.0 h.0
+    here name d x f h (inr s) = free d x.1 s.0 h.1 s.1
 
 free_name : (names : List (List ℕ)) → Free (Names names) (InName names)
 free_name names d n f h (inl s) = never (as_str d) h.0 s.0 h.1
@@ -99,13 +99,17 @@ meant_at M one (item y ds) [] i d x e h is m = absurd h
 meant_at M one (item y ds) (z ∷ xs) zero d x e h is m = (omega arith, one d z x (subst (λ w. M w z) (both (Some y) y d refl is) h.0) m)
 meant_at M one (item y ds) (z ∷ xs) (suc i) d x e h is m = let rest = meant_at M one ds xs i d x e h.1 is m in (omega (arith, rest.0), rest.1)
 
+-- and with entries no two of which are alike
+free_once : {A : Type 0} (M : Data → A → Type 0) (F : Data → CertFault → Type 0) (AreAlike : A → A → Type 0) (twice : CertFault) → ((d : Data) (x y : A) → M d x → M d y → x ≡ y) → Free M F
+    → FreeOf (λ ds xs. EachEntry M ds xs × AllPairs (λ x y. AreAlike x y → ⊥) xs) (λ ds f. InEntries F ds f ⊎ IsTwice M AreAlike twice ds f)
+free_once M F AreAlike twice one free ds xs f h (inl s) = free_entries M F free ds xs f h.0 s
+free_once M F AreAlike twice one free ds xs f h (inr s) =
+    let x = meant_at M one ds xs s.0 s.2 s.4 s.4 h.0 s.7 s.9 in
+    let y = meant_at M one ds xs s.1 s.3 s.5 s.4 h.0 s.8 s.10 in
+    h.1 s.0 s.1 s.4 s.6 y.0 (subst (λ e. AreAlike e (get_or xs s.1 s.4)) (sym x.1) (subst (AreAlike s.4) (sym y.1) s.11))
+
 free_names : (names : List (List ℕ)) → FreeOf (AreNames names) (InNames names)
-free_names names ds ns f h (inl s) = free_entries (Names names) (InName names) (free_name names) ds ns f h.0 s
-free_names names ds ns f h (inr s) =
-    let n = s.4 in
-    let one = meant_at (Names names) (one_name names) ds ns s.0 s.2 n n h.0 s.6 s.8 in
-    let other = meant_at (Names names) (one_name names) ds ns s.1 s.3 n n h.0 s.7 s.9 in
-    h.1 s.0 s.1 n s.5 other.0 (one.1 ∙ sym other.1)
+free_names names = free_once (Names names) (InName names) (λ n m. n ≡ m) (fault.Note []) (one_name names) (free_name names)
 
 free_depth : Free IsDepth InDepth
 free_depth d n f h (inl s) = never (integer_of d) (pos n) s.0 h.0
@@ -125,29 +129,23 @@ free_span = free_list AreEnds InEnds free_ends
 
 -- ---- notes
 
-free_count : (N : NamesOf) (name : List ℕ) → Free (IsHeldCount N name) (InNamed N.objects InDepth name)
-free_count N name d x f h s = free_named N.objects IsDepth InDepth free_depth name d x.0 x.1 f h.0 h.1 s
-
-free_range : (N : NamesOf) (name : List ℕ) → Free (IsRange N name) (InNamed N.variables InSpan name)
-free_range N name d x f h s = free_named N.variables IsSpan InSpan free_span name d x.0 x.1 f h.0 h.1 s
-
 free_name_list : (N : NamesOf) → Free (IsList (AreNames N.objects)) (InList (InNames N.objects))
 free_name_list N = free_list (AreNames N.objects) (InNames N.objects) (free_names N.objects)
 
-free_counts : (N : NamesOf) → Free (IsObject (EachMember (IsHeldCount N))) (InObject (InMembers (InNamed N.objects InDepth)))
-free_counts N = free_object (EachMember (IsHeldCount N)) (InMembers (InNamed N.objects InDepth)) (free_members (IsHeldCount N) (InNamed N.objects InDepth) (free_count N))
+free_counts : (N : NamesOf) → Free (IsObject (EachMember (IsNamed N.objects IsDepth))) (InObject (InMembers (InNamed N.objects InDepth)))
+free_counts N = free_object (EachMember (IsNamed N.objects IsDepth)) (InMembers (InNamed N.objects InDepth)) (free_named N.objects IsDepth InDepth free_depth)
 
-free_ranges : (N : NamesOf) → Free (IsObject (EachMember (IsRange N))) (InObject (InMembers (InNamed N.variables InSpan)))
-free_ranges N = free_object (EachMember (IsRange N)) (InMembers (InNamed N.variables InSpan)) (free_members (IsRange N) (InNamed N.variables InSpan) (free_range N))
+free_ranges : (N : NamesOf) → Free (IsObject (EachMember (IsNamed N.variables IsSpan))) (InObject (InMembers (InNamed N.variables InSpan)))
+free_ranges N = free_object (EachMember (IsNamed N.variables IsSpan)) (InMembers (InNamed N.variables InSpan)) (free_named N.variables IsSpan InSpan free_span)
 
 free_keys_of_note : (N : NamesOf) (ms : Members) (text : NoteText) (f : CertFault) → IsNoteText N ms text → InKeysOfNote N ms f → ⊥
 free_keys_of_note N ms text f h (inl s) = free_keys place.Note ms f h.only s
-free_keys_of_note N ms text f h (inr (inl s)) = free_default key.Held [] (IsObject (EachMember (IsHeldCount N))) (InObject (InMembers (InNamed N.objects InDepth))) (free_counts N) ms text.held f h.held s
+free_keys_of_note N ms text f h (inr (inl s)) = free_default key.Held [] (IsObject (EachMember (IsNamed N.objects IsDepth))) (InObject (InMembers (InNamed N.objects InDepth))) (free_counts N) ms text.held f h.held s
 free_keys_of_note N ms text f h (inr (inr (inl s))) = free_default key.Crit 0 IsDepth InDepth free_depth ms text.crit f h.crit s
 free_keys_of_note N ms text f h (inr (inr (inr (inl s)))) = free_default key.Susp 0 IsDepth InDepth free_depth ms text.susp f h.susp s
 free_keys_of_note N ms text f h (inr (inr (inr (inr (inl s))))) = free_default key.Live [] (IsList (AreNames N.objects)) (InList (InNames N.objects)) (free_name_list N) ms text.live f h.live s
 free_keys_of_note N ms text f h (inr (inr (inr (inr (inr (inl s)))))) = free_default key.Dead [] (IsList (AreNames N.objects)) (InList (InNames N.objects)) (free_name_list N) ms text.dead f h.dead s
-free_keys_of_note N ms text f h (inr (inr (inr (inr (inr (inr s)))))) = free_default key.Range [] (IsObject (EachMember (IsRange N))) (InObject (InMembers (InNamed N.variables InSpan))) (free_ranges N) ms text.ranges f h.ranges s
+free_keys_of_note N ms text f h (inr (inr (inr (inr (inr (inr s)))))) = free_default key.Range [] (IsObject (EachMember (IsNamed N.variables IsSpan))) (InObject (InMembers (InNamed N.variables InSpan))) (free_ranges N) ms text.ranges f h.ranges s
 
 free_alternative : (P : Program) → FreeIn (IsAlternative P) (InAlternative P)
 free_alternative P ms n f h (inl s) = free_keys_of_note (names_in P) ms h.0 f h.1 s
@@ -180,9 +178,9 @@ free_note P version d note f (inr (inr h)) (inr (inl s)) = object_apart d s.0 h.
 free_note P version d note f (inr (inr h)) (inr (inr s)) =
     free_alternatives P h.1.0 note f h.1.2 h.2 h.3 (subst (λ ds. InAlternatives P ds f) (both (as_array d) s.1 h.1.0 s.2 h.1.1) s.3)
 
-free_notes : (P : Program) (version : ℕ) (ds : Items) (notes : List Note) (f : CertFault) → EachEntry (IsNote P version) ds notes → length notes ≡ length (points_of P) → InNotes P version ds f → ⊥
-free_notes P version ds notes f h same (inl s) = s.0 (sym (each_length (IsNote P version) ds notes h) ∙ same)
-free_notes P version ds notes f h same (inr s) = free_entries (IsNote P version) (InNote P version) (free_note P version) ds notes f h s
+free_notes : (P : Program) (version : ℕ) → FreeOf (AreNotes P version) (InNotes P version)
+free_notes P version ds notes f h (inl s) = s.0 (sym (each_length (IsNote P version) ds notes h.0) ∙ h.1)
+free_notes P version ds notes f h (inr s) = free_entries (IsNote P version) (InNote P version) (free_note P version) ds notes f h.0 s
 
 -- ---- guards
 
@@ -190,11 +188,8 @@ free_number : Free IsTurnNumber InTurnValue
 free_number d z f h (inl s) = never (integer_of d) z s.0 h.0
 free_number d z f h (inr s) = s.2 (subst IsNumber (both (integer_of d) z s.0 h.0 s.1) h.1)
 
-free_value : (N : NamesOf) (name : List ℕ) → Free (IsTurnValue N name) (InNamed N.actors InTurnValue name)
-free_value N name d v f h s = free_named N.actors IsTurnNumber InTurnValue free_number name d v.0 v.1 f h.0 h.1 s
-
 free_values : (N : NamesOf) → FreeIn (AreTurnValues N) (InMembers (InNamed N.actors InTurnValue))
-free_values N ms values f h s = free_members (IsTurnValue N) (InNamed N.actors InTurnValue) (free_value N) ms h.0 f h.1 s
+free_values N ms values f h s = free_named N.actors IsTurnNumber InTurnValue free_number ms h.0 f h.1 s
 
 -- an object lacks a key that it has
 lacks : {A : Type 0} (k : Key) (M : Data → A → Type 0) (ms : Members) (x : A) → At k M ms x → field k ms ≡ None → ⊥
@@ -238,36 +233,12 @@ free_end : (P : Program) (ms : Members) (e : EndGuard) (f : CertFault) → IsEnd
 free_end P ms e f h fits (inl s) = free_keys_of_end (names_in P) ms e f h s
 free_end P ms e f h fits (inr s) = s.2 (subst (EndFits P) (one_end (names_in P) ms e s.0 h s.1) fits)
 
--- an end that fits
-abbrev FitEnd : Program → Data → EndGuard → Type 0
-FitEnd P d e = IsObject (IsEnd (names_in P)) d e × EndFits P e
+free_fit_end : (P : Program) → Free (IsFitEnd P) (InObject (InEnd P))
+free_fit_end P d e f h (inl s) = never (as_object d) h.0.0 s.0 h.0.1
+free_fit_end P d e f h (inr s) = free_end P h.0.0 e f h.0.2 h.1 (subst (λ ms. InEnd P ms f) (both (as_object d) s.0 h.0.0 s.1 h.0.1) s.2)
 
-free_end_value : (P : Program) → Free (FitEnd P) (InObject (InEnd P))
-free_end_value P d e f h (inl s) = never (as_object d) h.0.0 s.0 h.0.1
-free_end_value P d e f h (inr s) = free_end P h.0.0 e f h.0.2 h.1 (subst (λ ms. InEnd P ms f) (both (as_object d) s.0 h.0.0 s.1 h.0.1) s.2)
-
--- what the entries mean, each with what holds of all of it
-each_with : {A : Type 0} (M : Data → A → Type 0) (Q : A → Type 0) (ds : Items) (xs : List A) → EachEntry M ds xs → All Q xs → EachEntry (λ d x. M d x × Q x) ds xs
-each_with M Q no_items [] h all = tt
-each_with M Q no_items (x ∷ xs) h all = absurd h
-each_with M Q (item d ds) [] h all = absurd h
-each_with M Q (item d ds) (x ∷ xs) h all = ((h.0, All-head Q x xs all), each_with M Q ds xs h.1 (All-tail Q x xs all))
-
-free_all_ends : (P : Program) (ds : Items) (es : List EndGuard) (f : CertFault) → EachEntry (IsObject (IsEnd (names_in P))) ds es → EndsFit P es → InAllEnds P ds f → ⊥
-free_all_ends P ds es f h fit (inl s) = free_entries (FitEnd P) (InObject (InEnd P)) (free_end_value P) ds es f (each_with (IsObject (IsEnd (names_in P))) (EndFits P) ds es h fit.0) s
-free_all_ends P ds es f h fit (inr s) =
-    let M = IsObject (IsEnd (names_in P)) in
-    let e = s.4 in
-    let one = meant_at M (one_end_value (names_in P)) ds es s.0 s.2 e e h s.7 s.9 in
-    let other = meant_at M (one_end_value (names_in P)) ds es s.1 s.3 s.5 e h s.8 s.10 in
-    fit.1 s.0 s.1 e s.6 other.0 (
-      ap (λ x. x.buffer) one.1 ∙ (s.11.0 ∙ ap (λ x. x.buffer) (sym other.1)),
-      ap (λ x. x.end) one.1 ∙ (s.11.1 ∙ ap (λ x. x.end) (sym other.1)),
-    )
-
-free_ends_value : (P : Program) → Free (λ d es. IsList (EachEntry (IsObject (IsEnd (names_in P)))) d es × EndsFit P es) (InList (InAllEnds P))
-free_ends_value P d es f h (inl s) = never (as_array d) h.0.0 s.0 h.0.1
-free_ends_value P d es f h (inr s) = free_all_ends P h.0.0 es f h.0.2 h.1 (subst (λ ds. InAllEnds P ds f) (both (as_array d) s.0 h.0.0 s.1 h.0.1) s.2)
+free_all_ends : (P : Program) → FreeOf (AreFitEnds P) (InAllEnds P)
+free_all_ends P = free_once (IsFitEnd P) (InObject (InEnd P)) AreOfOneEnd (fault.EndTwice []) (one_fit_end P) (free_fit_end P)
 
 -- ---- the whole
 
@@ -276,20 +247,17 @@ free_version d v f h (inl s) = never (integer_of d) (pos v) s.0 h.0
 free_version d v f (h, inl is) (inr s) = s.2 (both (integer_of d) s.0 (pos v) s.1 h ∙ ap pos is)
 free_version d v f (h, inr is) (inr s) = s.3 (both (integer_of d) s.0 (pos v) s.1 h ∙ ap pos is)
 
-free_notes_value : (P : Program) (version : ℕ) → Free (λ d notes. IsList (EachEntry (IsNote P version)) d notes × (length notes ≡ length (points_of P))) (InList (InNotes P version))
-free_notes_value P version d notes f h (inl s) = never (as_array d) h.0.0 s.0 h.0.1
-free_notes_value P version d notes f h (inr s) = free_notes P version h.0.0 notes f h.0.2 h.1 (subst (λ ds. InNotes P version ds f) (both (as_array d) s.0 h.0.0 s.1 h.0.1) s.2)
-
 free_certificate : (P : Program) → FreeIn (IsCertificate P) (InCertificate P)
 free_certificate P ms C f h (inl s) = free_keys place.Certificate ms f h.only s
 free_certificate P ms C f h (inr (inl s)) = free_needed key.Version IsVersion InVersion free_version ms h.version f h.numbered s
 free_certificate P ms C f h (inr (inr (inl s))) =
-    free_needed key.Ends (λ d es. IsList (EachEntry (IsObject (IsEnd (names_in P)))) d es × EndsFit P es) (InList (InAllEnds P)) (free_ends_value P) ms C.ends f (h.ends.0, h.ends.1, (h.ends.2, h.fit)) s
+    free_needed key.Ends (IsList (AreFitEnds P)) (InList (InAllEnds P)) (free_list (AreFitEnds P) (InAllEnds P) (free_all_ends P)) ms C.ends f h.ends s
 free_certificate P ms C f h (inr (inr (inr s))) =
+    let N = AreNotes P h.version in
+    let F = InNotes P h.version in
     let version : s.0 ≡ h.version = one_at key.Version IsVersion one_version ms s.0 h.version s.1 h.numbered in
-    let there : InNeeded key.Notes (InList (InNotes P h.version)) ms f = subst (λ v. InNeeded key.Notes (InList (InNotes P v)) ms f) version s.2 in
-    free_needed key.Notes (λ d notes. IsList (EachEntry (IsNote P h.version)) d notes × (length notes ≡ length (points_of P))) (InList (InNotes P h.version)) (free_notes_value P h.version) ms C.notes f
-    (h.notes.0, h.notes.1, (h.notes.2, h.points)) there
+    let there : InNeeded key.Notes (InList F) ms f = subst (λ v. InNeeded key.Notes (InList (InNotes P v)) ms f) version s.2 in
+    free_needed key.Notes (IsList N) (InList F) (free_list N F (free_notes P h.version)) ms C.notes f h.notes there
 
 free_bytes : (P : Program) (bytes : List ℕ) (C : Certificate) (f : CertFault) → Means P bytes C → InBytes bytes f → ⊥
 free_bytes P bytes C fault.TooLong h s = absurd (omega (arith, h.text.size, s))

@@ -17,11 +17,7 @@ use Rattle.fr_program.specs.Lookup.{no_variable, no_object, no_actor, variable_a
 use Rattle.fr_program.specs.Fault.{IsFaultless}
 use Rattle.fr_instr.specs.Names.{place_of}
 use Rattle.fr_cert.specs.Keys.{names_in}
-use Rattle.fr_cert.specs.Shapes.{EachMember}
-
--- the name is at this place of the list, and the value beside it means this
-abbrev pub IsNamed : {A : Type 0} → List (List ℕ) → (Data → A → Type 0) → List ℕ → Data → ℕ × A → Type 0
-IsNamed names Q name d x = (place_of names name ≡ Some x.0) × Q d x.1
+use Rattle.fr_cert.specs.Shapes.{EachMember, IsNamed}
 
 -- what is given to the thing with this number
 abbrev pub given : {A : Type 0} → List (ℕ × A) → ℕ → Option A

@@ -16,8 +16,8 @@ use Rattle.fr_ends.specs.Certificate.{Certificate, value_for}
 use Rattle.fr_ends.specs.Guard.{Guard, Sole, ByMutex, InCritical, Turn, EndGuard}
 use Rattle.fr_ends.proofs.TurnLemmas.{RisesFrom, rises_whole, none_below, first_value, later_value}
 use Rattle.fr_cert.specs.Keys.{AreKnown, is_key_of, key_text, field, integer_of, end_at, names_in}
-use Rattle.fr_cert.specs.Shapes.{At, OrDefault, IsObject, IsList, EachEntry, EachMember, Names, AreNames, IsDepth, AreEnds}
-use Rattle.fr_cert.specs.Meaning.{NoteText, IsHeldCount, IsRange, IsNoteText, note_said, IsAlternative, IsPlainNote, IsNote, IsTurnValue, AreTurnValues, IsGuardObject, IsGuard, IsEndName, IsEnd, IsVersion, IsCertificate, IsTree, Means}
+use Rattle.fr_cert.specs.Shapes.{At, OrDefault, IsObject, IsList, EachEntry, EachMember, IsNamed, Names, AreNames, IsDepth, AreEnds, IsSpan}
+use Rattle.fr_cert.specs.Meaning.{NoteText, IsNoteText, note_said, IsAlternative, IsPlainNote, IsNote, AreNotes, IsTurnNumber, AreTurnValues, IsGuardObject, IsGuard, IsEndName, IsEnd, IsFitEnd, AreFitEnds, IsVersion, IsCertificate, IsTree, Means}
 use Rattle.fr_cert.specs.declared.key.Key.{Key}
 use Rattle.fr_cert.specs.declared.key.Key.TheVariants as key
 use Rattle.fr_cert.specs.declared.key.Place.{Place}
@@ -90,25 +90,26 @@ one_depth d n m h g = let e : pos n ≡ pos m = both (integer_of d) (pos n) (pos
 one_ends : OneOf AreEnds
 one_ends ds r s h g = pair r s (both (end_at 0 ds) r.0 s.0 h.lo g.lo) (both (end_at 1 ds) r.1 s.1 h.hi g.hi)
 
+one_span : One IsSpan
+one_span = one_list AreEnds one_ends
+
+one_named : {A : Type 0} (names : List (List ℕ)) (M : Data → A → Type 0) → One M → OneIn (EachMember (IsNamed names M))
+one_named names M one =
+    one_members (IsNamed names M) (λ name d x y h g. pair x y (both (place_of names name) x.0 y.0 h.0 g.0) (one d x.1 y.1 h.1 g.1))
+
 -- ---- notes
-
-one_count : (N : NamesOf) (name : List ℕ) → One (IsHeldCount N name)
-one_count N name d x y h g = pair x y (both (place_of N.objects name) x.0 y.0 h.0 g.0) (one_depth d x.1 y.1 h.1 g.1)
-
-one_range : (N : NamesOf) (name : List ℕ) → One (IsRange N name)
-one_range N name d x y h g = pair x y (both (place_of N.variables name) x.0 y.0 h.0 g.0) (one_list AreEnds one_ends d x.1 y.1 h.1 g.1)
 
 abbrev text_made : List (ℕ × ℕ) → ℕ → ℕ → List ℕ → List ℕ → List (ℕ × (ℤ × ℤ)) → NoteText
 text_made held crit susp live dead ranges = record { held = held; crit = crit; susp = susp; live = live; dead = dead; ranges = ranges }
 
 pub one_text : (N : NamesOf) → OneIn (IsNoteText N)
 one_text N ms t u h g =
-    let held = one_default [] (IsObject (EachMember (IsHeldCount N))) (one_object (EachMember (IsHeldCount N)) (one_members (IsHeldCount N) (one_count N))) (field key.Held ms) t.held u.held h.held g.held in
+    let held = one_default [] (IsObject (EachMember (IsNamed N.objects IsDepth))) (one_object (EachMember (IsNamed N.objects IsDepth)) (one_named N.objects IsDepth one_depth)) (field key.Held ms) t.held u.held h.held g.held in
     let crit = one_default 0 IsDepth one_depth (field key.Crit ms) t.crit u.crit h.crit g.crit in
     let susp = one_default 0 IsDepth one_depth (field key.Susp ms) t.susp u.susp h.susp g.susp in
     let live = one_default [] (IsList (AreNames N.objects)) (one_list (AreNames N.objects) (one_names N.objects)) (field key.Live ms) t.live u.live h.live g.live in
     let dead = one_default [] (IsList (AreNames N.objects)) (one_list (AreNames N.objects) (one_names N.objects)) (field key.Dead ms) t.dead u.dead h.dead g.dead in
-    let ranges = one_default [] (IsObject (EachMember (IsRange N))) (one_object (EachMember (IsRange N)) (one_members (IsRange N) (one_range N))) (field key.Range ms) t.ranges u.ranges h.ranges g.ranges in
+    let ranges = one_default [] (IsObject (EachMember (IsNamed N.variables IsSpan))) (one_object (EachMember (IsNamed N.variables IsSpan)) (one_named N.variables IsSpan one_span)) (field key.Range ms) t.ranges u.ranges h.ranges g.ranges in
     let whole : text_made t.held t.crit t.susp t.live t.dead t.ranges ≡ text_made u.held u.crit u.susp u.live u.dead u.ranges =
     rw (held, crit, susp, live, dead, ranges) refl in
     whole
@@ -189,12 +190,12 @@ rising_same (v ∷ vs) (w ∷ ws) least h g same =
 
 -- ---- guards
 
-one_turn_value : (N : NamesOf) (name : List ℕ) → One (IsTurnValue N name)
-one_turn_value N name d x y h g = pair x y (both (place_of N.actors name) x.0 y.0 h.0 g.0) (both (integer_of d) x.1 y.1 h.1.0 g.1.0)
+one_number : One IsTurnNumber
+one_number d x y h g = both (integer_of d) x y h.0 g.0
 
 one_turn : (N : NamesOf) → OneIn (AreTurnValues N)
 one_turn N ms x y h g =
-    let given : g.0 ≡ h.0 = one_members (IsTurnValue N) (one_turn_value N) ms g.0 h.0 g.1 h.1 in
+    let given : g.0 ≡ h.0 = one_named N.actors IsTurnNumber one_number ms g.0 h.0 g.1 h.1 in
     rising_same x y 0 (rises_whole x h.2) (rises_whole y g.2) (λ a. h.3 a ∙ sym (g.3 a ∙ ap (λ vs. value_for vs a) given))
 
 -- an object has no key that is unknown at its place
@@ -249,11 +250,8 @@ one_end N ms e f h g =
     let whole : end_made e.buffer e.end e.guard ≡ end_made f.buffer f.end f.guard = rw (buffer, end, guard) refl in
     whole
 
-pub one_end_value : (N : NamesOf) → One (IsObject (IsEnd N))
-one_end_value N = one_object (IsEnd N) (one_end N)
-
-one_ends_list : (N : NamesOf) → OneOf (EachEntry (IsObject (IsEnd N)))
-one_ends_list N = one_entries (IsObject (IsEnd N)) (one_end_value N)
+pub one_fit_end : (P : Program) → One (IsFitEnd P)
+one_fit_end P d e f h g = one_object (IsEnd (names_in P)) (one_end (names_in P)) d e f h.0 g.0
 
 -- ---- the whole
 
@@ -266,9 +264,11 @@ certificate_made notes ends = record { notes = notes; ends = ends }
 one_certificate : (P : Program) → OneIn (IsCertificate P)
 one_certificate P ms C D h g =
     let version = one_at key.Version IsVersion one_version ms h.version g.version h.numbered g.numbered in
-    let ends = one_at key.Ends (IsList (EachEntry (IsObject (IsEnd (names_in P))))) (one_list (EachEntry (IsObject (IsEnd (names_in P)))) (one_ends_list (names_in P))) ms C.ends D.ends h.ends g.ends in
-    let there = subst (λ v. At key.Notes (IsList (EachEntry (IsNote P v))) ms D.notes) (sym version) g.notes in
-    let notes = one_at key.Notes (IsList (EachEntry (IsNote P h.version))) (one_list (EachEntry (IsNote P h.version)) (one_entries (IsNote P h.version) (one_note P h.version))) ms C.notes D.notes h.notes there in
+    let each_end : OneOf (AreFitEnds P) = λ ds es fs p q. one_entries (IsFitEnd P) (one_fit_end P) ds es fs p.0 q.0 in
+    let ends = one_at key.Ends (IsList (AreFitEnds P)) (one_list (AreFitEnds P) each_end) ms C.ends D.ends h.ends g.ends in
+    let there = subst (λ v. At key.Notes (IsList (AreNotes P v)) ms D.notes) (sym version) g.notes in
+    let each_note : OneOf (AreNotes P h.version) = λ ds xs ys p q. one_entries (IsNote P h.version) (one_note P h.version) ds xs ys p.0 q.0 in
+    let notes = one_at key.Notes (IsList (AreNotes P h.version)) (one_list (AreNotes P h.version) each_note) ms C.notes D.notes h.notes there in
     let whole : certificate_made C.notes C.ends ≡ certificate_made D.notes D.ends = rw (notes, ends) refl in
     whole
 

@@ -31,8 +31,8 @@ use Rattle.fr_cert.specs.declared.key.Key.{Key}
 use Rattle.fr_cert.specs.declared.key.Key.TheVariants as key
 use Rattle.fr_cert.specs.declared.key.Place.{Place}
 use Rattle.fr_cert.specs.declared.key.Place.TheVariants as place
-use Rattle.fr_cert.specs.Shapes.{OrDefault, IsObject, IsList, EachEntry, EachMember, Names, AreNames, IsDepth, IsSpan}
-use Rattle.fr_cert.specs.Meaning.{NoteText, IsHeldCount, IsRange, IsNoteText, IsInside, count_for, has, claim_at, range_at, IsPlainNote, IsNote}
+use Rattle.fr_cert.specs.Shapes.{OrDefault, IsObject, IsList, EachEntry, EachMember, IsNamed, Names, AreNames, IsDepth, IsSpan}
+use Rattle.fr_cert.specs.Meaning.{NoteText, IsNoteText, IsInside, count_for, has, claim_at, range_at, IsPlainNote, IsNote}
 use Rattle.fr_cert.specs.Written.{range_tree, is_declared, with_named, with_ranges, with_count, with_counts, is_alive, is_gone, names_where, with_depth, with_list, with_object, alternative_tree, alternatives_tree, note_tree, notes_tree, version_of}
 use Rattle.fr_cert.proofs.GivenLemmas.{given, put_if, put_all, whole, variable_place, object_place}
 
@@ -116,7 +116,7 @@ narrow_back v r = go (is_declared v r) refl
 -- the ranges that the object gives are those of the alternative
 record RangesBack (P : Program) (n : Alternative) : Type 0 where
   ys : List (ℕ × (ℤ × ℤ))
-  named : EachMember (IsRange (names_in P)) (with_ranges P.variables n.ranges no_members) ys
+  named : EachMember (IsNamed (names_in P).variables IsSpan) (with_ranges P.variables n.ranges no_members) ys
   each : AllByRecursion (IsInside P) ys
   back : (k : ℕ) → k < length P.variables → range_at P ys k ≡ get_or n.ranges k (pos 0, pos 0)
 
@@ -132,7 +132,7 @@ ranges_back P n faultless fits =
     (λ k a within is. fit k a (in_variables k within) (sym (narrowed_at P.variables n.ranges k fits.ranges.0 (in_variables k within)) ∙ is)) tt tt (λ k from. refl) in
     record {
       ys = all.ys;
-      named = subst (λ ms. EachMember (IsRange (names_in P)) ms all.ys) (sym (ranges_put P.variables n.ranges no_members)) all.named;
+      named = subst (λ ms. EachMember (IsNamed (names_in P).variables IsSpan) ms all.ys) (sym (ranges_put P.variables n.ranges no_members)) all.named;
       each = all.each;
       back = λ k within.
           let found : given all.ys k ≡ narrow (variable_at P k) (get_or n.ranges k (pos 0, pos 0)) =
@@ -202,7 +202,7 @@ CanBeHeld P h = (h.0 < length P.objects) × CanClaim (kind_of P h.0) (HeldTimes 
 -- the counts that the object gives are those of the alternative
 record CountsBack (P : Program) (n : Alternative) : Type 0 where
   ys : List (ℕ × ℕ)
-  named : EachMember (IsHeldCount (names_in P)) (with_counts P.objects n.claims no_members) ys
+  named : EachMember (IsNamed (names_in P).objects IsDepth) (with_counts P.objects n.claims no_members) ys
   each : AllByRecursion (CanBeHeld P) ys
   back : (k : ℕ) → k < length P.objects → count_for ys k ≡ count_of (get_or n.claims k NotHeld)
 
@@ -218,7 +218,7 @@ counts_back P n faultless fits =
     (λ k a within is. fit k a (in_objects k within) (sym (count_at k (in_objects k within)) ∙ is)) tt tt (λ k from. refl) in
     record {
       ys = all.ys;
-      named = subst (λ ms. EachMember (IsHeldCount (names_in P)) ms all.ys) (sym (counts_put P.objects n.claims no_members)) all.named;
+      named = subst (λ ms. EachMember (IsNamed (names_in P).objects IsDepth) ms all.ys) (sym (counts_put P.objects n.claims no_members)) all.named;
       each = all.each;
       back = λ k within. ap (given all.ys) (at_zero k) ∙ (all.all k (omega (arith, within, length-map n.claims count_of, fits.claims.0)) ∙ count_at k within);
     }
@@ -455,7 +455,7 @@ six crit dead held live ranges susp =
     with_depth key.Crit crit (with_list key.Dead dead (with_object key.Held held (with_list key.Live live (with_object key.Range ranges (with_depth key.Susp susp no_members)))))
 
 text_again : (P : Program) (text : NoteText) (dead : Items) (held : Members) (live : Items) (ranges : Members) → text.crit ≤ most_depth → text.susp ≤ most_depth
-    → AreNames (names_in P).objects dead text.dead → EachMember (IsHeldCount (names_in P)) held text.held → AreNames (names_in P).objects live text.live → EachMember (IsRange (names_in P)) ranges text.ranges
+    → AreNames (names_in P).objects dead text.dead → EachMember (IsNamed (names_in P).objects IsDepth) held text.held → AreNames (names_in P).objects live text.live → EachMember (IsNamed (names_in P).variables IsSpan) ranges text.ranges
     → IsNoteText (names_in P) (six text.crit dead held live ranges text.susp) text
 text_again P text dead held live ranges crit_small susp_small is_dead is_held is_live is_ranges =
     let N = names_in P in
@@ -485,8 +485,8 @@ text_again P text dead held live ranges crit_small susp_small is_dead is_held is
           ∙ (skip_list key.Dead key.Live live m2 tt
           ∙ (skip_object key.Dead key.Range ranges m1 tt
           ∙ (skip_depth key.Dead key.Susp text.susp no_members tt ∙ nothing key.Dead)))) is_dead);
-      held = subst (λ o. OrDefault [] (IsObject (EachMember (IsHeldCount N))) o text.held) (sym (skip_depth key.Held key.Crit text.crit m5 tt ∙ skip_list key.Held key.Dead dead m4 tt))
-          (object_here key.Held (IsHeldCount N) held text.held m3
+      held = subst (λ o. OrDefault [] (IsObject (EachMember (IsNamed N.objects IsDepth))) o text.held) (sym (skip_depth key.Held key.Crit text.crit m5 tt ∙ skip_list key.Held key.Dead dead m4 tt))
+          (object_here key.Held (IsNamed N.objects IsDepth) held text.held m3
           (skip_list key.Held key.Live live m2 tt
           ∙ (skip_object key.Held key.Range ranges m1 tt
           ∙ (skip_depth key.Held key.Susp text.susp no_members tt ∙ nothing key.Held))) is_held);
@@ -495,9 +495,9 @@ text_again P text dead held live ranges crit_small susp_small is_dead is_held is
           (list_here key.Live (Names N.objects) differ live text.live m2
           (skip_object key.Live key.Range ranges m1 tt
           ∙ (skip_depth key.Live key.Susp text.susp no_members tt ∙ nothing key.Live)) is_live);
-      ranges = subst (λ o. OrDefault [] (IsObject (EachMember (IsRange N))) o text.ranges)
+      ranges = subst (λ o. OrDefault [] (IsObject (EachMember (IsNamed N.variables IsSpan))) o text.ranges)
           (sym (skip_depth key.Range key.Crit text.crit m5 tt ∙ (skip_list key.Range key.Dead dead m4 tt ∙ (skip_object key.Range key.Held held m3 tt ∙ skip_list key.Range key.Live live m2 tt))))
-          (object_here key.Range (IsRange N) ranges text.ranges m1 (skip_depth key.Range key.Susp text.susp no_members tt ∙ nothing key.Range) is_ranges);
+          (object_here key.Range (IsNamed N.variables IsSpan) ranges text.ranges m1 (skip_depth key.Range key.Susp text.susp no_members tt ∙ nothing key.Range) is_ranges);
       susp = subst (λ o. OrDefault 0 IsDepth o text.susp)
           (sym (skip_depth key.Susp key.Crit text.crit m5 tt ∙ (skip_list key.Susp key.Dead dead m4 tt ∙ (skip_object key.Susp key.Held held m3 tt ∙ (skip_list key.Susp key.Live live m2 tt ∙ skip_object key.Susp key.Range ranges m1 tt)))))
           (depth_here key.Susp text.susp no_members (nothing key.Susp) susp_small);

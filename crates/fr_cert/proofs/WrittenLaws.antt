@@ -40,10 +40,8 @@ tree_again P C faultless fits =
         version = version_of C.notes;
         only = known_more place.Certificate (key_text key.Ends) (array (ends_tree P C.ends)) notes refl (known_more place.Certificate (key_text key.Notes) (array (notes_tree P C.notes)) version refl known);
         numbered = (number_, refl, version_again C.notes);
-        ends = (array (ends_tree P C.ends), refl, (ends_tree P C.ends, refl, ends_again P C.ends faultless fits.1.0));
-        fit = fits.1;
-        notes = (array (notes_tree P C.notes), refl, (notes_tree P C.notes, refl, notes_again P C.notes faultless fits.0.1));
-        points = fits.0.0;
+        ends = (array (ends_tree P C.ends), refl, (ends_tree P C.ends, refl, (ends_again P C.ends faultless fits.1.0, fits.1.1)));
+        notes = (array (notes_tree P C.notes), refl, (notes_tree P C.notes, refl, (notes_again P C.notes faultless fits.0.1, fits.0.0)));
       },
     )
 

@@ -12,7 +12,7 @@
 -- | InEntries, InMembers       | the fault is in an entry of a list; in a member of an object                     |
 -- | InInteger, InDepth         | a value is no integer; or it is none from 0 to 255                               |
 -- | IsUnknown, InName          | a name is none; a value is no text, or such a name                               |
--- | IsNamedTwice, InNames      | a name is there twice; the fault is in a list of names                           |
+-- | IsTwice, InNames           | two entries are alike; the fault is in a list of names                           |
 -- | InEnds, InSpan             | a list is not two integers in order; a value is no such list                     |
 use Rattle.std.specs.Prelude.{◌≡◌, ◌⊎◌, ◌<◌, ◌≤◌, ◌<ℤ◌, ℕ, ℤ, pos, List, [], ◌∷◌, Bool, true, false, Some, None, string_bytes}
 use Rattle.serde_json.specs.Data.{Data, Items, Members, no_members, member}
@@ -106,15 +106,15 @@ InName names d f =
     ((as_str d ≡ None) × Departs [] f)
     ⊎ ((name : List ℕ) × (as_str d ≡ Some name) × (place_of names name ≡ None) × IsUnknown name f)
 
--- two entries of the list are one name; the fault is at the later one
-abbrev pub IsNamedTwice : List (List ℕ) → Items → CertFault → Type 0
-IsNamedTwice names ds f =
-    (i j : ℕ) × (one other : Data) × (n : ℕ) × (i < j) × (get_item i ds ≡ Some one) × (get_item j ds ≡ Some other)
-    × Names names one n × Names names other n × (f ≡ fault.Note (at j ∷ []))
+-- two entries of the list mean things that are alike; this fault is at the later one
+abbrev pub IsTwice : {A : Type 0} → (Data → A → Type 0) → (A → A → Type 0) → CertFault → Items → CertFault → Type 0
+IsTwice {A} M AreAlike twice ds f =
+    (i j : ℕ) × (one other : Data) × (x y : A) × (i < j) × (get_item i ds ≡ Some one) × (get_item j ds ≡ Some other)
+    × M one x × M other y × AreAlike x y × (f ≡ deeper (at j) twice)
 
 -- the fault is in a name of the list, or a name is there twice
 abbrev pub InNames : List (List ℕ) → Items → CertFault → Type 0
-InNames names ds f = InEntries (InName names) ds f ⊎ IsNamedTwice names ds f
+InNames names ds f = InEntries (InName names) ds f ⊎ IsTwice (Names names) (λ n m. n ≡ m) (fault.Note []) ds f
 
 -- the list is not exactly two integers, or the lower end is above the upper one
 abbrev pub InEnds : Items → CertFault → Type 0

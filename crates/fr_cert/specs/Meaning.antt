@@ -3,29 +3,29 @@
 -- | word                                | meaning                                                                |
 -- |-------------------------------------|------------------------------------------------------------------------|
 -- | NoteText                            | a note as its object has it: depths, counts, and numbers of things     |
--- | IsHeldCount, IsRange, IsTurnValue   | a name beside a count, a range, a turn value                           |
 -- | IsNoteText                          | an object means the parts of a note, key by key                        |
 -- | IsInside, NoteTextFits              | a range is in the declared one; the parts are a note of the application |
 -- | claim_at, range_at, note_said       | what the parts say of an object, of a variable; the alternative        |
 -- | IsAlternative, IsPlainNote          | an object, a value means one alternative                               |
--- | IsNote                              | a value means a note, in a version                                     |
+-- | IsNote, AreNotes                    | a value means a note, in a version; a list means one for each point    |
 -- | AreTurnValues                       | an object means the values of a turn, rising by actor                  |
 -- | IsGuardObject, IsGuard              | an object, a value means a guard                                       |
--- | IsEnd                               | an object means the guard of an end, key by key                        |
+-- | IsEnd, IsFitEnd                     | an object means the guard of an end, key by key; which fits            |
+-- | AreFitEnds                          | a list means guards of ends that fit, none of one end twice            |
 -- | IsVersion                           | a value is one of the two versions                                     |
 -- | IsCertificate, IsTree               | an object means a certificate, key by key; a value is such an object   |
 -- | IsTreeText                          | the bytes are the text of this value                                   |
 -- | Means                               | the bytes mean a certificate of this application                       |
-use Rattle.std.specs.Prelude.{◌≡◌, ◌<◌, ◌≤◌, ◌≤ℤ◌, ◌⊎◌, ℕ, ℤ, pos, List, [], ◌∷◌, Bool, ◌||◌, IsTrue, if◌then◌else◌, Option, Some, is_some, option_map, unwrap_or, All, IsUtf8, codes, find, length, map, nat_eq}
+use Rattle.std.specs.Prelude.{◌≡◌, ◌<◌, ◌≤◌, ◌≤ℤ◌, ◌⊎◌, ℕ, ℤ, pos, List, [], ◌∷◌, Bool, ◌||◌, IsTrue, if◌then◌else◌, Option, Some, is_some, option_map, unwrap_or, All, AllPairs, IsUtf8, codes, find, length, map, nat_eq}
 use Rattle.std.specs.List.{list_any, range_with_len}
-use Rattle.serde_json.specs.Data.{Data, Members}
+use Rattle.serde_json.specs.Data.{Data, Items, Members}
 use Rattle.serde_json.specs.Find.{as_str}
 use Rattle.serde_json.specs.Read.{read}
 use Rattle.fr_program.specs.Program.{Program}
 use Rattle.fr_program.specs.Lookup.{variable_at}
 use Rattle.fr_program.specs.Limits.{IsNumber}
 use Rattle.fr_program.specs.Points.{points_of}
-use Rattle.fr_instr.specs.Names.{NamesOf, place_of}
+use Rattle.fr_instr.specs.Names.{NamesOf}
 use Rattle.fr_calls.specs.declared.buffer_end.End.{End as BufferEnd}
 use Rattle.fr_calls.specs.BufferEnd.{end_text}
 use Rattle.fr_calls.specs.State.{kind_of}
@@ -36,9 +36,9 @@ use Rattle.fr_notes.specs.Fits.{CanClaim, most_alternatives}
 use Rattle.fr_notes.specs.Parts.{claim_by}
 use Rattle.fr_ends.specs.Guard.{Guard, Sole, ByMutex, InCritical, Turn, EndGuard}
 use Rattle.fr_ends.specs.Certificate.{Certificate, value_for}
-use Rattle.fr_ends.specs.Fits.{AreRising, EndsFit}
+use Rattle.fr_ends.specs.Fits.{AreRising, EndFits, AreOfOneEnd}
 use Rattle.fr_cert.specs.Keys.{AreKnown, integer_of, names_in}
-use Rattle.fr_cert.specs.Shapes.{At, AtOrDefault, IsObject, IsList, EachEntry, EachMember, Names, AreNames, IsDepth, IsSpan}
+use Rattle.fr_cert.specs.Shapes.{At, AtOrDefault, IsObject, IsList, EachEntry, EachMember, IsNamed, Names, AreNames, IsDepth, IsSpan}
 use Rattle.fr_cert.specs.declared.key.Key.TheVariants as key
 use Rattle.fr_cert.specs.declared.key.Place.TheVariants as place
 
@@ -52,23 +52,15 @@ pub record NoteText : Type 0 where
   pub dead : List ℕ
   pub ranges : List (ℕ × (ℤ × ℤ))
 
--- the name is that of the object with this number, and the value beside it is this count
-abbrev pub IsHeldCount : NamesOf → List ℕ → Data → ℕ × ℕ → Type 0
-IsHeldCount N name d x = (place_of N.objects name ≡ Some x.0) × IsDepth d x.1
-
--- the name is that of the variable with this number, and the value beside it is this range
-abbrev pub IsRange : NamesOf → List ℕ → Data → ℕ × (ℤ × ℤ) → Type 0
-IsRange N name d x = (place_of N.variables name ≡ Some x.0) × IsSpan d x.1
-
 -- the object means these parts of a note, key by key; each key may be missing
 pub record IsNoteText (N : NamesOf) (ms : Members) (text : NoteText) : Type 0 where
   pub only : AreKnown place.Note ms
-  pub held : AtOrDefault key.Held [] (IsObject (EachMember (IsHeldCount N))) ms text.held
+  pub held : AtOrDefault key.Held [] (IsObject (EachMember (IsNamed N.objects IsDepth))) ms text.held
   pub crit : AtOrDefault key.Crit 0 IsDepth ms text.crit
   pub susp : AtOrDefault key.Susp 0 IsDepth ms text.susp
   pub live : AtOrDefault key.Live [] (IsList (AreNames N.objects)) ms text.live
   pub dead : AtOrDefault key.Dead [] (IsList (AreNames N.objects)) ms text.dead
-  pub ranges : AtOrDefault key.Range [] (IsObject (EachMember (IsRange N))) ms text.ranges
+  pub ranges : AtOrDefault key.Range [] (IsObject (EachMember (IsNamed N.variables IsSpan))) ms text.ranges
 
 -- the application has the variable, and the range is inside its declared one
 abbrev pub IsInside : Program → ℕ × (ℤ × ℤ) → Type 0
@@ -121,18 +113,18 @@ IsNote P version d note =
     ⊎ (((n : Alternative) × IsPlainNote P d n × (note ≡ n ∷ []))
     ⊎ ((version ≡ 2) × IsList (EachEntry (IsPlainNote P)) d note × (1 ≤ length note) × (length note ≤ most_alternatives)))
 
+-- the entries mean these notes, of which there is one for each point
+abbrev pub AreNotes : Program → ℕ → Items → List Note → Type 0
+AreNotes P version ds notes = EachEntry (IsNote P version) ds notes × (length notes ≡ length (points_of P))
+
 -- the value is an integer of 64 bits
 abbrev pub IsTurnNumber : Data → ℤ → Type 0
 IsTurnNumber d z = (integer_of d ≡ Some z) × IsNumber z
 
--- the name is that of the actor with this number, and the value beside it is its turn value
-abbrev pub IsTurnValue : NamesOf → List ℕ → Data → ℕ × ℤ → Type 0
-IsTurnValue N name d v = (place_of N.actors name ≡ Some v.0) × IsTurnNumber d v.1
-
 -- the object gives each actor the value that it has in the list, which rises by actor
 abbrev pub AreTurnValues : NamesOf → Members → List (ℕ × ℤ) → Type 0
 AreTurnValues N ms values =
-    (given : List (ℕ × ℤ)) × EachMember (IsTurnValue N) ms given × AreRising values
+    (given : List (ℕ × ℤ)) × EachMember (IsNamed N.actors IsTurnNumber) ms given × AreRising values
     × ((a : ℕ) → value_for values a ≡ value_for given a)
 
 -- the object means the guard, key by key; a critical section is no object
@@ -159,6 +151,14 @@ pub record IsEnd (N : NamesOf) (ms : Members) (e : EndGuard) : Type 0 where
   pub end : At key.End IsEndName ms e.end
   pub guard : At key.Guard (IsGuard N) ms e.guard
 
+-- the value is an object that does, and the guard fits the application
+abbrev pub IsFitEnd : Program → Data → EndGuard → Type 0
+IsFitEnd P d e = IsObject (IsEnd (names_in P)) d e × EndFits P e
+
+-- the entries mean guards of ends that fit, none of one end twice
+abbrev pub AreFitEnds : Program → Items → List EndGuard → Type 0
+AreFitEnds P ds es = EachEntry (IsFitEnd P) ds es × AllPairs (λ e g. AreOfOneEnd e g → ⊥) es
+
 -- the value is the version 1 or 2
 abbrev pub IsVersion : Data → ℕ → Type 0
 IsVersion d version = (integer_of d ≡ Some (pos version)) × ((version ≡ 1) ⊎ (version ≡ 2))
@@ -168,10 +168,8 @@ pub record IsCertificate (P : Program) (ms : Members) (C : Certificate) : Type 0
   pub version : ℕ
   pub only : AreKnown place.Certificate ms
   pub numbered : At key.Version IsVersion ms version
-  pub ends : At key.Ends (IsList (EachEntry (IsObject (IsEnd (names_in P))))) ms C.ends
-  pub fit : EndsFit P C.ends
-  pub notes : At key.Notes (IsList (EachEntry (IsNote P version))) ms C.notes
-  pub points : length C.notes ≡ length (points_of P)
+  pub ends : At key.Ends (IsList (AreFitEnds P)) ms C.ends
+  pub notes : At key.Notes (IsList (AreNotes P version)) ms C.notes
 
 -- the value is an object that does
 abbrev pub IsTree : Program → Data → Certificate → Type 0

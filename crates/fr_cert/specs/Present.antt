@@ -12,9 +12,9 @@
 -- | InCertificate, InTree | the fault is in the object, in the value of the whole text                             |
 -- | InBytes               | the fault is in the bytes themselves                                                   |
 -- | IsPresent             | the fault is in the bytes, or in the value that they are the text of                   |
-use Rattle.std.specs.Prelude.{◌≡◌, ◌⊎◌, ◌<◌, ℕ, ℤ, pos, List, [], ◌∷◌, Some, None, IsUtf8, codes, length}
+use Rattle.std.specs.Prelude.{◌≡◌, ◌⊎◌, ◌<◌, ℕ, ℤ, pos, List, [], Some, None, IsUtf8, codes, length}
 use Rattle.serde_json.specs.Data.{Data, Items, Members}
-use Rattle.serde_json.specs.Find.{get_item, as_array, as_object, as_str}
+use Rattle.serde_json.specs.Find.{as_array, as_object, as_str}
 use Rattle.serde_json.specs.Read.{read}
 use Rattle.serde_json.specs.Events.{items_len}
 use Rattle.fr_program.specs.Program.{Program}
@@ -25,11 +25,10 @@ use Rattle.fr_notes.specs.Fits.{most_alternatives}
 use Rattle.fr_ends.specs.Guard.{EndGuard}
 use Rattle.fr_ends.specs.Fits.{EndFits, AreOfOneEnd}
 use Rattle.fr_instr.specs.Names.{NamesOf}
-use Rattle.fr_cert.specs.Path.{at}
 use Rattle.fr_cert.specs.Keys.{field, integer_of, names_in}
-use Rattle.fr_cert.specs.Shapes.{At, IsObject}
-use Rattle.fr_cert.specs.Meaning.{NoteText, IsNoteText, NoteTextFits, IsEndName, IsEnd, IsVersion, IsTreeText, most_bytes}
-use Rattle.fr_cert.specs.Faults.{Departs, InKeys, InField, InNeeded, InObject, InList, InEntries, InMembers, InNamed, InInteger, InDepth, InName, InNames, InSpan}
+use Rattle.fr_cert.specs.Shapes.{At}
+use Rattle.fr_cert.specs.Meaning.{NoteText, IsNoteText, NoteTextFits, IsEndName, IsEnd, IsFitEnd, IsVersion, IsTreeText, most_bytes}
+use Rattle.fr_cert.specs.Faults.{Departs, InKeys, InField, InNeeded, InObject, InList, InEntries, InMembers, InNamed, InInteger, InDepth, InName, IsTwice, InNames, InSpan}
 use Rattle.fr_cert.specs.declared.key.Key.{Key}
 use Rattle.fr_cert.specs.declared.key.Key.TheVariants as key
 use Rattle.fr_cert.specs.declared.key.Place.TheVariants as place
@@ -117,15 +116,9 @@ InEnd P ms f =
     InKeysOfEnd (names_in P) ms f
     ⊎ ((e : EndGuard) × IsEnd (names_in P) ms e × (EndFits P e → ⊥) × (f ≡ fault.Guard []))
 
--- two entries of the list are of one end; the fault is at the later one
-abbrev pub IsListedTwice : NamesOf → Items → CertFault → Type 0
-IsListedTwice N ds f =
-    (i j : ℕ) × (one other : Data) × (e g : EndGuard) × (i < j) × (get_item i ds ≡ Some one) × (get_item j ds ≡ Some other)
-    × IsObject (IsEnd N) one e × IsObject (IsEnd N) other g × AreOfOneEnd e g × (f ≡ fault.EndTwice (at j ∷ []))
-
 -- the fault is in an entry of the list of ends, or an end is listed twice
 abbrev pub InAllEnds : Program → Items → CertFault → Type 0
-InAllEnds P ds f = InEntries (InObject (InEnd P)) ds f ⊎ IsListedTwice (names_in P) ds f
+InAllEnds P ds f = InEntries (InObject (InEnd P)) ds f ⊎ IsTwice (IsFitEnd P) AreOfOneEnd (fault.EndTwice []) ds f
 
 -- the value is no integer, or another one than 1 and 2
 abbrev pub InVersion : Data → CertFault → Type 0

@@ -7,6 +7,7 @@
 -- | IsObject, IsList       | the value is an object, a list, and its contents mean this                    |
 -- | EachEntry              | the entries of a list mean these things, one for each, in order               |
 -- | EachMember             | the members of an object do, each by its name and its value                   |
+-- | IsNamed                | a member is a name, and its value means this                                  |
 -- | Names, AreNames        | the value is a name, is a list of different names                             |
 -- | IsDepth                | the value is an integer from 0 to 255                                         |
 -- | IsSpan                 | the value is a list of two integers, the lower end first                      |
@@ -52,6 +53,10 @@ EachMember M no_members [] = Unit {0}
 EachMember M no_members (x ∷ xs) = ⊥
 EachMember M (member name d ms) [] = ⊥
 EachMember M (member name d ms) (x ∷ xs) = M name d x × EachMember M ms xs
+
+-- the name is at this place of the list, and the value beside it means this
+abbrev pub IsNamed : {A : Type 0} → List (List ℕ) → (Data → A → Type 0) → List ℕ → Data → ℕ × A → Type 0
+IsNamed names M name d x = (place_of names name ≡ Some x.0) × M d x.1
 
 -- the value is a text, which is the name at this place of the list
 abbrev pub Names : List (List ℕ) → Data → ℕ → Type 0

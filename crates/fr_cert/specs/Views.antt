@@ -1,6 +1,6 @@
 -- For private clauses: what the parts of a note and of a guard in code mean, what a fault of a note is called, and the
 -- order of the keys that are written.
-use Rattle.std.specs.Prelude.{◌≡◌, ℕ, ℤ, [], ◌∷◌, Bool, map}
+use Rattle.std.specs.Prelude.{◌≡◌, ℕ, ℤ, [], Bool, map}
 use Rattle.std.specs.Ordering.{nat_cmp}
 use Rattle.std.specs.declared.cmp.Ordering.TheVariants.{Less}
 use Rattle.std.specs.Cmp.Lexicographic.{slice_cmp}
@@ -12,7 +12,6 @@ use Rattle.fr_program.specs.Limits.{IsNumber}
 use Rattle.fr_notes.specs.declared.note.NoteParts.{NoteParts}
 use Rattle.fr_notes.specs.declared.fault.NoteFault.{NoteFault}
 use Rattle.fr_notes.specs.declared.fault.NoteFault.TheVariants as note
-use Rattle.fr_notes.specs.Note.{Alternative, Note}
 use Rattle.fr_notes.specs.View.{ends_of}
 use Rattle.fr_cert.specs.declared.fault.CertFault.{CertFault}
 use Rattle.fr_cert.specs.declared.fault.CertFault.TheVariants as cert
@@ -46,10 +45,6 @@ text_of parts = record {
   dead = map number_of parts.dead.items;
   ranges = map named_of parts.range.items;
 }
-
--- the note has one alternative, of which this holds
-abbrev pub IsOneOf : (Alternative → Type 0) → Note → Type 0
-IsOneOf Q note = (n : Alternative) × Q n × (note ≡ n ∷ [])
 
 -- what a certificate with a note that has this fault is refused for
 abbrev pub refused_as : NoteFault → CertFault

@@ -1,21 +1,20 @@
 // Reading the ranges that a note gives variables.
-ghost use Rattle.std.specs.Prelude.{◌≡◌, Some, IfOk, IfErr, option_map, map};
+ghost use Rattle.std.specs.Prelude.{◌≡◌, Some, IfOk, IfErr, option_map};
 ghost use Rattle.serde_json.specs.Find.{get_item};
-ghost use Rattle.serde_json.specs.View.{view, items_view, members_view};
+ghost use Rattle.serde_json.specs.View.{view, items_view};
 ghost use Rattle.fr_notes.specs.View.{ends_of};
 ghost use Rattle.fr_cert.specs.Keys.{end_at};
-ghost use Rattle.fr_cert.specs.Shapes.{IsObject, EachMember, AreEnds, IsSpan};
-ghost use Rattle.fr_cert.specs.Meaning.{IsRange};
-ghost use Rattle.fr_cert.specs.Faults.{Standing, InObject, InMembers, InNamed, InEnds, InSpan};
-ghost use Rattle.fr_cert.specs.Views.{named_of};
+ghost use Rattle.fr_cert.specs.Shapes.{AreEnds};
+ghost use Rattle.fr_cert.specs.Faults.{Standing, InEnds};
 
 use crate::fault::CertFault;
-use crate::names::{Thing, number_named};
+use crate::names::{Thing, named};
 use crate::path::Path;
-use crate::tree::{departs_in, integer_of, list_in, object_in, within_key};
-use fr_instr::Names;
+use crate::reader::{Member, Reader};
+use crate::scope::Scope;
+use crate::tree::{departs_in, integer_of, list_in};
 use fr_program::{Range, VarId};
-use serde_json::{Map, Value};
+use serde_json::Value;
 use std::alloc::Global;
 
 /// What a list has at a position, if it is so long.
@@ -59,60 +58,51 @@ fn span_of(alloc: Global, ends: &Vec<Value>) -> Result<Range, CertFault>
     }
 }
 
-/// The range that a list of two integers means.
-fn range_of(alloc: Global, value: &Value) -> Result<Range, CertFault>
-    ensures ok { IfOk result (λ range. IsSpan (view value.now) (ends_of range)) }
-    ensures err { IfErr result (Standing (InSpan (view value.now))) }
-{
-    span_of(alloc, list_in(alloc, value)?)
-}
+/// A list of two integers.
+struct Span;
 
-/// The variable with this name, and the range beside it.
-fn named_range(
-    alloc: Global,
-    names: &Names,
-    name: &str,
-    value: &Value,
-) -> Result<(VarId, Range), CertFault>
-    ensures ok { IfOk result (λ x. IsRange names.now name.now (view value.now) (named_of x)) }
-    ensures err { IfErr result
-        (Standing (InNamed names.now.variables InSpan name.now (view value.now))) }
-{
-    let number = number_named(alloc, names, Thing::Variable, name)?;
-    match range_of(alloc, value) {
-        Ok(range) => Ok((VarId(number), range)),
-        Err(fault) => Err(within_key(alloc, name, fault)),
+impl Reader for Span {
+    ghost use Rattle.std.specs.Prelude.{ℤ};
+    ghost use Rattle.fr_cert.specs.Shapes.{IsSpan};
+    ghost use Rattle.fr_cert.specs.Faults.{InSpan};
+
+    type Item = Range;
+
+    ghost Seen = { ℤ × ℤ };
+
+    ghost seen = { ends_of };
+
+    ghost Means = { λ _ _. IsSpan };
+
+    ghost Faults = { λ _ _. InSpan };
+
+    fn read(&self, scope: &Scope, value: &Value) -> Result<Range, CertFault> {
+        span_of(scope.alloc, list_in(scope.alloc, value)?)
     }
 }
 
-/// The ranges of an object, in its order.
-fn members_of(
-    alloc: Global,
-    names: &Names,
-    object: &Map<String, Value>,
-) -> Result<Vec<(VarId, Range)>, CertFault>
-    ensures ok { IfOk result
-        (λ v. EachMember (IsRange names.now) (members_view object.now.entries) (map named_of v.items)) }
-    ensures err { IfErr result
-        (Standing (InMembers (InNamed names.now.variables InSpan) (members_view object.now.entries))) }
-{
-    let mut ranges = Vec::new(alloc);
-    for (name, value) in object {
-        ranges.push(named_range(alloc, names, name.as_str(), value)?)?;
-    }
-    Ok(ranges)
-}
+/// The range of the variable with this name.
+pub(crate) struct NamedRange;
 
-/// The ranges that the value means, in its order.
-pub(crate) fn ranges_of(
-    alloc: Global,
-    names: &Names,
-    value: &Value,
-) -> Result<Vec<(VarId, Range)>, CertFault>
-    ensures ok { IfOk result
-        (λ v. IsObject (EachMember (IsRange names.now)) (view value.now) (map named_of v.items)) }
-    ensures err { IfErr result
-        (Standing (InObject (InMembers (InNamed names.now.variables InSpan)) (view value.now))) }
-{
-    members_of(alloc, names, object_in(alloc, value)?)
+impl Member for NamedRange {
+    ghost use Rattle.std.specs.Prelude.{ℕ, ℤ};
+    ghost use Rattle.fr_cert.specs.Keys.{names_in};
+    ghost use Rattle.fr_cert.specs.Shapes.{IsNamed, IsSpan};
+    ghost use Rattle.fr_cert.specs.Faults.{InNamed, InSpan};
+    ghost use Rattle.fr_cert.specs.Views.{named_of};
+
+    type Item = (VarId, Range);
+
+    ghost Seen = { ℕ × (ℤ × ℤ) };
+
+    ghost seen = { named_of };
+
+    ghost Means = { λ _ P. IsNamed (names_in P).variables IsSpan };
+
+    ghost Faults = { λ _ P. InNamed (names_in P).variables InSpan };
+
+    fn read(&self, scope: &Scope, name: &str, value: &Value) -> Result<(VarId, Range), CertFault> {
+        let (variable, range) = named(scope, Thing::Variable, name, value, &Span)?;
+        Ok((VarId(variable), range))
+    }
 }

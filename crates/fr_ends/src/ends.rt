@@ -68,6 +68,14 @@ impl Ends {
         }
     }
 
+    /// The guards of an application's ends, which fit it. Takes no memory.
+    pub fn of(_app: &App, ends: Vec<EndGuard>) -> Ends
+        requires { EndsFit _app.now (map end_of ends.items) }
+        ensures { result ≡ map end_of ends.items }
+    {
+        Ends { listed: ends }
+    }
+
     /// How many ends have a guard.
     pub fn len(&self) -> usize
         ensures { result ≡ length self.now }

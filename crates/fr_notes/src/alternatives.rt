@@ -169,7 +169,7 @@ impl Notes {
         match Vec::with_capacity(alloc, alts.len()) {
             Ok(mut notes) => {
                 take(&mut notes, alts);
-                Ok(Notes::of(notes))
+                Ok(Notes::of(app, notes))
             }
             Err(_) => Err((NotesFault::Memory, alts)),
         }

@@ -1,15 +1,41 @@
 // Alternatives that are made of their parts, and copies of them.
-ghost use Rattle.std.specs.Prelude.{◌≡◌, IfOk, IfSome, map};
+ghost use Rattle.std.specs.Prelude.{◌≡◌, ◌≢◌, IfOk, IfErr, OnOk, IfSome, map};
 
+use crate::checks::check_note;
 use crate::claim::Claim;
+use crate::fault::NoteFault;
 use crate::fits::alternative_fits;
-use crate::note::Alternative;
+use crate::note::{Alternative, NoteParts};
+use crate::parts::{claims_said, ranges_said};
 use fr_program::{App, Range};
 use std::alloc::{AllocError, Global};
 
 impl Alternative {
+    ghost use Rattle.fr_notes.specs.declared.fault.NoteFault.{NoteFault as NoteFaultOf};
     ghost use Rattle.fr_notes.specs.Fits.{AlternativeFits};
+    ghost use Rattle.fr_notes.specs.Parts.{said, HasFault};
     ghost use Rattle.fr_notes.specs.View.{ends_of};
+
+    /// The one alternative of the plain note that the parts say, with the faults of `Note::build`.
+    pub fn build(alloc: Global, app: &App, parts: NoteParts) -> Result<Alternative, NoteFault>
+        ensures says { IfOk result (λ n. n ≡ said app.now parts) }
+        ensures fits { IfOk result (λ n. AlternativeFits app.now n) }
+        ensures free { OnOk result ((fault : NoteFaultOf) → HasFault app.now parts fault → ⊥) }
+        ensures stands { IfErr result (λ f. f ≢ NoteFault.Memory → HasFault app.now parts f) }
+        ensures memory { IfErr result
+            (λ f. f ≡ NoteFault.Memory → (fault : NoteFaultOf) → HasFault app.now parts fault → ⊥) }
+    {
+        app.recall_faultless();
+        check_note(app, &parts)?;
+        let claims = claims_said(alloc, app, &parts)?;
+        let ranges = ranges_said(alloc, app, &parts.range)?;
+        Ok(Alternative {
+            crit: parts.crit,
+            susp: parts.susp,
+            claims,
+            ranges,
+        })
+    }
 
     /// The alternative with these depths in the critical section and of suspension, a claim for each
     /// object and a range for each variable, by their numbers. None where it can't be built for the

@@ -1,12 +1,10 @@
 // Notes: what a certificate says of an actor at a point.
 ghost use Rattle.std.specs.Prelude.{◌≡◌, ◌≢◌, [], ◌∷◌, IfOk, IfErr, OnOk};
 
-use crate::checks::check_note;
 use crate::claim::Claim;
 use crate::fault::NoteFault;
-use crate::parts::{claims_said, ranges_said};
 use fr_program::{App, ObjId, Range, VarId};
-use std::alloc::Global;
+use std::alloc::{AllocError, Global};
 use std::marker::Model;
 
 /// One alternative of a note: exact depths, a claim for each object and a range for each variable,
@@ -160,17 +158,15 @@ impl Note {
         ensures memory { IfErr result
             (λ f. f ≡ NoteFault.Memory → (fault : NoteFaultOf) → HasFault app.now parts fault → ⊥) }
     {
-        app.recall_faultless();
-        check_note(app, &parts)?;
-        let claims = claims_said(alloc, app, &parts)?;
-        let ranges = ranges_said(alloc, app, &parts.range)?;
+        Ok(Note::plain(alloc, Alternative::build(alloc, app, parts)?)?)
+    }
+
+    /// The note with this one alternative. Its error is that an allocation was refused.
+    pub fn plain(alloc: Global, alternative: Alternative) -> Result<Note, AllocError>
+        ensures { IfOk result (λ note. note ≡ alternative ∷ []) }
+    {
         let mut alternatives = Vec::with_capacity(alloc, 1)?;
-        alternatives.push(Alternative {
-            crit: parts.crit,
-            susp: parts.susp,
-            claims,
-            ranges,
-        })?;
+        alternatives.push(alternative)?;
         Ok(Note { alternatives })
     }
 

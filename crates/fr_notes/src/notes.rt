@@ -53,8 +53,9 @@ impl Notes {
         }
     }
 
-    /// These notes, in the order of the points.
-    pub(crate) fn of(notes: Vec<Note>) -> Notes
+    /// The notes of an application, of which there is one for each point. Takes no memory.
+    pub fn of(_app: &App, notes: Vec<Note>) -> Notes
+        requires { length notes.items ≡ length (points_of _app.now) }
         ensures { result ≡ notes.items }
     {
         Notes { notes }

@@ -1,16 +1,17 @@
-use Rattle.std.proofs.Common.{◌≢◌, ◌∙◌, ◌∷◌, [], ap, subst, inl, inr, refl, true≢false}
+use Rattle.std.proofs.Common.{◌≡◌, ◌≢◌, ◌∙◌, subst, inl, inr, refl, true≢false}
 use Rattle.std.proofs.lemmas.Result.{err_from_is_err_and}
+use Rattle.serde_json.specs.Data.{Members}
 use Rattle.serde_json.specs.View.{members_view}
+use Rattle.fr_program.specs.Program.{Program}
 use Rattle.fr_notes.specs.declared.fault.NoteFault.{NoteFault}
 use Rattle.fr_notes.specs.declared.fault.NoteFault.TheVariants.{Memory, Count, Lives, Span}
-use Rattle.fr_notes.specs.Parts.{HasFault}
-use Rattle.fr_program.specs.Program.{Program}
-use Rattle.serde_json.specs.Data.{Members}
 use Rattle.fr_notes.specs.declared.note.NoteParts.{NoteParts}
+use Rattle.fr_notes.specs.Note.{Alternative}
+use Rattle.fr_notes.specs.Parts.{said, HasFault}
 use Rattle.fr_cert.specs.Keys.{names_in}
-use Rattle.fr_cert.specs.Meaning.{IsNoteText, note_said}
+use Rattle.fr_cert.specs.Meaning.{IsNoteText, IsAlternative}
 use Rattle.fr_cert.specs.Faults.{Standing}
-use Rattle.fr_cert.specs.Present.{InKeysOfNote, InAlternative}
+use Rattle.fr_cert.specs.Present.{InAlternative}
 use Rattle.fr_cert.specs.Views.{text_of, refused_as}
 use Rattle.fr_cert.proofs.NoteLemmas.{said_same, fits_from, unfit}
 use Rattle.fr_cert.proofs.note.alternative_of.Goals as goal
@@ -21,26 +22,25 @@ refused P ms parts Count text h named = inr (text_of parts, text, unfit P parts 
 refused P ms parts Lives text h named = inr (text_of parts, text, unfit P parts Lives (h (λ e. cc)), refl)
 refused P ms parts Span text h named = inr (text_of parts, text, unfit P parts Span (h (λ e. cc)), refl)
 
+made : (P : Program) (ms : Members) (parts : NoteParts) (n : Alternative) → IsNoteText (names_in P) ms (text_of parts) → ((f : NoteFault) → HasFault P parts f → ⊥) → n ≡ said P parts → IsAlternative P ms n
+made P ms parts n text free says = (text_of parts, text, fits_from P parts free, says ∙ said_same P parts)
+
 pub returns-in_err-parts_of-clause-err : goal.returns-in_err-parts_of-clause-err
 returns-in_err-parts_of-clause-err c =
     let p = err_from_is_err_and c.from_residual.result c.from_residual.ensures.1 in
-    let f = c.in_err-parts_of.field-0.0 in
-    rw (p.1, p.2) (λ named. inl (subst (λ N. InKeysOfNote N (members_view c.args.object.now.entries) f) c.requires (c.in_err-parts_of.ensures.err named)))
+    rw (p.1, p.2) (λ named. inl (c.in_err-parts_of.ensures.err named))
 
 pub returns-in-Ok-clause-ok : goal.returns-in-Ok-clause-ok
 returns-in-Ok-clause-ok c =
-    let P = c.args.app.now in
+    let ms = members_view c.args.object.now.entries in
     let parts = c.in_ok-parts_of.field-0 in
-    let text = subst (λ N. IsNoteText N (members_view c.args.object.now.entries) (text_of parts)) c.requires c.in_ok-parts_of.ensures.ok in (
-      note_said P (text_of parts),
-      (text_of parts, text, fits_from P parts c.in-Ok.ensures.free, refl),
-      c.in-Ok.ensures.says ∙ ap (λ n. n ∷ []) (said_same P parts),
-    )
+    let n = c.in-Ok.alternative in
+    subst (λ P. IsNoteText (names_in P) ms (text_of parts) → IsAlternative P ms n) c.scope.view_is (λ text. made _ ms parts n text c.in-Ok.ensures.free c.in-Ok.ensures.says) c.in_ok-parts_of.ensures.ok
 
 pub returns-in-Err-clause-err : goal.returns-in-Err-clause-err
 returns-in-Err-clause-err c =
-    let P = c.args.app.now in
     let ms = members_view c.args.object.now.entries in
     let parts = c.in_ok-parts_of.field-0 in
-    let text = subst (λ N. IsNoteText N ms (text_of parts)) c.requires c.in_ok-parts_of.ensures.ok in
-    rw c.refused_as.ensures (refused P ms parts c.in-Err.fault text c.in-Err.ensures.stands)
+    let f = c.in-Err.fault in
+    rw c.refused_as.ensures
+    (subst (λ P. IsNoteText (names_in P) ms (text_of parts) → Standing (InAlternative P ms) (refused_as f)) c.scope.view_is (λ text. refused _ ms parts f text c.in-Err.ensures.stands) c.in_ok-parts_of.ensures.ok)
