@@ -20,7 +20,7 @@ use Rattle.fr_cert.specs.declared.key.Key.TheVariants as key
 use Rattle.fr_cert.specs.declared.key.Place.TheVariants as place
 use Rattle.fr_cert.specs.Shapes.{IsObject, EachEntry, EachMember, IsNamed}
 use Rattle.fr_cert.specs.Meaning.{IsTurnNumber, AreTurnValues, IsGuard, IsEnd, IsFitEnd}
-use Rattle.fr_cert.specs.Written.{with_values, guard_tree, end_tree, ends_tree}
+use Rattle.fr_cert.specs.Written.{with_values, guard_tree, end_tree, each_tree}
 use Rattle.fr_cert.proofs.GivenLemmas.{given, given-cons, put_named, actor_place, object_place, variable_place}
 use Rattle.fr_cert.proofs.NotesAgain.{integer_again, known_more, none_known}
 
@@ -131,7 +131,7 @@ end_again P e faultless fits =
       },
     )
 
-pub ends_again : (P : Program) (es : List EndGuard) → IsFaultless P → All (EndFits P) es → EachEntry (IsFitEnd P) (ends_tree P es) es
+pub ends_again : (P : Program) (es : List EndGuard) → IsFaultless P → All (EndFits P) es → EachEntry (IsFitEnd P) (each_tree (end_tree P) es) es
 ends_again P [] faultless fits = tt
 ends_again P (e ∷ es) faultless fits =
     let fit = All-head (EndFits P) e es fits in

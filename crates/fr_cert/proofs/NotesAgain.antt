@@ -14,6 +14,7 @@ use Rattle.std.proofs.lemmas.Map.Lookups.{exact_bytes}
 use Rattle.std.proofs.lemmas.Option.{same_Some}
 use Rattle.serde_json.specs.Data.{Data, number, unsigned, string, array, object, Items, no_items, item, Members, no_members, member, put}
 use Rattle.serde_json.specs.Find.{of_integer, get_member, as_integer}
+use Rattle.serde_json.proofs.Views.{get_member-put, get_member-put_other}
 use Rattle.fr_program.specs.Program.{Program, VariableOf, ObjectOf}
 use Rattle.fr_program.specs.Lookup.{no_variable, no_object, variable_at}
 use Rattle.fr_program.specs.Fault.{IsFaultless}
@@ -33,7 +34,7 @@ use Rattle.fr_cert.specs.declared.key.Place.{Place}
 use Rattle.fr_cert.specs.declared.key.Place.TheVariants as place
 use Rattle.fr_cert.specs.Shapes.{OrDefault, IsObject, IsList, EachEntry, EachMember, IsNamed, Names, AreNames, IsDepth, IsSpan}
 use Rattle.fr_cert.specs.Meaning.{NoteText, IsNoteText, IsInside, count_for, has, claim_at, range_at, IsPlainNote, IsNote}
-use Rattle.fr_cert.specs.Written.{range_tree, is_declared, with_named, with_ranges, with_count, with_counts, is_alive, is_gone, names_where, with_depth, with_list, with_object, alternative_tree, alternatives_tree, note_tree, notes_tree, version_of}
+use Rattle.fr_cert.specs.Written.{range_tree, is_declared, with_named, with_count, with_each, is_alive, is_gone, names_where, is_default, with_field, alternative_tree, note_tree, each_tree, version_of}
 use Rattle.fr_cert.proofs.GivenLemmas.{given, put_if, put_all, whole, variable_place, object_place}
 
 -- ---- numbers and ranges
@@ -77,8 +78,8 @@ range_put v r ms = go (is_declared v r)
     go true = refl
     go false = refl
 
-ranges_put : (vs : List VariableOf) (rs : List (ℤ × ℤ)) (ms : Members) → with_ranges vs rs ms ≡ put_all range_tree (variable_names vs) (narrowed vs rs) ms
-unfolding with_ranges
+ranges_put : (vs : List VariableOf) (rs : List (ℤ × ℤ)) (ms : Members) → with_each with_named vs rs ms ≡ put_all range_tree (variable_names vs) (narrowed vs rs) ms
+unfolding with_each
 ranges_put [] rs ms = refl
 ranges_put (v ∷ vs) [] ms = refl
 ranges_put (v ∷ vs) (r ∷ rs) ms = ranges_put vs rs (with_named v r ms) ∙ ap (put_all range_tree (variable_names vs) (narrowed vs rs)) (range_put v r ms)
@@ -116,7 +117,7 @@ narrow_back v r = go (is_declared v r) refl
 -- the ranges that the object gives are those of the alternative
 record RangesBack (P : Program) (n : Alternative) : Type 0 where
   ys : List (ℕ × (ℤ × ℤ))
-  named : EachMember (IsNamed (names_in P).variables IsSpan) (with_ranges P.variables n.ranges no_members) ys
+  named : EachMember (IsNamed (names_in P).variables IsSpan) (with_each with_named P.variables n.ranges no_members) ys
   each : AllByRecursion (IsInside P) ys
   back : (k : ℕ) → k < length P.variables → range_at P ys k ≡ get_or n.ranges k (pos 0, pos 0)
 
@@ -169,8 +170,8 @@ count_put o NotHeld ms = refl
 count_put o Alive ms = refl
 count_put o Gone ms = refl
 
-counts_put : (os : List ObjectOf) (cs : List Claim) (ms : Members) → with_counts os cs ms ≡ put_all count_tree (object_names os) (map count_of cs) ms
-unfolding with_counts
+counts_put : (os : List ObjectOf) (cs : List Claim) (ms : Members) → with_each with_count os cs ms ≡ put_all count_tree (object_names os) (map count_of cs) ms
+unfolding with_each
 counts_put [] cs ms = refl
 counts_put (o ∷ os) [] ms = refl
 counts_put (o ∷ os) (c ∷ cs) ms = counts_put os cs (with_count o c ms) ∙ ap (put_all count_tree (object_names os) (map count_of cs)) (count_put o c ms)
@@ -202,7 +203,7 @@ CanBeHeld P h = (h.0 < length P.objects) × CanClaim (kind_of P h.0) (HeldTimes 
 -- the counts that the object gives are those of the alternative
 record CountsBack (P : Program) (n : Alternative) : Type 0 where
   ys : List (ℕ × ℕ)
-  named : EachMember (IsNamed (names_in P).objects IsDepth) (with_counts P.objects n.claims no_members) ys
+  named : EachMember (IsNamed (names_in P).objects IsDepth) (with_each with_count P.objects n.claims no_members) ys
   each : AllByRecursion (CanBeHeld P) ys
   back : (k : ℕ) → k < length P.objects → count_for ys k ≡ count_of (get_or n.claims k NotHeld)
 
@@ -363,66 +364,57 @@ not_both c l a gone p q t =
 
 -- ---- keys that may be missing
 
--- two texts differ
-abbrev IsApart : Ordering → Type 0
-IsApart Less = Unit {0}
-IsApart Equal = ⊥
-IsApart Greater = Unit {0}
+-- the keys, each unless it holds the default
+abbrev fields : List (Key × Data) → Members
+fields [] = no_members
+fields (x ∷ xs) = with_field x.0 x.1 (fields xs)
 
-abbrev IsOther : Key → Key → Type 0
-IsOther k j = IsApart (slice_cmp nat_cmp (key_text k) (key_text j))
+-- what is found at a key, by its order to one of them and whether that one holds the default
+abbrev by : Ordering → Bool → Data → Option Data → Option Data
+by Less b d rest = rest
+by Equal true d rest = rest
+by Equal false d rest = Some d
+by Greater b d rest = rest
 
-skip : (o : Ordering) (a b : Option Data) → IsApart o → match_ordering o a b a ≡ a
-skip Less a b h = refl
-skip Equal a b h = absurd h
-skip Greater a b h = refl
+abbrev found_in : Key → List (Key × Data) → Option Data
+found_in k [] = None
+found_in k (x ∷ xs) = by (slice_cmp nat_cmp (key_text k) (key_text x.0)) (is_default x.1) x.1 (found_in k xs)
 
-skip_depth : (k j : Key) (n : ℕ) (ms : Members) → IsOther k j → field k (with_depth j n ms) ≡ field k ms
+-- what was put at a text that doesn't compare equal isn't found
+put_other : (s t : List ℕ) (o : Ordering) (d : Data) (ms : Members) → slice_cmp nat_cmp s t ≡ o → (Equal ≡ o → ⊥) → get_member s (put t d ms) ≡ get_member s ms
+put_other s t o d ms is other = get_member-put_other s t d ms (λ same. other (sym (tied_itself nat_list_cmp_total s) ∙ (ap (slice_cmp nat_cmp s) same ∙ is)))
+
+found : (k : Key) (xs : List (Key × Data)) → field k (fields xs) ≡ found_in k xs
 unfolding field
-skip_depth k j zero ms other = refl
-skip_depth k j (suc n) ms other = skip (slice_cmp nat_cmp (key_text k) (key_text j)) (get_member (key_text k) ms) (Some (number (unsigned (suc n)))) other
+found k [] = refl
+found k (x ∷ xs) = go (slice_cmp nat_cmp (key_text k) (key_text x.0)) (is_default x.1) refl (found k xs)
+  where
+    go : (o : Ordering) (b : Bool) → slice_cmp nat_cmp (key_text k) (key_text x.0) ≡ o → get_member (key_text k) (fields xs) ≡ found_in k xs → get_member (key_text k) (cond b (fields xs) (put (key_text x.0) x.1 (fields xs))) ≡ by o b x.1 (found_in k xs)
+    go Less true is rest = rest
+    go Less false is rest = put_other (key_text k) (key_text x.0) Less x.1 (fields xs) is (λ e. cc) ∙ rest
+    go Equal true is rest = rest
+    go Equal false is rest =
+        ap (λ t. get_member t (put (key_text x.0) x.1 (fields xs))) (exact_bytes (key_text k) (key_text x.0) is) ∙ get_member-put (key_text x.0) x.1 (fields xs)
+    go Greater true is rest = rest
+    go Greater false is rest = put_other (key_text k) (key_text x.0) Greater x.1 (fields xs) is (λ e. cc) ∙ rest
 
-skip_list : (k j : Key) (ds : Items) (ms : Members) → IsOther k j → field k (with_list j ds ms) ≡ field k ms
-unfolding field
-skip_list k j no_items ms other = refl
-skip_list k j (item d ds) ms other = skip (slice_cmp nat_cmp (key_text k) (key_text j)) (get_member (key_text k) ms) (Some (array (item d ds))) other
+depth_found : (n : ℕ) → n ≤ most_depth → OrDefault 0 IsDepth (by Equal (nat_eq n 0) (number (unsigned n)) None) n
+depth_found n small = go (nat_eq n 0) refl
+  where
+    go : (b : Bool) → nat_eq n 0 ≡ b → OrDefault 0 IsDepth (by Equal b (number (unsigned n)) None) n
+    go true e = (Decides-eqb n 0).0 e
+    go false e = (refl, small)
 
-skip_object : (k j : Key) (os : Members) (ms : Members) → IsOther k j → field k (with_object j os ms) ≡ field k ms
-unfolding field
-skip_object k j no_members ms other = refl
-skip_object k j (member name d more) ms other = skip (slice_cmp nat_cmp (key_text k) (key_text j)) (get_member (key_text k) ms) (Some (object (member name d more))) other
+list_found : {A : Type 0} (M : Data → A → Type 0) (R : A → A → Type 0) (ds : Items) (xs : List A) → EachEntry M ds xs × AllPairs R xs
+    → OrDefault [] (IsList (λ es ys. EachEntry M es ys × AllPairs R ys)) (by Equal (is_default (array ds)) (array ds) None) xs
+list_found M R no_items [] h = refl
+list_found M R no_items (x ∷ xs) h = absurd h.0
+list_found M R (item d ds) xs h = (item d ds, refl, h)
 
-here : (k : Key) (d : Data) (ms : Members) → field k (member (key_text k) d ms) ≡ Some d
-unfolding field
-here k d ms = ap (λ o. match_ordering o (get_member (key_text k) ms) (Some d) (get_member (key_text k) ms)) (tied_itself nat_list_cmp_total (key_text k))
-
-nothing : (k : Key) → field k no_members ≡ None
-unfolding field
-nothing k = refl
-
-none_there : {A : Type 0} (default : A) (M : Data → A → Type 0) (o : Option Data) → o ≡ None → OrDefault default M o default
-none_there default M o e = subst (λ x. OrDefault default M x default) (sym e) refl
-
-depth_here : (k : Key) (n : ℕ) (ms : Members) → field k ms ≡ None → n ≤ most_depth → OrDefault 0 IsDepth (field k (with_depth k n ms)) n
-depth_here k zero ms none small = none_there 0 IsDepth (field k ms) none
-depth_here k (suc n) ms none small = subst (λ o. OrDefault 0 IsDepth o (suc n)) (sym (here k (number (unsigned (suc n))) ms)) (refl, small)
-
-no_entries : {A : Type 0} (M : Data → A → Type 0) (xs : List A) → EachEntry M no_items xs → xs ≡ []
-no_entries M [] h = refl
-no_entries M (x ∷ xs) h = absurd h
-
-list_here : {A : Type 0} (k : Key) (M : Data → A → Type 0) (R : A → A → Type 0) (ds : Items) (xs : List A) (ms : Members) → field k ms ≡ None → EachEntry M ds xs × AllPairs R xs
-    → OrDefault [] (IsList (λ es ys. EachEntry M es ys × AllPairs R ys)) (field k (with_list k ds ms)) xs
-list_here k M R no_items xs ms none h = subst (λ o. OrDefault [] (IsList (λ es ys. EachEntry M es ys × AllPairs R ys)) o xs) (sym none) (no_entries M xs h.0)
-list_here k M R (item d ds) xs ms none h = subst (λ o. OrDefault [] (IsList (λ es ys. EachEntry M es ys × AllPairs R ys)) o xs) (sym (here k (array (item d ds)) ms)) (item d ds, refl, h)
-
-no_names : {A : Type 0} (M : List ℕ → Data → A → Type 0) (xs : List A) → EachMember M no_members xs → xs ≡ []
-no_names M [] h = refl
-no_names M (x ∷ xs) h = absurd h
-
-object_here : {A : Type 0} (k : Key) (M : List ℕ → Data → A → Type 0) (os : Members) (xs : List A) (ms : Members) → field k ms ≡ None → EachMember M os xs → OrDefault [] (IsObject (EachMember M)) (field k (with_object k os ms)) xs
-object_here k M no_members xs ms none h = subst (λ o. OrDefault [] (IsObject (EachMember M)) o xs) (sym none) (no_names M xs h)
-object_here k M (member name d more) xs ms none h = subst (λ o. OrDefault [] (IsObject (EachMember M)) o xs) (sym (here k (object (member name d more)) ms)) (member name d more, refl, h)
+object_found : {A : Type 0} (M : List ℕ → Data → A → Type 0) (os : Members) (xs : List A) → EachMember M os xs → OrDefault [] (IsObject (EachMember M)) (by Equal (is_default (object os)) (object os) None) xs
+object_found M no_members [] h = refl
+object_found M no_members (x ∷ xs) h = absurd h
+object_found M (member name d more) xs h = (member name d more, refl, h)
 
 pub known_more : (p : Place) (l : List ℕ) (e : Data) (ms : Members) → IsTrue (is_key_of p l) → AreKnown p ms → AreKnown p (member l e ms)
 known_more p l e ms known rest k d found =
@@ -435,72 +427,44 @@ known_more p l e ms known rest k d found =
 pub none_known : (p : Place) → AreKnown p no_members
 none_known p k d found = cc
 
-known_depth : (p : Place) (k : Key) (n : ℕ) (ms : Members) → IsTrue (is_key_of p (key_text k)) → AreKnown p ms → AreKnown p (with_depth k n ms)
-known_depth p k zero ms known rest = rest
-known_depth p k (suc n) ms known rest = known_more p (key_text k) (number (unsigned (suc n))) ms known rest
+known_put : (p : Place) (l : List ℕ) (e : Data) (ms : Members) → IsTrue (is_key_of p l) → AreKnown p ms → AreKnown p (put l e ms)
+known_put p l e ms known rest k d at = go (slice_cmp nat_cmp k l) refl
+  where
+    go : (o : Ordering) → slice_cmp nat_cmp k l ≡ o → IsTrue (is_key_of p k)
+    go Less is = rest k d (sym (put_other k l Less e ms is (λ e. cc)) ∙ at)
+    go Equal is = subst (λ t. IsTrue (is_key_of p t)) (sym (exact_bytes k l is)) known
+    go Greater is = rest k d (sym (put_other k l Greater e ms is (λ e. cc)) ∙ at)
 
-known_list : (p : Place) (k : Key) (ds : Items) (ms : Members) → IsTrue (is_key_of p (key_text k)) → AreKnown p ms → AreKnown p (with_list k ds ms)
-known_list p k no_items ms known rest = rest
-known_list p k (item d ds) ms known rest = known_more p (key_text k) (array (item d ds)) ms known rest
-
-known_object : (p : Place) (k : Key) (os : Members) (ms : Members) → IsTrue (is_key_of p (key_text k)) → AreKnown p ms → AreKnown p (with_object k os ms)
-known_object p k no_members ms known rest = rest
-known_object p k (member name d more) ms known rest = known_more p (key_text k) (object (member name d more)) ms known rest
+known_fields : (p : Place) (xs : List (Key × Data)) → AllByRecursion (λ x. IsTrue (is_key_of p (key_text x.0))) xs → AreKnown p (fields xs)
+known_fields p [] h = none_known p
+known_fields p (x ∷ xs) h = go (is_default x.1) (known_fields p xs h.1)
+  where
+    go : (b : Bool) → AreKnown p (fields xs) → AreKnown p (cond b (fields xs) (put (key_text x.0) x.1 (fields xs)))
+    go true rest = rest
+    go false rest = known_put p (key_text x.0) x.1 (fields xs) h.0 rest
 
 -- ---- an alternative
 
--- the six keys, each where it isn't at its default
-abbrev six : ℕ → Items → Members → Items → Members → ℕ → Members
+-- the six keys
+abbrev six : ℕ → Items → Members → Items → Members → ℕ → List (Key × Data)
 six crit dead held live ranges susp =
-    with_depth key.Crit crit (with_list key.Dead dead (with_object key.Held held (with_list key.Live live (with_object key.Range ranges (with_depth key.Susp susp no_members)))))
+    (key.Crit, number (unsigned crit)) ∷ (key.Dead, array dead) ∷ (key.Held, object held) ∷ (key.Live, array live) ∷ (key.Range, object ranges) ∷ (key.Susp, number (unsigned susp)) ∷ []
 
 text_again : (P : Program) (text : NoteText) (dead : Items) (held : Members) (live : Items) (ranges : Members) → text.crit ≤ most_depth → text.susp ≤ most_depth
     → AreNames (names_in P).objects dead text.dead → EachMember (IsNamed (names_in P).objects IsDepth) held text.held → AreNames (names_in P).objects live text.live → EachMember (IsNamed (names_in P).variables IsSpan) ranges text.ranges
-    → IsNoteText (names_in P) (six text.crit dead held live ranges text.susp) text
+    → IsNoteText (names_in P) (fields (six text.crit dead held live ranges text.susp)) text
 text_again P text dead held live ranges crit_small susp_small is_dead is_held is_live is_ranges =
     let N = names_in P in
-    let m1 = with_depth key.Susp text.susp no_members in
-    let m2 = with_object key.Range ranges m1 in
-    let m3 = with_list key.Live live m2 in
-    let m4 = with_object key.Held held m3 in
-    let m5 = with_list key.Dead dead m4 in
-    let m6 = with_depth key.Crit text.crit m5 in
+    let all = six text.crit dead held live ranges text.susp in
     let differ = λ (x y : ℕ). x ≢ y in
     record {
-      only = known_depth place.Note key.Crit text.crit m5 refl
-          (known_list place.Note key.Dead dead m4 refl
-          (known_object place.Note key.Held held m3 refl
-          (known_list place.Note key.Live live m2 refl
-          (known_object place.Note key.Range ranges m1 refl
-          (known_depth place.Note key.Susp text.susp no_members refl (none_known place.Note))))));
-      crit = depth_here key.Crit text.crit m5
-          (skip_list key.Crit key.Dead dead m4 tt
-          ∙ (skip_object key.Crit key.Held held m3 tt
-          ∙ (skip_list key.Crit key.Live live m2 tt
-          ∙ (skip_object key.Crit key.Range ranges m1 tt
-          ∙ (skip_depth key.Crit key.Susp text.susp no_members tt ∙ nothing key.Crit))))) crit_small;
-      dead = subst (λ o. OrDefault [] (IsList (AreNames N.objects)) o text.dead) (sym (skip_depth key.Dead key.Crit text.crit m5 tt))
-          (list_here key.Dead (Names N.objects) differ dead text.dead m4
-          (skip_object key.Dead key.Held held m3 tt
-          ∙ (skip_list key.Dead key.Live live m2 tt
-          ∙ (skip_object key.Dead key.Range ranges m1 tt
-          ∙ (skip_depth key.Dead key.Susp text.susp no_members tt ∙ nothing key.Dead)))) is_dead);
-      held = subst (λ o. OrDefault [] (IsObject (EachMember (IsNamed N.objects IsDepth))) o text.held) (sym (skip_depth key.Held key.Crit text.crit m5 tt ∙ skip_list key.Held key.Dead dead m4 tt))
-          (object_here key.Held (IsNamed N.objects IsDepth) held text.held m3
-          (skip_list key.Held key.Live live m2 tt
-          ∙ (skip_object key.Held key.Range ranges m1 tt
-          ∙ (skip_depth key.Held key.Susp text.susp no_members tt ∙ nothing key.Held))) is_held);
-      live = subst (λ o. OrDefault [] (IsList (AreNames N.objects)) o text.live)
-          (sym (skip_depth key.Live key.Crit text.crit m5 tt ∙ (skip_list key.Live key.Dead dead m4 tt ∙ skip_object key.Live key.Held held m3 tt)))
-          (list_here key.Live (Names N.objects) differ live text.live m2
-          (skip_object key.Live key.Range ranges m1 tt
-          ∙ (skip_depth key.Live key.Susp text.susp no_members tt ∙ nothing key.Live)) is_live);
-      ranges = subst (λ o. OrDefault [] (IsObject (EachMember (IsNamed N.variables IsSpan))) o text.ranges)
-          (sym (skip_depth key.Range key.Crit text.crit m5 tt ∙ (skip_list key.Range key.Dead dead m4 tt ∙ (skip_object key.Range key.Held held m3 tt ∙ skip_list key.Range key.Live live m2 tt))))
-          (object_here key.Range (IsNamed N.variables IsSpan) ranges text.ranges m1 (skip_depth key.Range key.Susp text.susp no_members tt ∙ nothing key.Range) is_ranges);
-      susp = subst (λ o. OrDefault 0 IsDepth o text.susp)
-          (sym (skip_depth key.Susp key.Crit text.crit m5 tt ∙ (skip_list key.Susp key.Dead dead m4 tt ∙ (skip_object key.Susp key.Held held m3 tt ∙ (skip_list key.Susp key.Live live m2 tt ∙ skip_object key.Susp key.Range ranges m1 tt)))))
-          (depth_here key.Susp text.susp no_members (nothing key.Susp) susp_small);
+      only = known_fields place.Note all (refl, (refl, (refl, (refl, (refl, (refl, tt))))));
+      crit = subst (λ o. OrDefault 0 IsDepth o text.crit) (sym (found key.Crit all)) (depth_found text.crit crit_small);
+      dead = subst (λ o. OrDefault [] (IsList (AreNames N.objects)) o text.dead) (sym (found key.Dead all)) (list_found (Names N.objects) differ dead text.dead is_dead);
+      held = subst (λ o. OrDefault [] (IsObject (EachMember (IsNamed N.objects IsDepth))) o text.held) (sym (found key.Held all)) (object_found (IsNamed N.objects IsDepth) held text.held is_held);
+      live = subst (λ o. OrDefault [] (IsList (AreNames N.objects)) o text.live) (sym (found key.Live all)) (list_found (Names N.objects) differ live text.live is_live);
+      ranges = subst (λ o. OrDefault [] (IsObject (EachMember (IsNamed N.variables IsSpan))) o text.ranges) (sym (found key.Range all)) (object_found (IsNamed N.variables IsSpan) ranges text.ranges is_ranges);
+      susp = subst (λ o. OrDefault 0 IsDepth o text.susp) (sym (found key.Susp all)) (depth_found text.susp susp_small);
     }
 
 all_again : {A : Type 0} (Q : A → Type 0) (xs : List A) → AllByRecursion Q xs → All Q xs
@@ -537,11 +501,11 @@ alternative_again P n faultless fits =
     numbers_each (λ o. IsTrue (has live o || is_some (count_for counts.ys o)) → ⊥) is_gone 0 n.claims
     (λ k within gone. subst (λ o. IsTrue (has live o || is_some (count_for counts.ys o)) → ⊥) (at_zero k)
     (not_both (get_or n.claims k NotHeld) (has live k) (count_for counts.ys k) gone (is_live k (omega (arith, within, fits.claims.0))) (counts.back k (omega (arith, within, fits.claims.0))))) in (
-      six n.critical (names_where is_gone P.objects n.claims) (with_counts P.objects n.claims no_members) (names_where is_alive P.objects n.claims) (with_ranges P.variables n.ranges no_members) n.suspended,
+      fields (six n.critical (names_where is_gone P.objects n.claims) (with_each with_count P.objects n.claims no_members) (names_where is_alive P.objects n.claims) (with_each with_named P.variables n.ranges no_members) n.suspended),
       refl,
       (
         text,
-        text_again P text (names_where is_gone P.objects n.claims) (with_counts P.objects n.claims no_members) (names_where is_alive P.objects n.claims) (with_ranges P.variables n.ranges no_members) fits.critical fits.suspended
+        text_again P text (names_where is_gone P.objects n.claims) (with_each with_count P.objects n.claims no_members) (names_where is_alive P.objects n.claims) (with_each with_named P.variables n.ranges no_members) fits.critical fits.suspended
             (lists_names P n is_gone faultless fits) counts.named (lists_names P n is_alive faultless fits) ranges.named,
         record {
           held = all_again (CanBeHeld P) counts.ys counts.each;
@@ -557,7 +521,7 @@ alternative_again P n faultless fits =
 
 -- ---- notes
 
-alternatives_again : (P : Program) (note : Note) → IsFaultless P → All (λ n. AlternativeFits P n) note → EachEntry (IsPlainNote P) (alternatives_tree P note) note
+alternatives_again : (P : Program) (note : Note) → IsFaultless P → All (λ n. AlternativeFits P n) note → EachEntry (IsPlainNote P) (each_tree (alternative_tree P) note) note
 alternatives_again P [] faultless fits = tt
 alternatives_again P (n ∷ more) faultless fits = (
   alternative_again P n faultless (All-head (λ m. AlternativeFits P m) n more fits),
@@ -575,9 +539,9 @@ note_again : (P : Program) (version : ℕ) (note : Note) → IsFaultless P → N
 note_again P version [] faultless fits two = inl (refl, refl)
 note_again P version (n ∷ []) faultless fits two = inr (inl (n, alternative_again P n faultless (All-head (λ m. AlternativeFits P m) n [] fits.1), refl))
 note_again P version (n ∷ m ∷ more) faultless fits two =
-    inr (inr (two (is_long (n ∷ m ∷ more) (omega arith)), (alternatives_tree P (n ∷ m ∷ more), refl, alternatives_again P (n ∷ m ∷ more) faultless fits.1), omega arith, fits.0))
+    inr (inr (two (is_long (n ∷ m ∷ more) (omega arith)), (each_tree (alternative_tree P) (n ∷ m ∷ more), refl, alternatives_again P (n ∷ m ∷ more) faultless fits.1), omega arith, fits.0))
 
-each_again : (P : Program) (version : ℕ) (notes : List Note) → IsFaultless P → All (λ note. NoteFits P note) notes → (list_all is_short notes ≡ false → version ≡ 2) → EachEntry (IsNote P version) (notes_tree P notes) notes
+each_again : (P : Program) (version : ℕ) (notes : List Note) → IsFaultless P → All (λ note. NoteFits P note) notes → (list_all is_short notes ≡ false → version ≡ 2) → EachEntry (IsNote P version) (each_tree (note_tree P) notes) notes
 each_again P version [] faultless fits two = tt
 each_again P version (note ∷ notes) faultless fits two = (
   note_again P version note faultless (All-head (λ m. NoteFits P m) note notes fits) (λ long. two (first (is_short note) (list_all is_short notes) long)),
@@ -591,5 +555,5 @@ each_again P version (note ∷ notes) faultless fits two = (
     second true b h = h
     second false b h = refl
 
-pub notes_again : (P : Program) (notes : List Note) → IsFaultless P → All (λ note. NoteFits P note) notes → EachEntry (IsNote P (version_of notes)) (notes_tree P notes) notes
+pub notes_again : (P : Program) (notes : List Note) → IsFaultless P → All (λ note. NoteFits P note) notes → EachEntry (IsNote P (version_of notes)) (each_tree (note_tree P) notes) notes
 notes_again P notes faultless fits = each_again P (version_of notes) notes faultless fits (λ long. rw long refl)

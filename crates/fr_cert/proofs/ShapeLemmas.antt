@@ -1,5 +1,5 @@
 -- What is written has no float, and nests six deep at the most, so that its text is read again.
-use Rattle.std.proofs.Common.{◌≡◌, ◌≤◌, ◌||◌, ℕ, zero, suc, max, ℤ, pos, negsuc, List, [], ◌∷◌, Bool, true, false, cond, Less, Equal, Greater, nat_cmp, codes, refl, sym, arith}
+use Rattle.std.proofs.Common.{◌≡◌, ◌≤◌, ◌||◌, ℕ, suc, max, ℤ, pos, negsuc, List, [], ◌∷◌, Bool, true, false, cond, Less, Equal, Greater, nat_cmp, codes, refl, sym, arith}
 use Rattle.std.specs.Cmp.Lexicographic.{slice_cmp}
 use Rattle.std.specs.Ordering.{match_ordering}
 use Rattle.std.proofs.Math.Nat.{max-le, le-max_left, le-max_right}
@@ -19,7 +19,7 @@ use Rattle.fr_ends.specs.Certificate.{Certificate}
 use Rattle.fr_cert.specs.Keys.{key_text}
 use Rattle.fr_cert.specs.declared.key.Key.{Key}
 use Rattle.fr_cert.specs.declared.key.Key.TheVariants as key
-use Rattle.fr_cert.specs.Written.{range_tree, is_declared, with_named, with_ranges, with_count, with_counts, is_alive, is_gone, names_where, with_depth, with_list, with_object, alternative_tree, alternatives_tree, note_tree, notes_tree, with_values, guard_tree, end_tree, ends_tree, version_of, cert_tree}
+use Rattle.fr_cert.specs.Written.{range_tree, is_declared, with_named, with_count, with_each, is_alive, is_gone, names_where, is_default, with_field, alternative_tree, each_tree, note_tree, with_values, guard_tree, end_tree, version_of, cert_tree}
 
 -- no float, and nested so deep at the most
 record IsPlain (b : ℕ) (d : Data) : Type 0 where
@@ -101,23 +101,17 @@ plain_named v r ms h = go (is_declared v r)
     go true = h
     go false = plain_put 1 v.name (range_tree r) ms (plain_range r) h
 
-plain_ranges : (vs : List VariableOf) (rs : List (ℤ × ℤ)) (ms : Members) → ArePlain 1 ms → ArePlain 1 (with_ranges vs rs ms)
-unfolding with_ranges
-plain_ranges [] rs ms h = h
-plain_ranges (v ∷ vs) [] ms h = h
-plain_ranges (v ∷ vs) (r ∷ rs) ms h = plain_ranges vs rs (with_named v r ms) (plain_named v r ms h)
+plain_each : {A B : Type 0} (b : ℕ) (f : A → B → Members → Members) → ((x : A) (y : B) (ms : Members) → ArePlain b ms → ArePlain b (f x y ms)) → (xs : List A) (ys : List B) (ms : Members) → ArePlain b ms → ArePlain b (with_each f xs ys ms)
+unfolding with_each
+plain_each b f one [] ys ms h = h
+plain_each b f one (x ∷ xs) [] ms h = h
+plain_each b f one (x ∷ xs) (y ∷ ys) ms h = plain_each b f one xs ys (f x y ms) (one x y ms h)
 
 plain_with_count : (o : ObjectOf) (c : Claim) (ms : Members) → ArePlain 1 ms → ArePlain 1 (with_count o c ms)
 plain_with_count o (HeldTimes count) ms h = plain_put 1 o.name (number (unsigned count)) ms (plain_count 1 count) h
 plain_with_count o NotHeld ms h = h
 plain_with_count o Alive ms h = h
 plain_with_count o Gone ms h = h
-
-plain_counts : (os : List ObjectOf) (cs : List Claim) (ms : Members) → ArePlain 1 ms → ArePlain 1 (with_counts os cs ms)
-unfolding with_counts
-plain_counts [] cs ms h = h
-plain_counts (o ∷ os) [] ms h = h
-plain_counts (o ∷ os) (c ∷ cs) ms h = plain_counts os cs (with_count o c ms) (plain_with_count o c ms h)
 
 plain_names : (test : Claim → Bool) (os : List ObjectOf) (cs : List Claim) → ItemsPlain 0 (names_where test os cs)
 unfolding names_where
@@ -129,41 +123,35 @@ plain_names test (o ∷ os) (c ∷ cs) = go (test c) (plain_names test os cs)
     go true rest = plain_item 0 (string o.name) (names_where test os cs) (plain_string 0 o.name) rest
     go false rest = rest
 
-plain_depth : (k : Key) (n : ℕ) (ms : Members) → ArePlain 2 ms → ArePlain 2 (with_depth k n ms)
-plain_depth k zero ms h = h
-plain_depth k (suc n) ms h = plain_member 2 (key_text k) (number (unsigned (suc n))) ms (plain_count 2 (suc n)) h
+plain_field : (b : ℕ) (k : Key) (d : Data) (ms : Members) → IsPlain b d → ArePlain b ms → ArePlain b (with_field k d ms)
+plain_field b k d ms p h = go (is_default d)
+  where
+    go : (default : Bool) → ArePlain b (cond default ms (put (key_text k) d ms))
+    go true = h
+    go false = plain_put b (key_text k) d ms p h
 
-plain_list : (k : Key) (ds : Items) (ms : Members) → ItemsPlain 0 ds → ArePlain 2 ms → ArePlain 2 (with_list k ds ms)
-plain_list k no_items ms p h = h
-plain_list k (item d ds) ms p h = plain_member 2 (key_text k) (array (item d ds)) ms (record { floats = p.floats; deep = omega (arith, p.deep) }) h
-
-plain_inner : (k : Key) (os ms : Members) → ArePlain 1 os → ArePlain 2 ms → ArePlain 2 (with_object k os ms)
-plain_inner k no_members ms p h = h
-plain_inner k (member name d more) ms p h = plain_member 2 (key_text k) (object (member name d more)) ms (plain_object 1 (member name d more) p) h
+plain_named_list : (P : Program) (n : Alternative) (test : Claim → Bool) → IsPlain 2 (array (names_where test P.objects n.claims))
+plain_named_list P n test = let h = plain_names test P.objects n.claims in record { floats = h.floats; deep = omega (arith, h.deep) }
 
 plain_alternative : (P : Program) (n : Alternative) → IsPlain 3 (alternative_tree P n)
 unfolding alternative_tree
 plain_alternative P n =
     plain_object 2 _
-    (plain_depth key.Crit n.critical _
-    (plain_list key.Dead (names_where is_gone P.objects n.claims) _ (plain_names is_gone P.objects n.claims)
-    (plain_inner key.Held (with_counts P.objects n.claims no_members) _ (plain_counts P.objects n.claims no_members (no_more 1))
-    (plain_list key.Live (names_where is_alive P.objects n.claims) _ (plain_names is_alive P.objects n.claims)
-    (plain_inner key.Range (with_ranges P.variables n.ranges no_members) _ (plain_ranges P.variables n.ranges no_members (no_more 1))
-    (plain_depth key.Susp n.suspended no_members (no_more 2)))))))
+    (plain_field 2 key.Crit _ _ (plain_count 2 n.critical)
+    (plain_field 2 key.Dead _ _ (plain_named_list P n is_gone)
+    (plain_field 2 key.Held _ _ (plain_object 1 _ (plain_each 1 with_count plain_with_count P.objects n.claims no_members (no_more 1)))
+    (plain_field 2 key.Live _ _ (plain_named_list P n is_alive)
+    (plain_field 2 key.Range _ _ (plain_object 1 _ (plain_each 1 with_named plain_named P.variables n.ranges no_members (no_more 1)))
+    (plain_field 2 key.Susp _ _ (plain_count 2 n.suspended) (no_more 2)))))))
 
-plain_alternatives : (P : Program) (note : List Alternative) → ItemsPlain 3 (alternatives_tree P note)
-plain_alternatives P [] = no_other 3
-plain_alternatives P (n ∷ more) = plain_item 3 (alternative_tree P n) (alternatives_tree P more) (plain_alternative P n) (plain_alternatives P more)
+plain_list : {A : Type 0} (b : ℕ) (tree : A → Data) → ((x : A) → IsPlain b (tree x)) → (xs : List A) → ItemsPlain b (each_tree tree xs)
+plain_list b tree one [] = no_other b
+plain_list b tree one (x ∷ xs) = plain_item b (tree x) (each_tree tree xs) (one x) (plain_list b tree one xs)
 
 plain_note : (P : Program) (note : Note) → IsPlain 4 (note_tree P note)
 plain_note P [] = plain_string 4 (codes "never")
 plain_note P (n ∷ []) = let h = plain_alternative P n in record { floats = h.floats; deep = omega (arith, h.deep) }
-plain_note P (n ∷ m ∷ more) = plain_array 3 (alternatives_tree P (n ∷ m ∷ more)) (plain_alternatives P (n ∷ m ∷ more))
-
-plain_notes : (P : Program) (notes : List Note) → ItemsPlain 4 (notes_tree P notes)
-plain_notes P [] = no_other 4
-plain_notes P (note ∷ notes) = plain_item 4 (note_tree P note) (notes_tree P notes) (plain_note P note) (plain_notes P notes)
+plain_note P (n ∷ m ∷ more) = plain_array 3 _ (plain_list 3 (alternative_tree P) (plain_alternative P) (n ∷ m ∷ more))
 
 -- ---- guards
 
@@ -189,20 +177,16 @@ plain_end P e =
     (plain_member 2 (key_text key.End) (string (end_text e.end)) _ (plain_string 2 (end_text e.end))
     (plain_member 2 (key_text key.Guard) (guard_tree P e.guard) no_members (plain_guard P e.guard) (no_more 2))))
 
-plain_ends : (P : Program) (es : List EndGuard) → ItemsPlain 3 (ends_tree P es)
-plain_ends P [] = no_other 3
-plain_ends P (e ∷ es) = plain_item 3 (end_tree P e) (ends_tree P es) (plain_end P e) (plain_ends P es)
-
 -- ---- the certificate
 
 plain_tree : (P : Program) (C : Certificate) → IsPlain 6 (cert_tree P C)
 unfolding cert_tree
 plain_tree P C =
-    let ends = plain_array 3 (ends_tree P C.ends) (plain_ends P C.ends) in
-    let notes = plain_array 4 (notes_tree P C.notes) (plain_notes P C.notes) in
+    let ends = plain_array 3 _ (plain_list 3 (end_tree P) (plain_end P) C.ends) in
+    let notes = plain_array 4 _ (plain_list 4 (note_tree P) (plain_note P) C.notes) in
     plain_object 5 _
-    (plain_member 5 (key_text key.Ends) (array (ends_tree P C.ends)) _ (record { floats = ends.floats; deep = omega (arith, ends.deep) })
-    (plain_member 5 (key_text key.Notes) (array (notes_tree P C.notes)) _ notes
+    (plain_member 5 (key_text key.Ends) _ _ (record { floats = ends.floats; deep = omega (arith, ends.deep) })
+    (plain_member 5 (key_text key.Notes) _ _ notes
     (plain_member 5 (key_text key.Version) (number (unsigned (version_of C.notes))) no_members (plain_count 5 (version_of C.notes)) (no_more 5))))
 
 pub no_float : (P : Program) (C : Certificate) → has_float (cert_tree P C) ≡ false

@@ -12,7 +12,7 @@ use Rattle.fr_cert.specs.Keys.{key_text, field}
 use Rattle.fr_cert.specs.declared.key.Key.TheVariants as key
 use Rattle.fr_cert.specs.declared.key.Place.TheVariants as place
 use Rattle.fr_cert.specs.Meaning.{IsVersion, IsTree, Means, most_bytes}
-use Rattle.fr_cert.specs.Written.{notes_tree, ends_tree, version_of, cert_tree}
+use Rattle.fr_cert.specs.Written.{each_tree, note_tree, end_tree, version_of, cert_tree}
 use Rattle.fr_cert.proofs.NotesAgain.{known_more, none_known, notes_again}
 use Rattle.fr_cert.proofs.EndsAgain.{ends_again}
 use Rattle.fr_cert.proofs.ShapeLemmas.{tree_depth}
@@ -32,16 +32,16 @@ unfolding cert_tree field
 tree_again P C faultless fits =
     let number_ = number (unsigned (version_of C.notes)) in
     let version = member (key_text key.Version) number_ no_members in
-    let notes = member (key_text key.Notes) (array (notes_tree P C.notes)) version in
+    let notes = member (key_text key.Notes) (array (each_tree (note_tree P) C.notes)) version in
     let known = known_more place.Certificate (key_text key.Version) number_ no_members refl (none_known place.Certificate) in (
-      member (key_text key.Ends) (array (ends_tree P C.ends)) notes,
+      member (key_text key.Ends) (array (each_tree (end_tree P) C.ends)) notes,
       refl,
       record {
         version = version_of C.notes;
-        only = known_more place.Certificate (key_text key.Ends) (array (ends_tree P C.ends)) notes refl (known_more place.Certificate (key_text key.Notes) (array (notes_tree P C.notes)) version refl known);
+        only = known_more place.Certificate (key_text key.Ends) (array (each_tree (end_tree P) C.ends)) notes refl (known_more place.Certificate (key_text key.Notes) (array (each_tree (note_tree P) C.notes)) version refl known);
         numbered = (number_, refl, version_again C.notes);
-        ends = (array (ends_tree P C.ends), refl, (ends_tree P C.ends, refl, (ends_again P C.ends faultless fits.1.0, fits.1.1)));
-        notes = (array (notes_tree P C.notes), refl, (notes_tree P C.notes, refl, (notes_again P C.notes faultless fits.0.1, fits.0.0)));
+        ends = (array (each_tree (end_tree P) C.ends), refl, (each_tree (end_tree P) C.ends, refl, (ends_again P C.ends faultless fits.1.0, fits.1.1)));
+        notes = (array (each_tree (note_tree P) C.notes), refl, (each_tree (note_tree P) C.notes, refl, (notes_again P C.notes faultless fits.0.1, fits.0.0)));
       },
     )
 

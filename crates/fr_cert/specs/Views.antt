@@ -1,10 +1,5 @@
--- For private clauses: what the parts of a note and of a guard in code mean, what a fault of a note is called, and the
--- order of the keys that are written.
-use Rattle.std.specs.Prelude.{◌≡◌, ℕ, ℤ, [], Bool, map}
-use Rattle.std.specs.Ordering.{nat_cmp}
-use Rattle.std.specs.declared.cmp.Ordering.TheVariants.{Less}
-use Rattle.std.specs.Cmp.Lexicographic.{slice_cmp}
-use Rattle.serde_json.specs.Data.{Members, no_members, member}
+-- For private clauses: what the parts of a note and of a guard in code mean, and what a fault of a note is called.
+use Rattle.std.specs.Prelude.{ℕ, ℤ, [], Bool, map}
 use Rattle.fr_program.specs.declared.ids.ObjId.{ObjId}
 use Rattle.fr_program.specs.declared.ids.VarId.{VarId}
 use Rattle.fr_program.specs.declared.range.Range.{Range}
@@ -15,10 +10,8 @@ use Rattle.fr_notes.specs.declared.fault.NoteFault.TheVariants as note
 use Rattle.fr_notes.specs.View.{ends_of}
 use Rattle.fr_cert.specs.declared.fault.CertFault.{CertFault}
 use Rattle.fr_cert.specs.declared.fault.CertFault.TheVariants as cert
-use Rattle.fr_cert.specs.declared.key.Key.{Key}
 use Rattle.fr_cert.specs.declared.written_notes.Life.{Life}
 use Rattle.fr_cert.specs.declared.written_notes.Life.TheVariants as life
-use Rattle.fr_cert.specs.Keys.{key_text}
 use Rattle.fr_cert.specs.Meaning.{NoteText}
 use Rattle.fr_cert.specs.Written.{is_alive, is_gone}
 use Rattle.fr_notes.specs.declared.claim.Claim.{Claim}
@@ -59,8 +52,3 @@ HasNumbers r = IsNumber r.lo × IsNumber r.hi
 abbrev pub says : Life → Claim → Bool
 says life.Live claim = is_alive claim
 says life.Dead claim = is_gone claim
-
--- the key comes before each of the members' in the order of bytes, if there are any
-abbrev pub IsBefore : Key → Members → Type 0
-IsBefore k no_members = Unit {0}
-IsBefore k (member name d ms) = slice_cmp nat_cmp (key_text k) name ≡ Less

@@ -4,17 +4,17 @@
 -- |-------------------------------|--------------------------------------------------------------------------------|
 -- | range_tree                    | a range as a list of its two ends                                              |
 -- | is_declared                   | the range is the whole declared one                                            |
--- | with_ranges                   | members and, by name, the ranges that are narrower than the declared ones      |
--- | with_counts                   | members and, by name, how often objects are held                               |
+-- | with_named, with_count        | members and, by name, a range that is narrower than the declared one; a count   |
+-- | with_each                     | so with each thing of a list and what is said of it                            |
 -- | names_where                   | the names of the objects of which this is said                                 |
--- | with_depth, with_list, with_object | a key in front of members, where what it holds isn't the default          |
--- | alternative_tree              | one alternative                                                                |
--- | note_tree, notes_tree         | a note, and a list of notes                                                    |
+-- | is_default, with_field        | what a missing key stands for; members and a key that doesn't hold it          |
+-- | alternative_tree, note_tree   | one alternative, a note                                                        |
+-- | each_tree                     | a list with one entry for each thing                                           |
 -- | with_values, guard_tree       | members and, by name, turn values; a guard                                     |
--- | end_tree, ends_tree           | the guard of an end, and a list of them                                        |
+-- | end_tree                      | the guard of an end                                                            |
 -- | version_of                    | 1 where each note has one alternative at the most, else 2                      |
 -- | cert_tree, cert_text          | the object of the whole certificate, and its text                              |
-use Rattle.std.specs.Prelude.{◌&&◌, ℕ, zero, suc, ℤ, List, [], ◌∷◌, Bool, true, false, codes, length, nat_le, if◌then◌else◌}
+use Rattle.std.specs.Prelude.{◌&&◌, ℕ, ℤ, List, [], ◌∷◌, Bool, true, false, codes, length, nat_eq, nat_le, if◌then◌else◌}
 use Rattle.std.specs.List.{list_all}
 use Rattle.std.specs.Ordering.{int_eq}
 use Rattle.serde_json.specs.Data.{Data, number, string, array, object, unsigned, Items, no_items, item, Members, no_members, member, put}
@@ -44,22 +44,16 @@ is_declared v r = int_eq v.lo r.0 && int_eq v.hi r.1
 abbrev pub with_named : VariableOf → ℤ × ℤ → Members → Members
 with_named v r ms = if is_declared v r then ms else put v.name (range_tree r) ms
 
--- so with each variable and its range
-unfoldable pub with_ranges : List VariableOf → List (ℤ × ℤ) → Members → Members
-with_ranges [] rs ms = ms
-with_ranges (v ∷ vs) [] ms = ms
-with_ranges (v ∷ vs) (r ∷ rs) ms = with_ranges vs rs (with_named v r ms)
+-- so with each thing of a list and what is said of it
+unfoldable pub with_each : {A B : Type 0} → (A → B → Members → Members) → List A → List B → Members → Members
+with_each with_one [] ys ms = ms
+with_each with_one (x ∷ xs) [] ms = ms
+with_each with_one (x ∷ xs) (y ∷ ys) ms = with_each with_one xs ys (with_one x y ms)
 
 -- the count under the object's name, if it is held
 abbrev pub with_count : ObjectOf → Claim → Members → Members
 with_count o (HeldTimes count) ms = put o.name (number (unsigned count)) ms
 with_count o claim ms = ms
-
--- so with each object and what is said of it
-unfoldable pub with_counts : List ObjectOf → List Claim → Members → Members
-with_counts [] cs ms = ms
-with_counts (o ∷ os) [] ms = ms
-with_counts (o ∷ os) (c ∷ cs) ms = with_counts os cs (with_count o c ms)
 
 -- whether the object is said to be live, and not held
 abbrev pub is_alive : Claim → Bool
@@ -77,46 +71,37 @@ names_where test [] cs = no_items
 names_where test (o ∷ os) [] = no_items
 names_where test (o ∷ os) (c ∷ cs) = if test c then item (string o.name) (names_where test os cs) else names_where test os cs
 
--- the depth in front, if it isn't 0
-abbrev pub with_depth : Key → ℕ → Members → Members
-with_depth k zero ms = ms
-with_depth k (suc n) ms = member (key_text k) (number (unsigned (suc n))) ms
+-- whether this is what a missing key stands for: 0, a list without an entry, an object without a member
+abbrev pub is_default : Data → Bool
+is_default (number (unsigned n)) = nat_eq n 0
+is_default (array no_items) = true
+is_default (object no_members) = true
+is_default d = false
 
--- the list in front, if it has an entry
-abbrev pub with_list : Key → Items → Members → Members
-with_list k no_items ms = ms
-with_list k (item d ds) ms = member (key_text k) (array (item d ds)) ms
-
--- the object in front, if it has a member
-abbrev pub with_object : Key → Members → Members → Members
-with_object k no_members ms = ms
-with_object k (member name d more) ms = member (key_text k) (object (member name d more)) ms
+-- the members with this key too, unless it holds the default
+abbrev pub with_field : Key → Data → Members → Members
+with_field k d ms = if is_default d then ms else put (key_text k) d ms
 
 -- the object of one alternative: each key that isn't at its default; a held mutex is live by being held
 unfoldable pub alternative_tree : Program → Alternative → Data
 alternative_tree P n =
-    object (with_depth key.Crit n.critical
-    (with_list key.Dead (names_where is_gone P.objects n.claims)
-    (with_object key.Held (with_counts P.objects n.claims no_members)
-    (with_list key.Live (names_where is_alive P.objects n.claims)
-    (with_object key.Range (with_ranges P.variables n.ranges no_members)
-    (with_depth key.Susp n.suspended no_members))))))
+    object (with_field key.Crit (number (unsigned n.critical))
+    (with_field key.Dead (array (names_where is_gone P.objects n.claims))
+    (with_field key.Held (object (with_each with_count P.objects n.claims no_members))
+    (with_field key.Live (array (names_where is_alive P.objects n.claims))
+    (with_field key.Range (object (with_each with_named P.variables n.ranges no_members))
+    (with_field key.Susp (number (unsigned n.suspended)) no_members))))))
 
--- several alternatives, in their order
-abbrev pub alternatives_tree : Program → List Alternative → Items
-alternatives_tree P [] = no_items
-alternatives_tree P (n ∷ more) = item (alternative_tree P n) (alternatives_tree P more)
+-- one entry for each thing, in their order
+abbrev pub each_tree : {A : Type 0} → (A → Data) → List A → Items
+each_tree tree [] = no_items
+each_tree tree (x ∷ xs) = item (tree x) (each_tree tree xs)
 
 -- `never`, the one alternative, or the list of them
 abbrev pub note_tree : Program → Note → Data
 note_tree P [] = string (codes "never")
 note_tree P (n ∷ []) = alternative_tree P n
-note_tree P (n ∷ m ∷ more) = array (alternatives_tree P (n ∷ m ∷ more))
-
--- the notes in their order
-abbrev pub notes_tree : Program → List Note → Items
-notes_tree P [] = no_items
-notes_tree P (note ∷ notes) = item (note_tree P note) (notes_tree P notes)
+note_tree P (n ∷ m ∷ more) = array (each_tree (alternative_tree P) (n ∷ m ∷ more))
 
 -- the turn values under the names of their actors
 unfoldable pub with_values : Program → List (ℕ × ℤ) → Members → Members
@@ -139,11 +124,6 @@ end_tree P e =
     (member (key_text key.End) (string (end_text e.end))
     (member (key_text key.Guard) (guard_tree P e.guard) no_members)))
 
--- the guards of ends, in their order
-abbrev pub ends_tree : Program → List EndGuard → Items
-ends_tree P [] = no_items
-ends_tree P (e ∷ es) = item (end_tree P e) (ends_tree P es)
-
 -- 1 where each note has one alternative at the most, else 2
 abbrev pub version_of : List Note → ℕ
 version_of notes = if list_all (λ note. nat_le (length note) 1) notes then 1 else 2
@@ -151,8 +131,8 @@ version_of notes = if list_all (λ note. nat_le (length note) 1) notes then 1 el
 -- the object of the whole certificate
 unfoldable pub cert_tree : Program → Certificate → Data
 cert_tree P C =
-    object (member (key_text key.Ends) (array (ends_tree P C.ends))
-    (member (key_text key.Notes) (array (notes_tree P C.notes))
+    object (member (key_text key.Ends) (array (each_tree (end_tree P) C.ends))
+    (member (key_text key.Notes) (array (each_tree (note_tree P) C.notes))
     (member (key_text key.Version) (number (unsigned (version_of C.notes))) no_members)))
 
 -- the bytes of a certificate

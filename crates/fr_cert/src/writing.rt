@@ -1,8 +1,7 @@
 // Writing a certificate.
-ghost use Rattle.std.specs.Prelude.{◌≡◌, ◌≤◌, IfOk, Some, length, nat_le, not, slice_get, string_bytes};
+ghost use Rattle.std.specs.Prelude.{◌≡◌, ◌≤◌, IfOk, length, nat_le, string_bytes};
+ghost use Rattle.std.specs.List.{list_all};
 ghost use Rattle.serde_json.specs.View.{view};
-ghost use Rattle.fr_notes.specs.Note.{Note};
-ghost use Rattle.fr_notes.specs.Fits.{NotesFit};
 ghost use Rattle.fr_ends.specs.Fits.{CertificateFits};
 ghost use Rattle.fr_cert.specs.Written.{version_of, cert_tree, cert_text};
 ghost use Rattle.fr_cert.specs.Meaning.{Means, most_bytes};
@@ -11,33 +10,23 @@ use crate::key::Key;
 use crate::written_ends::ends_value;
 use crate::written_notes::notes_value;
 use fr_ends::Certificate;
-use fr_notes::Notes;
+use fr_notes::{Note, Notes};
 use fr_program::App;
 use serde_json::{Map, Value, put};
 use std::alloc::{AllocError, Global};
 
-/// Whether the note with this number has several alternatives.
-fn is_long(notes: &Notes, number: usize) -> bool
-    ensures { (note : Note) → slice_get notes.now number ≡ Some note →
-        result ≡ not (nat_le (length note) 1) }
+/// Whether each note has one alternative at the most.
+fn are_short(notes: &[Note]) -> bool
+    ensures { result ≡ list_all (λ note. nat_le (length note) 1) notes.now }
 {
-    match notes.get(number) {
-        Some(note) => note.alternatives().len() > 1,
-        None => false,
-    }
+    notes.iter().all(|note| note.alternatives().len() <= 1)
 }
 
 /// The version in which the notes can be written: 1 where each has one alternative at the most.
-fn version_of(app: &App, notes: &Notes) -> u8
-    requires { NotesFit app.now notes.now }
+fn version_of(notes: &Notes) -> u8
     ensures { result ≡ version_of notes.now }
 {
-    for number in 0..app.points() {
-        if is_long(notes, number) {
-            return 2;
-        }
-    }
-    1
+    if are_short(notes.listed()) { 1 } else { 2 }
 }
 
 /// The object of the whole certificate.
@@ -47,7 +36,7 @@ fn cert_value(alloc: Global, app: &App, certificate: &Certificate) -> Result<Val
 {
     let ends = ends_value(alloc, app, &certificate.ends)?;
     let notes = notes_value(alloc, app, &certificate.notes)?;
-    let version = version_of(app, &certificate.notes);
+    let version = version_of(&certificate.notes);
     let mut object = Map::new(alloc);
     put(&mut object, alloc, Key::Ends.text(), Value::Array(ends))?;
     put(&mut object, alloc, Key::Notes.text(), Value::Array(notes))?;

@@ -9,7 +9,7 @@ ghost use Rattle.fr_ends.specs.Fits.{GuardFits, EndFits};
 ghost use Rattle.fr_ends.specs.View.{values_of, guard_of, end_of};
 ghost use Rattle.fr_ends.specs.Guard.{Turn};
 ghost use Rattle.fr_cert.specs.Keys.{key_text};
-ghost use Rattle.fr_cert.specs.Written.{with_values, guard_tree, end_tree, ends_tree};
+ghost use Rattle.fr_cert.specs.Written.{with_values, guard_tree, end_tree, each_tree};
 
 use crate::key::Key;
 use fr_ends::{EndGuard, Ends, Guard};
@@ -141,7 +141,7 @@ fn end_value(alloc: Global, app: &App, end: &EndGuard) -> Result<Value, AllocErr
 /// The guards of ends as values, in the certificate's order.
 pub(crate) fn ends_value(alloc: Global, app: &App, ends: &Ends) -> Result<Vec<Value>, AllocError>
     requires { All (EndFits app.now) ends.now }
-    ensures { IfOk result (λ v. items_view v.items ≡ ends_tree app.now ends.now) }
+    ensures { IfOk result (λ v. items_view v.items ≡ each_tree (end_tree app.now) ends.now) }
 {
     let mut list = Vec::new(alloc);
     let listed = ends.listed();

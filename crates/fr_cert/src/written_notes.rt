@@ -7,8 +7,8 @@ ghost use Rattle.fr_program.specs.Limits.{IsNumber};
 ghost use Rattle.fr_program.specs.View.{variable_of, object_of};
 ghost use Rattle.fr_notes.specs.View.{ends_of};
 ghost use Rattle.fr_notes.specs.Fits.{AlternativeFits, NoteFits, NotesFit};
-ghost use Rattle.fr_cert.specs.Written.{range_tree, is_declared, with_named, with_ranges, with_count, with_counts, names_where, with_depth, with_list, with_object, alternative_tree, alternatives_tree, note_tree, notes_tree};
-ghost use Rattle.fr_cert.specs.Views.{HasNumbers, says, IsBefore};
+ghost use Rattle.fr_cert.specs.Written.{range_tree, is_declared, with_named, with_count, with_each, names_where, is_default, with_field, alternative_tree, note_tree, each_tree};
+ghost use Rattle.fr_cert.specs.Views.{HasNumbers, says};
 
 use crate::key::Key;
 use fr_notes::{Alternative, Claim, Note, Notes};
@@ -80,7 +80,7 @@ fn ranges_value(
     requires same { length ranges.now ≡ length variables.now }
     requires numbers { All HasNumbers ranges.now }
     ensures { IfOk result (λ m. members_view m.entries
-        ≡ with_ranges (map variable_of variables.now) (map ends_of ranges.now) no_members) }
+        ≡ with_each with_named (map variable_of variables.now) (map ends_of ranges.now) no_members) }
 {
     let mut named = Map::new(alloc);
     for (index, range) in ranges.iter().enumerate() {
@@ -113,7 +113,7 @@ fn counts_value(
 ) -> Result<Map<String, Value>, AllocError>
     requires { length claims.now ≡ length objects.now }
     ensures { IfOk result (λ m. members_view m.entries
-        ≡ with_counts (map object_of objects.now) claims.now no_members) }
+        ≡ with_each with_count (map object_of objects.now) claims.now no_members) }
 {
     let mut named = Map::new(alloc);
     for (index, claim) in claims.iter().enumerate() {
@@ -153,55 +153,32 @@ fn names_value(
     Ok(names)
 }
 
-/// Adds the depth in front of the other keys, if it isn't 0.
-fn add_depth(
-    alloc: Global,
-    note: &mut Map<String, Value>,
-    key: Key,
-    depth: u8,
-) -> Result<(), AllocError>
-    requires { IsBefore key (members_view note.old.entries) }
-    ensures { OnOk result (members_view note.new.entries
-        ≡ with_depth key depth (members_view note.old.entries)) }
+/// Whether the value is what a missing key stands for.
+fn is_default(value: &Value) -> bool
+    ensures { result ≡ is_default (view value.now) }
 {
-    if depth == 0 {
-        return Ok(());
+    match value {
+        Value::Number(number) => number.as_u64() == Some(0),
+        Value::Array(list) => list.is_empty(),
+        Value::Object(object) => object.is_empty(),
+        _ => false,
     }
-    put(note, alloc, key.text(), Value::from(depth))
 }
 
-/// Adds the list in front of the other keys, if it has an entry.
-fn add_list(
+/// Adds the key, unless it holds the default.
+fn add_field(
     alloc: Global,
     note: &mut Map<String, Value>,
     key: Key,
-    list: Vec<Value>,
+    value: Value,
 ) -> Result<(), AllocError>
-    requires { IsBefore key (members_view note.old.entries) }
     ensures { OnOk result (members_view note.new.entries
-        ≡ with_list key (items_view list.items) (members_view note.old.entries)) }
+        ≡ with_field key (view value) (members_view note.old.entries)) }
 {
-    if list.is_empty() {
+    if is_default(&value) {
         return Ok(());
     }
-    put(note, alloc, key.text(), Value::Array(list))
-}
-
-/// Adds the object in front of the other keys, if it has a member.
-fn add_object(
-    alloc: Global,
-    note: &mut Map<String, Value>,
-    key: Key,
-    object: Map<String, Value>,
-) -> Result<(), AllocError>
-    requires { IsBefore key (members_view note.old.entries) }
-    ensures { OnOk result (members_view note.new.entries
-        ≡ with_object key (members_view object.entries) (members_view note.old.entries)) }
-{
-    if object.is_empty() {
-        return Ok(());
-    }
-    put(note, alloc, key.text(), Value::Object(object))
+    put(note, alloc, key.text(), value)
 }
 
 /// The ranges of an alternative that are narrower than the declared ones, by name.
@@ -212,7 +189,7 @@ fn ranges_of(
 ) -> Result<Map<String, Value>, AllocError>
     requires { AlternativeFits app.now alternative.now }
     ensures { IfOk result (λ m. members_view m.entries
-        ≡ with_ranges app.now.variables alternative.now.ranges no_members) }
+        ≡ with_each with_named app.now.variables alternative.now.ranges no_members) }
 {
     app.recall_faultless();
     ranges_value(alloc, app.variables(), alternative.ranges())
@@ -226,7 +203,7 @@ fn counts_of(
 ) -> Result<Map<String, Value>, AllocError>
     requires { AlternativeFits app.now alternative.now }
     ensures { IfOk result (λ m. members_view m.entries
-        ≡ with_counts app.now.objects alternative.now.claims no_members) }
+        ≡ with_each with_count app.now.objects alternative.now.claims no_members) }
 {
     counts_value(alloc, app.objects(), alternative.claims())
 }
@@ -245,7 +222,7 @@ fn names_of(
     names_value(alloc, life, app.objects(), alternative.claims())
 }
 
-/// The object of one alternative. Its keys are added from the last one on.
+/// The object of one alternative.
 fn alternative_value(
     alloc: Global,
     app: &App,
@@ -259,12 +236,22 @@ fn alternative_value(
     let held = counts_of(alloc, app, alternative)?;
     let dead = names_of(alloc, app, alternative, Life::Dead)?;
     let mut note = Map::new(alloc);
-    add_depth(alloc, &mut note, Key::Susp, alternative.suspended())?;
-    add_object(alloc, &mut note, Key::Range, range)?;
-    add_list(alloc, &mut note, Key::Live, live)?;
-    add_object(alloc, &mut note, Key::Held, held)?;
-    add_list(alloc, &mut note, Key::Dead, dead)?;
-    add_depth(alloc, &mut note, Key::Crit, alternative.critical())?;
+    add_field(
+        alloc,
+        &mut note,
+        Key::Susp,
+        Value::from(alternative.suspended()),
+    )?;
+    add_field(alloc, &mut note, Key::Range, Value::Object(range))?;
+    add_field(alloc, &mut note, Key::Live, Value::Array(live))?;
+    add_field(alloc, &mut note, Key::Held, Value::Object(held))?;
+    add_field(alloc, &mut note, Key::Dead, Value::Array(dead))?;
+    add_field(
+        alloc,
+        &mut note,
+        Key::Crit,
+        Value::from(alternative.critical()),
+    )?;
     Ok(Value::Object(note))
 }
 
@@ -275,7 +262,7 @@ fn alternatives_value(
     alternatives: &[Alternative],
 ) -> Result<Vec<Value>, AllocError>
     requires { All (AlternativeFits app.now) alternatives.now }
-    ensures { IfOk result (λ v. items_view v.items ≡ alternatives_tree app.now alternatives.now) }
+    ensures { IfOk result (λ v. items_view v.items ≡ each_tree (alternative_tree app.now) alternatives.now) }
 {
     let mut list = Vec::new(alloc);
     for alternative in alternatives {
@@ -303,13 +290,11 @@ fn note_value(alloc: Global, app: &App, note: &Note) -> Result<Value, AllocError
 /// The notes as values, by the points' numbers.
 pub(crate) fn notes_value(alloc: Global, app: &App, notes: &Notes) -> Result<Vec<Value>, AllocError>
     requires { NotesFit app.now notes.now }
-    ensures { IfOk result (λ v. items_view v.items ≡ notes_tree app.now notes.now) }
+    ensures { IfOk result (λ v. items_view v.items ≡ each_tree (note_tree app.now) notes.now) }
 {
     let mut list = Vec::new(alloc);
-    for number in 0..app.points() {
-        let Some(note) = notes.get(number) else {
-            return Err(AllocError);
-        };
+    let listed = notes.listed();
+    for note in listed {
         list.push(note_value(alloc, app, note)?)?;
     }
     Ok(list)

@@ -61,6 +61,13 @@ impl Notes {
         Notes { notes }
     }
 
+    /// The notes, by the points' numbers.
+    pub fn listed(&self) -> &[Note]
+        ensures { result.now ≡ self.now }
+    {
+        &self.notes
+    }
+
     /// The note of a point, or None where there is none with this number.
     pub fn get(&self, number: usize) -> Option<&Note>
         ensures { option_copied result ≡ slice_get self.now number }

@@ -4,7 +4,7 @@ use Rattle.serde_json.specs.View.{view, members_view}
 use Rattle.serde_json.specs.declared.value.Value.{Array}
 use Rattle.serde_json.proofs.Views.{view-Array, view-Object}
 use Rattle.fr_cert.specs.declared.key.Key.TheVariants as key
-use Rattle.fr_cert.specs.Written.{notes_tree, ends_tree, version_of, cert_tree}
+use Rattle.fr_cert.specs.Written.{each_tree, note_tree, end_tree, version_of, cert_tree}
 use Rattle.fr_cert.proofs.WrittenLemmas.{three_keys}
 use Rattle.fr_cert.proofs.writing.cert_value.Goals as goal
 
@@ -14,8 +14,8 @@ returns c =
     let P = c.args.app.now in
     let C = c.args.certificate.now in
     let none : members_view c.new-object.result.entries ≡ no_members = search rules in
-    let ends : view (Array c.in_ok-ends.ends) ≡ array (ends_tree P C.ends) = view-Array c.in_ok-ends.ends ∙ ap array (c.in_ok-ends.ensures ∙ ap (λ D. ends_tree P D.ends) c.certificate.view_is) in
-    let notes : view (Array c.in_ok-notes.notes) ≡ array (notes_tree P C.notes) = view-Array c.in_ok-notes.notes ∙ ap array (c.in_ok-notes.ensures ∙ ap (λ D. notes_tree P D.notes) c.certificate.view_is) in
+    let ends : view (Array c.in_ok-ends.ends) ≡ array (each_tree (end_tree P) C.ends) = view-Array c.in_ok-ends.ends ∙ ap array (c.in_ok-ends.ensures ∙ ap (λ D. each_tree (end_tree P) D.ends) c.certificate.view_is) in
+    let notes : view (Array c.in_ok-notes.notes) ≡ array (each_tree (note_tree P) C.notes) = view-Array c.in_ok-notes.notes ∙ ap array (c.in_ok-notes.ensures ∙ ap (λ D. each_tree (note_tree P) D.notes) c.certificate.view_is) in
     let version : view c.from.result ≡ number (unsigned (version_of C.notes)) = c.from.ensures ∙ ap (λ n. number (unsigned n)) (c.version_of-version.ensures ∙ ap (λ D. version_of D.notes) c.certificate.view_is) in
     view-Object c.put-3.new.map
     ∙ three_keys key.Ends key.Notes key.Version c.text.result.now c.text-2.result.now c.text-3.result.now (view (Array c.in_ok-ends.ends)) (view (Array c.in_ok-notes.notes)) (view c.from.result) _ _ _

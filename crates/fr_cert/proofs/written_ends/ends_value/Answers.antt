@@ -2,8 +2,8 @@ use Rattle.std.proofs.Common.{◌∙◌, All, sym, ap, subst}
 use Rattle.fr_ends.specs.Fits.{EndFits}
 use Rattle.fr_ends.specs.View.{end_of}
 use Rattle.fr_ends.proofs.TwiceLemmas.{fit_from}
-use Rattle.fr_cert.specs.Written.{end_tree, ends_tree}
-use Rattle.fr_cert.proofs.WrittenLemmas.{made_more, made_end, ends_made}
+use Rattle.fr_cert.specs.Written.{end_tree, each_tree}
+use Rattle.fr_cert.proofs.WrittenLemmas.{tree_more, tree_end, tree_seen}
 use Rattle.fr_cert.proofs.written_ends.ends_value.Goals as goal
 
 pub end_value-requires : goal.end_value-requires
@@ -15,11 +15,11 @@ end_value-requires c =
 
 pub loop-end-preserved : goal.loop-end-preserved
 loop-end-preserved c =
-    made_more (λ e. end_tree c.args.app.now (end_of e)) c.listed-listed.result.now c.loop-end.end-index c.end-item.result c.loop-end.list.items c.push.new.self.items c.in_ok-end_value.field-0
+    tree_more (λ e. end_tree c.args.app.now (end_of e)) c.listed-listed.result.now c.loop-end.end-index c.end-item.result c.loop-end.list.items c.push.new.self.items c.in_ok-end_value.field-0
     c.loop-end-test.true c.end-item.is c.in_ok-end_value.ensures c.in_ok-push.ensures.items c.loop-end.invariant
 
 pub returns : goal.returns
 returns c =
     let P = c.args.app.now in
     let es = c.listed-listed.result.now in
-    made_end (λ e. end_tree P (end_of e)) es c.loop-end.end-index c.loop-end.list.items c.loop-end-test.false c.loop-end.invariant ∙ (ends_made P es ∙ ap (ends_tree P) c.listed-listed.ensures)
+    tree_end (λ e. end_tree P (end_of e)) es c.loop-end.end-index c.loop-end.list.items c.loop-end-test.false c.loop-end.invariant ∙ (tree_seen (end_tree P) end_of es ∙ ap (each_tree (end_tree P)) c.listed-listed.ensures)

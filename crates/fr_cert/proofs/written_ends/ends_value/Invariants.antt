@@ -1,10 +1,10 @@
 use Rattle.std.proofs.Common.{◌≡◌, drop}
 use Rattle.serde_json.specs.View.{items_view}
 use Rattle.fr_ends.specs.View.{end_of}
-use Rattle.fr_cert.specs.Written.{end_tree}
-use Rattle.fr_cert.proofs.WrittenLemmas.{behind, made}
+use Rattle.fr_cert.specs.Written.{end_tree, each_tree}
+use Rattle.fr_cert.proofs.WrittenLemmas.{behind}
 use Rattle.fr_cert.proofs.written_ends.ends_value.Given as goal
 
 -- the ends that are left complete what there is
 abbrev pub invariant-loop-end : goal.invariant-loop-end
-invariant-loop-end l = behind (items_view l.list.items) (made (λ e. end_tree l.app (end_of e)) (drop l.end-index l.listed)) ≡ made (λ e. end_tree l.app (end_of e)) l.listed
+invariant-loop-end l = behind (items_view l.list.items) (each_tree (λ e. end_tree l.app (end_of e)) (drop l.end-index l.listed)) ≡ each_tree (λ e. end_tree l.app (end_of e)) l.listed

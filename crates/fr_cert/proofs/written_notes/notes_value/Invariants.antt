@@ -1,9 +1,9 @@
 use Rattle.std.proofs.Common.{◌≡◌, drop}
 use Rattle.serde_json.specs.View.{items_view}
-use Rattle.fr_cert.specs.Written.{note_tree}
-use Rattle.fr_cert.proofs.WrittenLemmas.{behind, made}
+use Rattle.fr_cert.specs.Written.{note_tree, each_tree}
+use Rattle.fr_cert.proofs.WrittenLemmas.{behind}
 use Rattle.fr_cert.proofs.written_notes.notes_value.Given as goal
 
 -- the notes that are left complete what there is
-abbrev pub invariant-loop-number : goal.invariant-loop-number
-invariant-loop-number l = behind (items_view l.list.items) (made (note_tree l.app) (drop l.number l.notes)) ≡ made (note_tree l.app) l.notes
+abbrev pub invariant-loop-note : goal.invariant-loop-note
+invariant-loop-note l = behind (items_view l.list.items) (each_tree (note_tree l.app) (drop l.note-index l.listed)) ≡ each_tree (note_tree l.app) l.listed
