@@ -1,6 +1,4 @@
-// Each fault's line and exit status, numbers of workers that are refused, and readers and writers that fail.
-use crate::answer::Call;
-use crate::row::Asked;
+// Each fault's line and exit status, and readers and writers that fail.
 use fr_answer::{
     CheckFault, Found, LoadFault, WordsFault, answer_check, answer_fault, answer_points,
     answer_run, answer_words, check_to, load, tell_found,
@@ -80,21 +78,6 @@ fn lines_of_faults(rt: HostRuntime) {
         let mut err = Vec::new(rt.alloc());
         assert!(rt; answer_fault(rt.alloc(), &fault, &mut err) == status);
         assert!(rt; err.as_slice() == line.as_bytes());
-    }
-}
-
-#[test]
-fn numbers_of_workers_that_are_refused(rt: HostRuntime) {
-    for workers in [0, 65] {
-        let call = Call::on_files(
-            &rt,
-            rt.alloc(),
-            Some(b"["),
-            Some(b"["),
-            &Asked::Check { workers },
-        );
-        assert!(rt; call.answer.status == 2 && call.answer.stdout.is_empty());
-        assert!(rt; call.answer.stderr.as_slice() == b"refused: workers\n".as_slice());
     }
 }
 

@@ -1,7 +1,5 @@
-// Certificates that are found, where memory may be refused, and numbers of rounds that are refused.
-use crate::answer::Call;
-use crate::own_obligations::FIRST;
-use crate::row::Asked;
+// Certificates that are found, where memory may be refused.
+use crate::want_of_memory::FIRST;
 use fr_answer::{CheckFault, Found, find_bytes};
 use std::alloc::Global;
 use std::thread::Threads;
@@ -24,15 +22,4 @@ fn a_search_without_memory_is_asked_again(rt: HostRuntime) {
     assert!(rt; matches!(&text, Ok(Found::Text(text)) if text.as_str() == FIRST_FOUND));
     let missed = found(&rt, rt.alloc(), 6);
     assert!(rt; matches!(&missed, Ok(Found::NotFound)));
-}
-
-#[test]
-fn numbers_of_rounds_that_are_refused(rt: HostRuntime) {
-    for rounds in [0, 65] {
-        let asked = Asked::Find { rounds };
-        let call = Call::on_files(&rt, rt.alloc(), Some(b"["), None, &asked);
-        assert!(rt; call.answer.status == 2 && call.answer.stdout.is_empty());
-        assert!(rt; call.answer.stderr.as_slice() == b"refused: rounds\n".as_slice());
-        assert!(rt; call.written.is_none());
-    }
 }

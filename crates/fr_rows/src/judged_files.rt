@@ -1,14 +1,16 @@
-// Applications and certificates that are read, for tests of what is judged at one point.
+// Applications and certificates that are read, for what is judged at a point.
 ghost use Rattle.std.specs.Prelude.{◌<◌, IsTrue, length};
 ghost use Rattle.fr_program.specs.Points.{points_of};
 ghost use Rattle.fr_notes.specs.Fits.{NotesFit};
 ghost use Rattle.fr_ends.specs.Fits.{CertificateFits};
 
+use crate::files::wrong;
 use fr_cert::read_cert;
 use fr_ends::Certificate;
 use fr_program::App;
 use fr_reader::read_app;
 use std::alloc::Global;
+use std::io;
 
 /// An application and a certificate.
 #[derive(Drop)]
@@ -17,19 +19,22 @@ pub struct Files {
     pub certificate: Certificate,
 }
 
-impl Files {
-    /// The application in this text, and the certificate for it in that one; None where a text is refused.
-    pub fn read(alloc: Global, app: &str, certificate: &str) -> Option<Files> {
-        let app = read_app(alloc, app.as_bytes()).ok()?;
-        let certificate = read_cert(alloc, &app, certificate.as_bytes()).ok()?;
-        Some(Files { app, certificate })
+/// The application in this text.
+pub fn app_in(alloc: Global, text: &str) -> io::Result<App> {
+    match read_app(alloc, text.as_bytes()) {
+        Ok(app) => Ok(app),
+        Err(_) => Err(wrong("the application of a case is refused")),
     }
+}
 
-    /// The application in this text, with these notes of its points and no guards. The notes may have several
-    /// alternatives.
-    pub fn with_notes(alloc: Global, app: &str, notes: &str) -> Option<Files> {
-        let text = format!(in alloc; "{{\"version\":2,\"ends\":[],\"notes\":[{notes}]}}").ok()?;
-        Files::read(alloc, app, text.as_str())
+impl Files {
+    /// The application in this text, and the certificate for it in that one.
+    pub fn read(alloc: Global, app: &str, certificate: &str) -> io::Result<Files> {
+        let app = app_in(alloc, app)?;
+        match read_cert(alloc, &app, certificate.as_bytes()) {
+            Ok(certificate) => Ok(Files { app, certificate }),
+            Err(_) => Err(wrong("the certificate of a case is refused")),
+        }
     }
 
     /// Whether the certificate fits the application, which has a point with this number: so that it can be judged there.

@@ -1,52 +1,38 @@
-// The worked rows: answers each row of the folder that the first word names by the call that the program makes, and tells
-// those that get another answer than their files hold. What needs code is in the tests.
+// The worked rows: answers each row of the folder that the first word names, a command by the call that the program makes and
+// each case of a table by the call that it is about, and tells those that get another answer than their files hold. What needs
+// code is in the tests.
 #![tactic(auto)]
 
 mod answer;
-#[cfg(test)]
-mod application_texts;
 #[cfg(test)]
 mod board_draws;
 #[cfg(test)]
 mod built_applications;
 #[cfg(test)]
+mod built_guards;
+#[cfg(test)]
 mod built_notes;
 #[cfg(test)]
-mod certificates;
-#[cfg(test)]
-mod certificates_whole;
+mod changed_bytes;
 #[cfg(test)]
 mod faults;
 mod files;
-#[cfg(test)]
-mod guards;
+mod filling;
 #[cfg(test)]
 mod guesses;
-#[cfg(test)]
-mod interference;
-#[cfg(test)]
 mod judged_files;
 #[cfg(test)]
-mod lines;
-#[cfg(test)]
-mod notes_of_objects;
-#[cfg(test)]
-mod own_obligations;
-#[cfg(test)]
-mod own_obligations_of_objects;
-#[cfg(test)]
 mod passing;
-#[cfg(test)]
-mod plain_notes;
+mod points;
 #[cfg(test)]
 mod polled_machine;
 mod row;
 #[cfg(test)]
-mod run_words;
-#[cfg(test)]
 mod runs;
 #[cfg(test)]
 mod runs_without_memory;
+mod table;
+mod texts;
 #[cfg(test)]
 mod want_of_memory;
 #[cfg(test)]
@@ -61,6 +47,21 @@ use std::io::{self, ErrorKind};
 use std::process::ExitCode;
 use std::sync::Wait;
 use std::thread::Threads;
+use table::{Case, Table};
+
+/// How many answers there were, and how many of them were other ones than the files say.
+#[derive(Clone, Copy)]
+struct Count {
+    cases: usize,
+    differing: usize,
+}
+
+impl Count {
+    fn add(&mut self, other: Count) {
+        self.cases = self.cases.saturating_add(other.cases);
+        self.differing = self.differing.saturating_add(other.differing);
+    }
+}
 
 /// Prints the row with the answer that it has to get and the one that it got.
 fn tell_difference(
@@ -135,20 +136,50 @@ fn is_row_kept<R: Threads + Wait + Sync>(
     Ok(true)
 }
 
-/// Whether the row with this name can be read and is kept; an error of its files is told as a difference.
-fn is_told_right<R: Threads + Wait + Sync>(
+/// Whether the case is answered as its line says, and if not, prints it with both answers, or with the error that there is.
+fn is_case_kept(rt: &HostRuntime, table: &Table, case: &Case) -> io::Result<bool> {
+    let (name, question, expected) = (&table.name, &case.question, &case.expected);
+    match table.answer(rt.alloc(), question.as_str()) {
+        Ok(answer) if answer.as_str() == expected.as_str() => return Ok(true),
+        Ok(answer) => println!(rt;
+            "{name}: {question}: differs\n  expected {expected}\n  got {answer}"
+        )?,
+        Err(error) => println!(rt; "{name}: {question}: {error}")?,
+    }
+    Ok(false)
+}
+
+/// How many of the table's cases are not answered as their lines say.
+fn differing_cases(rt: &HostRuntime, table: &Table) -> io::Result<usize> {
+    let mut differing: Vec<&Case> = Vec::new(rt.alloc());
+    for case in &table.cases {
+        if !is_case_kept(rt, table, case)? {
+            differing.push(case)?;
+        }
+    }
+    Ok(differing.len())
+}
+
+/// Answers what is in the folder with this name, and counts its answers.
+fn count_answers<R: Threads + Wait + Sync>(
     rt: &HostRuntime,
     threads: &R,
     folder: &str,
     name: &str,
-) -> io::Result<bool> {
-    match Row::read(rt, folder, name) {
-        Ok(row) => is_row_kept(rt, threads, &row),
-        Err(error) => {
-            println!(rt; "{name}: {error}")?;
-            Ok(false)
-        }
+) -> io::Result<Count> {
+    if let Some(table) = Table::read(rt, folder, name)? {
+        let differing = differing_cases(rt, &table)?;
+        return Ok(Count {
+            cases: table.cases.len(),
+            differing,
+        });
     }
+    let row = Row::read(rt, folder, name)?;
+    let is_kept = is_row_kept(rt, threads, &row)?;
+    Ok(Count {
+        cases: 1,
+        differing: usize::from(!is_kept),
+    })
 }
 
 fn answer_rows<R: Threads + Wait + Sync>(
@@ -160,14 +191,29 @@ fn answer_rows<R: Threads + Wait + Sync>(
     if names.is_empty() {
         return Err(io::Error::new(ErrorKind::InvalidData, "there are no rows"));
     }
-    let mut differing: Vec<&str> = Vec::new(rt.alloc());
+    let mut count = Count {
+        cases: 0,
+        differing: 0,
+    };
     for name in &names {
-        if !is_told_right(rt, threads, folder, name.as_str())? {
-            differing.push(name.as_str())?;
-        }
+        count.add(match count_answers(rt, threads, folder, name.as_str()) {
+            Ok(answers) => answers,
+            Err(error) => {
+                println!(rt; "{name}: {error}")?;
+                Count {
+                    cases: 1,
+                    differing: 1,
+                }
+            }
+        });
     }
-    println!(rt; "{} rows, {} differ", names.len(), differing.len())?;
-    Ok(u8::from(!differing.is_empty()))
+    println!(rt;
+        "{} rows, {} cases, {} differ",
+        names.len(),
+        count.cases,
+        count.differing
+    )?;
+    Ok(u8::from(count.differing > 0))
 }
 
 /// The folder that the first word names.

@@ -125,7 +125,8 @@ fn input_named(name: Option<&str>) -> io::Result<Input> {
     }
 }
 
-fn number(word: Option<&str>) -> io::Result<usize> {
+/// The number that the word is.
+pub fn number(word: Option<&str>) -> io::Result<usize> {
     match word {
         Some(word) => match word.parse::<usize>() {
             Ok(number) => Ok(number),

@@ -1,11 +1,16 @@
 // The true answer though an allocation is refused: where there is no memory, it is asked for once more and has to come then.
 // So each of these tests passes whichever allocation is refused (`rt try --test --fail-alloc N`).
-use crate::own_obligations::FIRST;
+use fr_answer::{WordsFault, words_of};
 use fr_cert::{CertFault, read_cert, write_cert};
 use fr_judge::{TextFault, judge_text};
 use fr_reader::read_app;
 use fr_report::report;
 use std::alloc::Global;
+
+/// A task that sets a variable in the critical section, over and over.
+pub const FIRST: &str = r#"variable = [{name="x", lo=0, hi=1, init=0}]
+actor = [{name="t", kind="task", code=["taskENTER_CRITICAL()", "set x = 1", "taskEXIT_CRITICAL()", "vTaskDelay(1)", "goto 0"]}]
+"#;
 
 const DELAYED_INSIDE: &[u8] = br#"variable = [{name="x", lo=0, hi=1, init=0}]
 actor = [{name="t", kind="task", code=["taskENTER_CRITICAL()", "set x = 1", "vTaskDelay(1)", "taskEXIT_CRITICAL()", "goto 0"]}]
@@ -103,4 +108,24 @@ fn certificates_that_are_written(rt: HostRuntime) {
             "{notes}"
         );
     }
+}
+
+/// Whether the text gives these words, or none where it has to be refused.
+fn gives(alloc: Global, text: &str, wanted: Option<&[u64]>) -> bool {
+    let words = match words_of(alloc, text) {
+        Err(WordsFault::Memory) => words_of(alloc, text),
+        answer => answer,
+    };
+    match (&words, wanted) {
+        (Ok(words), Some(wanted)) => words.as_slice() == wanted,
+        (Err(WordsFault::Bad), None) => true,
+        (_, _) => false,
+    }
+}
+
+#[test]
+fn words_of_a_run(rt: HostRuntime) {
+    let (alloc, greatest) = (rt.alloc(), u64::MAX);
+    assert!(rt; gives(alloc, "0,00,18446744073709551615", Some(&[0, 0, greatest])));
+    assert!(rt; gives(alloc, "1,18446744073709551616", None));
 }
