@@ -6,10 +6,11 @@ use Rattle.std.proofs.lemmas.Option.{same_Some}
 use Rattle.fr_program.specs.declared.instr.Instr.{Instr}
 use Rattle.fr_program.specs.declared.instr.Instr.TheVariants.{Call as Calls}
 use Rattle.fr_program.specs.declared.instr.Call.TheVariants.{Delay, DeleteSelf, On}
-use Rattle.fr_program.specs.declared.instr.Action.{Action}
-use Rattle.fr_program.specs.declared.instr.Action.TheVariants.{Send, Receive, Reset}
+use Rattle.fr_program.specs.declared.instr.ObjectCall.{ObjectCall}
+use Rattle.fr_program.specs.declared.instr.Act.TheVariants.{Try, Move}
+use Rattle.fr_program.specs.declared.instr.Attempt.TheVariants.{Reset}
 use Rattle.fr_program.specs.declared.instr.BufferKind.TheVariants.{Stream as OfStream}
-use Rattle.fr_program.specs.declared.instr.Timing.TheVariants.{Waits}
+use Rattle.fr_program.specs.declared.instr.Timing.TheVariants.{Now, Waits}
 use Rattle.fr_program.specs.declared.ids.Side.{Side}
 use Rattle.fr_program.specs.declared.ids.Side.TheVariants.{Before, Inside}
 use Rattle.fr_program.specs.declared.parts.Kind.TheVariants.{Mutex, Recursive}
@@ -17,31 +18,31 @@ use Rattle.fr_program.specs.Program.{Program}
 use Rattle.fr_program.specs.Lookup.{instr_at}
 use Rattle.fr_calls.specs.State.{State, At, Dead, Values, Held, Bytes, place_of}
 use Rattle.fr_calls.specs.Rule.{Rule, OneWriter, OneReader, GivenByHolder, AllowedInCritical, IsLive, LifeInOrder, EndsInOrder, InRange, End, Writer, Reader, is_at_end, Stands, IsInside, SharesEnd, Breach, Breaches}
-use Rattle.fr_calls.specs.WorkedSteps.{x, thing, call, of_one, seen, before, inside, add_one, create, delete, give, give_recursive, queue_send, stream_send, stream_receive, reset, ten, queue, stream}
+use Rattle.fr_calls.specs.WorkedSteps.{x, on_thing, of_one, seen, before, inside, add_one, create, delete, give, give_recursive, queue_send, stream_send, stream_receive, reset, ten, queue, stream}
 use Rattle.fr_calls.specs.WorkedRules.{two, both, both_inside, WorkedBreaches, WorkedLeast}
 
 -- actor 0 stands at this side of its instruction 0 and breaches the rule
 breach-at : (P : Program) (S : State) (side : Side) (i : Instr) (rule : Rule) → place_of S 0 ≡ At 0 side → instr_at P 0 0 ≡ Some i → Breaches P S 0 side i rule → Breach P S rule 0
 breach-at P S side i rule at is b = record { side = side; instr = i; stands = record { pc = 0; at = at; is = is }; breaches = b }
 
-abbrev sends : Action
-sends = Send OfStream 8 (Waits ten) (Some x)
+abbrev sends : ObjectCall
+sends = on_thing (Waits ten) (Move Writer OfStream 8 (Some x))
 
-abbrev receives : Action
-receives = Receive OfStream 8 (Waits ten) (Some x)
+abbrev receives : ObjectCall
+receives = on_thing (Waits ten) (Move Reader OfStream 8 (Some x))
 
-abbrev resets : Action
-resets = Reset OfStream (Some 2)
+abbrev resets : ObjectCall
+resets = on_thing Now (Try (Reset OfStream) (Some 2))
 
 -- both are inside their calls
-inside-0 : (one other : Action) → IsInside (two stream (call one) (call other)) both_inside 0 0 one
-inside-0 one other = (thing, refl, record { pc = 0; at = refl; is = refl })
+inside-0 : (one other : ObjectCall) → one.object.0 ≡ 0 → IsInside (two stream (Calls (On one)) (Calls (On other))) both_inside 0 0 one
+inside-0 one other is = (is, record { pc = 0; at = refl; is = refl })
 
-inside-1 : (one other : Action) → IsInside (two stream (call one) (call other)) both_inside 1 0 other
-inside-1 one other = (thing, refl, record { pc = 0; at = refl; is = refl })
+inside-1 : (one other : ObjectCall) → other.object.0 ≡ 0 → IsInside (two stream (Calls (On one)) (Calls (On other))) both_inside 1 0 other
+inside-1 one other is = (is, record { pc = 0; at = refl; is = refl })
 
-shared : (end : End) (one other : Action) → IsTrue (is_at_end end one) → IsTrue (is_at_end end other) → SharesEnd (two stream (call one) (call other)) both_inside 0 end
-shared end one other h k = (0, one, other, 1, (λ e. absurd (omega (arith, e))), inside-0 one other, inside-1 one other, h, k)
+shared : (end : End) (one other : ObjectCall) → one.object.0 ≡ 0 → other.object.0 ≡ 0 → IsTrue (is_at_end end one.act) → IsTrue (is_at_end end other.act) → SharesEnd (two stream (Calls (On one)) (Calls (On other))) both_inside 0 end
+shared end one other is also h k = (0, one, other, 1, (λ e. absurd (omega (arith, e))), inside-0 one other is, inside-1 one other also, h, k)
 
 -- an actor that stands at its instruction 0 has that instruction
 one-instr : (P : Program) (S : State) (a : ℕ) (here side : Side) (i j : Instr) → place_of S a ≡ At 0 here → instr_at P a 0 ≡ Some i → Stands P S a side j → j ≡ i
@@ -50,14 +51,14 @@ one-instr P S a here side i j at is s =
     let pc : 0 ≡ s.pc = cc in
     same_Some _ _ (sym (subst (λ n. instr_at P a n ≡ Some j) (sym pc) s.is) ∙ is)
 
-apart : (b : ℕ) (action : Action) → (b ≡ 0 → ⊥) → IsInside (two stream stream_send stream_receive) both_inside b 0 action → IsTrue (is_at_end Writer action) → ⊥
-apart zero action ne inside h = ne refl
-apart (suc zero) action ne (n, same, stands) h =
-    let e : Calls (On n action) ≡ stream_receive = one-instr (two stream stream_send stream_receive) both_inside 1 Inside Inside stream_receive (Calls (On n action)) refl refl stands in
-    let f : action ≡ receives = cc in
-    let g : IsTrue (is_at_end Writer receives) = subst (λ a. IsTrue (is_at_end Writer a)) f h in
+apart : (b : ℕ) (done : ObjectCall) → (b ≡ 0 → ⊥) → IsInside (two stream stream_send stream_receive) both_inside b 0 done → IsTrue (is_at_end Writer done.act) → ⊥
+apart zero done ne inside h = ne refl
+apart (suc zero) done ne (same, stands) h =
+    let e : Calls (On done) ≡ stream_receive = one-instr (two stream stream_send stream_receive) both_inside 1 Inside Inside stream_receive (Calls (On done)) refl refl stands in
+    let f : done ≡ receives = cc in
+    let g : IsTrue (is_at_end Writer receives.act) = subst (λ a. IsTrue (is_at_end Writer a.act)) f h in
     cc
-apart (suc (suc b)) action ne (n, same, stands) h = let e = stands.at in cc
+apart (suc (suc b)) done ne (same, stands) h = let e = stands.at in cc
 
 no-sharing : Breach (two stream stream_send stream_receive) both_inside OneWriter 0 → ⊥
 no-sharing breach =
@@ -65,11 +66,11 @@ no-sharing breach =
     let zero : b.0 ≡ 0 = first b.0 b.1 b.5 in
     apart b.3 b.2 b.4 (subst (λ o. IsInside (two stream stream_send stream_receive) both_inside b.3 o b.2) zero b.6) b.8
   where
-    first : (o : ℕ) (action : Action) → IsInside (two stream stream_send stream_receive) both_inside 0 o action → o ≡ 0
-    first o action (n, same, stands) =
-        let e : Calls (On n action) ≡ stream_send = one-instr (two stream stream_send stream_receive) both_inside 0 Inside Inside stream_send (Calls (On n action)) refl refl stands in
-        let f : n ≡ thing = cc in
-        sym same ∙ ap (λ k. k.0) f
+    first : (o : ℕ) (done : ObjectCall) → IsInside (two stream stream_send stream_receive) both_inside 0 o done → o ≡ 0
+    first o done (same, stands) =
+        let e : Calls (On done) ≡ stream_send = one-instr (two stream stream_send stream_receive) both_inside 0 Inside Inside stream_send (Calls (On done)) refl refl stands in
+        let f : done ≡ sends = cc in
+        sym same ∙ ap (λ done. done.object.0) f
 
 no-giving : Breach (of_one Mutex give) (before (pos 0) (Held 0 1)) GivenByHolder 0 → ⊥
 no-giving breach =
@@ -85,9 +86,9 @@ no-recursive-giving breach =
 
 pub worked-breaches : WorkedBreaches
 worked-breaches = record {
-  two_senders = breach-at (two stream stream_send stream_send) both_inside Inside stream_send OneWriter refl refl (shared Writer sends sends refl refl);
-  sender_and_reset = breach-at (two stream stream_send reset) both_inside Inside stream_send OneWriter refl refl (shared Writer sends resets refl refl);
-  receiver_and_reset = breach-at (two stream stream_receive reset) both_inside Inside stream_receive OneReader refl refl (shared Reader receives resets refl refl);
+  two_senders = breach-at (two stream stream_send stream_send) both_inside Inside stream_send OneWriter refl refl (shared Writer sends sends refl refl refl refl);
+  sender_and_reset = breach-at (two stream stream_send reset) both_inside Inside stream_send OneWriter refl refl (shared Writer sends resets refl refl refl refl);
+  receiver_and_reset = breach-at (two stream stream_receive reset) both_inside Inside stream_receive OneReader refl refl (shared Reader receives resets refl refl refl refl);
   sender_and_receiver = no-sharing;
   give_of_anothers = breach-at (of_one Mutex give) (before (pos 0) (Held 1 1)) Before give GivenByHolder refl refl (refl, refl);
   give_of_own = no-giving;
@@ -96,7 +97,7 @@ worked-breaches = record {
   delay_in_critical = breach-at (of_one stream (Calls (Delay 1))) (seen (At 0 Before) (pos 0) Dead (Some (0, 1)) 0) Before (Calls (Delay 1)) AllowedInCritical refl refl refl;
   use_of_a_dead_buffer = breach-at (of_one stream stream_send) (inside (pos 0) Dead) Inside stream_send IsLive refl refl (0, refl, refl);
   delete_of_a_dead_buffer = breach-at (of_one stream delete) (before (pos 0) Dead) Before delete IsLive refl refl (0, refl, refl);
-  delete_in_use = breach-at (two stream delete stream_receive) (both (At 0 Before) (At 0 Inside) (Bytes 0)) Before delete LifeInOrder refl refl (1, (λ e. absurd (omega (arith, e))), receives, (thing, refl, record { pc = 0; at = refl; is = refl }));
+  delete_in_use = breach-at (two stream delete stream_receive) (both (At 0 Before) (At 0 Inside) (Bytes 0)) Before delete LifeInOrder refl refl (1, (λ e. absurd (omega (arith, e))), receives, (refl, record { pc = 0; at = refl; is = refl }));
   create_of_a_live_one = breach-at (of_one stream create) (before (pos 0) (Bytes 0)) Before create LifeInOrder refl refl (λ e. cc);
   end_with_a_mutex = breach-at (of_one Mutex (Calls DeleteSelf)) (before (pos 0) (Held 0 1)) Before (Calls DeleteSelf) EndsInOrder refl refl refl;
   end_in_a_critical_section = breach-at (of_one stream (Calls DeleteSelf)) (seen (At 0 Before) (pos 0) Dead (Some (0, 1)) 0) Before (Calls DeleteSelf) EndsInOrder refl refl refl;

@@ -81,7 +81,7 @@ worked-ends = record {
   give_is_refused = inside-steps (Counting (pos 2) (pos 0)) give Else (inside (pos 0) (Count 2)) (pos 0) (inside (pos 0) (Count 2)) (other (pos 0) (Count 2)) refl refl (λ h. let e = h.0 in cc) refl (λ e. cc) (refl, refl, refl) refl;
   queue_send_puts_last = inside-steps queue queue_send Then (inside (pos 4) (Values (pos 3 ∷ []))) (pos 1) (inside (pos 4) (Values (pos 3 ∷ pos 4 ∷ []))) (next (pos 4) (Values (pos 3 ∷ pos 4 ∷ []))) refl refl none refl (λ e. cc) (refl, (_, refl, refl)) refl;
   queue_send_times_out = inside-steps queue queue_send Else (inside (pos 4) (Values (pos 3 ∷ []))) (pos 0) (inside (pos 4) (Values (pos 3 ∷ []))) (other (pos 4) (Values (pos 3 ∷ []))) refl refl none refl (λ e. cc) (refl, refl, refl) refl;
-  queue_receive_takes_first = inside-steps queue queue_receive Then (inside (pos 0) (Values (pos 3 ∷ pos 4 ∷ []))) (pos 1) (inside (pos 3) (Values (pos 4 ∷ []))) (next (pos 3) (Values (pos 4 ∷ []))) refl refl none refl (λ e. cc) (refl, pos 3, pos 4 ∷ [], refl, refl) refl;
+  queue_receive_takes_first = inside-steps queue queue_receive Then (inside (pos 0) (Values (pos 3 ∷ pos 4 ∷ []))) (pos 1) (inside (pos 3) (Values (pos 4 ∷ []))) (next (pos 3) (Values (pos 4 ∷ []))) refl refl none refl (λ e. cc) (refl, (pos 3, pos 4 ∷ [], refl, refl)) refl;
   stream_send_moves_some = inside-steps stream stream_send Then (inside (pos 0) (Bytes 2)) (pos 3) (inside (pos 3) (Bytes 5)) (next (pos 3) (Bytes 5)) refl refl none refl (λ e. cc) (3, refl, omega arith, (inside (pos 0) (Bytes 5), (_, refl, refl), refl)) refl;
   stream_receive_moves_some = inside-steps stream stream_receive Then (inside (pos 0) (Bytes 5)) (pos 2) (inside (pos 2) (Bytes 3)) (next (pos 2) (Bytes 3)) refl refl none refl (λ e. cc) (2, refl, omega arith, (inside (pos 0) (Bytes 3), (_, refl, refl), refl)) refl;
   message_send_sends_none = inside-steps message message_send Else (inside (pos 0) (Lengths (5 ∷ []))) (pos 0) (inside (pos 0) (Lengths (5 ∷ []))) (next (pos 0) (Lengths (5 ∷ []))) refl refl none refl (λ e. cc) (refl, refl) refl;
@@ -89,7 +89,7 @@ worked-ends = record {
   message_receive_gets_none = inside-steps message message_receive Else (inside (pos 4) (Lengths (3 ∷ 5 ∷ []))) (pos 0) (inside (pos 0) (Lengths (3 ∷ 5 ∷ []))) (next (pos 0) (Lengths (3 ∷ 5 ∷ []))) refl refl none refl (λ e. cc) (refl, refl) refl;
   message_receive_takes_first = inside-steps message message_receive Then (inside (pos 0) (Lengths (3 ∷ 5 ∷ []))) (pos 3) (inside (pos 3) (Lengths (5 ∷ []))) (next (pos 3) (Lengths (5 ∷ []))) refl refl none refl (λ e. cc) (3, refl, omega arith, (inside (pos 0) (Lengths (5 ∷ [])), (_, refl, refl), refl)) refl;
   reset_empties = inside-steps stream reset Then (inside (pos 0) (Bytes 5)) (pos 1) (inside (pos 0) (Bytes 0)) (next (pos 0) (Bytes 0)) refl refl none refl (λ e. cc) (refl, refl) refl;
-  reset_fails = inside-steps stream reset Else (inside (pos 0) (Bytes 5)) (pos 0) (inside (pos 0) (Bytes 5)) (other (pos 0) (Bytes 5)) refl refl none refl (λ e. cc) (refl, refl) refl;
+  reset_fails = inside-steps stream reset Else (inside (pos 0) (Bytes 5)) (pos 0) (inside (pos 0) (Bytes 5)) (other (pos 0) (Bytes 5)) refl refl none refl (λ e. cc) (refl, refl, refl) refl;
 }
 
 -- A step of actor 0 from this side of its instruction 0 is by a row of that instruction, and nothing stops it.

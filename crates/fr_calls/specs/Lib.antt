@@ -1,5 +1,4 @@
 pub mod State
-pub mod BufferEnd
 pub mod Rule
 pub mod Step
 pub mod Landing

@@ -12,12 +12,14 @@ use Rattle.fr_program.specs.declared.instr.Instr.{Instr}
 use Rattle.fr_program.specs.declared.instr.Instr.TheVariants.{Goto, Call as Calls, Return}
 use Rattle.fr_program.specs.declared.instr.Call.TheVariants.{EnterCritical, ResumeAll, Delay, DeleteSelf}
 use Rattle.fr_program.specs.declared.instr.Form.TheVariants.{FromIsr as InIsr}
-use Rattle.fr_program.specs.declared.instr.Action.TheVariants.{QueueSend, Give, Send}
+use Rattle.fr_program.specs.declared.instr.Act.TheVariants.{Move}
+use Rattle.fr_program.specs.declared.instr.Attempt.TheVariants.{QueueSend, Give}
+use Rattle.fr_program.specs.declared.instr.SemaphoreForm.TheVariants.{Plain as PlainForm}
+use Rattle.fr_program.specs.declared.instr.End.TheVariants.{Writer as AtWriter}
 use Rattle.fr_program.specs.declared.instr.BufferKind.TheVariants.{Stream as OfStream}
 use Rattle.fr_program.specs.declared.instr.Timing.{Timing}
 use Rattle.fr_program.specs.declared.instr.Timing.TheVariants.{Waits, FromIsr}
 use Rattle.fr_program.specs.declared.instr.BlockTime.TheVariants.{Ticks, MaxDelay}
-use Rattle.fr_program.specs.declared.instr.GiveForm.TheVariants.{FromIsr as GiveFromIsr}
 use Rattle.fr_program.specs.declared.instr.Operand.TheVariants.{Variable}
 use Rattle.fr_program.specs.declared.ids.Side.TheVariants.{Before, Inside}
 use Rattle.fr_program.specs.declared.parts.Kind.{Kind}
@@ -26,7 +28,7 @@ use Rattle.fr_program.specs.declared.parts.ActorKind.TheVariants.{Task}
 use Rattle.fr_program.specs.Program.{Program}
 use Rattle.fr_calls.specs.State.{State, Place, At, Content, Dead, Values, Held, Bytes}
 use Rattle.fr_calls.specs.Rule.{OneWriter, OneReader, GivenByHolder, AllowedInCritical, IsLive, LifeInOrder, EndsInOrder, InRange, Breach, number_of, first_forbidden}
-use Rattle.fr_calls.specs.WorkedSteps.{x, call, beside, of_one, seen, before, inside, add_one, enter, exit, create, delete, take, take_recursive, give, give_recursive, queue_send, stream_send, stream_receive, reset, queue, stream}
+use Rattle.fr_calls.specs.WorkedSteps.{x, call, tries, beside, of_one, seen, before, inside, add_one, enter, exit, create, delete, take, take_recursive, give, give_recursive, queue_send, stream_send, stream_receive, reset, queue, stream}
 
 -- two tasks, each with one instruction, and an object of this kind
 abbrev pub two : Kind → Instr → Instr → Program
@@ -70,7 +72,7 @@ least kind interrupt critical suspended holds i =
 
 -- a send of 8 bytes, by its block time
 abbrev pub send_within : Timing → Instr
-send_within timing = call (Send OfStream 8 timing None)
+send_within timing = call timing (Move AtWriter OfStream 8 None)
 
 -- the rules 4, 5, 6, 9, 10 and 11
 pub record WorkedLeast : Type 0 where
@@ -78,15 +80,15 @@ pub record WorkedLeast : Type 0 where
   pub send_forever_in_critical : least stream false 1 0 false (send_within (Waits MaxDelay)) ≡ Some 4
   pub send_at_once_in_critical : least stream false 1 0 false (send_within (Waits (Ticks 0))) ≡ None
   pub send_from_isr_in_critical : least stream true 1 0 false (send_within FromIsr) ≡ None
-  pub queue_send_in_critical : least queue false 1 0 false (call (QueueSend (Variable x) (Waits (Ticks 0)) None)) ≡ Some 4
+  pub queue_send_in_critical : least queue false 1 0 false (tries (Waits (Ticks 0)) (QueueSend (Variable x))) ≡ Some 4
   pub take_in_critical : least Mutex false 1 0 false (take (Ticks 0)) ≡ Some 4
   pub delay_suspended : least stream false 0 1 false (Calls (Delay 1)) ≡ Some 5
   pub send_suspended : least stream false 0 1 false (send_within (Waits (Ticks 0))) ≡ Some 5
   pub enter_suspended : least stream false 0 1 false enter ≡ None
   pub give_in_interrupt : least Binary true 0 0 false give ≡ Some 6
   pub enter_in_interrupt : least stream true 0 0 false (Calls (EnterCritical InIsr)) ≡ None
-  pub mutex_in_interrupt : least Mutex true 0 0 false (call (Give GiveFromIsr None)) ≡ Some 9
-  pub binary_in_interrupt : least Binary true 0 0 false (call (Give GiveFromIsr None)) ≡ None
+  pub mutex_in_interrupt : least Mutex true 0 0 false (tries FromIsr (Give PlainForm)) ≡ Some 9
+  pub binary_in_interrupt : least Binary true 0 0 false (tries FromIsr (Give PlainForm)) ≡ None
   pub plain_of_recursive : least Recursive false 0 0 false give ≡ Some 9
   pub recursive_of_plain : least Mutex false 0 0 false take_recursive ≡ Some 9
   pub exit_at_zero : least stream false 0 0 false exit ≡ Some 10

@@ -19,16 +19,20 @@ use Rattle.fr_program.specs.declared.instr.Instr.{Instr}
 use Rattle.fr_program.specs.declared.instr.Instr.TheVariants.{Set, If, Goto, Pick, Call as Calls, Return}
 use Rattle.fr_program.specs.declared.instr.Call.TheVariants.{EnterCritical, ExitCritical, SuspendAll, ResumeAll, Delay, DeleteSelf, Create, Delete, On}
 use Rattle.fr_program.specs.declared.instr.Form.TheVariants.{Task as InTask}
-use Rattle.fr_program.specs.declared.instr.Action.{Action}
-use Rattle.fr_program.specs.declared.instr.Action.TheVariants.{QueueSend, QueueReceive, Take, Give, Send, Receive, Reset}
+use Rattle.fr_program.specs.declared.instr.ObjectCall.{ObjectCall}
+use Rattle.fr_program.specs.declared.instr.Act.{Act}
+use Rattle.fr_program.specs.declared.instr.Act.TheVariants.{Try, Move}
+use Rattle.fr_program.specs.declared.instr.Attempt.{Attempt}
+use Rattle.fr_program.specs.declared.instr.Attempt.TheVariants.{QueueSend, QueueReceive, Take, Give, Reset}
+use Rattle.fr_program.specs.declared.instr.SemaphoreForm.TheVariants.{Plain as PlainForm, Recursive as RecursiveForm}
+use Rattle.fr_program.specs.declared.instr.End.TheVariants.{Writer, Reader}
 use Rattle.fr_program.specs.declared.instr.BufferKind.TheVariants.{Stream as OfStream, Message as OfMessage}
 use Rattle.fr_program.specs.declared.instr.CreatedKind.TheVariants.{Stream as MakesStream, Counting as MakesCounting}
 use Rattle.fr_program.specs.declared.instr.DeletedKind.TheVariants.{Stream as DropsStream}
-use Rattle.fr_program.specs.declared.instr.Timing.TheVariants.{Waits, FromIsr}
+use Rattle.fr_program.specs.declared.instr.Timing.{Timing}
+use Rattle.fr_program.specs.declared.instr.Timing.TheVariants.{Now, Waits, FromIsr}
 use Rattle.fr_program.specs.declared.instr.BlockTime.{BlockTime}
 use Rattle.fr_program.specs.declared.instr.BlockTime.TheVariants.{Ticks, MaxDelay}
-use Rattle.fr_program.specs.declared.instr.TakeForm.TheVariants.{Plain as PlainTake, Recursive as RecursiveTake, FromIsr as TakeFromIsr}
-use Rattle.fr_program.specs.declared.instr.GiveForm.TheVariants.{Plain as PlainGive, Recursive as RecursiveGive}
 use Rattle.fr_program.specs.declared.instr.Operand.TheVariants.{Number, Variable}
 use Rattle.fr_program.specs.declared.instr.Operator.TheVariants.{Plus}
 use Rattle.fr_program.specs.declared.instr.Comparison.{Comparison}
@@ -97,8 +101,16 @@ abbrev pub Steps : Kind → Instr → State → ℤ → State → Type 0
 Steps kind i S c S' = Step (of_one kind i) S 0 c S'
 
 -- the call on the object that does this
-abbrev pub call : Action → Instr
-call action = Calls (On thing action)
+abbrev pub on_thing : Timing → Act → ObjectCall
+on_thing timing act = record { object = thing; timing = timing; act = act }
+
+-- the same as an instruction
+abbrev pub call : Timing → Act → Instr
+call timing act = Calls (On (on_thing timing act))
+
+-- the call on the object that tries this, with `else 2`
+abbrev pub tries : Timing → Attempt → Instr
+tries timing attempt = call timing (Try attempt (Some 2))
 
 -- a block time of ten ticks
 abbrev pub ten : BlockTime
@@ -134,55 +146,55 @@ delete = Calls (Delete DropsStream thing)
 
 -- `xSemaphoreTake(thing, time) else 2`
 abbrev pub take : BlockTime → Instr
-take time = call (Take (PlainTake time) (Some 2))
+take time = tries (Waits time) (Take PlainForm)
 
 -- `xSemaphoreTakeFromISR(thing) else 2`
 abbrev pub take_at_once : Instr
-take_at_once = call (Take TakeFromIsr (Some 2))
+take_at_once = tries FromIsr (Take PlainForm)
 
 -- `xSemaphoreTakeRecursive(thing, portMAX_DELAY)`
 abbrev pub take_recursive : Instr
-take_recursive = call (Take (RecursiveTake MaxDelay) None)
+take_recursive = call (Waits MaxDelay) (Try (Take RecursiveForm) None)
 
 -- `xSemaphoreGive(thing) else 2`
 abbrev pub give : Instr
-give = call (Give PlainGive (Some 2))
+give = tries Now (Give PlainForm)
 
 -- `xSemaphoreGiveRecursive(thing)`
 abbrev pub give_recursive : Instr
-give_recursive = call (Give RecursiveGive None)
+give_recursive = call Now (Try (Give RecursiveForm) None)
 
 -- `xQueueSend(thing, x, 10) else 2`
 abbrev pub queue_send : Instr
-queue_send = call (QueueSend (Variable x) (Waits ten) (Some 2))
+queue_send = tries (Waits ten) (QueueSend (Variable x))
 
 -- `xQueueReceive(thing, x, 10) else 2`
 abbrev pub queue_receive : Instr
-queue_receive = call (QueueReceive x (Waits ten) (Some 2))
+queue_receive = tries (Waits ten) (QueueReceive x)
 
 -- `x = xStreamBufferSend(thing, 8, 10)`
 abbrev pub stream_send : Instr
-stream_send = call (Send OfStream 8 (Waits ten) (Some x))
+stream_send = call (Waits ten) (Move Writer OfStream 8 (Some x))
 
 -- `x = xStreamBufferReceive(thing, 8, 10)`
 abbrev pub stream_receive : Instr
-stream_receive = call (Receive OfStream 8 (Waits ten) (Some x))
+stream_receive = call (Waits ten) (Move Reader OfStream 8 (Some x))
 
 -- `xMessageBufferSend(thing, 8, 10)`
 abbrev pub message_send : Instr
-message_send = call (Send OfMessage 8 (Waits ten) None)
+message_send = call (Waits ten) (Move Writer OfMessage 8 None)
 
 -- `x = xMessageBufferReceive(thing, 8, 10)`
 abbrev pub message_receive : Instr
-message_receive = call (Receive OfMessage 8 (Waits ten) (Some x))
+message_receive = call (Waits ten) (Move Reader OfMessage 8 (Some x))
 
 -- `xQueueReceiveFromISR(thing, x) else 2`
 abbrev pub queue_receive_at_once : Instr
-queue_receive_at_once = call (QueueReceive x FromIsr (Some 2))
+queue_receive_at_once = tries FromIsr (QueueReceive x)
 
 -- `xStreamBufferReset(thing) else 2`
 abbrev pub reset : Instr
-reset = call (Reset OfStream (Some 2))
+reset = tries Now (Reset OfStream)
 
 -- a queue of 2 values from 0 to 9
 abbrev pub queue : Kind

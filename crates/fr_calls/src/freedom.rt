@@ -2,12 +2,14 @@
 ghost use Rattle.std.specs.Prelude.{◌≡◌, ◌<◌, ◌↔◌, length, IsTrue, IsFalse};
 ghost use Rattle.fr_program.specs.Fault.{NamesThings};
 ghost use Rattle.fr_calls.specs.State.{IsWellFormed};
-ghost use Rattle.fr_calls.specs.Rule.{GivesUnheld, UsesDead, condition_of};
+ghost use Rattle.fr_calls.specs.Rule.{given_kind, GivesUnheld, UsesDead, condition_of};
 ghost use Rattle.fr_calls.specs.Step.{SuitsInside, IsFree};
 
 use crate::rules::{Condition, first_forbidden, is_unsuited};
 use crate::state::State;
-use fr_program::{Action, ActorId, App, Call, GiveForm, Instr, Kind, Point, Side};
+use fr_program::{
+    Act, ActorId, App, Attempt, Call, Instr, Kind, Point, SemaphoreForm, Side, Timing,
+};
 
 /// Whether the actor isn't inside a take or a give that doesn't suit the kind of semaphore.
 fn suits_inside(app: &App, side: Side, instr: &Instr) -> bool
@@ -15,10 +17,29 @@ fn suits_inside(app: &App, side: Side, instr: &Instr) -> bool
     ensures { IsTrue result ↔ SuitsInside app.now side instr.now }
 {
     match (side, instr) {
-        (Side::Inside, Instr::Call(Call::On { object, action })) => {
-            !is_unsuited(app.kind(*object), action)
+        (Side::Inside, Instr::Call(Call::On(call))) => {
+            !is_unsuited(app.kind(call.object), call.timing, call.act)
         }
         _ => true,
+    }
+}
+
+/// The kind of mutex that a task's give is for.
+pub fn given_kind(act: Act, timing: Timing) -> Option<Kind>
+    ensures { result ≡ given_kind act timing }
+{
+    match (act, timing) {
+        (
+            Act::Try {
+                attempt: Attempt::Give(form),
+                ..
+            },
+            Timing::Now,
+        ) => Some(match form {
+            SemaphoreForm::Plain => Kind::Mutex,
+            SemaphoreForm::Recursive => Kind::Recursive,
+        }),
+        _ => None,
     }
 }
 
@@ -29,20 +50,14 @@ impl State {
         requires names { NamesThings app.now instr.now }
         ensures { IsTrue result ↔ GivesUnheld app.now self.now point.actor.0 instr.now }
     {
-        let Instr::Call(
-            Call::On {
-                object,
-                action: Action::Give { form, .. },
-            },
-        ) = instr
-        else {
+        let Instr::Call(Call::On(call)) = instr else {
             return false;
         };
-        let asks = match (form, app.kind(*object)) {
-            (GiveForm::Plain, Kind::Mutex) | (GiveForm::Recursive, Kind::Recursive) => true,
+        let asks = match (given_kind(call.act, call.timing), app.kind(call.object)) {
+            (Some(Kind::Mutex), Kind::Mutex) | (Some(Kind::Recursive), Kind::Recursive) => true,
             _ => false,
         };
-        asks && self.content(*object).count_held(point.actor) == 0
+        asks && self.content(call.object).count_held(point.actor) == 0
     }
 
     /// Whether the actor is before a delete, or before or inside an object call, of an object that
@@ -56,7 +71,7 @@ impl State {
             (Side::Before, Instr::Call(Call::Delete { object, .. })) => {
                 self.content(*object).is_dead()
             }
-            (_, Instr::Call(Call::On { object, .. })) => self.content(*object).is_dead(),
+            (_, Instr::Call(Call::On(call))) => self.content(call.object).is_dead(),
             _ => false,
         }
     }

@@ -5,7 +5,6 @@
 // functions that do nothing: each is there for its contract.
 #![tactic(auto)]
 
-mod buffer_end;
 mod content;
 mod freedom;
 mod laws;
@@ -16,10 +15,10 @@ mod step;
 mod way;
 mod worked;
 
-pub use buffer_end::End;
 pub use content::Content;
+pub use freedom::given_kind;
 pub use laws::{steps_stay_well_formed, the_start_is_well_formed};
-pub use moves::{Moves, can_time_out, take_can_time_out};
+pub use moves::{Moves, can_time_out};
 pub use rules::{Condition, Rule, first_forbidden, is_unsuited, rule_of};
 pub use state::{Place, State};
 pub use way::{Landing, Way, lands_at};

@@ -2,9 +2,9 @@
 ghost use Rattle.std.specs.Prelude.{◌≡◌};
 ghost use Rattle.std.specs.Option.{option_map};
 ghost use Rattle.fr_program.specs.Fault.{NamesThings};
-ghost use Rattle.fr_calls.specs.Rule.{number_of, is_at_once, allowed_in_critical, allowed_suspended, is_unsuited, first_forbidden};
+ghost use Rattle.fr_calls.specs.Rule.{number_of, is_at_once, allowed_in_critical, allowed_suspended, suits_form, is_unsuited, first_forbidden};
 
-use fr_program::{Action, App, BlockTime, Call, GiveForm, Instr, Kind, TakeForm, Timing};
+use fr_program::{Act, App, Attempt, BlockTime, Call, Instr, Kind, SemaphoreForm, Timing};
 
 /// The twelve rules of use, in the order of their numbers.
 #[derive(Clone, Copy, PartialEq, Eq)]
@@ -72,10 +72,13 @@ pub struct Condition {
 }
 
 /// A block time of 0, which the forms for interrupts have.
-fn is_at_once(timing: &Timing) -> bool
-    ensures { result ≡ is_at_once timing.now }
+fn is_at_once(timing: Timing) -> bool
+    ensures { result ≡ is_at_once timing }
 {
-    matches!(timing, Timing::FromIsr | Timing::Waits(BlockTime::Ticks(0)))
+    match timing {
+        Timing::Waits(time) => matches!(time, BlockTime::Ticks(0)),
+        Timing::Now | Timing::FromIsr => true,
+    }
 }
 
 /// Whether the call is allowed in the critical section.
@@ -84,10 +87,7 @@ fn allowed_in_critical(call: &Call) -> bool
 {
     match call {
         Call::EnterCritical(_) | Call::ExitCritical(_) => true,
-        Call::On {
-            action: Action::Send { timing, .. } | Action::Receive { timing, .. },
-            ..
-        } => is_at_once(timing),
+        Call::On(call) => matches!(call.act, Act::Move { .. }) && is_at_once(call.timing),
         _ => false,
     }
 }
@@ -102,17 +102,27 @@ fn allowed_suspended(call: &Call) -> bool
     )
 }
 
-/// Whether a take or a give doesn't suit the kind of semaphore.
-pub fn is_unsuited(kind: Kind, action: &Action) -> bool
-    ensures { result ≡ is_unsuited kind action.now }
+/// Whether a take or a give in this form and with this timing suits the kind: a recursive mutex the
+/// recursive form, no other kind that form, and neither kind of mutex the forms for interrupts.
+fn suits_form(kind: Kind, timing: Timing, form: SemaphoreForm) -> bool
+    ensures { result ≡ suits_form kind timing form }
 {
-    match (kind, action) {
-        (Kind::Recursive, Action::Take { form, .. }) => !matches!(form, TakeForm::Recursive(_)),
-        (Kind::Recursive, Action::Give { form, .. }) => !matches!(form, GiveForm::Recursive),
-        (Kind::Mutex, Action::Take { form, .. }) => !matches!(form, TakeForm::Plain(_)),
-        (Kind::Mutex, Action::Give { form, .. }) => !matches!(form, GiveForm::Plain),
-        (_, Action::Take { form, .. }) => matches!(form, TakeForm::Recursive(_)),
-        (_, Action::Give { form, .. }) => matches!(form, GiveForm::Recursive),
+    match (kind, timing) {
+        (Kind::Recursive | Kind::Mutex, Timing::FromIsr) => false,
+        (Kind::Recursive, _) => matches!(form, SemaphoreForm::Recursive),
+        _ => matches!(form, SemaphoreForm::Plain),
+    }
+}
+
+/// Whether it is a take or a give that doesn't suit the kind of semaphore.
+pub fn is_unsuited(kind: Kind, timing: Timing, act: Act) -> bool
+    ensures { result ≡ is_unsuited kind timing act }
+{
+    match act {
+        Act::Try {
+            attempt: Attempt::Take(form) | Attempt::Give(form),
+            ..
+        } => !suits_form(kind, timing, form),
         _ => false,
     }
 }
@@ -152,8 +162,8 @@ fn first_forbidden_call(app: &App, condition: Condition, call: &Call) -> Option<
         return Some(Rule::AllowedInInterrupt);
     }
     match call {
-        Call::On { object, action } => {
-            if is_unsuited(app.kind(*object), action) {
+        Call::On(call) => {
+            if is_unsuited(app.kind(call.object), call.timing, call.act) {
                 Some(Rule::SuitsSemaphore)
             } else {
                 None

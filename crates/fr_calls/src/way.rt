@@ -49,14 +49,14 @@ pub fn lands_at(point: Point, next: usize, instr: &Instr, way: Way) -> Landing
         (Side::Before, Instr::Call(Call::Create { or_else, .. }), Way::Else) => {
             before(point.actor, or_else.unwrap_or(next))
         }
-        (Side::Before, Instr::Call(Call::On { .. }), _) => {
+        (Side::Before, Instr::Call(Call::On(_)), _) => {
             Landing::At(Point {
                 side: Side::Inside,
                 ..point
             })
         }
-        (Side::Inside, Instr::Call(Call::On { action, .. }), Way::Else) => {
-            before(point.actor, action.else_target().unwrap_or(next))
+        (Side::Inside, Instr::Call(Call::On(call)), Way::Else) => {
+            before(point.actor, call.act.else_target().unwrap_or(next))
         }
         _ => before(point.actor, next),
     }

@@ -10,7 +10,7 @@ use Rattle.fr_program.specs.Program.{Program}
 use Rattle.fr_program.specs.Lookup.{variable_at, object_at, actor_at}
 use Rattle.fr_program.specs.Limits.{IsNumber}
 use Rattle.fr_program.specs.Fault.{IsFaultless}
-use Rattle.fr_calls.specs.BufferEnd.{end_text}
+use Rattle.fr_program.specs.Uses.{end_text}
 use Rattle.fr_ends.specs.Guard.{Guard, Sole, ByMutex, InCritical, Turn, EndGuard}
 use Rattle.fr_ends.specs.Certificate.{value_for}
 use Rattle.fr_ends.specs.Fits.{AreRising, GuardFits, EndFits}

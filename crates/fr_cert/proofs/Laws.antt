@@ -9,8 +9,8 @@ use Rattle.serde_json.specs.Find.{as_array, as_object, as_str}
 use Rattle.serde_json.specs.Read.{read}
 use Rattle.fr_program.specs.Program.{Program}
 use Rattle.fr_instr.specs.Names.{NamesOf, place_of}
-use Rattle.fr_calls.specs.declared.buffer_end.End.{End as BufferEnd}
-use Rattle.fr_calls.specs.declared.buffer_end.End.TheVariants.{Writer, Reader}
+use Rattle.fr_program.specs.declared.instr.End.{End as BufferEnd}
+use Rattle.fr_program.specs.declared.instr.End.TheVariants.{Writer, Reader}
 use Rattle.fr_notes.specs.Note.{Note}
 use Rattle.fr_ends.specs.Certificate.{Certificate, value_for}
 use Rattle.fr_ends.specs.Guard.{Guard, Sole, ByMutex, InCritical, Turn, EndGuard}

@@ -10,7 +10,7 @@ use Rattle.serde_json.specs.Read.{max_depth}
 use Rattle.serde_json.specs.Written.{has_float, items_have_float, members_have_float}
 use Rattle.fr_program.specs.Program.{Program, VariableOf, ObjectOf}
 use Rattle.fr_program.specs.Lookup.{actor_at, object_at, variable_at}
-use Rattle.fr_calls.specs.BufferEnd.{end_text}
+use Rattle.fr_program.specs.Uses.{end_text}
 use Rattle.fr_notes.specs.declared.claim.Claim.{Claim}
 use Rattle.fr_notes.specs.declared.claim.Claim.TheVariants.{NotHeld, Alive, Gone, HeldTimes}
 use Rattle.fr_notes.specs.Note.{Alternative, Note}

@@ -26,8 +26,8 @@ use Rattle.fr_program.specs.Lookup.{variable_at}
 use Rattle.fr_program.specs.Limits.{IsNumber}
 use Rattle.fr_program.specs.Points.{points_of}
 use Rattle.fr_instr.specs.Names.{NamesOf}
-use Rattle.fr_calls.specs.declared.buffer_end.End.{End as BufferEnd}
-use Rattle.fr_calls.specs.BufferEnd.{end_text}
+use Rattle.fr_program.specs.declared.instr.End.{End as BufferEnd}
+use Rattle.fr_program.specs.Uses.{end_text}
 use Rattle.fr_calls.specs.State.{kind_of}
 use Rattle.fr_notes.specs.declared.claim.Claim.{Claim}
 use Rattle.fr_notes.specs.declared.claim.Claim.TheVariants.{NotHeld, Alive, Gone, HeldTimes}

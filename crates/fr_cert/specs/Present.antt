@@ -20,7 +20,7 @@ use Rattle.serde_json.specs.Events.{items_len}
 use Rattle.fr_program.specs.Program.{Program}
 use Rattle.fr_program.specs.Limits.{IsNumber}
 use Rattle.fr_program.specs.Points.{points_of}
-use Rattle.fr_calls.specs.declared.buffer_end.End.{End as BufferEnd}
+use Rattle.fr_program.specs.declared.instr.End.{End as BufferEnd}
 use Rattle.fr_notes.specs.Fits.{most_alternatives}
 use Rattle.fr_ends.specs.Guard.{EndGuard}
 use Rattle.fr_ends.specs.Fits.{EndFits, AreOfOneEnd}

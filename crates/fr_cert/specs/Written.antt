@@ -22,7 +22,7 @@ use Rattle.serde_json.specs.Find.{of_integer}
 use Rattle.serde_json.specs.Written.{compact_text}
 use Rattle.fr_program.specs.Program.{Program, VariableOf, ObjectOf}
 use Rattle.fr_program.specs.Lookup.{variable_at, object_at, actor_at}
-use Rattle.fr_calls.specs.BufferEnd.{end_text}
+use Rattle.fr_program.specs.Uses.{end_text}
 use Rattle.fr_notes.specs.declared.claim.Claim.{Claim}
 use Rattle.fr_notes.specs.declared.claim.Claim.TheVariants.{Alive, Gone, HeldTimes}
 use Rattle.fr_notes.specs.Note.{Alternative, Note}

@@ -16,9 +16,8 @@ use crate::path::Path;
 use crate::reader::{Entries, Entry, Reader, needed};
 use crate::scope::Scope;
 use crate::tree::{departs, known_keys, object_in};
-use fr_calls::End;
 use fr_ends::{EndGuard, EndName, Ends, is_listed};
-use fr_program::ObjId;
+use fr_program::{End, ObjId};
 use serde_json::{Map, Value};
 use std::alloc::Global;
 
@@ -26,7 +25,7 @@ use std::alloc::Global;
 struct EndText;
 
 impl Reader for EndText {
-    ghost use Rattle.fr_calls.specs.declared.buffer_end.End.{End as BufferEnd};
+    ghost use Rattle.fr_program.specs.declared.instr.End.{End as BufferEnd};
     ghost use Rattle.fr_cert.specs.Meaning.{IsEndName};
     ghost use Rattle.fr_cert.specs.Present.{InEndName};
 

@@ -7,6 +7,7 @@ use std::alloc::{AllocError, Global};
 // What the words of this line ask for: of `check` the files and the workers, of `find` the files and the rounds, of
 // `points` the file, of `run` the files, the polls and the words. Where the words don't match, the exit status and the
 // usage message.
+/// What the command line makes of these words.
 fn answer_to(alloc: Global, line: &str) -> Result<String, AllocError> {
     let mut words = Vec::new(alloc);
     for word in line.split(' ') {

@@ -2,7 +2,7 @@
 -- alternative, or in one with another content or other numbers in it; a rule that is kept is so by what every state with
 -- the alternative has.
 use Rattle.std.proofs.Common.{◌≡◌, ◌≢◌, ℕ, ◌<◌, ◌≤◌, List, [], ◌∷◌, length, Option, Some, None, Bool, true, false, refl, sym, ap, ◌∙◌, subst, arith, ⊎_elim, inl, inr, lit<}
-use Rattle.std.specs.Prelude.{ℤ, pos, ◌≤ℤ◌, ◌⊎◌, IsTrue, find, nat_le, if◌then◌else◌}
+use Rattle.std.specs.Prelude.{ℤ, pos, ◌≤ℤ◌, ◌⊎◌, ◌↔◌, IsTrue, find, nat_le, if◌then◌else◌}
 use Rattle.std.proofs.lemmas.Bool.{false≢true, cases_lt, leb-true, leb-false}
 use Rattle.std.proofs.lemmas.List.{get_or_past}
 use Rattle.std.proofs.lemmas.Int.{ints}
@@ -10,11 +10,15 @@ use Rattle.std.proofs.lemmas.Option.{same_Some}
 use Rattle.fr_program.specs.declared.instr.Instr.{Instr}
 use Rattle.fr_program.specs.declared.instr.Instr.TheVariants.{Set, Call as Calls}
 use Rattle.fr_program.specs.declared.instr.Call.TheVariants.{On, Delete, Create}
-use Rattle.fr_program.specs.declared.instr.Action.TheVariants.{QueueSend}
+use Rattle.fr_program.specs.declared.instr.Timing.{Timing}
+use Rattle.fr_program.specs.declared.instr.Act.{Act}
+use Rattle.fr_program.specs.declared.instr.Act.TheVariants.{Try}
+use Rattle.fr_program.specs.declared.instr.Attempt.TheVariants.{QueueSend}
 use Rattle.fr_program.specs.declared.instr.Operand.{Operand}
 use Rattle.fr_program.specs.declared.instr.Operand.TheVariants.{Number, Variable}
 use Rattle.fr_program.specs.declared.instr.Operator.{Operator}
 use Rattle.fr_program.specs.declared.instr.Operator.TheVariants.{Plus, Minus, Times}
+use Rattle.fr_program.specs.declared.ids.ObjId.{ObjId}
 use Rattle.fr_program.specs.declared.ids.VarId.{VarId}
 use Rattle.fr_program.specs.declared.ids.Point.{Point}
 use Rattle.fr_program.specs.declared.ids.Side.{Side}
@@ -28,13 +32,13 @@ use Rattle.fr_program.specs.Fault.{IsFaultless, NamesThings, OperandsFit, AreApa
 use Rattle.fr_calls.specs.State.{State, Content, Dead, CanHave, content_of, suspension_of, kind_of}
 use Rattle.fr_calls.specs.declared.rules.Rule.{Rule}
 use Rattle.fr_calls.specs.declared.rules.Rule.TheVariants.{OneWriter, OneReader, GivenByHolder, AllowedInCritical, AllowedSuspended, AllowedInInterrupt, IsLive, LifeInOrder, SuitsSemaphore, DepthAboveZero, EndsInOrder, InRange}
-use Rattle.fr_calls.specs.Rule.{number_of, decided_rules, condition_of, first_forbidden, forbids, holds_some, used_object, GivesUnheld, LifeOutOfOrder, PutsOut, IsOutOfQueue, IsForbidden, Breaches, IsOutside, result_of, operand_of}
+use Rattle.fr_calls.specs.Rule.{number_of, decided_rules, condition_of, first_forbidden, forbids, holds_some, used_object, GivesUnheld, LifeOutOfOrder, PutsOut, SendsOut, IsOutOfQueue, IsForbidden, Breaches, IsOutside, result_of, operand_of}
 use Rattle.fr_calls.proofs.Built.{HasSizes, is-built}
 use Rattle.fr_calls.proofs.Contents.{new-fits}
 use Rattle.fr_notes.specs.Note.{Alternative, Within, range_of}
 use Rattle.fr_notes.specs.Noted.{NotedBy}
 use Rattle.fr_notes.specs.Fits.{AlternativeFits}
-use Rattle.fr_notes.specs.Known.{alone, joint_range}
+use Rattle.fr_notes.specs.Known.{Known, alone, joint_range}
 use Rattle.fr_notes.specs.declared.holding.Holding.{Holding}
 use Rattle.fr_notes.specs.declared.holding.Holding.TheVariants.{Unheld, Living, Lifeless, Own, Others}
 use Rattle.fr_notes.specs.Holding.{holding, can_be_dead}
@@ -46,7 +50,7 @@ use Rattle.fr_notes.proofs.Seen.{Site, other, IsKnown, Choice, drawn, IsChosen, 
 use Rattle.fr_notes.proofs.EndRows.{gives-held, unheld-gives}
 use Rattle.fr_notes.proofs.VariableRows.{chosen_for, can-be-known, for-chosen, number-drawn, first-number, second-number}
 use Rattle.fr_edge.specs.Own.{is_own}
-use Rattle.fr_edge.specs.Alternatives.{KeepsRuleBy, BreaksRuleBy, Decides, RuleOutcome, is_decided, AnyRule, IsDecided, IsUndecided, lesser_of, may_be_live, gives_unheld, dead_by, uses_dead, creates_live, StaysInQueue, LeavesQueue, StaysIn, IsOutBy}
+use Rattle.fr_edge.specs.Alternatives.{KeepsRuleBy, BreaksRuleBy, Decides, RuleOutcome, is_decided, AnyRule, IsDecided, IsUndecided, lesser_of, may_be_live, gives_unheld, dead_by, uses_dead, creates_live, SendsIn, SendsOutBy, StaysIn, IsOutBy}
 use Rattle.fr_edge.proofs.Standing.{breach-here}
 
 -- a rule of a list, and a fact about each
@@ -70,41 +74,27 @@ Sorted (r ∷ l) = AllOf (λ other. number_of r < number_of other) l × Sorted l
 decided-sorted : Sorted decided_rules
 decided-sorted = ((lit< tt, (lit< tt, (lit< tt, (lit< tt, (lit< tt, tt))))), ((lit< tt, (lit< tt, (lit< tt, (lit< tt, tt)))), ((lit< tt, (lit< tt, (lit< tt, tt))), ((lit< tt, (lit< tt, tt)), ((lit< tt, tt), (tt, tt))))))
 
-find-none : (q : Rule → Bool) (l : List Rule) (r : Rule) → find q l ≡ None → Among l r → IsTrue (q r) → ⊥
-find-none q [] r e m t = m
-find-none q (s ∷ l) r e m t = go (q s) refl (λ f k. find-none q l r f k t)
-  where
-    go : (b : Bool) → q s ≡ b → (find q l ≡ None → Among l r → ⊥) → ⊥
-    go true h next = let f : (if true then Some s else find q l) ≡ None = rw h at e in cc
-    go false h next =
-        let f : find q l ≡ None = rw h at e in ⊎_elim (λ k. let g : q r ≡ false = ap q (sym k) ∙ h in cc) (λ k. next f k) m
+-- a rule of the list that is true where those with lesser numbers aren't, or none is
+abbrev FirstOf : (Rule → Bool) → List Rule → Option Rule → Type 0
+FirstOf q l None = (r : Rule) → Among l r → IsTrue (q r) → ⊥
+FirstOf q l (Some r) =
+    Among l r × IsTrue (q r) × ((other : Rule) → Among l other → number_of other < number_of r → IsTrue (q other) → ⊥)
 
-find-some : (q : Rule → Bool) (l : List Rule) (r : Rule) → find q l ≡ Some r → Among l r × IsTrue (q r)
-find-some q [] r e = cc
-find-some q (s ∷ l) r e = go (q s) refl (λ f. find-some q l r f)
+find-first : (q : Rule → Bool) (l : List Rule) → Sorted l → FirstOf q l (find q l)
+find-first q [] sorted = λ r m t. m
+find-first q (s ∷ l) sorted = by-test (q s) refl (find-first q l sorted.1)
   where
-    go : (b : Bool) → q s ≡ b → (find q l ≡ Some r → Among l r × IsTrue (q r)) → Among (s ∷ l) r × IsTrue (q r)
-    go true h next =
-        let f : (if true then Some s else find q l) ≡ Some r = rw h at e in
-        let k : s ≡ r = cc in (inl k, ap q (sym k) ∙ h)
-    go false h next =
-        let f : find q l ≡ Some r = rw h at e in
-        let k = next f in (inr k.0, k.1)
+    untrue : (r : Rule) → q s ≡ false → s ≡ r → IsTrue (q r) → ⊥
+    untrue r f same t = false≢true (sym (ap q (sym same) ∙ f) ∙ t)
 
--- one that comes before the one found isn't true
-find-earlier : (q : Rule → Bool) (l : List Rule) (r other : Rule) → Sorted l → find q l ≡ Some r → Among l other → number_of other < number_of r → IsTrue (q other) → ⊥
-find-earlier q [] r other sorted e m lt t = m
-find-earlier q (s ∷ l) r other sorted e m lt t = go (q s) refl (λ f k. find-earlier q l r other sorted.1 f k lt t)
-  where
-    go : (b : Bool) → q s ≡ b → (find q l ≡ Some r → Among l other → ⊥) → ⊥
-    go true h next =
-        let f : (if true then Some s else find q l) ≡ Some r = rw h at e in
-        let k : s ≡ r = cc in
-        let n : number_of s ≡ number_of r = ap number_of k in
-        ⊎_elim (λ g. let d : number_of s ≡ number_of other = ap number_of g in omega arith) (λ g. let d = among-all (λ o. number_of s < number_of o) l other sorted.0 g in omega arith) m
-    go false h next =
-        let f : find q l ≡ Some r = rw h at e in
-        ⊎_elim (λ k. let g : q other ≡ false = ap q (sym k) ∙ h in cc) (λ k. next f k) m
+    later : (found : Option Rule) → q s ≡ false → FirstOf q l found → FirstOf q (s ∷ l) found
+    later None f none = λ r m t. ⊎_elim (λ same. untrue r f same t) (λ k. none r k t) m
+    later (Some r) f (m, t, least) =
+        (inr m, t, λ other k lt u. ⊎_elim (λ same. untrue other f same u) (λ j. least other j lt u) k)
+
+    by-test : (b : Bool) → q s ≡ b → FirstOf q l (find q l) → FirstOf q (s ∷ l) (if b then Some s else find q l)
+    by-test true t rest = (inl refl, t, λ other m lt u. ⊎_elim (λ same. let n = ap number_of same in omega (arith, lt, n)) (λ k. let n = among-all (λ o. number_of s < number_of o) l other sorted.0 k in omega (arith, lt, n)) m)
+    by-test false f rest = later (find q l) f rest
 
 -- the rules that a condition decides
 among-decided : (rule : Rule) → IsDecided rule → Among decided_rules rule
@@ -119,33 +109,15 @@ among-decided rule d = absurd (false≢true d)
 decided-among : (rule : Rule) → Among decided_rules rule → IsDecided rule
 decided-among rule m = among-all IsDecided decided_rules rule (refl, (refl, (refl, (refl, (refl, (refl, tt)))))) m
 
-module _ (P : Program) (S : State) (a : ℕ) (side : Side) (i : Instr) where
-  as-breach : (rule : Rule) → IsDecided rule → Breaches P S a side i rule → IsForbidden P S a side i rule
-  as-breach OneWriter d b = absurd (false≢true d)
-  as-breach OneReader d b = absurd (false≢true d)
-  as-breach GivenByHolder d b = absurd (false≢true d)
-  as-breach IsLive d b = absurd (false≢true d)
-  as-breach LifeInOrder d b = absurd (false≢true d)
-  as-breach InRange d b = absurd (false≢true d)
-  as-breach rule d b = b
-
-  from-breach : (rule : Rule) → IsDecided rule → IsForbidden P S a side i rule → Breaches P S a side i rule
-  from-breach OneWriter d b = absurd (false≢true d)
-  from-breach OneReader d b = absurd (false≢true d)
-  from-breach GivenByHolder d b = absurd (false≢true d)
-  from-breach IsLive d b = absurd (false≢true d)
-  from-breach LifeInOrder d b = absurd (false≢true d)
-  from-breach InRange d b = absurd (false≢true d)
-  from-breach rule d b = b
-
-own-decided : (i : Instr) (rule : Rule) → IsDecided rule → IsTrue (is_own i rule)
-own-decided i OneWriter d = absurd (false≢true d)
-own-decided i OneReader d = absurd (false≢true d)
-own-decided i GivenByHolder d = absurd (false≢true d)
-own-decided i IsLive d = absurd (false≢true d)
-own-decided i LifeInOrder d = absurd (false≢true d)
-own-decided i InRange d = absurd (false≢true d)
-own-decided i rule d = refl
+-- each of them is one that the point keeps by itself, and a breach of it is what it forbids
+decided-rule : (P : Program) (S : State) (a : ℕ) (side : Side) (i : Instr) (rule : Rule) → IsDecided rule → IsTrue (is_own i rule) × (Breaches P S a side i rule ↔ IsForbidden P S a side i rule)
+decided-rule P S a side i OneWriter d = absurd (false≢true d)
+decided-rule P S a side i OneReader d = absurd (false≢true d)
+decided-rule P S a side i GivenByHolder d = absurd (false≢true d)
+decided-rule P S a side i IsLive d = absurd (false≢true d)
+decided-rule P S a side i LifeInOrder d = absurd (false≢true d)
+decided-rule P S a side i InRange d = absurd (false≢true d)
+decided-rule P S a side i rule d = (refl, ((λ b. b), (λ b. b)))
 
 -- what is known of an object decides whether it can be dead, and whether it can be live
 dead-in : (a b : ℕ) (kind : Kind) (known : Holding) → can_be_dead known ≡ true → content_in a b kind known ≡ Dead
@@ -183,15 +155,19 @@ live-in P a b kind (Others n) h f t =
     (content_in a b kind (Others n), content-can P a b kind (Others n) h f, i, live-count b n (content_in a b kind (Others n)) i.0)
 
 -- numbers in the range of a queue, and one out of it
-queue-stays : (kind : Kind) (range : ℤ × ℤ) (v : ℤ) → StaysInQueue kind range → Within range v → IsOutOfQueue kind v → ⊥
-queue-stays (Queue size lo hi) range v s w out =
-    ⊎_elim (λ lt. omega (arith, ints, s.0, w.0, lt)) (λ lt. omega (arith, ints, s.1, w.1, lt)) out
-queue-stays kind range v s w out = absurd out
+module _ (k : Known) (value : Operand) (e : Option ℕ) where
+  abbrev sent : ℤ × ℤ
+  sent = operand_in (joint_range k) value
 
-queue-leaves : (kind : Kind) (range : ℤ × ℤ) → range.0 ≤ℤ range.1 → LeavesQueue kind range → (v : ℤ) × Within range v × IsOutOfQueue kind v
-queue-leaves (Queue size lo hi) range order out =
-    ⊎_elim (λ lt. (range.0, (omega (arith, ints), order), inl lt)) (λ lt. (range.1, (order, omega (arith, ints)), inr lt)) out
-queue-leaves kind range order out = absurd out
+  queue-stays : (kind : Kind) (v : ℤ) → SendsIn k (Try (QueueSend value) e) kind → Within sent v → IsOutOfQueue kind v → ⊥
+  queue-stays (Queue size lo hi) v s w out =
+      ⊎_elim (λ lt. omega (arith, ints, s.0, w.0, lt)) (λ lt. omega (arith, ints, s.1, w.1, lt)) out
+  queue-stays kind v s w out = absurd out
+
+  queue-leaves : (kind : Kind) → sent.0 ≤ℤ sent.1 → SendsOutBy k (Try (QueueSend value) e) kind → (v : ℤ) × Within sent v × IsOutOfQueue kind v
+  queue-leaves (Queue size lo hi) order out =
+      ⊎_elim (λ lt. (sent.0, (omega (arith, ints), order), inl lt)) (λ lt. (sent.1, (order, omega (arith, ints)), inr lt)) out
+  queue-leaves kind order out = absurd out
 
 -- the operands of an instruction are variables of the application, and apart
 set-named : (P : Program) (x : VarId) (l r : Operand) (op : Operator) → NamesThings P (Set x l op r) → IsNamed P l × IsNamed P r
@@ -261,34 +237,34 @@ module _ (P : Program) (p : Point) (i : Instr) (n : Alternative) (free : IsFault
 
   forbidden-here : p.side ≡ Before → (S : State) (rule : Rule) → NotedBy P p n S → IsDecided rule → Breaches P S p.actor.0 p.side i rule → IsTrue (forbidden rule)
   forbidden-here at S rule noted d b =
-      as-forbidden S rule noted (as-breach P S p.actor.0 Before i rule d (subst (λ t. Breaches P S p.actor.0 t i rule) at b))
+      as-forbidden S rule noted ((decided-rule P S p.actor.0 Before i rule d).1.0 (subst (λ t. Breaches P S p.actor.0 t i rule) at b))
 
   -- what the condition decides
   pub decided-before : p.side ≡ Before → (least : Option Rule) → first_forbidden P (condition_known P (alone n) p) i ≡ least → RuleOutcome P p n IsDecided least
-  decided-before at None e = λ rule d. keeps-here rule (λ own S noted b. find-none forbidden decided_rules rule e (among-decided rule d) (forbidden-here at S rule noted d b))
-  decided-before at (Some rule) e =
-      let f = find-some forbidden decided_rules rule e in
-      let d = decided-among rule f.0 in
-      let S = drawn s (usual s) in (
-        breaks-drawn rule (own-decided i rule d) (usual s) (usual-chosen s) (subst (λ t. Breaches P S p.actor.0 t i rule) (sym at) (from-breach P S p.actor.0 Before i rule d (from-forbidden S rule usual-noted f.1))),
-        λ other k lt. keeps-here other (λ own S noted b. find-earlier forbidden decided_rules rule other decided-sorted e (among-decided other k) lt (forbidden-here at S other noted k b)),
-      )
+  decided-before at least e = outcome least (subst (λ l. FirstOf forbidden decided_rules l) e (find-first forbidden decided_rules decided-sorted))
+    where
+      outcome : (least : Option Rule) → FirstOf forbidden decided_rules least → RuleOutcome P p n IsDecided least
+      outcome None none = λ rule d. keeps-here rule (λ own S noted b. none rule (among-decided rule d) (forbidden-here at S rule noted d b))
+      outcome (Some rule) (m, t, least) =
+          let S = drawn s (usual s) in
+          let h = decided-rule P S p.actor.0 Before i rule (decided-among rule m) in (
+            breaks-drawn rule h.0 (usual s) (usual-chosen s) (subst (λ t. Breaches P S p.actor.0 t i rule) (sym at) (h.1.1 (from-forbidden S rule usual-noted t))),
+            λ other k lt. keeps-here other (λ own S noted b. least other (among-decided other k) lt (forbidden-here at S other noted k b)),
+          )
 
   pub decided-inside : p.side ≡ Inside → RuleOutcome P p n IsDecided None
-  decided-inside at = λ rule d. keeps-here rule (λ own S noted b. inside-none rule d S (subst (λ t. Breaches P S p.actor.0 t i rule) at b))
-    where
-      inside-none : (rule : Rule) → IsDecided rule → (S : State) → Breaches P S p.actor.0 Inside i rule → ⊥
-      inside-none rule d S b = as-breach P S p.actor.0 Inside i rule d b
+  decided-inside at = λ rule d. keeps-here rule (λ own S noted b.
+      (decided-rule P S p.actor.0 Inside i rule d).1.0 (subst (λ t. Breaches P S p.actor.0 t i rule) at b))
 
   -- rule 3
   given-kept : (j : Instr) → gives_unheld P (alone n) j ≡ false → (S : State) → NotedBy P p n S → GivesUnheld P S p.actor.0 j → ⊥
-  given-kept (Calls (On o action)) f S noted b =
-      gives-held P S p.actor.0 (other s) o action (holding (alone n) o.0) f (in-here S noted o.0) b
+  given-kept (Calls (On call)) f S noted b =
+      gives-held P S p.actor.0 (other s) call (holding (alone n) call.object.0) f (in-here S noted call.object.0) b
   given-kept j f S noted b = absurd b
 
   given-broken : (j : Instr) → gives_unheld P (alone n) j ≡ true → GivesUnheld P (drawn s (usual s)) p.actor.0 j
-  given-broken (Calls (On o action)) t =
-      unheld-gives P (drawn s (usual s)) p.actor.0 (other s) o (apart s) (kind_of P o.0) action (holding (alone n) o.0) refl t (in-here (drawn s (usual s)) usual-noted o.0)
+  given-broken (Calls (On call)) t =
+      unheld-gives P (drawn s (usual s)) p.actor.0 (other s) (apart s) call (holding (alone n) call.object.0) t (in-here (drawn s (usual s)) usual-noted call.object.0)
   given-broken j t = absurd (false≢true t)
 
   pub given-decides : Decides P p n GivenByHolder (gives_unheld P (alone n) i)
@@ -333,12 +309,16 @@ module _ (P : Program) (p : Point) (i : Instr) (n : Alternative) (free : IsFault
   creates-decides = decide P p n LifeInOrder (creates_live (alone n) i p.side) (λ t. life-broken i p.side t refl refl) (λ f. keeps-here LifeInOrder (λ own S noted b. life-kept i p.side f own S noted b))
 
   -- rule 12
+  not-sent-out : (o : ℕ) (act : Act) → SendsIn (alone n) act (kind_of P o) → (S : State) → NotedBy P p n S → SendsOut P S o act → ⊥
+  not-sent-out o (Try (QueueSend value) e) sends S noted b =
+      queue-stays (alone n) value e (kind_of P o) (operand_of S value) sends (can-be-known s value S (here S noted)) b
+  not-sent-out o act sends S noted b = absurd b
+
   no-out : (side : Side) (j : Instr) → StaysIn P (alone n) side j → (S : State) → NotedBy P p n S → PutsOut P S side j → ⊥
   no-out Before (Set x l op r) stays S noted b =
       let k = stays (operand_of S l) (operand_of S r) (can-be-known s l S (here S noted)) (can-be-known s r S (here S noted)) in
       ⊎_elim (λ lt. omega (arith, ints, k.0, lt)) (λ lt. omega (arith, ints, k.1, lt)) b
-  no-out Inside (Calls (On o (QueueSend value timing e))) stays S noted b =
-      queue-stays (kind_of P o.0) (operand_in (joint_range (alone n)) value) (operand_of S value) stays (can-be-known s value S (here S noted)) b
+  no-out Inside (Calls (On call)) stays S noted b = not-sent-out call.object.0 call.act stays S noted b
   no-out side j stays S noted b = absurd b
 
   pub stays-kept : StaysIn P (alone n) p.side i → KeepsRuleBy P p n InRange
@@ -361,20 +341,24 @@ module _ (P : Program) (p : Point) (i : Instr) (n : Alternative) (free : IsFault
       let puts : PutsOut P S Before (Set x l op r) = rw (left, right) out in
       breaks-drawn InRange refl f chosen (subst (λ t. PutsOut P S t i) (sym at) (subst (λ j. PutsOut P S Before j) (sym e) puts))
 
-  out-broken : (side : Side) (j : Instr) → p.side ≡ side → i ≡ j → IsOutBy P (alone n) side j → BreaksRuleBy P p n InRange
-  out-broken Before (Set x l op r) at e h = shown-set x l op r e at h.0 h.1 h.2 h.3 h.4
-  out-broken Inside (Calls (On o (QueueSend value timing to))) at e h =
-      let k = queue-leaves (kind_of P o.0) (operand_in (joint_range (alone n)) value) (operand-order value) h in
+  shown-send : (o : ObjId) (timing : Timing) (act : Act) → i ≡ Calls (On (record { object = o; timing = timing; act = act })) → p.side ≡ Inside → SendsOutBy (alone n) act (kind_of P o.0) → BreaksRuleBy P p n InRange
+  shown-send o timing (Try (QueueSend value) to) e at h =
+      let k = queue-leaves (alone n) value to (kind_of P o.0) (operand-order value) h in
       let f = chosen_for value k.0 (usual s) in
       let chosen = for-chosen s value k.0 (usual s) k.1 (usual-chosen s) in
       let S = drawn s f in
       let is_k : operand_of S value ≡ k.0 = number-drawn s value f (sent-named value (subst (λ j. NamesThings P j) e (free.names.things p.actor.0 p.pc i is))) ∙ first-number s value k.0 (usual s) k.1 in
-      let puts : PutsOut P S Inside (Calls (On o (QueueSend value timing to))) = subst (λ z. IsOutOfQueue (kind_of P o.0) z) (sym is_k) k.2 in
+      let puts : PutsOut P S Inside (Calls (On (record { object = o; timing = timing; act = Try (QueueSend value) to }))) = subst (λ z. IsOutOfQueue (kind_of P o.0) z) (sym is_k) k.2 in
       breaks-drawn InRange refl f chosen (subst (λ t. PutsOut P S t i) (sym at) (subst (λ j. PutsOut P S Inside j) (sym e) puts))
     where
-      sent-named : (value : Operand) → NamesThings P (Calls (On o (QueueSend value timing to))) → IsNamed P value
+      sent-named : (value : Operand) → NamesThings P (Calls (On (record { object = o; timing = timing; act = Try (QueueSend value) to }))) → IsNamed P value
       sent-named (Number z) h = tt
       sent-named (Variable x) h = h.0 0 x (omega arith)
+  shown-send o timing act e at h = absurd h
+
+  out-broken : (side : Side) (j : Instr) → p.side ≡ side → i ≡ j → IsOutBy P (alone n) side j → BreaksRuleBy P p n InRange
+  out-broken Before (Set x l op r) at e h = shown-set x l op r e at h.0 h.1 h.2 h.3 h.4
+  out-broken Inside (Calls (On call)) at e h = shown-send call.object call.timing call.act e at h
   out-broken side j at e h = absurd h
 
   pub out-breaks : IsOutBy P (alone n) p.side i → BreaksRuleBy P p n InRange

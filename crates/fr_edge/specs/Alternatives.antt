@@ -22,7 +22,9 @@ use Rattle.std.specs.Prelude.{◌≡◌, ◌<◌, ◌≤ℤ◌, ◌<ℤ◌, ◌�
 use Rattle.fr_program.specs.declared.instr.Instr.{Instr}
 use Rattle.fr_program.specs.declared.instr.Instr.TheVariants.{Set, Call as Calls}
 use Rattle.fr_program.specs.declared.instr.Call.TheVariants.{Create, On}
-use Rattle.fr_program.specs.declared.instr.Action.TheVariants.{QueueSend}
+use Rattle.fr_program.specs.declared.instr.Act.{Act}
+use Rattle.fr_program.specs.declared.instr.Act.TheVariants.{Try}
+use Rattle.fr_program.specs.declared.instr.Attempt.TheVariants.{QueueSend}
 use Rattle.fr_program.specs.declared.ids.Side.{Side}
 use Rattle.fr_program.specs.declared.ids.Side.TheVariants.{Before, Inside}
 use Rattle.fr_program.specs.declared.parts.Kind.{Kind}
@@ -41,6 +43,7 @@ use Rattle.fr_notes.specs.Note.{Alternative, Note, HoldsOne}
 use Rattle.fr_notes.specs.Noted.{note_at, IsAt, NotedBy}
 use Rattle.fr_notes.specs.Known.{Known, alone, joint_range, LeavesSome}
 use Rattle.fr_notes.specs.Holding.{holding, can_be_dead, is_given_unheld}
+use Rattle.fr_notes.specs.Implication.{IsPart}
 use Rattle.fr_notes.specs.Reckoning.{CanBeIn, operand_in}
 use Rattle.fr_notes.specs.declared.holding.Holding.{Holding}
 use Rattle.fr_notes.specs.declared.holding.Holding.TheVariants.{Lifeless}
@@ -98,7 +101,7 @@ may_be_live known = true
 
 -- whether a mutex is given that the mover isn't known to hold
 abbrev pub gives_unheld : Program → Known → Instr → Bool
-gives_unheld P k (Calls (On o action)) = is_given_unheld (kind_of P o.0) action (holding k o.0)
+gives_unheld P k (Calls (On call)) = is_given_unheld (kind_of P call.object.0) call (holding k call.object.0)
 gives_unheld P k i = false
 
 -- whether an object, if there is one, can be dead
@@ -115,27 +118,29 @@ abbrev pub creates_live : Known → Instr → Side → Bool
 creates_live k (Calls (Create kind o e)) Before = may_be_live (holding k o.0)
 creates_live k i side = false
 
--- a range inside the range of a queue, and one that isn't
-abbrev pub StaysInQueue : Kind → ℤ × ℤ → Type 0
-StaysInQueue (Queue size lo hi) range = (lo ≤ℤ range.0) × (range.1 ≤ℤ hi)
-StaysInQueue kind range = Unit {0}
+-- a send to a queue, whatever number its operand can be, puts one of the queue's range
+abbrev pub SendsIn : Known → Act → Kind → Type 0
+SendsIn k (Try (QueueSend value) e) (Queue size lo hi) = IsPart (operand_in (joint_range k) value) (lo, hi)
+SendsIn k act kind = Unit {0}
 
-abbrev pub LeavesQueue : Kind → ℤ × ℤ → Type 0
-LeavesQueue (Queue size lo hi) range = (range.0 <ℤ lo) ⊎ (hi <ℤ range.1)
-LeavesQueue kind range = ⊥
+-- for some of these numbers it doesn't
+abbrev pub SendsOutBy : Known → Act → Kind → Type 0
+SendsOutBy k (Try (QueueSend value) e) (Queue size lo hi) =
+    ((operand_in (joint_range k) value).0 <ℤ lo) ⊎ (hi <ℤ (operand_in (joint_range k) value).1)
+SendsOutBy k act kind = ⊥
 
 -- whatever numbers the operands can be, the number that is put is in its declared range
 abbrev pub StaysIn : Program → Known → Side → Instr → Type 0
 StaysIn P k Before (Set x l op r) =
     (u v : ℤ) → CanBeIn (joint_range k) l u → CanBeIn (joint_range k) r v → ((variable_at P x.0).lo ≤ℤ result_of op u v) × (result_of op u v ≤ℤ (variable_at P x.0).hi)
-StaysIn P k Inside (Calls (On o (QueueSend value timing e))) = StaysInQueue (kind_of P o.0) (operand_in (joint_range k) value)
+StaysIn P k Inside (Calls (On call)) = SendsIn k call.act (kind_of P call.object.0)
 StaysIn P k side i = Unit {0}
 
 -- for some of these numbers it isn't
 abbrev pub IsOutBy : Program → Known → Side → Instr → Type 0
 IsOutBy P k Before (Set x l op r) =
     (u : ℤ) × (v : ℤ) × CanBeIn (joint_range k) l u × CanBeIn (joint_range k) r v × IsOutside (variable_at P x.0).lo (variable_at P x.0).hi (result_of op u v)
-IsOutBy P k Inside (Calls (On o (QueueSend value timing e))) = LeavesQueue (kind_of P o.0) (operand_in (joint_range k) value)
+IsOutBy P k Inside (Calls (On call)) = SendsOutBy k call.act (kind_of P call.object.0)
 IsOutBy P k side i = ⊥
 
 -- the alternative is one of so many first ones

@@ -27,8 +27,7 @@ fn begins_as(claim: Claim, object: &Object) -> bool
 fn begins_in(range: Range, variable: &Variable) -> bool
     ensures { IsTrue result ↔ Within (ends_of range) variable.now.init }
 {
-    let number = i128::from(variable.init);
-    range.lo <= number && number <= range.hi
+    range.has(variable.init)
 }
 
 /// Whether each claim is true of its object at the start.

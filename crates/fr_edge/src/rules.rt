@@ -7,11 +7,11 @@ ghost use Rattle.fr_calls.specs.Rule.{used_object};
 ghost use Rattle.fr_notes.specs.Fits.{AlternativeFits};
 ghost use Rattle.fr_notes.specs.Known.{IsPossible, joint_range};
 ghost use Rattle.fr_notes.specs.Reckoning.{HasNumbersIn};
-ghost use Rattle.fr_edge.specs.Alternatives.{RuleOutcome, NoteOutcome, AnyRule, IsDecided, IsUndecided, gives_unheld, uses_dead, creates_live, StaysIn, IsOutBy, lesser_of};
+ghost use Rattle.fr_edge.specs.Alternatives.{RuleOutcome, NoteOutcome, AnyRule, IsDecided, IsUndecided, gives_unheld, uses_dead, creates_live, SendsIn, SendsOutBy, StaysIn, IsOutBy, lesser_of};
 
 use fr_calls::{Rule, first_forbidden};
 use fr_notes::{Alternative, Holding, Known, Note, condition_at, is_given_unheld};
-use fr_program::{Action, App, Call, Instr, Kind, ObjId, Point, Range, Side, VarId};
+use fr_program::{Act, App, Attempt, Call, Instr, Kind, ObjId, Point, Range, Side, VarId};
 
 /// The least of the rules that the actor's condition decides, before an instruction.
 fn decided_rule(app: &App, alternative: &Alternative, point: Point, instr: &Instr) -> Option<Rule>
@@ -34,8 +34,8 @@ fn gives_unheld(app: &App, known: &Known, instr: &Instr) -> bool
     ensures { result ≡ gives_unheld app.now known.now instr.now }
 {
     match instr {
-        Instr::Call(Call::On { object, action }) => {
-            is_given_unheld(app.kind(*object), action, known.holding(object.0))
+        Instr::Call(Call::On(call)) => {
+            is_given_unheld(app.kind(call.object), call, known.holding(call.object.0))
         }
         _ => false,
     }
@@ -47,7 +47,7 @@ fn used_object(instr: &Instr, side: Side) -> Option<ObjId>
 {
     match (instr, side) {
         (Instr::Call(Call::Delete { object, .. }), Side::Before) => Some(*object),
-        (Instr::Call(Call::On { object, .. }), _) => Some(*object),
+        (Instr::Call(Call::On(call)), _) => Some(call.object),
         _ => None,
     }
 }
@@ -82,11 +82,25 @@ fn is_in_declared(app: &App, variable: VarId, range: Range) -> bool
     range.within(app.range(variable))
 }
 
-/// Whether each number of the range lies from `lo` to `hi`.
-fn is_inside(range: Range, lo: i64, hi: i64) -> bool
-    ensures { IsTrue result ↔ ((lo ≤ℤ range.lo) × (range.hi ≤ℤ hi)) }
+/// Whether each number that a send to a queue can put is in the queue's range.
+fn sends_in_range(known: &Known, act: Act, kind: Kind) -> bool
+    requires { IsPossible known.now }
+    ensures sends { IsTrue result → SendsIn known.now act kind }
+    ensures leaves { IsFalse result → SendsOutBy known.now act kind }
 {
-    i128::from(lo) <= range.lo && range.hi <= i128::from(hi)
+    match (act, kind) {
+        (
+            Act::Try {
+                attempt: Attempt::QueueSend(value),
+                ..
+            },
+            Kind::Queue { lo, hi, .. },
+        ) => {
+            let sent = known.operand(value);
+            i128::from(lo) <= sent.lo && sent.hi <= i128::from(hi)
+        }
+        _ => true,
+    }
 }
 
 /// Rule 12: whether each number that a `set` or a send to a queue can put is in its declared range.
@@ -111,18 +125,9 @@ fn stays_in_range(app: &App, known: &Known, instr: &Instr, side: Side) -> bool
             let result = known.result(*operator, *left, *right);
             is_in_declared(app, *target, result)
         }
-        (
-            Instr::Call(
-                Call::On {
-                    object,
-                    action: Action::QueueSend { value, .. },
-                },
-            ),
-            Side::Inside,
-        ) => match app.kind(*object) {
-            Kind::Queue { lo, hi, .. } => is_inside(known.operand(*value), lo, hi),
-            _ => true,
-        },
+        (Instr::Call(Call::On(call)), Side::Inside) => {
+            sends_in_range(known, call.act, app.kind(call.object))
+        }
         _ => true,
     }
 }

@@ -1,26 +1,27 @@
 -- A note implies a guard exactly where each of its alternatives says that the guard holds. Where one doesn't, there is a
 -- state with it in which the guard doesn't hold: the usual one, or the one with a variable at the upper end of its range.
-use Rattle.std.proofs.Common.{◌≡◌, ◌<◌, ℕ, Some, None, Bool, true, false, List, [], ◌∷◌, length, get_or, refl, sym, ap, ◌∙◌, subst, arith, ◌&&◌}
+use Rattle.std.proofs.Common.{◌≡◌, ◌<◌, ℕ, Option, Some, None, Bool, true, false, List, [], ◌∷◌, length, get_or, refl, sym, ap, ◌∙◌, subst, arith, ◌&&◌}
 use Rattle.std.specs.Prelude.{All, IsTrue, ◌↔◌, nat_eq, if◌then◌else◌, slice_get}
 use Rattle.std.proofs.lemmas.Bool.{false≢true}
 use Rattle.std.proofs.lemmas.Int.{ints}
 use Rattle.std.proofs.lemmas.List.{get_or_default}
 use Rattle.std.proofs.lemmas.List.Elements.{All-head, All-tail}
 use Rattle.std.proofs.lemmas.Option.{same_Some}
-use Rattle.fr_program.specs.declared.ids.ObjId.{ObjId}
 use Rattle.fr_program.specs.declared.ids.Point.{Point}
+use Rattle.fr_program.specs.declared.ids.Side.{Side}
 use Rattle.fr_program.specs.declared.ids.Side.TheVariants.{Inside}
+use Rattle.fr_program.specs.declared.instr.Instr.{Instr}
 use Rattle.fr_program.specs.declared.instr.Instr.TheVariants.{Call as Calls}
 use Rattle.fr_program.specs.declared.instr.Call.TheVariants.{On}
-use Rattle.fr_program.specs.declared.instr.Action.{Action}
+use Rattle.fr_program.specs.declared.instr.ObjectCall.{ObjectCall}
 use Rattle.fr_program.specs.Program.{Program}
 use Rattle.fr_program.specs.Lookup.{IsPoint, instr_of}
 use Rattle.fr_program.specs.Fault.{IsFaultless}
 use Rattle.fr_program.specs.Points.{points_of}
 use Rattle.fr_program.specs.PointNumbers.{PointsAreNumbered}
 use Rattle.fr_calls.specs.State.{State, Content, count_held, content_of, value_of, kind_of}
-use Rattle.fr_calls.specs.declared.buffer_end.End.{End}
-use Rattle.fr_calls.specs.declared.buffer_end.End.TheVariants.{Writer, Reader}
+use Rattle.fr_program.specs.declared.instr.End.{End}
+use Rattle.fr_program.specs.declared.instr.End.TheVariants.{Writer, Reader}
 use Rattle.fr_calls.specs.Rule.{is_at_end}
 use Rattle.fr_notes.specs.declared.claim.Claim.{Claim}
 use Rattle.fr_notes.specs.declared.claim.Claim.TheVariants.{NotHeld, Alive, Gone, HeldTimes}
@@ -35,8 +36,8 @@ use Rattle.fr_ends.specs.Guard.{Guard, Sole, ByMutex, InCritical, Turn, EndGuard
 use Rattle.fr_ends.specs.Certificate.{Certificate, HasGuard, value_for, guard_for, same_end}
 use Rattle.fr_ends.specs.Fits.{GuardFits, EndFits, CertificateFits}
 use Rattle.fr_ends.specs.FirstEnd.{IsFirstEnd}
-use Rattle.fr_ends.specs.Guarded.{Guarded, ImpliesGuard}
-use Rattle.fr_ends.specs.Implied.{called_inside, SaysGuard, NoteSays, KeepsEnd}
+use Rattle.fr_ends.specs.Guarded.{called_inside, Guarded, ImpliesGuard}
+use Rattle.fr_ends.specs.Implied.{SaysGuard, NoteSays, KeepsEnd}
 
 -- what an alternative says of a guard is so in each state with the alternative
 module _ (P : Program) (n : Alternative) (fits : AlternativeFits P n) (a : ℕ) where
@@ -132,45 +133,29 @@ guard_for-fits P (f ∷ ends) buffer end g fit e = go (nat_eq f.buffer buffer &&
 
 -- a point that isn't inside a call owes no end
 pub outside-guarded : (P : Program) (C : Certificate) (p : Point) → called_inside p.side (instr_of P p) ≡ None → (buffer : ℕ) (end : End) → Guarded P C p buffer end
-outside-guarded P C p none buffer end = λ action inside t.
-    let there : called_inside p.side (instr_of P p) ≡ Some (inside.0, action) = rw (inside.2, inside.3) refl in
-    absurd (none_is_some (inside.0, action) (sym none ∙ there))
-  where
-    none_is_some : (found : ObjId × Action) → None ≡ Some found → ⊥
-    none_is_some found e = cc
+outside-guarded P C p none buffer end = λ call inside t. let e = sym none ∙ inside.1 in cc
 
--- a point inside a call
-pub record Called (P : Program) (p : Point) (o : ObjId) (action : Action) : Type 0 where
-  pub side : p.side ≡ Inside
-  pub is : instr_of P p ≡ Some (Calls (On o action))
+-- the instruction of a point that is inside a call
+called-instr : (side : Side) (i : Option Instr) (call : ObjectCall) → called_inside side i ≡ Some call → i ≡ Some (Calls (On call))
+called-instr Inside (Some (Calls (On other))) call found = ap (λ c. Some (Calls (On c))) (same_Some _ _ found)
+called-instr side i call found = cc
 
-pub called-found : (P : Program) (p : Point) (o : ObjId) (action : Action) → called_inside p.side (instr_of P p) ≡ Some (o, action) → Called P p o action
-called-found P p o action e = go p.side (instr_of P p) refl refl e
-  where
-    go : (side : _) (i : _) → p.side ≡ side → instr_of P p ≡ i → called_inside side i ≡ Some (o, action) → Called P p o action
-    go Inside (Some (Calls (On n done))) at is found =
-        let same : (n, done) ≡ (o, action) = same_Some _ _ found in
-        record { side = at; is = is ∙ ap (λ c. Some (Calls (On c.0 c.1))) same }
-    go side i at is found = cc
-
-module _ (P : Program) (free : IsFaultless P) (C : Certificate) (fit : CertificateFits P C) (p : Point) (at : IsPoint P p) (note : Note) (noted : note ≡ note_at P C.notes p) (fits : NoteFits P note) (o : ObjId) (action : Action) (called : Called P p o action) where
+module _ (P : Program) (free : IsFaultless P) (C : Certificate) (fit : CertificateFits P C) (p : Point) (at : IsPoint P p) (note : Note) (noted : note ≡ note_at P C.notes p) (fits : NoteFits P note) (call : ObjectCall) (found : called_inside p.side (instr_of P p) ≡ Some call) where
   there : NoteFits P (note_at P C.notes p)
   there = subst (λ m. NoteFits P m) noted fits
 
   -- what is owed at an end is what the definition asks, of whatever buffer
-  pub kept-guarded : (end : End) → KeepsEnd C.ends note p.actor.0 o.0 end action → (buffer : ℕ) → Guarded P C p buffer end
+  pub kept-guarded : (end : End) → KeepsEnd C.ends note p.actor.0 end call → (buffer : ℕ) → Guarded P C p buffer end
   kept-guarded end keeps buffer = λ other inside t.
-      let same : Calls (On o action) ≡ Calls (On inside.0 other) = same_Some _ _ (sym called.is ∙ inside.3) in
-      let done : action ≡ other = cc in
-      let object : o ≡ inside.0 = cc in
-      let number : o.0 ≡ buffer = ap (λ k. k.0) object ∙ inside.1 in
-      let k = keeps (subst (λ x. IsTrue (is_at_end end x)) (sym done) t) in
+      let same : call ≡ other = same_Some _ _ (sym found ∙ inside.1) in
+      let number : call.object.0 ≡ buffer = ap (λ c. c.object.0) same ∙ inside.0 in
+      let k = keeps (subst (λ c. IsTrue (is_at_end end c.act)) (sym same) t) in
       (k.0, subst (λ b. guard_for C.ends b end ≡ Some k.0) number k.1, says-implies P free p at C.notes there k.0 (subst (λ m. NoteSays m p.actor.0 k.0) noted k.2))
 
-  pub guarded-kept : (end : End) → Guarded P C p o.0 end → KeepsEnd C.ends note p.actor.0 o.0 end action
+  pub guarded-kept : (end : End) → Guarded P C p call.object.0 end → KeepsEnd C.ends note p.actor.0 end call
   guarded-kept end guarded = λ t.
-      let g = guarded action (o, refl, called.side, called.is) t in
-      (g.0, g.1, subst (λ m. NoteSays m p.actor.0 g.0) (sym noted) (implies-says P free p at C.notes there g.0 (guard_for-fits P C.ends o.0 end g.0 fit.1.0 g.1) g.2))
+      let g = guarded call (refl, found) t in
+      (g.0, g.1, subst (λ m. NoteSays m p.actor.0 g.0) (sym noted) (implies-says P free p at C.notes there g.0 (guard_for-fits P C.ends call.object.0 end g.0 fit.1.0 g.1) g.2))
 
 -- the answer, by what the code compares at each end
 module _ (P : Program) (free : IsFaultless P) (C : Certificate) (fit : CertificateFits P C) (k : ℕ) (point : Point) (numbered : PointsAreNumbered P) (listed : slice_get (points_of P) k ≡ Some point) where
@@ -184,31 +169,28 @@ module _ (P : Program) (free : IsFaultless P) (C : Certificate) (fit : Certifica
   pub first-outside : called_inside point.side (instr_of P point) ≡ None → (p : Point) → slice_get (points_of P) k ≡ Some p → IsFirstEnd P C p None
   first-outside none = each (λ p. IsFirstEnd P C p None) (λ buffer end. outside-guarded P C point none buffer end)
 
-  module _ (inside : Certificate) (view : inside ≡ C) (note : Note) (noted : (p : Point) → slice_get (points_of P) k ≡ Some p → note ≡ note_at P inside.notes p) (fits : NoteFits P note) (o : ObjId) (action : Action) (found : called_inside point.side (instr_of P point) ≡ Some (o, action)) where
-    called : Called P point o action
-    called = called-found P point o action found
-
-    pub called-object : o.0 < length P.objects
-    called-object = (free.names.things point.actor.0 point.pc (Calls (On o action)) called.is).1
+  module _ (inside : Certificate) (view : inside ≡ C) (note : Note) (noted : (p : Point) → slice_get (points_of P) k ≡ Some p → note ≡ note_at P inside.notes p) (fits : NoteFits P note) (call : ObjectCall) (found : called_inside point.side (instr_of P point) ≡ Some call) where
+    pub called-object : call.object.0 < length P.objects
+    called-object = (free.names.things point.actor.0 point.pc (Calls (On call)) (called-instr point.side (instr_of P point) call found)).1
 
     is_noted : note ≡ note_at P C.notes point
     is_noted = noted point listed ∙ ap (λ d. note_at P d.notes point) view
 
-    kept : (end : End) (t : Bool) → (IsTrue t ↔ KeepsEnd inside.ends note point.actor.0 o.0 end action) → t ≡ true → (buffer : ℕ) → Guarded P C point buffer end
-    kept end t h is = kept-guarded P free C fit point standing note is_noted fits o action called end (subst (λ d. KeepsEnd d.ends note point.actor.0 o.0 end action) view (h.0 is))
+    kept : (end : End) (t : Bool) → (IsTrue t ↔ KeepsEnd inside.ends note point.actor.0 end call) → t ≡ true → (buffer : ℕ) → Guarded P C point buffer end
+    kept end t h is = kept-guarded P free C fit point standing note is_noted fits call found end (subst (λ d. KeepsEnd d.ends note point.actor.0 end call) view (h.0 is))
 
-    unkept : (end : End) (t : Bool) → (IsTrue t ↔ KeepsEnd inside.ends note point.actor.0 o.0 end action) → t ≡ false → Guarded P C point o.0 end → ⊥
+    unkept : (end : End) (t : Bool) → (IsTrue t ↔ KeepsEnd inside.ends note point.actor.0 end call) → t ≡ false → Guarded P C point call.object.0 end → ⊥
     unkept end t h is guarded =
-        let keeps = guarded-kept P free C fit point standing note is_noted fits o action called end guarded in
-        false≢true (sym is ∙ h.1 (subst (λ d. KeepsEnd d.ends note point.actor.0 o.0 end action) (sym view) keeps))
+        let keeps = guarded-kept P free C fit point standing note is_noted fits call found end guarded in
+        false≢true (sym is ∙ h.1 (subst (λ d. KeepsEnd d.ends note point.actor.0 end call) (sym view) keeps))
 
-    module _ (w : Bool) (writer : IsTrue w ↔ KeepsEnd inside.ends note point.actor.0 o.0 Writer action) where
-      pub first-writer : w ≡ false → (p : Point) → slice_get (points_of P) k ≡ Some p → IsFirstEnd P C p (Some (record { buffer = o; end = Writer }))
-      first-writer is = each (λ p. IsFirstEnd P C p (Some (record { buffer = o; end = Writer }))) (unkept Writer w writer is, λ e. cc)
+    module _ (w : Bool) (writer : IsTrue w ↔ KeepsEnd inside.ends note point.actor.0 Writer call) where
+      pub first-writer : w ≡ false → (p : Point) → slice_get (points_of P) k ≡ Some p → IsFirstEnd P C p (Some (record { buffer = call.object; end = Writer }))
+      first-writer is = each (λ p. IsFirstEnd P C p (Some (record { buffer = call.object; end = Writer }))) (unkept Writer w writer is, λ e. cc)
 
-      module _ (r : Bool) (reader : IsTrue r ↔ KeepsEnd inside.ends note point.actor.0 o.0 Reader action) (is_kept : w ≡ true) where
-        pub first-reader : r ≡ false → (p : Point) → slice_get (points_of P) k ≡ Some p → IsFirstEnd P C p (Some (record { buffer = o; end = Reader }))
-        first-reader is = each (λ p. IsFirstEnd P C p (Some (record { buffer = o; end = Reader }))) (unkept Reader r reader is, λ e buffer. kept Writer w writer is_kept buffer)
+      module _ (r : Bool) (reader : IsTrue r ↔ KeepsEnd inside.ends note point.actor.0 Reader call) (is_kept : w ≡ true) where
+        pub first-reader : r ≡ false → (p : Point) → slice_get (points_of P) k ≡ Some p → IsFirstEnd P C p (Some (record { buffer = call.object; end = Reader }))
+        first-reader is = each (λ p. IsFirstEnd P C p (Some (record { buffer = call.object; end = Reader }))) (unkept Reader r reader is, λ e buffer. kept Writer w writer is_kept buffer)
 
         pub first-none : r ≡ true → (p : Point) → slice_get (points_of P) k ≡ Some p → IsFirstEnd P C p None
         first-none is = each (λ p. IsFirstEnd P C p None) both

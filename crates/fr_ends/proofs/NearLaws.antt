@@ -1,17 +1,13 @@
 -- A delete is a danger to a point exactly where the point is inside a call on the object that is deleted, and some state
 -- has both notes.
 use Rattle.std.proofs.Common.{◌≡◌, ◌≢◌, ℕ, Option, Some, Bool, true, false, refl, sym, ap, ◌∙◌, subst, eq-eqb}
-use Rattle.std.specs.Prelude.{◌↔◌, List, nat_eq, not, IsTrue}
+use Rattle.std.specs.Prelude.{◌↔◌, List, not, IsTrue}
+use Rattle.std.specs.Option.{option_map}
 use Rattle.std.proofs.lemmas.Bool.{eqb-true, false≢true}
 use Rattle.fr_program.specs.declared.ids.ActorId.{ActorId}
 use Rattle.fr_program.specs.declared.ids.ObjId.{ObjId}
 use Rattle.fr_program.specs.declared.ids.Point.{Point}
-use Rattle.fr_program.specs.declared.ids.Side.{Side}
-use Rattle.fr_program.specs.declared.ids.Side.TheVariants.{Before, Inside}
-use Rattle.fr_program.specs.declared.instr.Instr.{Instr}
-use Rattle.fr_program.specs.declared.instr.Instr.TheVariants.{Call as Calls}
-use Rattle.fr_program.specs.declared.instr.Call.TheVariants.{Delete, On}
-use Rattle.fr_program.specs.declared.instr.Action.{Action}
+use Rattle.fr_program.specs.declared.instr.ObjectCall.{ObjectCall}
 use Rattle.fr_program.specs.Program.{Program}
 use Rattle.fr_program.specs.Lookup.{IsPoint, instr_of}
 use Rattle.fr_program.specs.Fault.{IsFaultless}
@@ -20,54 +16,48 @@ use Rattle.fr_notes.specs.Noted.{note_at}
 use Rattle.fr_notes.specs.Compare.{AreTogether}
 use Rattle.fr_notes.specs.Fits.{NoteFits}
 use Rattle.fr_notes.proofs.PairLaws.{together-noted}
-use Rattle.fr_ends.specs.Guarded.{IsInsideOn, Deletes, Near}
-use Rattle.fr_ends.specs.Nearness.{used_inside, deleted_before, are_same, deletes_used}
+use Rattle.fr_ends.specs.Guarded.{called_inside, deleted_before, IsInsideOn, Deletes, Near}
+use Rattle.fr_ends.specs.Nearness.{are_same, deletes_used}
 
 -- what it is that one point's instruction deletes what the other one uses
 pub record Clash (P : Program) (p q : Point) : Type 0 where
   pub object : ℕ
-  pub action : Action
-  pub inside : IsInsideOn P p object action
+  pub call : ObjectCall
+  pub inside : IsInsideOn P p object call
   pub deletes : Deletes P q object
 
 module _ (P : Program) (p q : Point) where
   pub clash-found : Clash P p q → deletes_used P p q ≡ true
   clash-found c =
       let u = c.inside in
-      let d = c.deletes in
-      let used : used_inside p.side (instr_of P p) ≡ Some u.0 = rw (u.2, u.3) refl in
-      let gone : deleted_before q.side (instr_of P q) ≡ Some d.1 = rw (d.3, d.4) refl in
-      rw (used, gone) (eq-eqb u.0.0 d.1.0 (u.1 ∙ sym d.2))
+      let d = c.deletes in rw (u.1, d.2) (eq-eqb c.call.object.0 d.0.0 (u.0 ∙ sym d.1))
 
   pub found-clash : deletes_used P p q ≡ true → Clash P p q
-  found-clash e = parts p.side (instr_of P p) refl refl q.side (instr_of P q) refl refl e
+  found-clash e = parts (called_inside p.side (instr_of P p)) (deleted_before q.side (instr_of P q)) refl refl e
     where
-      make : (o n : ObjId) (action : Action) (kind : _) → p.side ≡ Inside → instr_of P p ≡ Some (Calls (On o action)) → q.side ≡ Before → instr_of P q ≡ Some (Calls (Delete kind n)) → nat_eq o.0 n.0 ≡ true → Clash P p q
-      make o n action kind ps pi qs qi t = record {
-        object = o.0;
-        action = action;
-        inside = (o, refl, ps, pi);
-        deletes = (kind, n, sym (eqb-true o.0 n.0 t), qs, qi);
+      parts : (used : Option ObjectCall) (dropped : Option ObjId) → called_inside p.side (instr_of P p) ≡ used → deleted_before q.side (instr_of P q) ≡ dropped → are_same (option_map (λ call. call.object) used) dropped ≡ true → Clash P p q
+      parts (Some call) (Some n) inside deletes t = record {
+        object = call.object.0;
+        call = call;
+        inside = (refl, inside);
+        deletes = (n, sym (eqb-true call.object.0 n.0 t), deletes);
       }
-
-      parts : (s : Side) (i : Option Instr) → p.side ≡ s → instr_of P p ≡ i → (t : Side) (j : Option Instr) → q.side ≡ t → instr_of P q ≡ j → are_same (used_inside s i) (deleted_before t j) ≡ true → Clash P p q
-      parts Inside (Some (Calls (On o action))) ps pi Before (Some (Calls (Delete kind n))) qs qi h = make o n action kind ps pi qs qi h
-      parts s i ps pi t j qs qi h = cc
+      parts used dropped inside deletes t = cc
 
   pub not-near : Clash P p q → IsFaultless P → IsPoint P p → IsPoint P q → q.actor ≢ p.actor → (notes : List Note) → NoteFits P (note_at P notes p) → NoteFits P (note_at P notes q) → AreTogether P p.actor.0 (note_at P notes p) q.actor.0 (note_at P notes q) → Near P notes p q → ⊥
   not-near c free at there ne notes f g both near =
       let d = together-noted P free p q at there ne (note_at P notes p) (note_at P notes q) f g both in
-      near there ne c.object c.action c.inside c.deletes d.0
+      near there ne c.object c.call c.inside c.deletes d.0
       (record { formed = d.5.formed; at = d.5.at; holds = (d.1, d.3, d.5.holds) })
       (record { formed = d.6.formed; at = d.6.at; holds = (d.2, d.4, d.6.holds) })
 
   pub near-apart : (notes : List Note) → (AreTogether P p.actor.0 (note_at P notes p) q.actor.0 (note_at P notes q) → ⊥) → Near P notes p q
-  near-apart notes none = λ there ne o action inside deletes S h k.
+  near-apart notes none = λ there ne o call inside deletes S h k.
       none ((λ e. ne (let f : ℕ → ActorId = λ a. record { 0 = a } in ap f (sym e))), S, h.formed, h.holds, k.holds)
 
   pub near-unused : (notes : List Note) → deletes_used P p q ≡ false → Near P notes p q
-  near-unused notes f = λ there ne o action inside deletes S h k.
-      let t = clash-found (record { object = o; action = action; inside = inside; deletes = deletes }) in cc
+  near-unused notes f = λ there ne o call inside deletes S h k.
+      let t = clash-found (record { object = o; call = call; inside = inside; deletes = deletes }) in cc
 
   pub near-own : (notes : List Note) → p.actor.0 ≡ q.actor.0 → Near P notes p q
   near-own notes e = λ there ne. absurd (ne (let f : ℕ → ActorId = λ a. record { 0 = a } in ap f (sym e)))

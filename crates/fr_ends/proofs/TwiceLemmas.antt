@@ -5,7 +5,7 @@ use Rattle.std.proofs.lemmas.Bool.{false≢true, cases_lt}
 use Rattle.std.proofs.lemmas.List.{get_or-drop, get_or_default, get_or-map, length-drop, length-map, take_rest}
 use Rattle.std.proofs.lemmas.List.Elements.{All-map}
 use Rattle.fr_program.specs.Program.{Program}
-use Rattle.fr_calls.specs.declared.buffer_end.End.{End}
+use Rattle.fr_program.specs.declared.instr.End.{End}
 use Rattle.fr_ends.specs.declared.ends.EndName.{EndName}
 use Rattle.fr_ends.specs.declared.guard.EndGuard.{EndGuard}
 use Rattle.fr_ends.specs.declared.guard.Guard.TheVariants as guard

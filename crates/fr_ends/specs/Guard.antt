@@ -1,6 +1,6 @@
 -- Guards: what an actor has while it is inside a call at an end of a stream or message buffer.
 use Rattle.std.specs.Prelude.{ℕ, ℤ, List}
-use Rattle.fr_calls.specs.declared.buffer_end.End.{End}
+use Rattle.fr_program.specs.declared.instr.End.{End}
 
 -- one actor alone, whoever holds a mutex, whoever is in the critical section, or whose turn it is by a variable
 pub data Guard : Type 0 where

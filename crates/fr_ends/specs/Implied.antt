@@ -2,30 +2,18 @@
 --
 -- | word          | meaning                                                                              |
 -- |---------------|--------------------------------------------------------------------------------------|
--- | called_inside | the object of the call that an actor is inside, and what the call does               |
 -- | SaysGuard     | an alternative says that the guard holds of an actor                                 |
 -- | NoteSays      | each alternative of a note does                                                      |
 -- | SaysListed    | a guard is there, and each alternative says that it holds                            |
--- | KeepsEnd      | an action isn't at an end, or each alternative says that the end's guard holds       |
-use Rattle.std.specs.Prelude.{◌≡◌, ◌<◌, ℕ, ℤ, List, Option, None, Some, IsTrue, All}
-use Rattle.fr_program.specs.declared.ids.ObjId.{ObjId}
-use Rattle.fr_program.specs.declared.ids.Side.{Side}
-use Rattle.fr_program.specs.declared.ids.Side.TheVariants.{Inside}
-use Rattle.fr_program.specs.declared.instr.Instr.{Instr}
-use Rattle.fr_program.specs.declared.instr.Instr.TheVariants.{Call as Calls}
-use Rattle.fr_program.specs.declared.instr.Call.TheVariants.{On}
-use Rattle.fr_program.specs.declared.instr.Action.{Action}
-use Rattle.fr_calls.specs.declared.buffer_end.End.{End}
+-- | KeepsEnd      | a call isn't at an end, or each alternative says that the end's guard holds          |
+use Rattle.std.specs.Prelude.{◌≡◌, ◌<◌, ℕ, ℤ, List, Option, Some, IsTrue, All}
+use Rattle.fr_program.specs.declared.instr.ObjectCall.{ObjectCall}
+use Rattle.fr_program.specs.declared.instr.End.{End}
 use Rattle.fr_calls.specs.Rule.{is_at_end}
 use Rattle.fr_notes.specs.Note.{Alternative, Note, claim_of, range_of}
 use Rattle.fr_notes.specs.Known.{is_held}
 use Rattle.fr_ends.specs.Guard.{Guard, Sole, ByMutex, InCritical, Turn, EndGuard}
 use Rattle.fr_ends.specs.Certificate.{value_for, guard_for}
-
--- the object of the call that an actor is inside, at this side of this instruction, and what the call does
-abbrev pub called_inside : Side → Option Instr → Option (ObjId × Action)
-called_inside Inside (Some (Calls (On o action))) = Some (o, action)
-called_inside side i = None
 
 -- the alternative says that the guard holds of the actor: it is that actor, holds the mutex, is in the critical section,
 -- or the variable can have the actor's value alone
@@ -43,6 +31,6 @@ NoteSays note a g = All (λ n. SaysGuard n a g) note
 abbrev pub SaysListed : Note → ℕ → Option Guard → Type 0
 SaysListed note a listed = (g : Guard) × (listed ≡ Some g) × NoteSays note a g
 
--- what an actor with this note, inside a call that does this on the buffer, owes at this end
-abbrev pub KeepsEnd : List EndGuard → Note → ℕ → ℕ → End → Action → Type 0
-KeepsEnd ends note a buffer end action = IsTrue (is_at_end end action) → SaysListed note a (guard_for ends buffer end)
+-- what an actor with this note, inside this call, owes at this end
+abbrev pub KeepsEnd : List EndGuard → Note → ℕ → End → ObjectCall → Type 0
+KeepsEnd ends note a end call = IsTrue (is_at_end end call.act) → SaysListed note a (guard_for ends call.object.0 end)

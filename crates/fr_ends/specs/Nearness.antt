@@ -3,29 +3,21 @@
 -- | word                  | meaning                                                                     |
 -- |-----------------------|-----------------------------------------------------------------------------|
 -- | used_inside           | the object of the call that an actor is inside, at a side of an instruction |
--- | deleted_before        | the object that the instruction deletes                                     |
 -- | are_same              | both are there, and are one object                                          |
 -- | deletes_used          | one point's instruction deletes the object that the other point is inside   |
-use Rattle.std.specs.Prelude.{Option, None, Some, Bool, false, nat_eq}
+use Rattle.std.specs.Prelude.{Option, Some, Bool, false, nat_eq}
+use Rattle.std.specs.Option.{option_map}
 use Rattle.fr_program.specs.declared.ids.ObjId.{ObjId}
 use Rattle.fr_program.specs.declared.ids.Point.{Point}
 use Rattle.fr_program.specs.declared.ids.Side.{Side}
-use Rattle.fr_program.specs.declared.ids.Side.TheVariants.{Before, Inside}
 use Rattle.fr_program.specs.declared.instr.Instr.{Instr}
-use Rattle.fr_program.specs.declared.instr.Instr.TheVariants.{Call as Calls}
-use Rattle.fr_program.specs.declared.instr.Call.TheVariants.{Delete, On}
 use Rattle.fr_program.specs.Program.{Program}
 use Rattle.fr_program.specs.Lookup.{instr_of}
+use Rattle.fr_ends.specs.Guarded.{called_inside, deleted_before}
 
 -- the object of the call that an actor is inside, at this side of this instruction
 abbrev pub used_inside : Side → Option Instr → Option ObjId
-used_inside Inside (Some (Calls (On o action))) = Some o
-used_inside side i = None
-
--- the object that is deleted from this side of this instruction
-abbrev pub deleted_before : Side → Option Instr → Option ObjId
-deleted_before Before (Some (Calls (Delete kind o))) = Some o
-deleted_before side i = None
+used_inside side i = option_map (λ call. call.object) (called_inside side i)
 
 -- both are there, and are one object
 abbrev pub are_same : Option ObjId → Option ObjId → Bool

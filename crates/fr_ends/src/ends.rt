@@ -4,8 +4,7 @@ ghost use Rattle.std.specs.Prelude.{◌≡◌, ◌↔◌, [], IsTrue, IfOk, IfEr
 use crate::fault::EndsFault;
 use crate::fits::refusal;
 use crate::guard::{EndGuard, Guard};
-use fr_calls::End;
-use fr_program::{App, ObjId};
+use fr_program::{App, End, ObjId};
 use std::alloc::Global;
 use std::marker::Model;
 

@@ -6,42 +6,41 @@ ghost use Rattle.fr_program.specs.Points.{points_of};
 ghost use Rattle.fr_calls.specs.Rule.{is_at_end};
 ghost use Rattle.fr_notes.specs.Known.{is_held};
 ghost use Rattle.fr_notes.specs.Note.{claim_of};
-ghost use Rattle.fr_notes.specs.View.{ends_of};
 ghost use Rattle.fr_ends.specs.Certificate.{value_for};
 ghost use Rattle.fr_ends.specs.Fits.{CertificateFits};
 ghost use Rattle.fr_ends.specs.FirstEnd.{IsFirstEnd};
 ghost use Rattle.fr_ends.specs.Guard.{Turn};
-ghost use Rattle.fr_ends.specs.Implied.{called_inside, SaysGuard, NoteSays, KeepsEnd};
+ghost use Rattle.fr_ends.specs.Guarded.{called_inside};
+ghost use Rattle.fr_ends.specs.Implied.{SaysGuard, NoteSays, KeepsEnd};
 ghost use Rattle.fr_ends.specs.View.{values_of, guard_of};
 
 use crate::certificate::Certificate;
 use crate::ends::{EndName, Ends};
 use crate::guard::Guard;
-use fr_calls::End;
 use fr_notes::{Alternative, Claim, Known, Note};
-use fr_program::{Action, ActorId, App, Call, Instr, ObjId, Point, Range, Side, VarId};
+use fr_program::{
+    Act, ActorId, App, Attempt, Call, End, Instr, ObjId, ObjectCall, Point, Range, Side, VarId,
+};
 use std::collections::BTreeMap;
 
-/// The object of the call that the point is inside, and what the call does.
-fn called_inside(app: &App, point: Point) -> Option<(ObjId, Action)>
+/// The object call that the point is inside; None where it is inside none.
+pub(crate) fn called_inside(app: &App, point: Point) -> Option<ObjectCall>
     ensures { result ≡ called_inside point.side (instr_of app.now point) }
 {
     match (point.side, app.instr(point)) {
-        (Side::Inside, Some(Instr::Call(Call::On { object, action }))) => Some((*object, *action)),
+        (Side::Inside, Some(Instr::Call(Call::On(call)))) => Some(*call),
         (_, _) => None,
     }
 }
 
-/// Whether an action is at this end of its buffer: a send at the writer's, a receive at the reader's,
-/// a reset at both.
-pub fn is_at_end(end: End, action: Action) -> bool
-    ensures { result ≡ is_at_end end action }
+/// Whether a call that does this is at this end of its buffer: a send at the writer's, a receive at the
+/// reader's, a reset at both.
+pub fn is_at_end(end: End, act: Act) -> bool
+    ensures { result ≡ is_at_end end act }
 {
-    match (end, action) {
-        (End::Writer, Action::Send { .. }) => true,
-        (End::Reader, Action::Receive { .. }) => true,
-        (_, Action::Reset { .. }) => true,
-        (_, _) => false,
+    match act {
+        Act::Move { end: at, .. } => at == end,
+        Act::Try { attempt, .. } => matches!(attempt, Attempt::Reset(_)),
     }
 }
 
@@ -50,13 +49,6 @@ fn value_for(values: &BTreeMap<ActorId, i64>, actor: ActorId) -> Option<i64>
     ensures { result ≡ value_for (values_of values.now) actor.0 }
 {
     values.get(&actor).copied()
-}
-
-/// Whether the range has this number alone.
-fn is_only(range: Range, number: i64) -> bool
-    ensures { IsTrue result ↔ (ends_of range ≡ (number, number)) }
-{
-    range.lo == i128::from(number) && range.hi == i128::from(number)
 }
 
 /// Whether the variable can have the actor's value alone.
@@ -70,7 +62,7 @@ fn has_turn(
     ensures { IsTrue result ↔ SaysGuard alternative.now actor.0 (Turn variable.0 (values_of values.now)) }
 {
     match value_for(values, actor) {
-        Some(value) => is_only(alternative.range(variable), value),
+        Some(value) => alternative.range(variable) == Range::only(value),
         None => false,
     }
 }
@@ -104,15 +96,16 @@ pub fn note_says(note: &Note, actor: ActorId, guard: &Guard) -> bool
         .all(|alternative| says_guard(alternative, actor, guard))
 }
 
-/// Whether an actor with this note, inside a call that does this, isn't at the end or has its guard.
-/// An end without a listed guard is kept by no note.
-fn keeps_end(ends: &Ends, note: &Note, actor: ActorId, end: EndName, action: Action) -> bool
-    ensures { IsTrue result ↔ KeepsEnd ends.now note.now actor.0 end.buffer.0 end.end action }
+/// Whether an actor with this note, inside this call, isn't at the end or has its guard. An end without
+/// a listed guard is kept by no note.
+fn keeps_end(ends: &Ends, note: &Note, actor: ActorId, end: End, call: ObjectCall) -> bool
+    ensures { IsTrue result ↔ KeepsEnd ends.now note.now actor.0 end call }
 {
-    if !is_at_end(end.end, action) {
+    if !is_at_end(end, call.act) {
         return true;
     }
-    match ends.guard(end) {
+    let buffer = call.object;
+    match ends.guard(EndName { buffer, end }) {
         Some(guard) => note_says(note, actor, guard),
         None => false,
     }
@@ -134,22 +127,16 @@ pub fn guarded(app: &App, certificate: &Certificate, number: usize) -> Option<En
     app.recall_faultless();
     app.recall_numbered();
     let point = app.point(number);
-    let (buffer, action) = called_inside(app, point)?;
+    let call = called_inside(app, point)?;
     let (notes, ends) = (&certificate.notes, &certificate.ends);
-    let note = notes.at(app, number);
-    let writer = EndName {
-        buffer,
-        end: End::Writer,
-    };
-    if !keeps_end(ends, note, point.actor, writer, action) {
-        return Some(writer);
+    let (note, buffer) = (notes.at(app, number), call.object);
+    if !keeps_end(ends, note, point.actor, End::Writer, call) {
+        let end = End::Writer;
+        return Some(EndName { buffer, end });
     }
-    let reader = EndName {
-        buffer,
-        end: End::Reader,
-    };
-    if !keeps_end(ends, note, point.actor, reader, action) {
-        return Some(reader);
+    if !keeps_end(ends, note, point.actor, End::Reader, call) {
+        let end = End::Reader;
+        return Some(EndName { buffer, end });
     }
     None
 }

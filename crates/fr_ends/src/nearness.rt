@@ -4,9 +4,10 @@ ghost use Rattle.fr_program.specs.declared.ids.Point.{Point};
 ghost use Rattle.fr_program.specs.Lookup.{instr_of};
 ghost use Rattle.fr_program.specs.Points.{points_of};
 ghost use Rattle.fr_notes.specs.Fits.{NotesFit};
-ghost use Rattle.fr_ends.specs.Guarded.{Near};
-ghost use Rattle.fr_ends.specs.Nearness.{used_inside, deleted_before, deletes_used};
+ghost use Rattle.fr_ends.specs.Guarded.{deleted_before, Near};
+ghost use Rattle.fr_ends.specs.Nearness.{used_inside, deletes_used};
 
+use crate::guarding::called_inside;
 use fr_notes::{Notes, together};
 use fr_program::{App, Call, Instr, ObjId, Point, Side};
 
@@ -14,10 +15,7 @@ use fr_program::{App, Call, Instr, ObjId, Point, Side};
 pub fn used_inside(app: &App, point: Point) -> Option<ObjId>
     ensures { result ≡ used_inside point.side (instr_of app.now point) }
 {
-    match (point.side, app.instr(point)) {
-        (Side::Inside, Some(Instr::Call(Call::On { object, .. }))) => Some(*object),
-        (_, _) => None,
-    }
+    called_inside(app, point).map(|call| call.object)
 }
 
 /// The object that the point's instruction deletes.

@@ -1,6 +1,6 @@
 // Which points lead to which.
 use fr_calls::{Landing, Way, lands_at};
-use fr_program::{Action, App, BufferKind, Call, Instr, Point};
+use fr_program::{Act, App, BufferKind, Call, Instr, ObjectCall, Point};
 use std::alloc::{AllocError, Global};
 
 /// The rows of an instruction in their order: those that work before those that fail, but for a
@@ -8,17 +8,15 @@ use std::alloc::{AllocError, Global};
 pub fn rows(instr: &Instr) -> [Way; 2] {
     match instr {
         Instr::Call(
-            Call::On {
-                action: Action::Send {
-                    kind: BufferKind::Message,
-                    ..
-                }
-                | Action::Receive {
-                    kind: BufferKind::Message,
+            Call::On(
+                ObjectCall {
+                    act: Act::Move {
+                        kind: BufferKind::Message,
+                        ..
+                    },
                     ..
                 },
-                ..
-            },
+            ),
         ) => [Way::Else, Way::Then],
         _ => [Way::Then, Way::Else],
     }

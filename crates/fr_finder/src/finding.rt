@@ -28,6 +28,7 @@ pub fn is_rounds(rounds: usize) -> bool
     1 <= rounds && rounds <= MOST_ROUNDS
 }
 
+/// Whether the two say the same.
 fn is_same_alternative(one: &Alternative, other: &Alternative) -> bool {
     one.critical() == other.critical()
         && one.suspended() == other.suspended()
@@ -35,6 +36,7 @@ fn is_same_alternative(one: &Alternative, other: &Alternative) -> bool {
         && one.ranges() == other.ranges()
 }
 
+/// Whether the two have the same alternatives, in the same order.
 fn is_same_note(one: &Note, other: &Note) -> bool {
     let (one, other) = (one.alternatives(), other.alternatives());
     one.len() == other.len()

@@ -5,10 +5,9 @@ ghost use Rattle.fr_ends.specs.Fits.{EndFits, EndsFit};
 ghost use Rattle.fr_ends.specs.View.{end_of};
 
 use crate::spot::{Spot, spot_at};
-use fr_calls::End;
 use fr_ends::{EndGuard, EndName, Ends, Guard, is_at_end, is_listed, note_says};
 use fr_notes::{Alternative, Note, Notes};
-use fr_program::{ActorId, App, Call, Instr, ObjId, Side, VarId};
+use fr_program::{ActorId, App, Call, End, Instr, ObjId, Side, VarId};
 use std::alloc::{AllocError, Global};
 use std::collections::BTreeMap;
 
@@ -25,8 +24,8 @@ fn is_inside(spot: &Spot, end: EndName) -> bool {
         return false;
     }
     match (spot.point.side, spot.instr) {
-        (Side::Inside, Instr::Call(Call::On { object, action })) => {
-            object.0 == end.buffer.0 && is_at_end(end.end, *action)
+        (Side::Inside, Instr::Call(Call::On(call))) => {
+            call.object.0 == end.buffer.0 && is_at_end(end.end, call.act)
         }
         _ => false,
     }

@@ -4,9 +4,10 @@ ghost use Rattle.fr_program.specs.Points.{points_of};
 ghost use Rattle.fr_notes.specs.Fits.{AlternativeFits, NoteFits, NotesFit};
 
 use fr_notes::{Alternative, Claim, Note, Notes};
-use fr_program::{App, Object, Point, Range, Side, Variable};
+use fr_program::{App, Object, Point, Range, Side};
 use std::alloc::{AllocError, Global};
 
+/// What is known of an object at the start.
 fn claim_at_start(object: &Object) -> Claim {
     if object.live {
         Claim::Alive
@@ -15,14 +16,7 @@ fn claim_at_start(object: &Object) -> Claim {
     }
 }
 
-fn range_at_start(variable: &Variable) -> Range {
-    let number = i128::from(variable.init);
-    Range {
-        lo: number,
-        hi: number,
-    }
-}
-
+/// What is known of each object at the start.
 fn claims_at_start(alloc: Global, app: &App) -> Result<Vec<Claim>, AllocError> {
     let mut claims = Vec::with_capacity(alloc, app.objects().len())?;
     for object in app.objects() {
@@ -31,10 +25,11 @@ fn claims_at_start(alloc: Global, app: &App) -> Result<Vec<Claim>, AllocError> {
     Ok(claims)
 }
 
+/// The range of each variable at the start.
 fn ranges_at_start(alloc: Global, app: &App) -> Result<Vec<Range>, AllocError> {
     let mut ranges = Vec::with_capacity(alloc, app.variables().len())?;
     for variable in app.variables() {
-        ranges.push(range_at_start(variable))?;
+        ranges.push(Range::only(variable.init))?;
     }
     Ok(ranges)
 }

@@ -1,6 +1,7 @@
 -- A text is one line at the most, and no line where a fault is present in it: each word and each number means one
 -- thing of its kind, a call's name for one call, and a fault in a place says that nothing is there.
-use Rattle.std.proofs.Common.{◌≡◌, ◌<◌, ◌^◌, ℕ, ℤ, pos, List, [], ◌∷◌, map, length, Option, Some, None, Result, Ok, Err, refl, sym, ap, ◌∙◌, subst, inl, inr, arith, lit<}
+use Rattle.std.proofs.Common.{◌≡◌, ◌<◌, ◌^◌, ℕ, ℤ, pos, List, [], ◌∷◌, length, Option, Some, None, Result, Ok, Err, refl, sym, ap, ◌∙◌, subst, inl, inr, arith, lit<}
+use Rattle.std.proofs.lemmas.Bool.{false≢true}
 use Rattle.std.proofs.lemmas.Option.{same_Some}
 use Rattle.std.proofs.lemmas.List.Quantifiers.{position-Some}
 use Rattle.std.specs.Prelude.{FitsSigned}
@@ -12,11 +13,12 @@ use Rattle.fr_instr.specs.Shapes.{Word, name, numeral, Shape, set, set_to, branc
 use Rattle.fr_instr.specs.ShapeReading.{shape_at}
 use Rattle.fr_instr.specs.Names.{NamesOf, place_of}
 use Rattle.fr_instr.specs.Numbers.{IsInteger, IsNatural}
-use Rattle.fr_instr.specs.Calls.{Place, object, operand, variable, length as a_length, time, ticks, null, row_of, parts_of, place_of_arg}
-use Rattle.fr_instr.specs.Lines.{IsVariable, IsObject, IsOperand, IsBlockTime, IsArg, AreArgs, IsElse, IsInto, IsCall, IsLineOf, IsLine, OperandIn, ArgIn, AreArgsIn, ElseIn, IntoIn, IsLineIn}
+use Rattle.fr_instr.specs.Calls.{Row, row_named, row_for, made, given_of, put}
+use Rattle.fr_instr.specs.Lines.{IsVariable, IsObject, IsOperand, IsBlockTime, Says, AreGiven, IsElse, IsInto, IsCall, IsLineOf, IsLine, OperandIn, GivenIn, AreGivenIn, ElseIn, IntoIn, IsCallIn, IsLineIn}
 use Rattle.fr_instr.specs.Faults.{IsWrongKind, NamesNothing, IsBadNumber, InNaming, InPlain, InPlace, InArgs, InPlaces, InVariable, InElse, InInto, InNamed, InCall, InShape, Stands}
 use Rattle.fr_instr.specs.declared.fault.LineFault.{LineFault}
 use Rattle.fr_instr.specs.declared.fault.LineFault.TheVariants.{Memory, Syntax, UnknownName, UnknownCall, ArgCount, BadNumber}
+use Rattle.fr_program.specs.Limits.{BlockTimeInLimits}
 use Rattle.fr_program.specs.declared.instr.Instr.{Instr}
 use Rattle.fr_program.specs.declared.instr.Instr.TheVariants as line
 use Rattle.fr_program.specs.declared.instr.Operator.{Operator}
@@ -25,11 +27,13 @@ use Rattle.fr_program.specs.declared.instr.Comparison.{Comparison}
 use Rattle.fr_instr.proofs.TokenLaws.{spells_once}
 use Rattle.fr_instr.proofs.ShapeLaws.{shape_found, shape_again}
 use Rattle.fr_instr.proofs.NumberLaws.{only_number, natural_fits}
-use Rattle.fr_instr.proofs.CallLaws.{name_once}
-use Rattle.fr_instr.proofs.PartsLaws.{places_match, no_else, no_into, parts_once}
-use Rattle.fr_instr.specs.declared.call.CallName.{CallName}
-use Rattle.fr_instr.specs.declared.writing.Arg.{Arg}
-use Rattle.fr_instr.specs.declared.writing.Arg.TheVariants as arg
+use Rattle.fr_instr.proofs.CallLaws.{verb_again, places_fit}
+use Rattle.fr_instr.proofs.PartsLaws.{verb_made, args_kept, else_kept, into_kept}
+use Rattle.fr_instr.specs.declared.call.Place.{Place}
+use Rattle.fr_instr.specs.declared.call.Place.TheVariants.{Object, Operand as Operands, Variable as Variables, Length, Time, Ticks as TicksPlace, Null}
+use Rattle.fr_instr.specs.declared.call.Tail.{Tail}
+use Rattle.fr_instr.specs.declared.given.Given.{Given}
+use Rattle.fr_instr.specs.declared.given.TheConstants.{NOTHING}
 use Rattle.fr_program.specs.declared.ids.ObjId.{ObjId}
 use Rattle.fr_program.specs.declared.ids.VarId.{VarId}
 use Rattle.fr_program.specs.declared.instr.BlockTime.{BlockTime}
@@ -91,98 +95,56 @@ one_time (numeral d) MaxDelay b h k = absurd h
 one_time (name w) MaxDelay (Ticks n) h k = absurd k
 one_time (numeral d) (Ticks n) MaxDelay h k = absurd k
 
-one_arg : (N : NamesOf) (w : Word) (a b : Arg) → place_of_arg a ≡ place_of_arg b → IsArg N w a → IsArg N w b → a ≡ b
-one_arg N (name w) (arg.Object o) (arg.Object p) e h k = ap (λ x. arg.Object x) (one_object N w o p h k)
-one_arg N (numeral d) (arg.Object o) (arg.Object p) e h k = absurd h
-one_arg N w (arg.Operand a) (arg.Operand b) e h k = ap (λ x. arg.Operand x) (one_operand N w a b h k)
-one_arg N (name w) (arg.Variable x) (arg.Variable y) e h k = ap (λ z. arg.Variable z) (one_variable N w x y h k)
-one_arg N (numeral d) (arg.Variable x) (arg.Variable y) e h k = absurd h
-one_arg N (name w) (arg.Length m) (arg.Length n) e h k = absurd h
-one_arg N (numeral d) (arg.Length m) (arg.Length n) e h k = ap (λ x. arg.Length x) (one_natural 1 65535 d m n (lit< tt) h k)
-one_arg N w (arg.Time s) (arg.Time t) e h k = ap (λ x. arg.Time x) (one_time w s t h k)
-one_arg N (name w) (arg.Ticks m) (arg.Ticks n) e h k = absurd h
-one_arg N (numeral d) (arg.Ticks m) (arg.Ticks n) e h k = ap (λ x. arg.Ticks x) (one_natural 0 2147483647 d m n (lit< tt) h k)
-one_arg N w arg.Null arg.Null e h k = refl
-one_arg N w (arg.Object o) (arg.Operand a') e h k = cc
-one_arg N w (arg.Object o) (arg.Variable x') e h k = cc
-one_arg N w (arg.Object o) (arg.Length n') e h k = cc
-one_arg N w (arg.Object o) (arg.Time t') e h k = cc
-one_arg N w (arg.Object o) (arg.Ticks n') e h k = cc
-one_arg N w (arg.Object o) arg.Null e h k = cc
-one_arg N w (arg.Operand a) (arg.Object o') e h k = cc
-one_arg N w (arg.Operand a) (arg.Variable x') e h k = cc
-one_arg N w (arg.Operand a) (arg.Length n') e h k = cc
-one_arg N w (arg.Operand a) (arg.Time t') e h k = cc
-one_arg N w (arg.Operand a) (arg.Ticks n') e h k = cc
-one_arg N w (arg.Operand a) arg.Null e h k = cc
-one_arg N w (arg.Variable x) (arg.Object o') e h k = cc
-one_arg N w (arg.Variable x) (arg.Operand a') e h k = cc
-one_arg N w (arg.Variable x) (arg.Length n') e h k = cc
-one_arg N w (arg.Variable x) (arg.Time t') e h k = cc
-one_arg N w (arg.Variable x) (arg.Ticks n') e h k = cc
-one_arg N w (arg.Variable x) arg.Null e h k = cc
-one_arg N w (arg.Length n) (arg.Object o') e h k = cc
-one_arg N w (arg.Length n) (arg.Operand a') e h k = cc
-one_arg N w (arg.Length n) (arg.Variable x') e h k = cc
-one_arg N w (arg.Length n) (arg.Time t') e h k = cc
-one_arg N w (arg.Length n) (arg.Ticks n') e h k = cc
-one_arg N w (arg.Length n) arg.Null e h k = cc
-one_arg N w (arg.Time t) (arg.Object o') e h k = cc
-one_arg N w (arg.Time t) (arg.Operand a') e h k = cc
-one_arg N w (arg.Time t) (arg.Variable x') e h k = cc
-one_arg N w (arg.Time t) (arg.Length n') e h k = cc
-one_arg N w (arg.Time t) (arg.Ticks n') e h k = cc
-one_arg N w (arg.Time t) arg.Null e h k = cc
-one_arg N w (arg.Ticks n) (arg.Object o') e h k = cc
-one_arg N w (arg.Ticks n) (arg.Operand a') e h k = cc
-one_arg N w (arg.Ticks n) (arg.Variable x') e h k = cc
-one_arg N w (arg.Ticks n) (arg.Length n') e h k = cc
-one_arg N w (arg.Ticks n) (arg.Time t') e h k = cc
-one_arg N w (arg.Ticks n) arg.Null e h k = cc
-one_arg N w arg.Null (arg.Object o') e h k = cc
-one_arg N w arg.Null (arg.Operand a') e h k = cc
-one_arg N w arg.Null (arg.Variable x') e h k = cc
-one_arg N w arg.Null (arg.Length n') e h k = cc
-one_arg N w arg.Null (arg.Time t') e h k = cc
-one_arg N w arg.Null (arg.Ticks n') e h k = cc
+-- what a word or number gives in a place
+one_put : (N : NamesOf) (p : Place) (w : Word) (h k g : Given) → Says N p w h → Says N p w k → put p h g ≡ put p k g
+one_put N Object (name w) h k g i j = ap (λ x. record g { object = x }) (one_object N w h.object k.object i j)
+one_put N Operands w h k g i j = ap (λ x. record g { operand = x }) (one_operand N w h.operand k.operand i j)
+one_put N Variables (name w) h k g i j = ap (λ x. record g { variable = x }) (one_variable N w h.variable k.variable i j)
+one_put N Length (numeral d) h k g i j = ap (λ x. record g { bytes = x }) (one_natural 1 65535 d h.bytes k.bytes (lit< tt) i j)
+one_put N Time w h k g i j = ap (λ x. record g { time = x }) (one_time w h.time k.time i j)
+one_put N TicksPlace (numeral d) h k g i j = ap (λ x. record g { ticks = x }) (one_natural 0 2147483647 d h.ticks k.ticks (lit< tt) i j)
+one_put N Null w h k g i j = refl
+one_put N Object (numeral d) h k g i j = absurd i
+one_put N Variables (numeral d) h k g i j = absurd i
+one_put N Length (name w) h k g i j = absurd i
+one_put N TicksPlace (name w) h k g i j = absurd i
 
-heads : (p q : Place) (ps qs : List Place) → p ∷ ps ≡ q ∷ qs → (p ≡ q) × (ps ≡ qs)
-heads p q ps qs e = (cc, cc)
+one_list : (N : NamesOf) (ps : List Place) (ws : List Word) (g h k : Given) → AreGiven N ps ws g h → AreGiven N ps ws g k → h ≡ k
+one_list N [] [] g h k i j = i ∙ sym j
+one_list N (p ∷ ps) (w ∷ ws) g h k (m, i, more) (n, j, rest) =
+    let P : Given → Type 0 = λ x. AreGiven N ps ws x h in
+    one_list N ps ws n h k (subst P (i.1 ∙ one_put N p w m n g i.0 j.0 ∙ sym j.1) more) rest
+one_list N [] (w ∷ ws) g h k i j = absurd i
+one_list N (p ∷ ps) [] g h k i j = absurd i
 
-one_list : (N : NamesOf) (ws : List Word) (bs cs : List Arg) → map place_of_arg bs ≡ map place_of_arg cs → AreArgs N ws bs → AreArgs N ws cs → bs ≡ cs
-one_list N [] [] [] e h k = refl
-one_list N (w ∷ ws) (b ∷ bs) (c ∷ cs) e h k =
-    let both = heads (place_of_arg b) (place_of_arg c) (map place_of_arg bs) (map place_of_arg cs) e in
-    let one = one_arg N w b c both.0 h.0 k.0 in
-    let more = one_list N ws bs cs both.1 h.1 k.1 in
-    cc
-one_list N [] (b ∷ bs) cs e h k = absurd h
-one_list N (w ∷ ws) [] cs e h k = absurd h
-one_list N [] [] (c ∷ cs) e h k = absurd k
-one_list N (w ∷ ws) (b ∷ bs) [] e h k = absurd k
+one_else : (t : Tail) (d : Option (List ℕ)) (e g : Option ℕ) → IsElse t d e → IsElse t d g → e ≡ g
+one_else t None None None h k = refl
+one_else t (Some d) (Some m) (Some n) h k = ap (λ x. Some x) (one_natural 0 2147483647 d m n (lit< tt) h.1 k.1)
+one_else t None (Some n) g h k = absurd h
+one_else t (Some d) None g h k = absurd h
+one_else t None None (Some n) h k = absurd k
+one_else t (Some d) (Some m) None h k = absurd k
 
-one_else : (d : Option (List ℕ)) (e g : Option ℕ) → IsElse d e → IsElse d g → e ≡ g
-one_else None None None h k = refl
-one_else (Some d) (Some m) (Some n) h k = ap (λ x. Some x) (one_natural 0 2147483647 d m n (lit< tt) h k)
-one_else None (Some n) g h k = absurd h
-one_else (Some d) None g h k = absurd h
-one_else None None (Some n) h k = absurd k
-one_else (Some d) (Some m) None h k = absurd k
+one_into : (N : NamesOf) (t : Tail) (w : Option (List ℕ)) (v u : Option VarId) → IsInto N t w v → IsInto N t w u → v ≡ u
+one_into N t None None None h k = refl
+one_into N t (Some w) (Some x) (Some y) h k = ap (λ z. Some z) (one_variable N w x y h.1 k.1)
+one_into N t None (Some n) g h k = absurd h
+one_into N t (Some d) None g h k = absurd h
+one_into N t None None (Some n) h k = absurd k
+one_into N t (Some d) (Some m) None h k = absurd k
 
-one_into : (N : NamesOf) (w : Option (List ℕ)) (v u : Option VarId) → IsInto N w v → IsInto N w u → v ≡ u
-one_into N None None None h k = refl
-one_into N (Some w) (Some x) (Some y) h k = ap (λ z. Some z) (one_variable N w x y h k)
-one_into N None (Some n) g h k = absurd h
-one_into N (Some d) None g h k = absurd h
-one_into N None None (Some n) h k = absurd k
-one_into N (Some d) (Some m) None h k = absurd k
+same_made : (r s : Row) (g h : Given) (e d : Option ℕ) (v u : Option VarId) → r ≡ s → g ≡ h → e ≡ d → v ≡ u
+    → made r.verb (record g { or_else = e; into = v }) ≡ made s.verb (record h { or_else = d; into = u })
+same_made r s g h e d v u i j k l = ap (λ x. made x.verb (record g { or_else = e; into = v })) i ∙ ap (λ x. made s.verb (record x { or_else = e; into = v })) j ∙ ap (λ x. made s.verb (record h { or_else = x; into = v })) k ∙ ap (λ x. made s.verb (record h { or_else = d; into = x })) l
 
 one_call : (N : NamesOf) (v : Option (List ℕ)) (k : List ℕ) (ws : List Word) (e : Option (List ℕ)) (c d : Call) → IsCall N v k ws e c → IsCall N v k ws e d → c ≡ d
 one_call N v k ws e c d h g =
-    let named = name_once (parts_of c).name (parts_of d).name (sym h.named ∙ g.named) in
-    let places = places_match c ∙ ap (λ x. (row_of x).places) named ∙ sym (places_match d) in
-    parts_once c d named (one_list N ws (parts_of c).args (parts_of d).args places h.args g.args) (one_else e (parts_of c).or_else (parts_of d).or_else h.target g.target)
-    (one_into N v (parts_of c).into (parts_of d).into h.counted g.counted)
+    let row : h.row ≡ g.row = same_Some h.row g.row (sym h.named ∙ g.named) in
+    let A : Row → Type 0 = λ r. AreGiven N r.places ws NOTHING h.given in
+    let E : Row → Type 0 = λ r. IsElse r.tail e h.target in
+    let I : Row → Type 0 = λ r. IsInto N r.tail v h.variable in
+    h.call ∙ same_made h.row g.row h.given g.given h.target g.target h.variable g.variable row (one_list N g.row.places ws NOTHING h.given g.given (subst A row h.args) g.args)
+    (one_else g.row.tail e h.target g.target (subst E row h.behind) g.behind) (one_into N g.row.tail v h.variable g.variable (subst I row h.before) g.before) ∙ sym g.call
 
 set_same : (t u : VarId) (a b : Operand) (op : Operator) (p q : Operand) → t ≡ u → a ≡ b → p ≡ q → line.Set t a op p ≡ line.Set u b op q
 set_same t u a b op p q x y z = cc
@@ -231,71 +193,71 @@ in_naming N p w Memory a n b h = absurd h
 in_naming N p w UnknownCall a n b h = absurd h
 in_naming N p w ArgCount a n b h = absurd h
 
-operand_clash : (N : NamesOf) (w : Word) (a : Operand) (f : LineFault) → InPlace N operand w f → IsOperand N w a → ⊥
-operand_clash N (name w) (Variable x) f h k = in_naming N operand (name w) f (λ z. z) (λ z. none_some (place_of N.variables w) x.0 z k) (λ z. z) h
-operand_clash N (numeral d) (Number z) f h k = in_naming N operand (numeral d) f (λ y. y) (λ y. y) (λ y. y z k) h
+operand_clash : (N : NamesOf) (w : Word) (a : Operand) (f : LineFault) → InPlace N Operands w f → IsOperand N w a → ⊥
+operand_clash N (name w) (Variable x) f h k = in_naming N Operands (name w) f (λ z. z) (λ z. none_some (place_of N.variables w) x.0 z k) (λ z. z) h
+operand_clash N (numeral d) (Number z) f h k = in_naming N Operands (numeral d) f (λ y. y) (λ y. y) (λ y. y z k) h
 operand_clash N (name w) (Number z) f h k = absurd k
 operand_clash N (numeral d) (Variable x) f h k = absurd k
 
-time_clash : (w : Word) (t : BlockTime) (f : LineFault) → InPlain time w f → IsBlockTime w t → ⊥
-time_clash (name w) MaxDelay f h k = in_plain time (name w) f (λ z. z k) (λ z. z) h
-time_clash (numeral d) (Ticks n) f h k = in_plain time (numeral d) f (λ z. z) (λ z. z n k) h
+time_clash : (w : Word) (t : BlockTime) (f : LineFault) → InPlain Time w f → IsBlockTime w t → ⊥
+time_clash (name w) MaxDelay f h k = in_plain Time (name w) f (λ z. z k) (λ z. z) h
+time_clash (numeral d) (Ticks n) f h k = in_plain Time (numeral d) f (λ z. z) (λ z. z n k) h
 time_clash (name w) (Ticks n) f h k = absurd k
 time_clash (numeral d) MaxDelay f h k = absurd k
 
-arg_clash : (N : NamesOf) (w : Word) (a : Arg) (f : LineFault) → InPlace N (place_of_arg a) w f → IsArg N w a → ⊥
-arg_clash N (name w) (arg.Object o) f h k = in_naming N object (name w) f (λ z. z) (λ z. none_some (place_of N.objects w) o.0 z k) (λ z. z) h
-arg_clash N (numeral d) (arg.Object o) f h k = absurd k
-arg_clash N w (arg.Operand a) f h k = operand_clash N w a f h k
-arg_clash N (name w) (arg.Variable x) f h k = in_naming N variable (name w) f (λ z. z) (λ z. none_some (place_of N.variables w) x.0 z k) (λ z. z) h
-arg_clash N (numeral d) (arg.Variable x) f h k = absurd k
-arg_clash N (name w) (arg.Length n) f h k = absurd k
-arg_clash N (numeral d) (arg.Length n) f h k = in_plain a_length (numeral d) f (λ z. z) (λ z. z n k) h
-arg_clash N w (arg.Time t) f h k = time_clash w t f h k
-arg_clash N (name w) (arg.Ticks n) f h k = absurd k
-arg_clash N (numeral d) (arg.Ticks n) f h k = in_plain ticks (numeral d) f (λ z. z) (λ z. z n k) h
-arg_clash N (name w) arg.Null f h k = in_plain null (name w) f (λ z. z k) (λ z. z) h
-arg_clash N (numeral d) arg.Null f h k = absurd k
+place_clash : (N : NamesOf) (p : Place) (w : Word) (g : Given) (f : LineFault) → InPlace N p w f → Says N p w g → ⊥
+place_clash N Object (name w) g f h k = in_naming N Object (name w) f (λ z. z) (λ z. none_some (place_of N.objects w) g.object.0 z k) (λ z. z) h
+place_clash N Object (numeral d) g f h k = absurd k
+place_clash N Operands w g f h k = operand_clash N w g.operand f h k
+place_clash N Variables (name w) g f h k = in_naming N Variables (name w) f (λ z. z) (λ z. none_some (place_of N.variables w) g.variable.0 z k) (λ z. z) h
+place_clash N Variables (numeral d) g f h k = absurd k
+place_clash N Length (name w) g f h k = absurd k
+place_clash N Length (numeral d) g f h k = in_plain Length (numeral d) f (λ z. z) (λ z. z g.bytes k) h
+place_clash N Time w g f h k = time_clash w g.time f h k
+place_clash N TicksPlace (name w) g f h k = absurd k
+place_clash N TicksPlace (numeral d) g f h k = in_plain TicksPlace (numeral d) f (λ z. z) (λ z. z g.ticks k) h
+place_clash N Null (name w) g f h k = in_plain Null (name w) f (λ z. z k) (λ z. z) h
+place_clash N Null (numeral d) g f h k = absurd k
 
-args_clash : (N : NamesOf) (ws : List Word) (bs : List Arg) (f : LineFault) → InArgs N (map place_of_arg bs) ws f → AreArgs N ws bs → ⊥
-args_clash N (w ∷ ws) (b ∷ bs) f (inl h) k = arg_clash N w b f h k.0
-args_clash N (w ∷ ws) (b ∷ bs) f (inr h) k = args_clash N ws bs f h k.1
-args_clash N [] [] f h k = absurd h
-args_clash N [] (b ∷ bs) f h k = absurd k
-args_clash N (w ∷ ws) [] f h k = absurd k
+args_clash : (N : NamesOf) (ps : List Place) (ws : List Word) (g h : Given) (f : LineFault) → InArgs N ps ws f → AreGiven N ps ws g h → ⊥
+args_clash N (p ∷ ps) (w ∷ ws) g h f (inl i) (k, j, more) = place_clash N p w k f i j.0
+args_clash N (p ∷ ps) (w ∷ ws) g h f (inr i) (k, j, more) = args_clash N ps ws k h f i more
+args_clash N [] [] g h f i j = absurd i
+args_clash N [] (w ∷ ws) g h f i j = absurd j
+args_clash N (p ∷ ps) [] g h f i j = absurd j
 
-count_same : (N : NamesOf) (ws : List Word) (bs : List Arg) → AreArgs N ws bs → length ws ≡ length (map place_of_arg bs)
-count_same N [] [] h = refl
-count_same N (w ∷ ws) (b ∷ bs) h = let more = count_same N ws bs h.1 in omega (arith, more)
-count_same N [] (b ∷ bs) h = absurd h
-count_same N (w ∷ ws) [] h = absurd h
+count_same : (N : NamesOf) (ps : List Place) (ws : List Word) (g h : Given) → AreGiven N ps ws g h → length ws ≡ length ps
+count_same N [] [] g h i = refl
+count_same N (p ∷ ps) (w ∷ ws) g h (k, j, more) = let rest = count_same N ps ws k h more in omega (arith, rest)
+count_same N [] (w ∷ ws) g h i = absurd i
+count_same N (p ∷ ps) [] g h i = absurd i
 
-places_clash : (N : NamesOf) (ws : List Word) (bs : List Arg) (ps : List Place) (f : LineFault) → map place_of_arg bs ≡ ps → InPlaces N ps ws f → AreArgs N ws bs → ⊥
-places_clash N ws bs ps f e (inl h) k = h.1 (count_same N ws bs k ∙ ap length e)
-places_clash N ws bs ps f e (inr h) k = let P : List Place → Type 0 = λ x. InArgs N x ws f in args_clash N ws bs f (subst P (sym e) h) k
+places_clash : (N : NamesOf) (ps : List Place) (ws : List Word) (g h : Given) (f : LineFault) → InPlaces N ps ws f → AreGiven N ps ws g h → ⊥
+places_clash N ps ws g h f (inl i) j = i.1 (count_same N ps ws g h j)
+places_clash N ps ws g h f (inr i) j = args_clash N ps ws g h f i j
 
-else_clash : (c : Call) (d : Option (List ℕ)) (e : Option ℕ) (f : LineFault) → (parts_of c).or_else ≡ e → InElse (parts_of c).name d f → IsElse d e → ⊥
-else_clash c None e f same h k = absurd h
-else_clash c (Some d) None f same h k = absurd k
-else_clash c (Some d) (Some n) f same (inl h) k = none_some (parts_of c).or_else n (no_else c h.1) same
-else_clash c (Some d) (Some n) f same (inr h) k = h.1 n k
+else_clash : (t : Tail) (d : Option (List ℕ)) (e : Option ℕ) (f : LineFault) → InElse t d f → IsElse t d e → ⊥
+else_clash t None e f h k = absurd h
+else_clash t (Some d) None f h k = absurd k
+else_clash t (Some d) (Some n) f (inl h) k = false≢true (sym h.1 ∙ k.0)
+else_clash t (Some d) (Some n) f (inr h) k = h.1 n k.1
 
-into_clash : (N : NamesOf) (c : Call) (w : Option (List ℕ)) (v : Option VarId) (f : LineFault) → (parts_of c).into ≡ v → InInto N (parts_of c).name w f → IsInto N w v → ⊥
-into_clash N c None v f same h k = absurd h
-into_clash N c (Some w) None f same h k = absurd k
-into_clash N c (Some w) (Some x) f same (inl h) k = none_some (parts_of c).into x (no_into c h.1) same
-into_clash N c (Some w) (Some x) f same (inr h) k = none_some (place_of N.variables w) x.0 h.1 k
+into_clash : (N : NamesOf) (t : Tail) (w : Option (List ℕ)) (v : Option VarId) (f : LineFault) → InInto N t w f → IsInto N t w v → ⊥
+into_clash N t None v f h k = absurd h
+into_clash N t (Some w) None f h k = absurd k
+into_clash N t (Some w) (Some x) f (inl h) k = false≢true (sym h.1 ∙ k.0)
+into_clash N t (Some w) (Some x) f (inr h) k = none_some (place_of N.variables w) x.0 h.1 k.1
 
-named_clash : (N : NamesOf) (v : Option (List ℕ)) (k : List ℕ) (ws : List Word) (e : Option (List ℕ)) (f : LineFault) (c : Call) → InNamed N (parts_of c).name v ws e f → IsCall N v k ws e c → ⊥
-named_clash N v k ws e f c (inl h) i = else_clash c e (parts_of c).or_else f refl h i.target
-named_clash N v k ws e f c (inr (inl h)) i = into_clash N c v (parts_of c).into f refl h i.counted
-named_clash N v k ws e f c (inr (inr h)) i = places_clash N ws (parts_of c).args (row_of (parts_of c).name).places f (places_match c) h i.args
+named_clash : (N : NamesOf) (v : Option (List ℕ)) (k : List ℕ) (ws : List Word) (e : Option (List ℕ)) (f : LineFault) (c : Call) (i : IsCall N v k ws e c) → InNamed N i.row v ws e f → ⊥
+named_clash N v k ws e f c i (inl h) = else_clash i.row.tail e i.target f h i.behind
+named_clash N v k ws e f c i (inr (inl h)) = into_clash N i.row.tail v i.variable f h i.before
+named_clash N v k ws e f c i (inr (inr h)) = places_clash N i.row.places ws NOTHING i.given f h i.args
 
 call_clash : (N : NamesOf) (v : Option (List ℕ)) (k : List ℕ) (ws : List Word) (e : Option (List ℕ)) (f : LineFault) (c : Call) → InCall N v k ws e f → IsCall N v k ws e c → ⊥
-call_clash N v k ws e f c (inl h) i = h.1 (parts_of c).name i.named
-call_clash N v k ws e f c (inr (d, same, h)) i =
-    let P : CallName → Type 0 = λ x. InNamed N x v ws e f in
-    named_clash N v k ws e f c (subst P (name_once d (parts_of c).name (sym same ∙ i.named)) h) i
+call_clash N v k ws e f c (inl h) i = none_some (row_named k) i.row h.1 i.named
+call_clash N v k ws e f c (inr (r, at, h)) i =
+    let P : Row → Type 0 = λ x. InNamed N x v ws e f in
+    named_clash N v k ws e f c i (subst P (same_Some r i.row (sym at ∙ i.named)) h)
 
 variable_clash : (N : NamesOf) (w : List ℕ) (x : VarId) (f : LineFault) → InVariable N w f → IsVariable N w x → ⊥
 variable_clash N w x f h k = none_some (place_of N.variables w) x.0 h.1 k
@@ -333,37 +295,80 @@ operand_in N (numeral d) (Number z) h = h.1
 operand_in N (name w) (Number z) h = absurd h
 operand_in N (numeral d) (Variable x) h = absurd h
 
-arg_in : (N : NamesOf) (w : Word) (a : Arg) → IsArg N w a → ArgIn N a
-arg_in N (name w) (arg.Object o) h = place_in N.objects w o.0 h
-arg_in N (numeral d) (arg.Object o) h = absurd h
-arg_in N w (arg.Operand a) h = operand_in N w a h
-arg_in N (name w) (arg.Variable x) h = place_in N.variables w x.0 h
-arg_in N (numeral d) (arg.Variable x) h = absurd h
-arg_in N (name w) (arg.Length n) h = absurd h
-arg_in N (numeral d) (arg.Length n) h = (h.1, h.2)
-arg_in N (name w) (arg.Time MaxDelay) h = tt
-arg_in N (numeral d) (arg.Time MaxDelay) h = tt
-arg_in N (name w) (arg.Time (Ticks n)) h = absurd h
-arg_in N (numeral d) (arg.Time (Ticks n)) h = h.2
-arg_in N (name w) (arg.Ticks n) h = absurd h
-arg_in N (numeral d) (arg.Ticks n) h = h.2
-arg_in N w arg.Null h = tt
+said_in : (N : NamesOf) (p : Place) (w : Word) (g : Given) → Says N p w g → GivenIn N p g
+said_in N Object (name w) g h = place_in N.objects w g.object.0 h
+said_in N Object (numeral d) g h = absurd h
+said_in N Operands w g h = operand_in N w g.operand h
+said_in N Variables (name w) g h = place_in N.variables w g.variable.0 h
+said_in N Variables (numeral d) g h = absurd h
+said_in N Length (name w) g h = absurd h
+said_in N Length (numeral d) g h = (h.1, h.2)
+said_in N Time w g h = time_in w g.time h
+  where
+    time_in : (v : Word) (t : BlockTime) → IsBlockTime v t → BlockTimeInLimits t
+    time_in (name v) MaxDelay h = tt
+    time_in (numeral d) (Ticks n) h = h.2
+    time_in (name v) (Ticks n) h = absurd h
+    time_in (numeral d) MaxDelay h = absurd h
+said_in N TicksPlace (name w) g h = absurd h
+said_in N TicksPlace (numeral d) g h = h.2
+said_in N Null w g h = tt
 
-args_in : (N : NamesOf) (ws : List Word) (bs : List Arg) → AreArgs N ws bs → AreArgsIn N bs
-args_in N [] [] h = tt
-args_in N (w ∷ ws) (b ∷ bs) h = (arg_in N w b h.0, args_in N ws bs h.1)
-args_in N [] (b ∷ bs) h = absurd h
-args_in N (w ∷ ws) [] h = tt
+-- what is given in a place stays within its limits when another place is filled
+put_in : (N : NamesOf) (q p : Place) (k g : Given) → GivenIn N q k → GivenIn N p g → GivenIn N p (put q k g)
+put_in N Object Object k g new old = new
+put_in N Operands Operands k g new old = new
+put_in N Variables Variables k g new old = new
+put_in N Length Length k g new old = new
+put_in N Time Time k g new old = new
+put_in N TicksPlace TicksPlace k g new old = new
+put_in N Null p k g new old = old
+put_in N q p k g new old = old
 
-else_in : (d : Option (List ℕ)) (e : Option ℕ) → IsElse d e → ElseIn e
-else_in d None h = tt
-else_in None (Some n) h = absurd h
-else_in (Some d) (Some n) h = h.2
+more_in : (N : NamesOf) (ps : List Place) (ws : List Word) (g h : Given) (p : Place) → AreGiven N ps ws g h → GivenIn N p g → GivenIn N p h
+more_in N [] [] g h p i old = subst (GivenIn N p) (sym i) old
+more_in N (q ∷ ps) (w ∷ ws) g h p (k, i, more) old = more_in N ps ws k h p more (subst (GivenIn N p) (sym i.1) (put_in N q p k g (said_in N q w k i.0) old))
+more_in N [] (w ∷ ws) g h p i old = absurd i
+more_in N (q ∷ ps) [] g h p i old = absurd i
 
-into_in : (N : NamesOf) (w : Option (List ℕ)) (v : Option VarId) → IsInto N w v → IntoIn N v
-into_in N w None h = tt
-into_in N None (Some x) h = absurd h
-into_in N (Some w) (Some x) h = place_in N.variables w x.0 h
+args_in : (N : NamesOf) (ps : List Place) (ws : List Word) (g h : Given) → AreGiven N ps ws g h → AreGivenIn N ps h
+args_in N [] ws g h i = tt
+args_in N (p ∷ ps) (w ∷ ws) g h (k, i, more) = (more_in N ps ws k h p more (said_in N p w k i.0), args_in N ps ws k h more)
+args_in N (p ∷ ps) [] g h i = absurd i
+
+-- what is beside a call changes none of its arguments
+beside_in : (N : NamesOf) (p : Place) (g : Given) (e : Option ℕ) (v : Option VarId) → GivenIn N p g → GivenIn N p (record g { or_else = e; into = v })
+beside_in N Null g e v h = h
+beside_in N p g e v h = h
+
+all_beside_in : (N : NamesOf) (ps : List Place) (g : Given) (e : Option ℕ) (v : Option VarId) → AreGivenIn N ps g → AreGivenIn N ps (record g { or_else = e; into = v })
+all_beside_in N [] g e v h = tt
+all_beside_in N (p ∷ ps) g e v h = (beside_in N p g e v h.0, all_beside_in N ps g e v h.1)
+
+else_in : (t : Tail) (d : Option (List ℕ)) (e : Option ℕ) → IsElse t d e → ElseIn e
+else_in t d None h = tt
+else_in t None (Some n) h = absurd h
+else_in t (Some d) (Some n) h = h.1.2
+
+into_in : (N : NamesOf) (t : Tail) (w : Option (List ℕ)) (v : Option VarId) → IsInto N t w v → IntoIn N v
+into_in N t w None h = tt
+into_in N t None (Some x) h = absurd h
+into_in N t (Some w) (Some x) h = place_in N.variables w x.0 h.1
+
+call_in : (N : NamesOf) (v : Option (List ℕ)) (k : List ℕ) (ws : List Word) (e : Option (List ℕ)) (c : Call) → IsCall N v k ws e c → IsCallIn N c
+call_in N v k ws e c h =
+    let g = record h.given { or_else = h.target; into = h.variable } in
+    let places = places_fit (λ r. bytes_eq r.name k) h.row h.named in
+    let P : List Place → Type 0 = λ ps. AreGivenIn N ps g in
+    let Q : List Place → Type 0 = λ ps. AreGivenIn N ps (given_of (made h.row.verb g)) in
+    let args = args_kept N h.row.verb g (subst P places (all_beside_in N h.row.places h.given h.target h.variable (args_in N h.row.places ws NOTHING h.given h.args))) in
+    subst (IsCallIn N) (sym h.call) (record {
+      row = h.row;
+      listed = ap row_for (verb_made h.row.verb g) ∙ verb_again k h.row h.named;
+      args = subst Q (sym places) args;
+      target = else_kept h.row.verb g (else_in h.row.tail e h.target h.behind);
+      variable = into_kept N h.row.verb g (into_in N h.row.tail v h.variable h.before);
+    })
 
 line_in_of : (N : NamesOf) (s : Shape) (l : Instr) → IsLineOf N s l → IsLineIn N l
 line_in_of N (set x a) l (t, o, h, i, e) = rw e (place_in N.variables x t.0 h, operand_in N a o i, zero_fits)
@@ -375,7 +380,7 @@ line_in_of N (branch a c b d) l (o, p, k, h, i, j, e) = rw e (operand_in N a o h
 line_in_of N (jump d) l (k, h, e) = rw e (h.2)
 line_in_of N (pick x d f) l (t, lo, hi, h, i, j, e) = rw e (place_in N.variables x t.0 h, i.1, j.1)
 line_in_of N leave l e = rw e tt
-line_in_of N (calls v k ws f) l (c, h, e) = rw e (args_in N ws (parts_of c).args h.args, else_in f (parts_of c).or_else h.target, into_in N v (parts_of c).into h.counted)
+line_in_of N (calls v k ws f) l (c, h, e) = rw e (call_in N v k ws f c h)
 
 pub line_in : (N : NamesOf) (text : List ℕ) (l : Instr) → IsLine N text l → IsLineIn N l
 line_in N text l (s, h, i) = line_in_of N s l i

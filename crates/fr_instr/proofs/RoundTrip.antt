@@ -1,5 +1,5 @@
 -- What is written for a line is read again as the line: each piece means its part, and each token is one.
-use Rattle.std.proofs.Common.{◌≡◌, ◌≢◌, ◌<◌, ◌≤◌, ◌^◌, ◌+◌, ◌%◌, ◌++◌, ◌||◌, ℕ, suc, ℤ, pos, negsuc, List, [], ◌∷◌, map, length, get_or, Bool, true, false, Option, Some, None, option_map, cond, ltb, refl, sym, ap, ◌∙◌, inl, inr, All, AllPairs, arith}
+use Rattle.std.proofs.Common.{◌≡◌, ◌≢◌, ◌<◌, ◌≤◌, ◌^◌, ◌+◌, ◌%◌, ◌++◌, ◌||◌, ℕ, suc, ℤ, pos, negsuc, List, [], ◌∷◌, map, length, get_or, Bool, true, false, Option, Some, None, option_map, cond, ltb, refl, sym, ap, ◌∙◌, inl, inr, All, AllPairs, subst, arith}
 use Rattle.std.proofs.lemmas.Bool.{false≢true, false_from_ne_true, ltb-false}
 use Rattle.std.proofs.lemmas.Bool.Decides.{nat_tests}
 use Rattle.std.proofs.lemmas.Int.{ints}
@@ -16,25 +16,25 @@ use Rattle.fr_program.specs.Limits.{IsName, IsNumber}
 use Rattle.fr_instr.specs.Tokens.{word, number, IsTok, IsDigits, is_letter, is_word_byte}
 use Rattle.fr_instr.specs.Shapes.{call as calls, word_tok, more_toks, args_toks, else_toks, shape_toks}
 use Rattle.fr_instr.specs.Names.{NamesOf, name_at, place_of, AreNames}
-use Rattle.fr_instr.specs.Calls.{row_of, parts_of}
-use Rattle.fr_instr.specs.WrittenLine.{natural, operand_word, time_word, arg_word, into_name, shape_of, written_line}
-use Rattle.fr_instr.specs.Lines.{IsOperand, IsBlockTime, IsArg, AreArgs, IsElse, IsInto, IsLineOf, IsLine, VariableIn, OperandIn, ArgIn, AreArgsIn, ElseIn, IntoIn, IsLineIn}
-use Rattle.fr_instr.specs.declared.call.CallName.{CallName}
-use Rattle.fr_instr.specs.declared.call.CallName.TheVariants.{Enter, Exit, SuspendAll, ResumeAll, Yield, Delay, DeleteSelf, Create, Delete, QueueSend, QueueReceive, Take, Give, Send, Receive, Reset}
-use Rattle.fr_instr.specs.declared.writing.Arg.{Arg}
-use Rattle.fr_instr.specs.declared.writing.Arg.TheVariants as arg
+use Rattle.fr_instr.specs.Calls.{Row, no_row, row_of, row_for, is_same, may_fail, may_answer, made, verb_of, given_of, put}
+use Rattle.fr_instr.specs.WrittenLine.{natural, operand_word, time_word, place_word, into_name, call_shape, shape_of, written_line}
+use Rattle.fr_instr.specs.Lines.{IsOperand, IsBlockTime, Says, AreGiven, IsElse, IsInto, IsCall, IsLineOf, IsLine, VariableIn, OperandIn, GivenIn, AreGivenIn, ElseIn, IntoIn, IsCallIn, IsLineIn}
+use Rattle.fr_instr.specs.declared.call.Place.{Place}
+use Rattle.fr_instr.specs.declared.call.Place.TheVariants.{Object, Operand as Operands, Variable as Variables, Length, Time, Ticks as TicksPlace, Null}
+use Rattle.fr_instr.specs.declared.call.Tail.{Tail}
+use Rattle.fr_instr.specs.declared.given.Given.{Given}
+use Rattle.fr_instr.specs.declared.given.TheConstants.{NOTHING}
 use Rattle.fr_program.specs.declared.ids.VarId.{VarId}
-use Rattle.fr_program.specs.declared.instr.Form.TheVariants as form
-use Rattle.fr_program.specs.declared.instr.GiveForm.TheVariants as give
-use Rattle.fr_program.specs.declared.instr.BufferKind.TheVariants as buffer
-use Rattle.fr_program.specs.declared.instr.CreatedKind.TheVariants as created
-use Rattle.fr_program.specs.declared.instr.DeletedKind.TheVariants as deleted
+use Rattle.fr_program.specs.declared.instr.Call.{Call}
 use Rattle.fr_program.specs.declared.instr.BlockTime.{BlockTime}
 use Rattle.fr_program.specs.declared.instr.BlockTime.TheVariants.{Ticks, MaxDelay}
 use Rattle.fr_program.specs.declared.instr.Operand.{Operand}
 use Rattle.fr_program.specs.declared.instr.Operand.TheVariants.{Number, Variable}
 use Rattle.fr_program.specs.declared.instr.Instr.{Instr}
 use Rattle.fr_program.specs.declared.instr.Instr.TheVariants as line
+use Rattle.std.specs.Prelude.{unwrap_or}
+use Rattle.fr_instr.proofs.CallLaws.{needs, tail_of, name_again, verb_is, places_fit, tail_fits, name_token as call_name_token}
+use Rattle.fr_instr.proofs.PartsLaws.{copied, made_again, else_may_fail, into_may_answer}
 use Rattle.fr_instr.proofs.NameLaws.{all_left, all_right, apart_left, apart_right}
 use Rattle.fr_instr.proofs.WrittenLaws.{spells_written}
 
@@ -68,26 +68,58 @@ time_again MaxDelay h = refl
 least : (n : ℕ) → 0 ≤ n
 least n = omega arith
 
-arg_again : (N : NamesOf) (a : Arg) → AllPairs (λ x y. x ≢ y) N.variables → AllPairs (λ x y. x ≢ y) N.objects → ArgIn N a → IsArg N (arg_word N a) a
-arg_again N (arg.Object o) vs os h = place_again N.objects o.0 os h
-arg_again N (arg.Operand a) vs os h = operand_again N a vs h
-arg_again N (arg.Variable x) vs os h = place_again N.variables x.0 vs h
-arg_again N (arg.Length n) vs os h = (refl, h.0, h.1)
-arg_again N (arg.Time t) vs os h = time_again t h
-arg_again N (arg.Ticks n) vs os h = (refl, least n, h)
-arg_again N arg.Null vs os h = refl
+said_again : (N : NamesOf) (p : Place) (g h : Given) → AllPairs (λ x y. x ≢ y) N.variables → AllPairs (λ x y. x ≢ y) N.objects → GivenIn N p g → Says N p (place_word N g p) (put p g h)
+said_again N Object g h vs os i = place_again N.objects g.object.0 os i
+said_again N Operands g h vs os i = operand_again N g.operand vs i
+said_again N Variables g h vs os i = place_again N.variables g.variable.0 vs i
+said_again N Length g h vs os i = (refl, i.0, i.1)
+said_again N Time g h vs os i = time_again g.time i
+said_again N TicksPlace g h vs os i = (refl, least g.ticks, i)
+said_again N Null g h vs os i = refl
 
-args_again : (N : NamesOf) (bs : List Arg) → AllPairs (λ x y. x ≢ y) N.variables → AllPairs (λ x y. x ≢ y) N.objects → AreArgsIn N bs → AreArgs N (map (arg_word N) bs) bs
-args_again N [] vs os h = tt
-args_again N (b ∷ bs) vs os h = (arg_again N b vs os h.0, args_again N bs vs os h.1)
+put_twice : (p : Place) (g h : Given) → put p (put p g h) h ≡ put p g h
+put_twice Object g h = refl
+put_twice p g h = refl
 
-else_again : (e : Option ℕ) → ElseIn e → IsElse (option_map natural e) e
-else_again None h = tt
-else_again (Some k) h = (refl, least k, h)
+args_again : (N : NamesOf) (ps : List Place) (g h : Given) → AllPairs (λ x y. x ≢ y) N.variables → AllPairs (λ x y. x ≢ y) N.objects → AreGivenIn N ps g → AreGiven N ps (map (place_word N g) ps) h (copied ps g h)
+args_again N [] g h vs os i = refl
+args_again N (p ∷ ps) g h vs os i = (put p g h, (said_again N p g h vs os i.0, sym (put_twice p g h)), args_again N ps g (put p g h) vs os i.1)
 
-into_again : (N : NamesOf) (v : Option VarId) → AllPairs (λ x y. x ≢ y) N.variables → IntoIn N v → IsInto N (into_name N v) v
-into_again N None vs h = tt
-into_again N (Some x) vs h = place_again N.variables x.0 vs h
+else_again : (t : Tail) (e : Option ℕ) → ((k : ℕ) → e ≡ Some k → may_fail t ≡ true) → ElseIn e → IsElse t (option_map natural e) e
+else_again t None may h = tt
+else_again t (Some k) may h = (may k refl, (refl, least k, h))
+
+into_again : (N : NamesOf) (t : Tail) (v : Option VarId) → ((x : VarId) → v ≡ Some x → may_answer t ≡ true) → AllPairs (λ x y. x ≢ y) N.variables → IntoIn N v → IsInto N t (into_name N v) v
+into_again N t None may vs h = tt
+into_again N t (Some x) may vs h = (may x refl, place_again N.variables x.0 vs h)
+
+-- the call is made again of what its line gives
+made_of_row : (c : Call) (r : Row) → r.verb ≡ verb_of c → r.places ≡ needs (verb_of c) → c ≡ made r.verb (record (copied r.places (given_of c) NOTHING) { or_else = (given_of c).or_else; into = (given_of c).into })
+made_of_row c r verb places =
+    let again : List Place → Given = λ ps. record (copied ps (given_of c) NOTHING) { or_else = (given_of c).or_else; into = (given_of c).into } in
+    sym (ap (λ v. made v (again r.places)) verb ∙ ap (λ ps. made (verb_of c) (again ps)) places ∙ made_again c)
+
+call_again : (N : NamesOf) (c : Call) (h : IsCallIn N c) → AllPairs (λ x y. x ≢ y) N.variables → AllPairs (λ x y. x ≢ y) N.objects
+    → IsCall N (into_name N (given_of c).into) h.row.name (map (place_word N (given_of c)) h.row.places) (option_map natural (given_of c).or_else) c
+call_again N c h vs os =
+    let verb = verb_is (verb_of c) h.row h.listed in
+    let found : Row → Bool = λ r. is_same r.verb (verb_of c) in
+    let tail = tail_fits found h.row h.listed ∙ ap tail_of verb in
+    let places = places_fit found h.row h.listed ∙ ap needs verb in
+    record {
+      row = h.row;
+      given = copied h.row.places (given_of c) NOTHING;
+      target = (given_of c).or_else;
+      variable = (given_of c).into;
+      named = name_again (verb_of c) h.row h.listed;
+      behind = else_again h.row.tail (given_of c).or_else (λ k e. ap may_fail tail ∙ else_may_fail c k e) h.target;
+      before = into_again N h.row.tail (given_of c).into (λ x e. ap may_answer tail ∙ into_may_answer c x e) vs h.variable;
+      args = args_again N h.row.places (given_of c) NOTHING vs os h.args;
+      call = made_of_row c h.row verb places;
+    }
+
+row_is : (c : Call) (r : Row) → row_for (verb_of c) ≡ Some r → r ≡ row_of (verb_of c)
+row_is c r e = sym (ap (λ o. unwrap_or o no_row) e)
 
 line_again : (N : NamesOf) (l : Instr) → AllPairs (λ x y. x ≢ y) N.variables → AllPairs (λ x y. x ≢ y) N.objects → IsLineIn N l → IsLineOf N (shape_of N l) l
 line_again N (line.Set x a op b) vs os h = (x, a, b, place_again N.variables x.0 vs h.0, operand_again N a vs h.1, operand_again N b vs h.2, refl)
@@ -95,7 +127,8 @@ line_again N (line.If a c b k) vs os h = (a, b, k, operand_again N a vs h.0, ope
 line_again N (line.Goto k) vs os h = (k, (refl, least k, h), refl)
 line_again N (line.Pick x lo hi) vs os h = (x, lo, hi, place_again N.variables x.0 vs h.0, (refl, h.1), (refl, h.2), refl)
 line_again N (line.Call c) vs os h =
-    (c, record { named = refl; args = args_again N (parts_of c).args vs os h.0; target = else_again (parts_of c).or_else h.1; counted = into_again N (parts_of c).into vs h.2 }, refl)
+    let P : Row → Type 0 = λ r. IsCall N (into_name N (given_of c).into) r.name (map (place_word N (given_of c)) r.places) (option_map natural (given_of c).or_else) c in
+    (c, subst P (row_is c h.row h.listed) (call_again N c h vs os), refl)
 line_again N line.Return vs os h = refl
 
 -- ---- each token is one
@@ -141,49 +174,6 @@ integer_token (negsuc n) h = let small : suc n < 2 ^ 64 = omega (arith, ints) in
 natural_token : (n : ℕ) → n ≤ 2147483647 → IsTok (number (natural n))
 natural_token n h = let small : n < 2 ^ 64 = omega (arith, h) in inl (decimal_digits n small)
 
--- the names of the calls
-call_token : (c : CallName) → IsTok (word (row_of c).name)
-call_token (Enter form.Task) = (refl, refl)
-call_token (Enter form.FromIsr) = (refl, refl)
-call_token (Exit form.Task) = (refl, refl)
-call_token (Exit form.FromIsr) = (refl, refl)
-call_token SuspendAll = (refl, refl)
-call_token ResumeAll = (refl, refl)
-call_token Yield = (refl, refl)
-call_token Delay = (refl, refl)
-call_token DeleteSelf = (refl, refl)
-call_token (Create created.Queue) = (refl, refl)
-call_token (Create created.Binary) = (refl, refl)
-call_token (Create created.Counting) = (refl, refl)
-call_token (Create created.Mutex) = (refl, refl)
-call_token (Create created.Recursive) = (refl, refl)
-call_token (Create created.Stream) = (refl, refl)
-call_token (Create created.Message) = (refl, refl)
-call_token (Delete deleted.Queue) = (refl, refl)
-call_token (Delete deleted.Semaphore) = (refl, refl)
-call_token (Delete deleted.Stream) = (refl, refl)
-call_token (Delete deleted.Message) = (refl, refl)
-call_token (QueueSend form.Task) = (refl, refl)
-call_token (QueueSend form.FromIsr) = (refl, refl)
-call_token (QueueReceive form.Task) = (refl, refl)
-call_token (QueueReceive form.FromIsr) = (refl, refl)
-call_token (Take give.Plain) = (refl, refl)
-call_token (Take give.Recursive) = (refl, refl)
-call_token (Take give.FromIsr) = (refl, refl)
-call_token (Give give.Plain) = (refl, refl)
-call_token (Give give.Recursive) = (refl, refl)
-call_token (Give give.FromIsr) = (refl, refl)
-call_token (Send buffer.Stream form.Task) = (refl, refl)
-call_token (Send buffer.Stream form.FromIsr) = (refl, refl)
-call_token (Send buffer.Message form.Task) = (refl, refl)
-call_token (Send buffer.Message form.FromIsr) = (refl, refl)
-call_token (Receive buffer.Stream form.Task) = (refl, refl)
-call_token (Receive buffer.Stream form.FromIsr) = (refl, refl)
-call_token (Receive buffer.Message form.Task) = (refl, refl)
-call_token (Receive buffer.Message form.FromIsr) = (refl, refl)
-call_token (Reset buffer.Stream) = (refl, refl)
-call_token (Reset buffer.Message) = (refl, refl)
-
 pub record Good (N : NamesOf) : Type 0 where
   pub variables : All IsName N.variables
   pub objects : All IsName N.objects
@@ -199,38 +189,40 @@ time_token : (t : BlockTime) → limits.BlockTimeInLimits t → IsTok (word_tok 
 time_token (Ticks n) h = natural_token n h
 time_token MaxDelay h = (refl, refl)
 
-arg_token : (N : NamesOf) (a : Arg) → Good N → ArgIn N a → IsTok (word_tok (arg_word N a))
-arg_token N (arg.Object o) g h = name_token (name_at N.objects o.0) (g.objects o.0 [] h)
-arg_token N (arg.Operand a) g h = operand_token N a g h
-arg_token N (arg.Variable x) g h = variable_token N x g h
-arg_token N (arg.Length n) g h = natural_token n (omega (arith, h.1))
-arg_token N (arg.Time t) g h = time_token t h
-arg_token N (arg.Ticks n) g h = natural_token n h
-arg_token N arg.Null g h = (refl, refl)
+place_token : (N : NamesOf) (p : Place) (g : Given) → Good N → GivenIn N p g → IsTok (word_tok (place_word N g p))
+place_token N Object g good h = name_token (name_at N.objects g.object.0) (good.objects g.object.0 [] h)
+place_token N Operands g good h = operand_token N g.operand good h
+place_token N Variables g good h = variable_token N g.variable good h
+place_token N Length g good h = natural_token g.bytes (omega (arith, h.1))
+place_token N Time g good h = time_token g.time h
+place_token N TicksPlace g good h = natural_token g.ticks h
+place_token N Null g good h = (refl, refl)
 
 else_tokens : (e : Option ℕ) → ElseIn e → AllByRecursion IsTok (else_toks (option_map natural e))
 else_tokens None h = tt
 else_tokens (Some k) h = ((refl, refl), (natural_token k h, tt))
 
-more_tokens : (N : NamesOf) (bs : List Arg) (e : Option ℕ) → Good N → AreArgsIn N bs → ElseIn e → AllByRecursion IsTok (more_toks (map (arg_word N) bs) ++ else_toks (option_map natural e))
-more_tokens N [] e g h k = (tt, else_tokens e k)
-more_tokens N (b ∷ bs) e g h k = (tt, (arg_token N b g h.0, more_tokens N bs e g h.1 k))
+more_tokens : (N : NamesOf) (ps : List Place) (g : Given) (e : Option ℕ) → Good N → AreGivenIn N ps g → ElseIn e → AllByRecursion IsTok (more_toks (map (place_word N g) ps) ++ else_toks (option_map natural e))
+more_tokens N [] g e good h k = (tt, else_tokens e k)
+more_tokens N (p ∷ ps) g e good h k = (tt, (place_token N p g good h.0, more_tokens N ps g e good h.1 k))
 
-args_tokens : (N : NamesOf) (bs : List Arg) (e : Option ℕ) → Good N → AreArgsIn N bs → ElseIn e → AllByRecursion IsTok (args_toks (map (arg_word N) bs) ++ else_toks (option_map natural e))
-args_tokens N [] e g h k = (tt, else_tokens e k)
-args_tokens N (b ∷ bs) e g h k = (arg_token N b g h.0, more_tokens N bs e g h.1 k)
+args_tokens : (N : NamesOf) (ps : List Place) (g : Given) (e : Option ℕ) → Good N → AreGivenIn N ps g → ElseIn e → AllByRecursion IsTok (args_toks (map (place_word N g) ps) ++ else_toks (option_map natural e))
+args_tokens N [] g e good h k = (tt, else_tokens e k)
+args_tokens N (p ∷ ps) g e good h k = (place_token N p g good h.0, more_tokens N ps g e good h.1 k)
 
-call_tokens : (N : NamesOf) (v : Option VarId) (k : CallName) (bs : List Arg) (e : Option ℕ) → Good N → IntoIn N v → AreArgsIn N bs → ElseIn e
-    → AllByRecursion IsTok (shape_toks (calls (into_name N v) (row_of k).name (map (arg_word N) bs) (option_map natural e)))
-call_tokens N None k bs e g h i j = (call_token k, (tt, args_tokens N bs e g i j))
-call_tokens N (Some x) k bs e g h i j = (variable_token N x g h, (tt, (call_token k, (tt, args_tokens N bs e g i j))))
+call_tokens : (N : NamesOf) (v : Option VarId) (r : Row) (g : Given) (e : Option ℕ) → Good N → IsTok (word r.name) → IntoIn N v → AreGivenIn N r.places g → ElseIn e
+    → AllByRecursion IsTok (shape_toks (calls (into_name N v) r.name (map (place_word N g) r.places) (option_map natural e)))
+call_tokens N None r g e good named h i j = (named, (tt, args_tokens N r.places g e good i j))
+call_tokens N (Some x) r g e good named h i j = (variable_token N x good h, (tt, (named, (tt, args_tokens N r.places g e good i j))))
 
 line_tokens : (N : NamesOf) (l : Instr) → Good N → IsLineIn N l → AllByRecursion IsTok (shape_toks (shape_of N l))
 line_tokens N (line.Set x a op b) g h = ((refl, refl), (variable_token N x g h.0, (tt, (operand_token N a g h.1, (tt, (operand_token N b g h.2, tt))))))
 line_tokens N (line.If a c b k) g h = ((refl, refl), (operand_token N a g h.0, (tt, (operand_token N b g h.1, ((refl, refl), (natural_token k h.2, tt))))))
 line_tokens N (line.Goto k) g h = ((refl, refl), (natural_token k h, tt))
 line_tokens N (line.Pick x lo hi) g h = ((refl, refl), (variable_token N x g h.0, (integer_token lo h.1, (integer_token hi h.2, tt))))
-line_tokens N (line.Call c) g h = call_tokens N (parts_of c).into (parts_of c).name (parts_of c).args (parts_of c).or_else g h.2 h.0 h.1
+line_tokens N (line.Call c) g h =
+    let P : Row → Type 0 = λ r. AllByRecursion IsTok (shape_toks (call_shape N r (given_of c))) in
+    subst P (row_is c h.row h.listed) (call_tokens N (given_of c).into h.row (given_of c) (given_of c).or_else g (call_name_token (verb_of c) h.row h.listed) h.variable h.args h.target)
 line_tokens N line.Return g h = ((refl, refl), tt)
 
 -- what is written for a line is read again as the line

@@ -4,11 +4,11 @@ use Rattle.std.proofs.Common.{◌≡◌, ◌<◌, ◌++◌, ℕ, List, [], ◌�
 use Rattle.fr_instr.specs.Tokens.{word, sign}
 use Rattle.fr_instr.specs.Shapes.{Word, name, numeral, word_tok, more_toks, args_toks, else_toks, into_toks}
 use Rattle.fr_instr.specs.Names.{NamesOf}
-use Rattle.fr_instr.specs.Calls.{row_of, parts_of}
+use Rattle.fr_instr.specs.Calls.{row_of, verb_of, given_of}
 use Rattle.fr_instr.specs.Written.{written}
-use Rattle.fr_instr.specs.WrittenLine.{natural, word_text, arg_word, more_text, args_text, into_name, into_text, else_text, set_text, if_text, line_text, written_line}
+use Rattle.fr_instr.specs.WrittenLine.{natural, word_text, place_word, more_text, args_text, into_name, into_text, else_text, set_text, if_text, line_text, written_line}
 use Rattle.std.proofs.lemmas.List.{take_more, map-append}
-use Rattle.fr_instr.specs.declared.writing.Arg.{Arg}
+use Rattle.fr_instr.specs.declared.call.Place.{Place}
 use Rattle.fr_instr.specs.declared.token.Sign.TheVariants.{Open}
 use Rattle.fr_program.specs.declared.ids.VarId.{VarId}
 use Rattle.fr_program.specs.declared.instr.Operand.{Operand}
@@ -66,7 +66,7 @@ more_push : (ws : List Word) (w : Word) → more_text (ws ++ w ∷ []) ≡ more_
 more_push [] w = ap (λ x. 44 ∷ 32 ∷ x) (append-nil (word_text w))
 more_push (v ∷ ws) w = ap (λ x. 44 ∷ 32 ∷ (word_text v ++ x)) (more_push ws w) ∙ ap (λ x. 44 ∷ 32 ∷ x) (sym (append_assoc (word_text v) (more_text ws) (44 ∷ 32 ∷ word_text w)))
 
-pub more_turn : (f : Arg → Word) (bs : List Arg) (i : ℕ) (d : Arg) (old now mid new : List ℕ) → i < length bs → now ≡ old ++ more_text (map f (take i bs)) → mid ≡ now ++ (44 ∷ 32 ∷ [])
+pub more_turn : (f : Place → Word) (bs : List Place) (i : ℕ) (d : Place) (old now mid new : List ℕ) → i < length bs → now ≡ old ++ more_text (map f (take i bs)) → mid ≡ now ++ (44 ∷ 32 ∷ [])
     → new ≡ mid ++ word_text (f (get_or bs i d)) → new ≡ old ++ more_text (map f (take (i + 1) bs))
 more_turn f bs i d old now mid new within so_far comma one =
     let w = word_text (f (get_or bs i d)) in
@@ -101,5 +101,8 @@ pieces_written N (line.Set t a op b) = set_written N t a op b
 pieces_written N (line.If a c b k) = if_written N a c b k
 pieces_written N (line.Goto k) = refl
 pieces_written N (line.Pick x lo hi) = refl
-pieces_written N (line.Call c) = into_written (into_name N (parts_of c).into) (row_of (parts_of c).name).name (map (arg_word N) (parts_of c).args) (option_map natural (parts_of c).or_else)
+pieces_written N (line.Call c) =
+    let r = row_of (verb_of c) in
+    let g = given_of c in
+    into_written (into_name N g.into) r.name (map (place_word N g) r.places) (option_map natural g.or_else)
 pieces_written N line.Return = refl

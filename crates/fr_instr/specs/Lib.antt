@@ -1,5 +1,4 @@
 pub mod AppNames
-pub mod CallReading
 pub mod Calls
 pub mod Faults
 pub mod FaultText

@@ -5,14 +5,15 @@
 -- | IsVariable        | the word is the variable's name                                    |
 -- | IsOperand         | the word or number is the operand                                  |
 -- | Says..            | the same of an object, a variable, a length, ticks, NULL           |
--- | IsArg, AreArgs    | a word or number is the argument, and so each of two lists         |
+-- | Says              | a word or number is what is given in a place of this kind          |
+-- | Gives, AreGiven   | what one word, or each of a list, gives in its place               |
 -- | IsElse, IsInto    | the target behind a call, and the variable before it, if there     |
 -- | IsCall            | what is in a call's shape is the call                              |
 -- | IsLineOf          | what is in a shape is the line                                     |
 -- | IsLine            | the text is the line                                               |
 -- | IsLineIn          | the line's names exist, and its numbers are within their limits    |
-use Rattle.std.specs.Prelude.{◌≡◌, ◌<◌, ◌≤◌, ℕ, ℤ, pos, List, [], ◌∷◌, Option, Some, None, codes, length}
-use Rattle.fr_program.specs.Limits.{IsNumber, LengthInLimits, most_ticks, BlockTimeInLimits}
+use Rattle.std.specs.Prelude.{◌≡◌, ◌<◌, ◌≤◌, ℕ, ℤ, pos, List, [], ◌∷◌, Option, Some, None, true, codes, length}
+use Rattle.fr_program.specs.Limits.{IsNumber, most_size, most_ticks, BlockTimeInLimits}
 use Rattle.fr_program.specs.declared.ids.ObjId.{ObjId}
 use Rattle.fr_program.specs.declared.ids.VarId.{VarId}
 use Rattle.fr_program.specs.declared.instr.Operand.{Operand}
@@ -23,13 +24,16 @@ use Rattle.fr_program.specs.declared.instr.BlockTime.TheVariants.{Ticks, MaxDela
 use Rattle.fr_program.specs.declared.instr.Call.{Call}
 use Rattle.fr_program.specs.declared.instr.Instr.{Instr}
 use Rattle.fr_program.specs.declared.instr.Instr.TheVariants as line
-use Rattle.fr_instr.specs.declared.writing.Arg.{Arg}
-use Rattle.fr_instr.specs.declared.writing.Arg.TheVariants as arg
+use Rattle.fr_instr.specs.declared.call.Place.{Place}
+use Rattle.fr_instr.specs.declared.call.Place.TheVariants.{Object, Operand as Operands, Variable as Variables, Length, Time, Ticks as TicksPlace, Null}
+use Rattle.fr_instr.specs.declared.call.Tail.{Tail}
+use Rattle.fr_instr.specs.declared.given.Given.{Given}
+use Rattle.fr_instr.specs.declared.given.TheConstants.{NOTHING}
 use Rattle.fr_instr.specs.Tokens.{Spells}
 use Rattle.fr_instr.specs.Shapes.{Word, name, numeral, Shape, set, set_to, branch, jump, pick, leave, call, shape_toks}
 use Rattle.fr_instr.specs.Names.{NamesOf, place_of}
 use Rattle.fr_instr.specs.Numbers.{IsInteger, IsTarget, IsTicks, IsLength, most_target}
-use Rattle.fr_instr.specs.Calls.{row_of, parts_of}
+use Rattle.fr_instr.specs.Calls.{Row, row_named, row_for, may_fail, may_answer, made, verb_of, given_of, put}
 
 -- the word is the variable's name
 abbrev pub IsVariable : NamesOf → List ℕ → VarId → Type 0
@@ -76,40 +80,50 @@ abbrev pub SaysNull : Word → Type 0
 SaysNull (name w) = w ≡ codes "NULL"
 SaysNull (numeral d) = ⊥
 
--- the word or number is the argument
-abbrev pub IsArg : NamesOf → Word → Arg → Type 0
-IsArg N w (arg.Object o) = SaysObject N w o
-IsArg N w (arg.Operand a) = IsOperand N w a
-IsArg N w (arg.Variable x) = SaysVariable N w x
-IsArg N w (arg.Length n) = SaysLength w n
-IsArg N w (arg.Time t) = IsBlockTime w t
-IsArg N w (arg.Ticks n) = SaysTicks w n
-IsArg N w arg.Null = SaysNull w
+-- the word or number is what is given in a place of this kind
+abbrev pub Says : NamesOf → Place → Word → Given → Type 0
+Says N Object w g = SaysObject N w g.object
+Says N Operands w g = IsOperand N w g.operand
+Says N Variables w g = SaysVariable N w g.variable
+Says N Length w g = SaysLength w g.bytes
+Says N Time w g = IsBlockTime w g.time
+Says N TicksPlace w g = SaysTicks w g.ticks
+Says N Null w g = SaysNull w
 
--- the words and numbers are the arguments, one for each, in order
-abbrev pub AreArgs : NamesOf → List Word → List Arg → Type 0
-AreArgs N [] [] = Unit {0}
-AreArgs N (w ∷ ws) (a ∷ bs) = IsArg N w a × AreArgs N ws bs
-AreArgs N ws bs = ⊥
+-- h is g with what the word or number gives in this place
+abbrev pub Gives : NamesOf → Place → Word → Given → Given → Type 0
+Gives N p w g h = Says N p w h × (h ≡ put p h g)
 
--- the text is that of the target behind the call, or there is neither
-abbrev pub IsElse : Option (List ℕ) → Option ℕ → Type 0
-IsElse None None = Unit {0}
-IsElse (Some d) (Some k) = IsTarget d k
-IsElse e k = ⊥
+-- h is g with what the words and numbers give in these places, one in each
+abbrev pub AreGiven : NamesOf → List Place → List Word → Given → Given → Type 0
+AreGiven N [] [] g h = h ≡ g
+AreGiven N (p ∷ ps) (w ∷ ws) g h = (k : Given) × Gives N p w g k × AreGiven N ps ws k h
+AreGiven N ps ws g h = ⊥
 
--- the word is the name of the variable before the call, or there is neither
-abbrev pub IsInto : NamesOf → Option (List ℕ) → Option VarId → Type 0
-IsInto N None None = Unit {0}
-IsInto N (Some w) (Some x) = IsVariable N w x
-IsInto N w x = ⊥
+-- the text is that of the target behind a call that may fail, or there is neither
+abbrev pub IsElse : Tail → Option (List ℕ) → Option ℕ → Type 0
+IsElse tail None None = Unit {0}
+IsElse tail (Some d) (Some k) = (may_fail tail ≡ true) × IsTarget d k
+IsElse tail e k = ⊥
 
--- the name is the call's, and so are the arguments, the target behind it and the variable before it
+-- the word is the name of the variable before a call that answers a number, or there is neither
+abbrev pub IsInto : NamesOf → Tail → Option (List ℕ) → Option VarId → Type 0
+IsInto N tail None None = Unit {0}
+IsInto N tail (Some w) (Some x) = (may_answer tail ≡ true) × IsVariable N w x
+IsInto N tail w x = ⊥
+
+-- the name has a row, and the call is what the row says, with the target behind it, the variable before it and what the
+-- arguments give in the places of the row
 pub record IsCall (N : NamesOf) (v : Option (List ℕ)) (k : List ℕ) (ws : List Word) (e : Option (List ℕ)) (c : Call) : Type 0 where
-  pub named : k ≡ (row_of (parts_of c).name).name
-  pub args : AreArgs N ws (parts_of c).args
-  pub target : IsElse e (parts_of c).or_else
-  pub counted : IsInto N v (parts_of c).into
+  pub row : Row
+  pub given : Given
+  pub target : Option ℕ
+  pub variable : Option VarId
+  pub named : row_named k ≡ Some row
+  pub behind : IsElse row.tail e target
+  pub before : IsInto N row.tail v variable
+  pub args : AreGiven N row.places ws NOTHING given
+  pub call : c ≡ made row.verb (record given { or_else = target; into = variable })
 
 -- `set x = a` adds 0
 abbrev pub IsLineOf : NamesOf → Shape → Instr → Type 0
@@ -136,20 +150,20 @@ abbrev pub OperandIn : NamesOf → Operand → Type 0
 OperandIn N (Number z) = IsNumber z
 OperandIn N (Variable x) = VariableIn N x
 
--- what the argument names is among the names, and its number is within the limits of its place
-abbrev pub ArgIn : NamesOf → Arg → Type 0
-ArgIn N (arg.Object o) = o.0 < length N.objects
-ArgIn N (arg.Operand a) = OperandIn N a
-ArgIn N (arg.Variable x) = VariableIn N x
-ArgIn N (arg.Length n) = LengthInLimits n
-ArgIn N (arg.Time t) = BlockTimeInLimits t
-ArgIn N (arg.Ticks n) = n ≤ most_ticks
-ArgIn N arg.Null = Unit {0}
+-- what is given in this place is among the names, or a number within the limits of the place
+abbrev pub GivenIn : NamesOf → Place → Given → Type 0
+GivenIn N Object g = g.object.0 < length N.objects
+GivenIn N Operands g = OperandIn N g.operand
+GivenIn N Variables g = VariableIn N g.variable
+GivenIn N Length g = (1 ≤ g.bytes) × (g.bytes ≤ most_size)
+GivenIn N Time g = BlockTimeInLimits g.time
+GivenIn N TicksPlace g = g.ticks ≤ most_ticks
+GivenIn N Null g = Unit {0}
 
--- so it is with each of the arguments
-abbrev pub AreArgsIn : NamesOf → List Arg → Type 0
-AreArgsIn N [] = Unit {0}
-AreArgsIn N (a ∷ bs) = ArgIn N a × AreArgsIn N bs
+-- so it is in each of the places
+abbrev pub AreGivenIn : NamesOf → List Place → Given → Type 0
+AreGivenIn N [] g = Unit {0}
+AreGivenIn N (p ∷ ps) g = GivenIn N p g × AreGivenIn N ps g
 
 -- the target behind a call, if it has one, is within the limit
 abbrev pub ElseIn : Option ℕ → Type 0
@@ -161,11 +175,19 @@ abbrev pub IntoIn : NamesOf → Option VarId → Type 0
 IntoIn N None = Unit {0}
 IntoIn N (Some x) = VariableIn N x
 
--- the names of a line exist, and its numbers are within the limits of their places
+-- the call has a row, and what its line gives is there and within the limits of the places of the row
+pub record IsCallIn (N : NamesOf) (c : Call) : Type 0 where
+  pub row : Row
+  pub listed : row_for (verb_of c) ≡ Some row
+  pub args : AreGivenIn N row.places (given_of c)
+  pub target : ElseIn (given_of c).or_else
+  pub variable : IntoIn N (given_of c).into
+
+-- the line is one of the grammar, its names exist, and its numbers are within the limits of their places
 abbrev pub IsLineIn : NamesOf → Instr → Type 0
 IsLineIn N (line.Set x a op b) = VariableIn N x × OperandIn N a × OperandIn N b
 IsLineIn N (line.If a c b k) = OperandIn N a × OperandIn N b × (k ≤ most_target)
 IsLineIn N (line.Goto k) = k ≤ most_target
 IsLineIn N (line.Pick x lo hi) = VariableIn N x × IsNumber lo × IsNumber hi
-IsLineIn N (line.Call c) = AreArgsIn N (parts_of c).args × ElseIn (parts_of c).or_else × IntoIn N (parts_of c).into
+IsLineIn N (line.Call c) = IsCallIn N c
 IsLineIn N line.Return = Unit {0}

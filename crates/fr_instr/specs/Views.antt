@@ -7,14 +7,11 @@
 -- | texts, text_in        | references to texts                           |
 -- | word_of, words        | words and numbers in code                     |
 -- | call_view, shape_view | shapes in code                                |
--- | args_words            | the arguments of a call, by how many they are |
-use Rattle.std.specs.Prelude.{ℕ, Bool, List, [], ◌∷◌, Option, map, option_map}
+use Rattle.std.specs.Prelude.{ℕ, Bool, List, Option, map, option_map}
 use Rattle.std.specs.Char.{is_ascii_digit}
 use denote.Ref.{Bor}
 use Rattle.fr_instr.specs.Tokens.{Tok, word, number, sign, is_space, is_word_byte}
 use Rattle.fr_instr.specs.Shapes as meaning
-use Rattle.fr_instr.specs.declared.meaning.Args.{Args}
-use Rattle.fr_instr.specs.declared.meaning.Args.TheVariants as args
 use Rattle.fr_instr.specs.declared.shape.CallShape.{CallShape}
 use Rattle.fr_instr.specs.declared.shape.Shape.{Shape}
 use Rattle.fr_instr.specs.declared.shape.Shape.TheVariants as shape
@@ -71,11 +68,3 @@ shape_view (shape.Goto l) = meaning.jump l.now
 shape_view (shape.Pick x lo hi) = meaning.pick x.now lo.now hi.now
 shape_view shape.Return = meaning.leave
 shape_view (shape.Call c) = call_view c
-
--- the words of a call's arguments
-abbrev pub args_words : Args → List meaning.Word
-args_words args.None = []
-args_words (args.One a) = word_of a ∷ []
-args_words (args.Two a b) = word_of a ∷ word_of b ∷ []
-args_words (args.Three a b c) = word_of a ∷ word_of b ∷ word_of c ∷ []
-args_words (args.More a b c d more) = word_of a ∷ word_of b ∷ word_of c ∷ word_of d ∷ words more.now

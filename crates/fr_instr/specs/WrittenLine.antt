@@ -2,7 +2,7 @@
 --
 -- | word                        | meaning                                                     |
 -- |-----------------------------|-------------------------------------------------------------|
--- | operand_word, arg_word, ..  | the word or number that is written for an operand and so on |
+-- | operand_word, place_word, .. | the word or number that is written for an operand and so on |
 -- | shape_of                    | the shape of a line, a `set` with its operator              |
 -- | written_line                | its tokens, as they are written                             |
 -- | .._text                     | the same in the pieces that the code writes                 |
@@ -17,14 +17,14 @@ use Rattle.fr_program.specs.declared.instr.Comparison.{Comparison}
 use Rattle.fr_program.specs.declared.instr.Comparison.TheVariants as comparison
 use Rattle.fr_program.specs.declared.instr.BlockTime.{BlockTime}
 use Rattle.fr_program.specs.declared.instr.BlockTime.TheVariants.{Ticks, MaxDelay}
-use Rattle.fr_program.specs.declared.instr.Call.{Call}
 use Rattle.fr_program.specs.declared.instr.Instr.{Instr}
 use Rattle.fr_program.specs.declared.instr.Instr.TheVariants as line
-use Rattle.fr_instr.specs.declared.writing.Arg.{Arg}
-use Rattle.fr_instr.specs.declared.writing.Arg.TheVariants as arg
+use Rattle.fr_instr.specs.declared.call.Place.{Place}
+use Rattle.fr_instr.specs.declared.call.Place.TheVariants.{Object, Operand as Operands, Variable as Variables, Length, Time, Ticks as TicksPlace, Null}
+use Rattle.fr_instr.specs.declared.given.Given.{Given}
 use Rattle.fr_instr.specs.Names.{NamesOf, name_at}
 use Rattle.fr_instr.specs.Shapes.{Word, name, numeral, Shape, set_to, branch, jump, pick, leave, call, shape_toks}
-use Rattle.fr_instr.specs.Calls.{row_of, parts_of}
+use Rattle.fr_instr.specs.Calls.{Row, row_of, verb_of, given_of}
 use Rattle.fr_instr.specs.Written.{written}
 
 -- the text of a number from 0 on
@@ -41,23 +41,23 @@ abbrev pub time_word : BlockTime → Word
 time_word (Ticks n) = numeral (natural n)
 time_word MaxDelay = name (codes "portMAX_DELAY")
 
--- the word or number that is written for an argument
-abbrev pub arg_word : NamesOf → Arg → Word
-arg_word N (arg.Object o) = name (name_at N.objects o.0)
-arg_word N (arg.Operand a) = operand_word N a
-arg_word N (arg.Variable x) = name (name_at N.variables x.0)
-arg_word N (arg.Length n) = numeral (natural n)
-arg_word N (arg.Time t) = time_word t
-arg_word N (arg.Ticks n) = numeral (natural n)
-arg_word N arg.Null = name (codes "NULL")
+-- the word or number that is written in a place
+abbrev pub place_word : NamesOf → Given → Place → Word
+place_word N g Object = name (name_at N.objects g.object.0)
+place_word N g Operands = operand_word N g.operand
+place_word N g Variables = name (name_at N.variables g.variable.0)
+place_word N g Length = numeral (natural g.bytes)
+place_word N g Time = time_word g.time
+place_word N g TicksPlace = numeral (natural g.ticks)
+place_word N g Null = name (codes "NULL")
 
 -- the name of the variable before a call, if it has one
 abbrev pub into_name : NamesOf → Option VarId → Option (List ℕ)
 into_name N v = option_map (λ x. name_at N.variables x.0) v
 
--- the shape of a call
-abbrev pub call_shape : NamesOf → Call → Shape
-call_shape N c = call (into_name N (parts_of c).into) (row_of (parts_of c).name).name (map (arg_word N) (parts_of c).args) (option_map natural (parts_of c).or_else)
+-- the shape of a call with this row and what its line gives
+abbrev pub call_shape : NamesOf → Row → Given → Shape
+call_shape N r g = call (into_name N g.into) r.name (map (place_word N g) r.places) (option_map natural g.or_else)
 
 -- the shape of a line: a `set` always has an operator and two operands
 abbrev pub shape_of : NamesOf → Instr → Shape
@@ -65,7 +65,7 @@ shape_of N (line.Set x a op b) = set_to (name_at N.variables x.0) (operand_word 
 shape_of N (line.If a c b k) = branch (operand_word N a) c (operand_word N b) (natural k)
 shape_of N (line.Goto k) = jump (natural k)
 shape_of N (line.Pick x lo hi) = pick (name_at N.variables x.0) (signed_decimal lo) (signed_decimal hi)
-shape_of N (line.Call c) = call_shape N c
+shape_of N (line.Call c) = call_shape N (row_of (verb_of c)) (given_of c)
 shape_of N line.Return = leave
 
 -- one space between tokens, but as `written` says
@@ -134,11 +134,9 @@ goto_text k = codes "goto " ++ natural k
 abbrev pub pick_text : NamesOf → VarId → ℤ → ℤ → List ℕ
 pick_text N x lo hi = codes "pick " ++ (name_at N.variables x.0 ++ (codes " " ++ (signed_decimal lo ++ (codes " " ++ signed_decimal hi))))
 
--- a call
-abbrev pub call_text : NamesOf → Call → List ℕ
-call_text N c =
-    into_text (into_name N (parts_of c).into)
-    ++ ((row_of (parts_of c).name).name ++ (codes "(" ++ (args_text (map (arg_word N) (parts_of c).args) ++ (codes ")" ++ else_text (option_map natural (parts_of c).or_else)))))
+-- a call with this name and these places
+abbrev pub call_text : NamesOf → List ℕ → List Place → Given → List ℕ
+call_text N k ps g = into_text (into_name N g.into) ++ (k ++ (codes "(" ++ (args_text (map (place_word N g) ps) ++ (codes ")" ++ else_text (option_map natural g.or_else)))))
 
 -- a line
 abbrev pub line_text : NamesOf → Instr → List ℕ
@@ -146,5 +144,5 @@ line_text N (line.Set x a op b) = set_text N x a op b
 line_text N (line.If a c b k) = if_text N a c b k
 line_text N (line.Goto k) = goto_text k
 line_text N (line.Pick x lo hi) = pick_text N x lo hi
-line_text N (line.Call c) = call_text N c
+line_text N (line.Call c) = call_text N (row_of (verb_of c)).name (row_of (verb_of c)).places (given_of c)
 line_text N line.Return = codes "return"

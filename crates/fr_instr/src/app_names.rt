@@ -8,6 +8,7 @@ use crate::names::Names;
 use fr_program::{Actor, App, Object, Variable};
 use std::alloc::{AllocError, Global};
 
+/// The names of the variables, in order.
 fn variable_names<'a>(alloc: Global, variables: &'a [Variable]) -> Result<Vec<&'a str>, AllocError>
     ensures { IfOk result (λ names. texts names.items ≡ map (λ v. string_bytes v.name) variables.now) }
 {
@@ -18,6 +19,7 @@ fn variable_names<'a>(alloc: Global, variables: &'a [Variable]) -> Result<Vec<&'
     Ok(names)
 }
 
+/// The names of the objects, in order.
 fn object_names<'a>(alloc: Global, objects: &'a [Object]) -> Result<Vec<&'a str>, AllocError>
     ensures { IfOk result (λ names. texts names.items ≡ map (λ o. string_bytes o.name) objects.now) }
 {
@@ -28,6 +30,7 @@ fn object_names<'a>(alloc: Global, objects: &'a [Object]) -> Result<Vec<&'a str>
     Ok(names)
 }
 
+/// The names of the actors, in order.
 fn actor_names<'a>(alloc: Global, actors: &'a [Actor]) -> Result<Vec<&'a str>, AllocError>
     ensures { IfOk result (λ names. texts names.items ≡ map (λ a. string_bytes a.name) actors.now) }
 {

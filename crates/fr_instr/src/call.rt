@@ -1,14 +1,69 @@
-// The calls of the grammar, by their names.
-ghost use Rattle.std.specs.Prelude.{◌≡◌, ◌≢◌, ◌<◌, length, IfSome, IfNone, position, slice_get};
+// The calls of the grammar: one table, a row a call.
+ghost use Rattle.std.specs.Prelude.{◌≡◌, map, option_map, position};
 ghost use Rattle.std.specs.Str.{bytes_eq};
-ghost use Rattle.fr_instr.specs.Calls.{row_of, either_form, any_form, either_buffer, create_name, delete_name, send_name, receive_name};
-ghost use Rattle.fr_instr.specs.declared.call.CallName.{CallName};
+ghost use Rattle.fr_instr.specs.Calls.{row_view, table, row_named, row_for, is_same, may_fail, may_answer};
 
-use fr_program::{BufferKind, CreatedKind, DeletedKind, Form, GiveForm};
+use fr_program::{BufferKind, CreatedKind, DeletedKind, End, Form, SemaphoreForm};
 
-/// Which of the calls a line makes. A take has the forms that a give has.
+/// What is in an argument's place: an object, an operand, a variable, a length, a block time, ticks,
+/// or the word NULL.
 #[derive(Clone, Copy)]
-pub(crate) enum CallName {
+pub(crate) enum Place {
+    Object,
+    Operand,
+    Variable,
+    Length,
+    Time,
+    Ticks,
+    Null,
+}
+
+/// What may be written beside a call: nothing, an `else` behind it, or a `v =` before it.
+#[derive(Clone, Copy)]
+pub(crate) enum Tail {
+    Nothing,
+    Else,
+    Into,
+}
+
+impl Tail {
+    /// Whether an `else` may follow the call.
+    pub(crate) fn may_fail(self) -> bool
+        ensures { result ≡ may_fail self }
+    {
+        matches!(self, Tail::Else)
+    }
+
+    /// Whether a `v =` may be before the call.
+    pub(crate) fn may_answer(self) -> bool
+        ensures { result ≡ may_answer self }
+    {
+        matches!(self, Tail::Into)
+    }
+}
+
+/// When an object call answers, without its block time.
+#[derive(Clone, Copy, PartialEq, Eq)]
+pub(crate) enum When {
+    Now,
+    FromIsr,
+    Waits,
+}
+
+/// What an object call does, without its arguments.
+#[derive(Clone, Copy, PartialEq, Eq)]
+pub(crate) enum Deed {
+    QueueSend,
+    QueueReceive,
+    Take(SemaphoreForm),
+    Give(SemaphoreForm),
+    Reset(BufferKind),
+    Move(End, BufferKind),
+}
+
+/// What a call is, without its arguments.
+#[derive(Clone, Copy, PartialEq, Eq)]
+pub(crate) enum Verb {
     Enter(Form),
     Exit(Form),
     SuspendAll,
@@ -18,249 +73,104 @@ pub(crate) enum CallName {
     DeleteSelf,
     Create(CreatedKind),
     Delete(DeletedKind),
-    QueueSend(Form),
-    QueueReceive(Form),
-    Take(GiveForm),
-    Give(GiveForm),
-    Send(BufferKind, Form),
-    Receive(BufferKind, Form),
-    Reset(BufferKind),
+    On(When, Deed),
+}
+
+/// A row of the table: the call's name, what it is, the places of its arguments, and what may be
+/// written beside it.
+pub(crate) type Row = (&'static str, Verb, &'static [Place], Tail);
+
+/// The rows of a table, a row a line.
+macro_rules! rows {
+    ($($name:literal $verb:expr, [$($place:ident)*] $tail:ident;)*) => {
+        [$(($name, $verb, &[$(Place::$place),*], Tail::$tail)),*]
+    };
 }
 
 /// Every call once.
-const CALLS: [CallName; 40] = [
-    CallName::Enter(Form::Task),
-    CallName::Enter(Form::FromIsr),
-    CallName::Exit(Form::Task),
-    CallName::Exit(Form::FromIsr),
-    CallName::SuspendAll,
-    CallName::ResumeAll,
-    CallName::Yield,
-    CallName::Delay,
-    CallName::DeleteSelf,
-    CallName::Create(CreatedKind::Queue),
-    CallName::Create(CreatedKind::Binary),
-    CallName::Create(CreatedKind::Counting),
-    CallName::Create(CreatedKind::Mutex),
-    CallName::Create(CreatedKind::Recursive),
-    CallName::Create(CreatedKind::Stream),
-    CallName::Create(CreatedKind::Message),
-    CallName::Delete(DeletedKind::Queue),
-    CallName::Delete(DeletedKind::Semaphore),
-    CallName::Delete(DeletedKind::Stream),
-    CallName::Delete(DeletedKind::Message),
-    CallName::QueueSend(Form::Task),
-    CallName::QueueSend(Form::FromIsr),
-    CallName::QueueReceive(Form::Task),
-    CallName::QueueReceive(Form::FromIsr),
-    CallName::Take(GiveForm::Plain),
-    CallName::Take(GiveForm::Recursive),
-    CallName::Take(GiveForm::FromIsr),
-    CallName::Give(GiveForm::Plain),
-    CallName::Give(GiveForm::Recursive),
-    CallName::Give(GiveForm::FromIsr),
-    CallName::Send(BufferKind::Stream, Form::Task),
-    CallName::Send(BufferKind::Stream, Form::FromIsr),
-    CallName::Send(BufferKind::Message, Form::Task),
-    CallName::Send(BufferKind::Message, Form::FromIsr),
-    CallName::Receive(BufferKind::Stream, Form::Task),
-    CallName::Receive(BufferKind::Stream, Form::FromIsr),
-    CallName::Receive(BufferKind::Message, Form::Task),
-    CallName::Receive(BufferKind::Message, Form::FromIsr),
-    CallName::Reset(BufferKind::Stream),
-    CallName::Reset(BufferKind::Message),
-];
+static CALLS: [Row; 40] = rows! {
+    "taskENTER_CRITICAL"             Verb::Enter(Form::Task), [] Nothing;
+    "taskENTER_CRITICAL_FROM_ISR"    Verb::Enter(Form::FromIsr), [] Nothing;
+    "taskEXIT_CRITICAL"              Verb::Exit(Form::Task), [] Nothing;
+    "taskEXIT_CRITICAL_FROM_ISR"     Verb::Exit(Form::FromIsr), [] Nothing;
+    "vTaskSuspendAll"                Verb::SuspendAll, [] Nothing;
+    "xTaskResumeAll"                 Verb::ResumeAll, [] Nothing;
+    "taskYIELD"                      Verb::Yield, [] Nothing;
+    "vTaskDelay"                     Verb::Delay, [Ticks] Nothing;
+    "vTaskDelete"                    Verb::DeleteSelf, [Null] Nothing;
+    "xQueueCreate"                   Verb::Create(CreatedKind::Queue), [Object] Else;
+    "xSemaphoreCreateBinary"         Verb::Create(CreatedKind::Binary), [Object] Else;
+    "xSemaphoreCreateCounting"       Verb::Create(CreatedKind::Counting), [Object] Else;
+    "xSemaphoreCreateMutex"          Verb::Create(CreatedKind::Mutex), [Object] Else;
+    "xSemaphoreCreateRecursiveMutex" Verb::Create(CreatedKind::Recursive), [Object] Else;
+    "xStreamBufferCreate"            Verb::Create(CreatedKind::Stream), [Object] Else;
+    "xMessageBufferCreate"           Verb::Create(CreatedKind::Message), [Object] Else;
+    "vQueueDelete"                   Verb::Delete(DeletedKind::Queue), [Object] Nothing;
+    "vSemaphoreDelete"               Verb::Delete(DeletedKind::Semaphore), [Object] Nothing;
+    "vStreamBufferDelete"            Verb::Delete(DeletedKind::Stream), [Object] Nothing;
+    "vMessageBufferDelete"           Verb::Delete(DeletedKind::Message), [Object] Nothing;
+    "xQueueSend"                     Verb::On(When::Waits, Deed::QueueSend), [Object Operand Time] Else;
+    "xQueueSendFromISR"              Verb::On(When::FromIsr, Deed::QueueSend), [Object Operand] Else;
+    "xQueueReceive"                  Verb::On(When::Waits, Deed::QueueReceive), [Object Variable Time] Else;
+    "xQueueReceiveFromISR"           Verb::On(When::FromIsr, Deed::QueueReceive), [Object Variable] Else;
+    "xSemaphoreTake"                 Verb::On(When::Waits, Deed::Take(SemaphoreForm::Plain)), [Object Time] Else;
+    "xSemaphoreTakeRecursive"        Verb::On(When::Waits, Deed::Take(SemaphoreForm::Recursive)), [Object Time] Else;
+    "xSemaphoreTakeFromISR"          Verb::On(When::FromIsr, Deed::Take(SemaphoreForm::Plain)), [Object] Else;
+    "xSemaphoreGive"                 Verb::On(When::Now, Deed::Give(SemaphoreForm::Plain)), [Object] Else;
+    "xSemaphoreGiveRecursive"        Verb::On(When::Now, Deed::Give(SemaphoreForm::Recursive)), [Object] Else;
+    "xSemaphoreGiveFromISR"          Verb::On(When::FromIsr, Deed::Give(SemaphoreForm::Plain)), [Object] Else;
+    "xStreamBufferSend"              Verb::On(When::Waits, Deed::Move(End::Writer, BufferKind::Stream)), [Object Length Time] Into;
+    "xStreamBufferSendFromISR"       Verb::On(When::FromIsr, Deed::Move(End::Writer, BufferKind::Stream)), [Object Length] Into;
+    "xMessageBufferSend"             Verb::On(When::Waits, Deed::Move(End::Writer, BufferKind::Message)), [Object Length Time] Into;
+    "xMessageBufferSendFromISR"      Verb::On(When::FromIsr, Deed::Move(End::Writer, BufferKind::Message)), [Object Length] Into;
+    "xStreamBufferReceive"           Verb::On(When::Waits, Deed::Move(End::Reader, BufferKind::Stream)), [Object Length Time] Into;
+    "xStreamBufferReceiveFromISR"    Verb::On(When::FromIsr, Deed::Move(End::Reader, BufferKind::Stream)), [Object Length] Into;
+    "xMessageBufferReceive"          Verb::On(When::Waits, Deed::Move(End::Reader, BufferKind::Message)), [Object Length Time] Into;
+    "xMessageBufferReceiveFromISR"   Verb::On(When::FromIsr, Deed::Move(End::Reader, BufferKind::Message)), [Object Length] Into;
+    "xStreamBufferReset"             Verb::On(When::Now, Deed::Reset(BufferKind::Stream)), [Object] Else;
+    "xMessageBufferReset"            Verb::On(When::Now, Deed::Reset(BufferKind::Message)), [Object] Else;
+};
 
-/// The place in `CALLS` of the call with this name.
-fn place_of_call(name: &[u8]) -> Option<usize>
-    ensures { result ≡ position (λ c. bytes_eq (row_of c).name name.now) CALLS }
+/// The rows, as the table that clauses speak of.
+#[tactic(auto, unfolding(crate::specs::Calls::table))]
+fn rows() -> &'static [Row]
+    ensures { map row_view result.now ≡ table }
 {
-    CALLS.iter().position(|call| call.text().as_bytes() == name)
+    &CALLS
 }
 
-/// The call at this place in `CALLS`.
-fn call_at(place: usize) -> CallName
-    requires { place < length CALLS }
-    ensures { slice_get CALLS place ≡ Some result }
+/// The place of the row with this name.
+fn place_by_name(rows: &[Row], name: &[u8]) -> Option<usize>
+    ensures { result ≡ position (λ r. bytes_eq r.0.now name.now) rows.now }
 {
-    CALLS[place]
+    rows.iter().position(|row| row.0.as_bytes() == name)
 }
 
-/// The call with this name.
-pub(crate) fn call_named(name: &[u8]) -> Option<CallName>
-    ensures found { IfSome result (λ c. name.now ≡ (row_of c).name) }
-    ensures none { IfNone result ((c : CallName) → name.now ≢ (row_of c).name) }
+/// The place of the row of this verb.
+fn place_by_verb(rows: &[Row], verb: Verb) -> Option<usize>
+    ensures { result ≡ position (λ r. is_same r.1 verb) rows.now }
 {
-    match place_of_call(name) {
-        Some(place) => Some(call_at(place)),
+    rows.iter().position(|row| row.1 == verb)
+}
+
+/// The row of the call with this name.
+pub(crate) fn row_named(name: &[u8]) -> Option<Row>
+    ensures { option_map row_view result ≡ row_named name.now }
+{
+    let rows = rows();
+    match place_by_name(rows, name) {
+        Some(place) => Some(rows[place]),
         None => None,
     }
 }
 
-impl CallName {
-    /// The name, as a line writes it.
-    pub(crate) fn text(self) -> &'static str
-        ensures { result.now ≡ (row_of self).name }
-    {
-        match self {
-            CallName::Enter(form) => enter_text(form),
-            CallName::Exit(form) => exit_text(form),
-            CallName::SuspendAll => "vTaskSuspendAll",
-            CallName::ResumeAll => "xTaskResumeAll",
-            CallName::Yield => "taskYIELD",
-            CallName::Delay => "vTaskDelay",
-            CallName::DeleteSelf => "vTaskDelete",
-            CallName::Create(kind) => create_text(kind),
-            CallName::Delete(kind) => delete_text(kind),
-            CallName::QueueSend(form) => queue_send_text(form),
-            CallName::QueueReceive(form) => queue_receive_text(form),
-            CallName::Take(form) => take_text(form),
-            CallName::Give(form) => give_text(form),
-            CallName::Send(kind, form) => send_text(kind, form),
-            CallName::Receive(kind, form) => receive_text(kind, form),
-            CallName::Reset(kind) => reset_text(kind),
-        }
-    }
-
-    /// Whether an `else` may follow the call.
-    pub(crate) fn may_fail(self) -> bool
-        ensures { result ≡ (row_of self).may_fail }
-    {
-        matches!(
-            self,
-            CallName::Create(_)
-                | CallName::QueueSend(_)
-                | CallName::QueueReceive(_)
-                | CallName::Take(_)
-                | CallName::Give(_)
-                | CallName::Reset(_)
-        )
-    }
-
-    /// Whether a `v =` may be before the call.
-    pub(crate) fn may_answer(self) -> bool
-        ensures { result ≡ (row_of self).may_answer }
-    {
-        matches!(self, CallName::Send(_, _) | CallName::Receive(_, _))
-    }
-}
-
-fn enter_text(form: Form) -> &'static str
-    ensures { result.now ≡ (row_of (CallName.Enter form)).name }
+/// The row of the call that is this.
+pub(crate) fn row_for(verb: Verb) -> Option<Row>
+    ensures { option_map row_view result ≡ row_for verb }
 {
-    match form {
-        Form::Task => "taskENTER_CRITICAL",
-        Form::FromIsr => "taskENTER_CRITICAL_FROM_ISR",
-    }
-}
-
-fn exit_text(form: Form) -> &'static str
-    ensures { result.now ≡ (row_of (CallName.Exit form)).name }
-{
-    match form {
-        Form::Task => "taskEXIT_CRITICAL",
-        Form::FromIsr => "taskEXIT_CRITICAL_FROM_ISR",
-    }
-}
-
-fn create_text(kind: CreatedKind) -> &'static str
-    ensures { result.now ≡ create_name kind }
-{
-    match kind {
-        CreatedKind::Queue => "xQueueCreate",
-        CreatedKind::Binary => "xSemaphoreCreateBinary",
-        CreatedKind::Counting => "xSemaphoreCreateCounting",
-        CreatedKind::Mutex => "xSemaphoreCreateMutex",
-        CreatedKind::Recursive => "xSemaphoreCreateRecursiveMutex",
-        CreatedKind::Stream => "xStreamBufferCreate",
-        CreatedKind::Message => "xMessageBufferCreate",
-    }
-}
-
-fn delete_text(kind: DeletedKind) -> &'static str
-    ensures { result.now ≡ delete_name kind }
-{
-    match kind {
-        DeletedKind::Queue => "vQueueDelete",
-        DeletedKind::Semaphore => "vSemaphoreDelete",
-        DeletedKind::Stream => "vStreamBufferDelete",
-        DeletedKind::Message => "vMessageBufferDelete",
-    }
-}
-
-fn queue_send_text(form: Form) -> &'static str
-    ensures { result.now ≡ (row_of (CallName.QueueSend form)).name }
-{
-    match form {
-        Form::Task => "xQueueSend",
-        Form::FromIsr => "xQueueSendFromISR",
-    }
-}
-
-fn queue_receive_text(form: Form) -> &'static str
-    ensures { result.now ≡ (row_of (CallName.QueueReceive form)).name }
-{
-    match form {
-        Form::Task => "xQueueReceive",
-        Form::FromIsr => "xQueueReceiveFromISR",
-    }
-}
-
-fn take_text(form: GiveForm) -> &'static str
-    ensures { result.now ≡ (row_of (CallName.Take form)).name }
-{
-    match form {
-        GiveForm::Plain => "xSemaphoreTake",
-        GiveForm::Recursive => "xSemaphoreTakeRecursive",
-        GiveForm::FromIsr => "xSemaphoreTakeFromISR",
-    }
-}
-
-fn give_text(form: GiveForm) -> &'static str
-    ensures { result.now ≡ (row_of (CallName.Give form)).name }
-{
-    match form {
-        GiveForm::Plain => "xSemaphoreGive",
-        GiveForm::Recursive => "xSemaphoreGiveRecursive",
-        GiveForm::FromIsr => "xSemaphoreGiveFromISR",
-    }
-}
-
-fn send_text(kind: BufferKind, form: Form) -> &'static str
-    ensures { result.now ≡ send_name kind form }
-{
-    match kind {
-        BufferKind::Stream => match form {
-            Form::Task => "xStreamBufferSend",
-            Form::FromIsr => "xStreamBufferSendFromISR",
-        },
-        BufferKind::Message => match form {
-            Form::Task => "xMessageBufferSend",
-            Form::FromIsr => "xMessageBufferSendFromISR",
-        },
-    }
-}
-
-fn receive_text(kind: BufferKind, form: Form) -> &'static str
-    ensures { result.now ≡ receive_name kind form }
-{
-    match kind {
-        BufferKind::Stream => match form {
-            Form::Task => "xStreamBufferReceive",
-            Form::FromIsr => "xStreamBufferReceiveFromISR",
-        },
-        BufferKind::Message => match form {
-            Form::Task => "xMessageBufferReceive",
-            Form::FromIsr => "xMessageBufferReceiveFromISR",
-        },
-    }
-}
-
-fn reset_text(kind: BufferKind) -> &'static str
-    ensures { result.now ≡ (row_of (CallName.Reset kind)).name }
-{
-    match kind {
-        BufferKind::Stream => "xStreamBufferReset",
-        BufferKind::Message => "xMessageBufferReset",
+    let rows = rows();
+    match place_by_verb(rows, verb) {
+        Some(place) => Some(rows[place]),
+        None => None,
     }
 }

@@ -5,8 +5,8 @@
 
 mod app_names;
 mod call;
-mod calling;
 mod fault;
+mod given;
 mod meaning;
 mod names;
 mod number;

@@ -1,47 +1,16 @@
 // What words, numbers and arguments mean.
-ghost use Rattle.std.specs.Prelude.{◌≡◌, ◌≢◌, [], ◌∷◌, IfOk, IfErr, MatchResult, length as list_length};
-ghost use Rattle.fr_instr.specs.Views.{args_words, word_of, words};
-ghost use Rattle.fr_instr.specs.Calls.{object, operand, variable, length, time, ticks, null, wait_of, take_wait_of, form_of, time_of, take_form_of, take_time_of};
-ghost use Rattle.fr_instr.specs.Names.{NamesOf};
-ghost use Rattle.fr_instr.specs.Lines.{IsVariable, IsOperand, IsBlockTime, SaysObject, SaysVariable, SaysLength, SaysTicks, SaysNull, AreArgs};
-ghost use Rattle.fr_instr.specs.Faults.{InVariable, InPlace, InPlain, InPlaces};
-ghost use Rattle.fr_instr.specs.declared.fault.LineFault.TheVariants.{ArgCount};
-ghost use Rattle.fr_instr.specs.declared.writing.Arg.TheVariants as arg;
+ghost use Rattle.std.specs.Prelude.{◌≡◌, ◌≢◌, IfOk, IfErr, MatchResult, length as list_length};
+ghost use Rattle.fr_instr.specs.Views.{word_of, words};
+ghost use Rattle.fr_instr.specs.Lines.{IsVariable, IsOperand, IsBlockTime, SaysObject, SaysVariable, SaysLength, SaysTicks, SaysNull, Gives, AreGiven};
+ghost use Rattle.fr_instr.specs.Faults.{InVariable, InPlace, InPlain, InArgs, InPlaces};
 
+use crate::call::Place;
 use crate::fault::LineFault;
+use crate::given::{Given, NOTHING};
 use crate::names::Names;
 use crate::number;
 use crate::shape::Value;
-use fr_program::{BlockTime, Form, GiveForm, ObjId, Operand, TakeForm, Timing, VarId};
-
-/// The arguments of a call. No call has more than three.
-#[derive(Clone, Copy)]
-pub(crate) enum Args<'a, 'v> {
-    None,
-    One(Value<'a>),
-    Two(Value<'a>, Value<'a>),
-    Three(Value<'a>, Value<'a>, Value<'a>),
-    More(Value<'a>, Value<'a>, Value<'a>, Value<'a>, &'v [Value<'a>]),
-}
-
-/// The arguments in a list.
-pub(crate) fn args_of<'a, 'v>(values: &'v [Value<'a>]) -> Args<'a, 'v>
-    ensures { args_words result ≡ words values.now }
-{
-    let Some((first, rest)) = values.split_first() else {
-        return Args::None;
-    };
-    let Some((second, rest)) = rest.split_first() else {
-        return Args::One(*first);
-    };
-    let Some((third, rest)) = rest.split_first() else {
-        return Args::Two(*first, *second);
-    };
-    let Some((fourth, rest)) = rest.split_first() else {
-        return Args::Three(*first, *second, *third);
-    };
-    Args::More(*first, *second, *third, *fourth, rest)
-}
+use fr_program::{BlockTime, ObjId, Operand, VarId};
 
 /// The variable with this name.
 pub(crate) fn variable_of(names: &Names, word: &[u8]) -> Result<VarId, LineFault>
@@ -55,7 +24,7 @@ pub(crate) fn variable_of(names: &Names, word: &[u8]) -> Result<VarId, LineFault
 
 /// The variable that this argument names.
 fn variable_at(names: &Names, value: Value<'_>) -> Result<VarId, LineFault>
-    ensures { MatchResult result (SaysVariable names.now (word_of value.entry)) (InPlace names.now variable (word_of value.entry)) }
+    ensures { MatchResult result (SaysVariable names.now (word_of value.entry)) (InPlace names.now Place.Variable (word_of value.entry)) }
 {
     match value {
         Value::Name(word) => match names.variable_named(word) {
@@ -68,7 +37,7 @@ fn variable_at(names: &Names, value: Value<'_>) -> Result<VarId, LineFault>
 
 /// The object that this argument names.
 fn object_at(names: &Names, value: Value<'_>) -> Result<ObjId, LineFault>
-    ensures { MatchResult result (SaysObject names.now (word_of value.entry)) (InPlace names.now object (word_of value.entry)) }
+    ensures { MatchResult result (SaysObject names.now (word_of value.entry)) (InPlace names.now Place.Object (word_of value.entry)) }
 {
     match value {
         Value::Name(word) => match names.object_named(word) {
@@ -81,7 +50,7 @@ fn object_at(names: &Names, value: Value<'_>) -> Result<ObjId, LineFault>
 
 /// The operand that this word or number is.
 pub(crate) fn operand_at(names: &Names, value: Value<'_>) -> Result<Operand, LineFault>
-    ensures { MatchResult result (IsOperand names.now (word_of value.entry)) (InPlace names.now operand (word_of value.entry)) }
+    ensures { MatchResult result (IsOperand names.now (word_of value.entry)) (InPlace names.now Place.Operand (word_of value.entry)) }
 {
     match value {
         Value::Name(word) => match names.variable_named(word) {
@@ -97,7 +66,7 @@ pub(crate) fn operand_at(names: &Names, value: Value<'_>) -> Result<Operand, Lin
 
 /// The length that this argument is.
 fn length_at(value: Value<'_>) -> Result<u32, LineFault>
-    ensures { MatchResult result (SaysLength (word_of value.entry)) (InPlain length (word_of value.entry)) }
+    ensures { MatchResult result (SaysLength (word_of value.entry)) (InPlain Place.Length (word_of value.entry)) }
 {
     match value {
         Value::Name(_) => Err(LineFault::Syntax),
@@ -110,7 +79,7 @@ fn length_at(value: Value<'_>) -> Result<u32, LineFault>
 
 /// The number of ticks that this argument is.
 fn ticks_at(value: Value<'_>) -> Result<u32, LineFault>
-    ensures { MatchResult result (SaysTicks (word_of value.entry)) (InPlain ticks (word_of value.entry)) }
+    ensures { MatchResult result (SaysTicks (word_of value.entry)) (InPlain Place.Ticks (word_of value.entry)) }
 {
     match value {
         Value::Name(_) => Err(LineFault::Syntax),
@@ -123,7 +92,7 @@ fn ticks_at(value: Value<'_>) -> Result<u32, LineFault>
 
 /// The block time that this argument is: a number of ticks, or `portMAX_DELAY`.
 fn block_time_at(value: Value<'_>) -> Result<BlockTime, LineFault>
-    ensures { MatchResult result (IsBlockTime (word_of value.entry)) (InPlain time (word_of value.entry)) }
+    ensures { MatchResult result (IsBlockTime (word_of value.entry)) (InPlain Place.Time (word_of value.entry)) }
 {
     match value {
         Value::Name(word) => {
@@ -142,7 +111,7 @@ fn block_time_at(value: Value<'_>) -> Result<BlockTime, LineFault>
 
 /// Ok where this argument is `NULL`.
 fn null_at(value: Value<'_>) -> Result<(), LineFault>
-    ensures { MatchResult result (λ _. SaysNull (word_of value.entry)) (InPlain null (word_of value.entry)) }
+    ensures { MatchResult result (λ _. SaysNull (word_of value.entry)) (InPlain Place.Null (word_of value.entry)) }
 {
     match value {
         Value::Name(word) => {
@@ -156,167 +125,73 @@ fn null_at(value: Value<'_>) -> Result<(), LineFault>
     }
 }
 
-/// No argument at all.
-pub(crate) fn no_args(args: Args<'_, '_>) -> Result<(), LineFault>
-    ensures { MatchResult result (λ _. args_words args.entry ≡ []) (λ f. (f ≡ ArgCount) × (list_length (args_words args.entry) ≢ 0)) }
+/// What this word or number gives in a place of this kind, beside what was given before.
+fn given_at(names: &Names, place: Place, value: Value<'_>, given: Given) -> Result<Given, LineFault>
+    ensures { MatchResult result (Gives names.now place (word_of value.entry) given) (InPlace names.now place (word_of value.entry)) }
 {
-    match args {
-        Args::None => Ok(()),
-        _ => Err(LineFault::ArgCount),
-    }
+    Ok(match place {
+        Place::Object => Given {
+            object: object_at(names, value)?,
+            ..given
+        },
+        Place::Operand => Given {
+            operand: operand_at(names, value)?,
+            ..given
+        },
+        Place::Variable => Given {
+            variable: variable_at(names, value)?,
+            ..given
+        },
+        Place::Length => Given {
+            bytes: length_at(value)?,
+            ..given
+        },
+        Place::Time => Given {
+            time: block_time_at(value)?,
+            ..given
+        },
+        Place::Ticks => Given {
+            ticks: ticks_at(value)?,
+            ..given
+        },
+        Place::Null => {
+            null_at(value)?;
+            given
+        }
+    })
 }
 
-/// The one argument of a delay: a number of ticks.
-pub(crate) fn delay_arg(args: Args<'_, '_>) -> Result<u32, LineFault>
-    ensures ok { IfOk result (λ n. (N : NamesOf) → AreArgs N (args_words args.entry) (arg.Ticks n ∷ [])) }
-    ensures err { IfErr result (λ f. (N : NamesOf) → InPlaces N (ticks ∷ []) (args_words args.entry) f) }
-{
-    match args {
-        Args::One(value) => ticks_at(value),
-        _ => Err(LineFault::ArgCount),
-    }
-}
-
-/// The one argument of `vTaskDelete`: `NULL`.
-pub(crate) fn delete_self_arg(args: Args<'_, '_>) -> Result<(), LineFault>
-    ensures ok { IfOk result (λ _. (N : NamesOf) → AreArgs N (args_words args.entry) (arg.Null ∷ [])) }
-    ensures err { IfErr result (λ f. (N : NamesOf) → InPlaces N (null ∷ []) (args_words args.entry) f) }
-{
-    match args {
-        Args::One(value) => null_at(value),
-        _ => Err(LineFault::ArgCount),
-    }
-}
-
-/// The one argument of a call on an object alone.
-pub(crate) fn only_object(names: &Names, args: Args<'_, '_>) -> Result<ObjId, LineFault>
-    ensures ok { IfOk result (λ o. AreArgs names.now (args_words args.entry) (arg.Object o ∷ [])) }
-    ensures err { IfErr result (InPlaces names.now (object ∷ []) (args_words args.entry)) }
-{
-    match args {
-        Args::One(value) => object_at(names, value),
-        _ => Err(LineFault::ArgCount),
-    }
-}
-
-/// A queue, a value, and a block time in the form for tasks.
-pub(crate) fn queue_send_args(
+/// What these words and numbers give in these places, as many, beside what was given before.
+fn more_given(
     names: &Names,
-    form: Form,
-    args: Args<'_, '_>,
-) -> Result<(ObjId, Operand, Timing), LineFault>
-    ensures form { IfOk result (λ p. form_of p.2 ≡ form) }
-    ensures ok { IfOk result (λ p. AreArgs names.now (args_words args.entry) (arg.Object p.0 ∷ arg.Operand p.1 ∷ time_of p.2)) }
-    ensures err { IfErr result (InPlaces names.now (object ∷ operand ∷ wait_of form) (args_words args.entry)) }
+    places: &[Place],
+    values: &[Value<'_>],
+    given: Given,
+) -> Result<Given, LineFault>
+    requires { list_length places.now ≡ list_length values.now }
+    ensures { MatchResult result (AreGiven names.now places.now (words values.now) given) (InArgs names.now places.now (words values.now)) }
 {
-    match form {
-        Form::Task => match args {
-            Args::Three(object, value, time) => Ok((
-                object_at(names, object)?,
-                operand_at(names, value)?,
-                Timing::Waits(block_time_at(time)?),
-            )),
-            _ => Err(LineFault::ArgCount),
-        },
-        Form::FromIsr => match args {
-            Args::Two(object, value) => Ok((
-                object_at(names, object)?,
-                operand_at(names, value)?,
-                Timing::FromIsr,
-            )),
-            _ => Err(LineFault::ArgCount),
-        },
-    }
+    let Some((place, places)) = places.split_first() else {
+        return Ok(given);
+    };
+    let Some((value, values)) = values.split_first() else {
+        return Ok(given);
+    };
+    let given = given_at(names, *place, *value, given)?;
+    more_given(names, places, values, given)
 }
 
-/// A queue, a variable, and a block time in the form for tasks.
-pub(crate) fn queue_receive_args(
+/// What the arguments of a call give in the places of its row.
+pub(crate) fn args_given(
     names: &Names,
-    form: Form,
-    args: Args<'_, '_>,
-) -> Result<(ObjId, VarId, Timing), LineFault>
-    ensures form { IfOk result (λ p. form_of p.2 ≡ form) }
-    ensures ok { IfOk result (λ p. AreArgs names.now (args_words args.entry) (arg.Object p.0 ∷ arg.Variable p.1 ∷ time_of p.2)) }
-    ensures err { IfErr result (InPlaces names.now (object ∷ variable ∷ wait_of form) (args_words args.entry)) }
+    places: &[Place],
+    values: &[Value<'_>],
+) -> Result<Given, LineFault>
+    ensures { MatchResult result (AreGiven names.now places.now (words values.now) NOTHING) (InPlaces names.now places.now (words values.now)) }
 {
-    match form {
-        Form::Task => match args {
-            Args::Three(object, into, time) => Ok((
-                object_at(names, object)?,
-                variable_at(names, into)?,
-                Timing::Waits(block_time_at(time)?),
-            )),
-            _ => Err(LineFault::ArgCount),
-        },
-        Form::FromIsr => match args {
-            Args::Two(object, into) => Ok((
-                object_at(names, object)?,
-                variable_at(names, into)?,
-                Timing::FromIsr,
-            )),
-            _ => Err(LineFault::ArgCount),
-        },
-    }
-}
-
-/// A buffer, a length, and a block time in the form for tasks.
-pub(crate) fn buffer_args(
-    names: &Names,
-    form: Form,
-    args: Args<'_, '_>,
-) -> Result<(ObjId, u32, Timing), LineFault>
-    ensures form { IfOk result (λ p. form_of p.2 ≡ form) }
-    ensures ok { IfOk result (λ p. AreArgs names.now (args_words args.entry) (arg.Object p.0 ∷ arg.Length p.1 ∷ time_of p.2)) }
-    ensures err { IfErr result (InPlaces names.now (object ∷ length ∷ wait_of form) (args_words args.entry)) }
-{
-    match form {
-        Form::Task => match args {
-            Args::Three(object, length, time) => Ok((
-                object_at(names, object)?,
-                length_at(length)?,
-                Timing::Waits(block_time_at(time)?),
-            )),
-            _ => Err(LineFault::ArgCount),
-        },
-        Form::FromIsr => match args {
-            Args::Two(object, length) => Ok((
-                object_at(names, object)?,
-                length_at(length)?,
-                Timing::FromIsr,
-            )),
-            _ => Err(LineFault::ArgCount),
-        },
-    }
-}
-
-/// A semaphore, and a block time but in the form for interrupts.
-pub(crate) fn take_args(
-    names: &Names,
-    form: GiveForm,
-    args: Args<'_, '_>,
-) -> Result<(ObjId, TakeForm), LineFault>
-    ensures form { IfOk result (λ p. take_form_of p.1 ≡ form) }
-    ensures ok { IfOk result (λ p. AreArgs names.now (args_words args.entry) (arg.Object p.0 ∷ take_time_of p.1)) }
-    ensures err { IfErr result (InPlaces names.now (object ∷ take_wait_of form) (args_words args.entry)) }
-{
-    match form {
-        GiveForm::Plain => match args {
-            Args::Two(object, time) => Ok((
-                object_at(names, object)?,
-                TakeForm::Plain(block_time_at(time)?),
-            )),
-            _ => Err(LineFault::ArgCount),
-        },
-        GiveForm::Recursive => match args {
-            Args::Two(object, time) => Ok((
-                object_at(names, object)?,
-                TakeForm::Recursive(block_time_at(time)?),
-            )),
-            _ => Err(LineFault::ArgCount),
-        },
-        GiveForm::FromIsr => match args {
-            Args::One(object) => Ok((object_at(names, object)?, TakeForm::FromIsr)),
-            _ => Err(LineFault::ArgCount),
-        },
+    if places.len() == values.len() {
+        more_given(names, places, values, NOTHING)
+    } else {
+        Err(LineFault::ArgCount)
     }
 }

@@ -1,22 +1,23 @@
 // Reading: the line that a text is.
-ghost use Rattle.std.specs.Prelude.{◌≡◌, ◌≢◌, None, false, IfOk, IfErr, MatchResult};
+ghost use Rattle.std.specs.Prelude.{◌≡◌, ◌≢◌, IfOk, IfErr, MatchResult};
 ghost use Rattle.fr_instr.specs.Views.{word_of, words, text_in, shape_view};
 ghost use Rattle.fr_instr.specs.Shapes.{set, set_to, branch, jump, pick, call};
 ghost use Rattle.fr_instr.specs.Numbers.{IsInteger, IsTarget};
-ghost use Rattle.fr_instr.specs.Calls.{row_of};
 ghost use Rattle.fr_instr.specs.Lines.{IsElse, IsInto, IsCall, IsLineOf, IsLine, IsLineIn};
 ghost use Rattle.fr_instr.specs.Faults.{InInteger, InTarget, InElse, InInto, InCall, InShape, Stands};
 ghost use Rattle.fr_instr.specs.declared.fault.LineFault.TheVariants.{Memory};
 ghost use Rattle.fr_program.specs.declared.instr.Instr.{Instr};
 
-use crate::call::{self, CallName};
+use crate::call::{self, Tail};
 use crate::fault::LineFault;
+use crate::given::{self, Given};
 use crate::names::Names;
 use crate::shape::{self, CallShape, Shape, Value};
-use crate::{calling, meaning, number, token};
+use crate::{meaning, number, token};
 use fr_program::{Call, Comparison, Instr as Line, Operand, Operator, VarId};
 use std::alloc::Global;
 
+/// The target that the text is.
 fn target_at(text: &[u8]) -> Result<usize, LineFault>
     ensures { MatchResult result (IsTarget text.now) (InTarget text.now) }
 {
@@ -26,6 +27,7 @@ fn target_at(text: &[u8]) -> Result<usize, LineFault>
     }
 }
 
+/// The number that the text is.
 fn integer_at(text: &[u8]) -> Result<i64, LineFault>
     ensures { MatchResult result (IsInteger text.now) (InInteger text.now) }
 {
@@ -36,15 +38,13 @@ fn integer_at(text: &[u8]) -> Result<i64, LineFault>
 }
 
 /// The target behind `else`, which is only where the call may fail.
-fn else_of(name: CallName, or_else: Option<&[u8]>) -> Result<Option<usize>, LineFault>
-    ensures ok { IfOk result (IsElse (text_in or_else.entry)) }
-    ensures none { IfOk result (λ e. (row_of name).may_fail ≡ false → e ≡ None) }
-    ensures err { IfErr result (InElse name (text_in or_else.entry)) }
+fn else_of(tail: Tail, or_else: Option<&[u8]>) -> Result<Option<usize>, LineFault>
+    ensures { MatchResult result (IsElse tail (text_in or_else.entry)) (InElse tail (text_in or_else.entry)) }
 {
     match or_else {
         None => Ok(None),
         Some(target) => {
-            if name.may_fail() {
+            if tail.may_fail() {
                 Ok(Some(target_at(target)?))
             } else {
                 Err(LineFault::Syntax)
@@ -54,15 +54,13 @@ fn else_of(name: CallName, or_else: Option<&[u8]>) -> Result<Option<usize>, Line
 }
 
 /// The variable before `=`, which is only where the call answers a number.
-fn into_of(names: &Names, name: CallName, into: Option<&[u8]>) -> Result<Option<VarId>, LineFault>
-    ensures ok { IfOk result (IsInto names.now (text_in into.entry)) }
-    ensures none { IfOk result (λ v. (row_of name).may_answer ≡ false → v ≡ None) }
-    ensures err { IfErr result (InInto names.now name (text_in into.entry)) }
+fn into_of(names: &Names, tail: Tail, into: Option<&[u8]>) -> Result<Option<VarId>, LineFault>
+    ensures { MatchResult result (IsInto names.now tail (text_in into.entry)) (InInto names.now tail (text_in into.entry)) }
 {
     match into {
         None => Ok(None),
         Some(word) => {
-            if name.may_answer() {
+            if tail.may_answer() {
                 Ok(Some(meaning::variable_of(names, word)?))
             } else {
                 Err(LineFault::Syntax)
@@ -71,19 +69,28 @@ fn into_of(names: &Names, name: CallName, into: Option<&[u8]>) -> Result<Option<
     }
 }
 
+/// The call that a name and its arguments mean.
 fn call_of(names: &Names, shape: &CallShape<'_>) -> Result<Call, LineFault>
     ensures ok { IfOk result (IsCall names.now (text_in shape.now.into) shape.now.name.now (words shape.now.args.items) (text_in shape.now.or_else)) }
     ensures err { IfErr result (InCall names.now (text_in shape.now.into) shape.now.name.now (words shape.now.args.items) (text_in shape.now.or_else)) }
 {
-    let Some(name) = call::call_named(shape.name) else {
+    let Some((_, verb, places, tail)) = call::row_named(shape.name) else {
         return Err(LineFault::UnknownCall);
     };
-    let or_else = else_of(name, shape.or_else)?;
-    let into = into_of(names, name, shape.into)?;
-    let args = meaning::args_of(shape.args.as_slice());
-    calling::call_of(names, name, args, or_else, into)
+    let or_else = else_of(tail, shape.or_else)?;
+    let into = into_of(names, tail, shape.into)?;
+    let given = meaning::args_given(names, places, shape.args.as_slice())?;
+    Ok(given::made(
+        verb,
+        Given {
+            or_else,
+            into,
+            ..given
+        },
+    ))
 }
 
+/// The `set` that these words and numbers mean.
 fn set_of(
     names: &Names,
     target: &[u8],
@@ -120,6 +127,7 @@ fn short_set_of(names: &Names, target: &[u8], left: Value<'_>) -> Result<Line, L
     })
 }
 
+/// The `if` that these words and numbers mean.
 fn if_of(
     names: &Names,
     left: Value<'_>,
@@ -141,6 +149,7 @@ fn if_of(
     })
 }
 
+/// The `pick` that these words and numbers mean.
 fn pick_of(names: &Names, target: &[u8], lo: &[u8], hi: &[u8]) -> Result<Line, LineFault>
     ensures ok { IfOk result (IsLineOf names.now (pick target.now lo.now hi.now)) }
     ensures err { IfErr result (InShape names.now (pick target.now lo.now hi.now)) }
@@ -151,6 +160,7 @@ fn pick_of(names: &Names, target: &[u8], lo: &[u8], hi: &[u8]) -> Result<Line, L
     Ok(Line::Pick { target, lo, hi })
 }
 
+/// The `goto` to this target.
 fn goto_of(names: &Names, target: &[u8]) -> Result<Line, LineFault>
     ensures ok { IfOk result (IsLineOf names.now (jump target.now)) }
     ensures err { IfErr result (InShape names.now (jump target.now)) }
@@ -160,6 +170,7 @@ fn goto_of(names: &Names, target: &[u8]) -> Result<Line, LineFault>
     Ok(Line::Goto { target })
 }
 
+/// The line that the shape means.
 fn line_of(names: &Names, shape: &Shape<'_>) -> Result<Line, LineFault>
     ensures ok { IfOk result (IsLineOf names.now (shape_view shape.now)) }
     ensures err { IfErr result (InShape names.now (shape_view shape.now)) }

@@ -35,6 +35,7 @@ pub(crate) enum Shape<'a> {
     Call(CallShape<'a>),
 }
 
+/// The operator that the sign is, if it is one.
 fn operator_of(sign: Sign) -> Option<Operator>
     ensures { result ≡ operator_of sign }
 {
@@ -46,6 +47,7 @@ fn operator_of(sign: Sign) -> Option<Operator>
     }
 }
 
+/// The comparison that the sign is, if it is one.
 fn comparison_of(sign: Sign) -> Option<Comparison>
     ensures { result ≡ comparison_of sign }
 {
@@ -60,6 +62,7 @@ fn comparison_of(sign: Sign) -> Option<Comparison>
     }
 }
 
+/// The first token if it is a word, and the tokens behind it.
 fn take_word<'a, 't>(tokens: &'t [Token<'a>]) -> Option<(&'a [u8], &'t [Token<'a>])>
     ensures { option_map (λ p. (p.0.now, toks p.1.now)) result ≡ take_word (toks tokens.now) }
 {
@@ -70,6 +73,7 @@ fn take_word<'a, 't>(tokens: &'t [Token<'a>]) -> Option<(&'a [u8], &'t [Token<'a
     }
 }
 
+/// The first token if it is a number, and the tokens behind it.
 fn take_number<'a, 't>(tokens: &'t [Token<'a>]) -> Option<(&'a [u8], &'t [Token<'a>])>
     ensures { option_map (λ p. (p.0.now, toks p.1.now)) result ≡ take_number (toks tokens.now) }
 {
@@ -80,6 +84,7 @@ fn take_number<'a, 't>(tokens: &'t [Token<'a>]) -> Option<(&'a [u8], &'t [Token<
     }
 }
 
+/// The first token if it is a word or a number, and the tokens behind it.
 fn take_value<'a, 't>(tokens: &'t [Token<'a>]) -> Option<(Value<'a>, &'t [Token<'a>])>
     ensures value { option_map (λ p. (word_of p.0, toks p.1.now)) result ≡ take_value (toks tokens.now) }
     ensures shorter { IfSome result (λ p. length p.1.now + 1 ≡ length tokens.now) }
@@ -92,6 +97,7 @@ fn take_value<'a, 't>(tokens: &'t [Token<'a>]) -> Option<(Value<'a>, &'t [Token<
     }
 }
 
+/// The first token if it is a sign, and the tokens behind it.
 fn take_sign<'a, 't>(tokens: &'t [Token<'a>]) -> Option<(Sign, &'t [Token<'a>])>
     ensures value { option_map (λ p. (p.0, toks p.1.now)) result ≡ take_sign (toks tokens.now) }
     ensures shorter { IfSome result (λ p. length p.1.now + 1 ≡ length tokens.now) }
@@ -110,6 +116,7 @@ fn at_end<'a>(shape: Shape<'a>, tokens: &[Token<'a>]) -> Option<Shape<'a>>
     if tokens.is_empty() { Some(shape) } else { None }
 }
 
+/// The shape of a `goto`, from the tokens behind that word.
 #[tactic(auto, unfolding(crate::specs::ShapeReading::jump_at))]
 fn goto_at<'a>(tokens: &[Token<'a>]) -> Option<Shape<'a>>
     ensures { option_map shape_view result ≡ jump_at (toks tokens.now) }
@@ -118,6 +125,7 @@ fn goto_at<'a>(tokens: &[Token<'a>]) -> Option<Shape<'a>>
     at_end(Shape::Goto(target), rest)
 }
 
+/// The shape of a `pick`, from the tokens behind that word.
 #[tactic(auto, unfolding(crate::specs::ShapeReading::pick_at))]
 fn pick_at<'a>(tokens: &[Token<'a>]) -> Option<Shape<'a>>
     ensures { option_map shape_view result ≡ pick_at (toks tokens.now) }
@@ -128,6 +136,7 @@ fn pick_at<'a>(tokens: &[Token<'a>]) -> Option<Shape<'a>>
     at_end(Shape::Pick(target, lo, hi), rest)
 }
 
+/// The shape of an `if`, from the tokens behind that word.
 #[tactic(auto, unfolding(crate::specs::ShapeReading::branch_at))]
 fn if_at<'a>(tokens: &[Token<'a>]) -> Option<Shape<'a>>
     ensures { option_map shape_view result ≡ branch_at (toks tokens.now) }
@@ -145,6 +154,7 @@ fn if_at<'a>(tokens: &[Token<'a>]) -> Option<Shape<'a>>
     }
 }
 
+/// The shape of a `set`, from the tokens behind its first operand.
 #[tactic(auto, unfolding(crate::specs::ShapeReading::set_tail))]
 fn set_tail<'a>(target: &'a [u8], left: Value<'a>, tokens: &[Token<'a>]) -> Option<Shape<'a>>
     ensures { option_map shape_view result ≡ set_tail target.now (word_of left.entry) (toks tokens.now) }
@@ -158,6 +168,7 @@ fn set_tail<'a>(target: &'a [u8], left: Value<'a>, tokens: &[Token<'a>]) -> Opti
     at_end(Shape::SetTo(target, left, operator, right), rest)
 }
 
+/// The shape of a `set`, from the tokens behind that word.
 #[tactic(auto, unfolding(crate::specs::ShapeReading::set_at))]
 fn set_at<'a>(tokens: &[Token<'a>]) -> Option<Shape<'a>>
     ensures { option_map shape_view result ≡ set_at (toks tokens.now) }
@@ -171,6 +182,7 @@ fn set_at<'a>(tokens: &[Token<'a>]) -> Option<Shape<'a>>
     }
 }
 
+/// The shape of a line that begins with this word, if it is a keyword.
 #[tactic(auto, unfolding(crate::specs::ShapeReading::keyword_at))]
 fn keyword_at<'a>(word: &[u8], tokens: &[Token<'a>]) -> Option<Shape<'a>>
     ensures { option_map shape_view result ≡ keyword_at word.now (toks tokens.now) }

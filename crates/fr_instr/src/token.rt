@@ -108,6 +108,7 @@ fn sign_at(first: u8, second: u8) -> Option<(Sign, usize)>
     }
 }
 
+/// The byte at this place, and 0 past the end.
 fn byte_at(text: &[u8], i: usize) -> u8
     ensures value { result ≡ slice_index text.now i }
     ensures inside { 0 < result → i < length text.now }
@@ -148,6 +149,7 @@ fn next_token(text: &[u8]) -> Option<(Token<'_>, &[u8])>
     token_at(rest)
 }
 
+/// Whether the text has spaces only.
 fn is_blank(text: &[u8]) -> bool
     ensures { result ≡ list_all is_space text.now }
 {

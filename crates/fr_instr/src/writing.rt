@@ -1,32 +1,19 @@
 // Writing: the text of a line.
-ghost use Rattle.std.specs.Prelude.{◌≡◌, ◌++◌, ◌∷◌, IfOk, OnOk, map, option_map, string_bytes};
+ghost use Rattle.std.specs.Prelude.{◌≡◌, ◌++◌, IfOk, OnOk, map, option_map, string_bytes};
 ghost use Rattle.std.specs.Fmt.{signed_decimal};
-ghost use Rattle.fr_program.specs.declared.ids.ObjId.{ObjId};
-ghost use Rattle.fr_instr.specs.Calls.{parts_of, action_parts, form_of, time_of, take_form_of, take_time_of};
+ghost use Rattle.fr_instr.specs.Calls.{row_of, verb_of};
 ghost use Rattle.fr_instr.specs.Lines.{IsLine, IsLineIn};
-ghost use Rattle.fr_instr.specs.WrittenLine.{natural, operand_text, word_text, time_word, arg_word, more_text, args_text, into_name, into_text, else_text, operator_text, comparison_text, set_text, if_text, goto_text, pick_text, call_text, line_text, written_line};
+ghost use Rattle.fr_program.specs.declared.instr.Instr.TheVariants as line;
+ghost use Rattle.fr_instr.specs.WrittenLine.{natural, operand_text, word_text, time_word, place_word, more_text, args_text, into_name, into_text, else_text, operator_text, comparison_text, set_text, if_text, goto_text, pick_text, call_text, line_text, written_line};
 
-use crate::call::CallName;
+use crate::call::{self, Place};
+use crate::given::{self, Given};
 use crate::names::Names;
-use fr_program::{
-    Action, BlockTime, Call, Comparison, Form, GiveForm, Instr as Line, ObjId, Operand, Operator,
-    TakeForm, Timing, VarId,
-};
+use fr_program::{BlockTime, Call, Comparison, Instr as Line, Operand, Operator, VarId};
 use itoa::Buffer;
 use std::alloc::{AllocError, Global};
 
-/// What an argument is.
-#[derive(Clone, Copy)]
-pub(crate) enum Arg {
-    Object(ObjId),
-    Operand(Operand),
-    Variable(VarId),
-    Length(u32),
-    Time(BlockTime),
-    Ticks(u32),
-    Null,
-}
-
+/// Appends a number.
 fn push_number(out: &mut String, n: i64) -> Result<(), AllocError>
     ensures { OnOk result (string_bytes out.new ≡ string_bytes out.old ++ signed_decimal n) }
 {
@@ -34,6 +21,7 @@ fn push_number(out: &mut String, n: i64) -> Result<(), AllocError>
     out.push_str(buffer.format(n))
 }
 
+/// Appends a number that has no sign.
 fn push_natural(out: &mut String, n: u64) -> Result<(), AllocError>
     ensures { OnOk result (string_bytes out.new ≡ string_bytes out.old ++ natural n) }
 {
@@ -41,6 +29,7 @@ fn push_natural(out: &mut String, n: u64) -> Result<(), AllocError>
     out.push_str(buffer.format(n))
 }
 
+/// Appends an operand.
 fn push_operand(out: &mut String, names: &Names, operand: Operand) -> Result<(), AllocError>
     ensures { OnOk result (string_bytes out.new ≡ string_bytes out.old ++ operand_text names.now operand) }
 {
@@ -50,6 +39,7 @@ fn push_operand(out: &mut String, names: &Names, operand: Operand) -> Result<(),
     }
 }
 
+/// Appends a block time.
 fn push_block_time(out: &mut String, time: BlockTime) -> Result<(), AllocError>
     ensures { OnOk result (string_bytes out.new ≡ string_bytes out.old ++ word_text (time_word time)) }
 {
@@ -59,182 +49,61 @@ fn push_block_time(out: &mut String, time: BlockTime) -> Result<(), AllocError>
     }
 }
 
-fn push_arg(out: &mut String, names: &Names, arg: Arg) -> Result<(), AllocError>
-    ensures { OnOk result (string_bytes out.new ≡ string_bytes out.old ++ word_text (arg_word names.now arg)) }
+/// What is given in a place of this kind.
+fn push_place(
+    out: &mut String,
+    names: &Names,
+    place: Place,
+    given: &Given,
+) -> Result<(), AllocError>
+    ensures { OnOk result (string_bytes out.new ≡ string_bytes out.old ++ word_text (place_word names.now given.now place)) }
 {
-    match arg {
-        Arg::Object(o) => out.push_str(names.object_text(o)),
-        Arg::Operand(operand) => push_operand(out, names, operand),
-        Arg::Variable(x) => out.push_str(names.variable_text(x)),
-        Arg::Length(n) => push_natural(out, n as u64),
-        Arg::Time(time) => push_block_time(out, time),
-        Arg::Ticks(n) => push_natural(out, n as u64),
-        Arg::Null => out.push_str("NULL"),
+    match place {
+        Place::Object => out.push_str(names.object_text(given.object)),
+        Place::Operand => push_operand(out, names, given.operand),
+        Place::Variable => out.push_str(names.variable_text(given.variable)),
+        Place::Length => push_natural(out, given.bytes as u64),
+        Place::Time => push_block_time(out, given.time),
+        Place::Ticks => push_natural(out, given.ticks as u64),
+        Place::Null => out.push_str("NULL"),
     }
 }
 
-/// Further arguments, each behind a comma and a space.
-fn push_more_args(out: &mut String, names: &Names, args: &[Arg]) -> Result<(), AllocError>
-    ensures { OnOk result (string_bytes out.new ≡ string_bytes out.old ++ more_text (map (arg_word names.now) args.now)) }
+/// What is given in further places, each behind a comma and a space.
+fn push_more_places(
+    out: &mut String,
+    names: &Names,
+    places: &[Place],
+    given: &Given,
+) -> Result<(), AllocError>
+    ensures { OnOk result (string_bytes out.new ≡ string_bytes out.old ++ more_text (map (place_word names.now given.now) places.now)) }
 {
-    for arg in args {
+    for place in places {
         out.push_str(", ")?;
-        push_arg(out, names, *arg)?;
+        push_place(out, names, *place, given)?;
     }
     Ok(())
 }
 
+/// Appends what is given in these places, with commas between.
 #[tactic(auto, using(std::proofs::Common::append_assoc))]
-fn push_args(out: &mut String, names: &Names, args: &[Arg]) -> Result<(), AllocError>
-    ensures { OnOk result (string_bytes out.new ≡ string_bytes out.old ++ args_text (map (arg_word names.now) args.now)) }
+fn push_places(
+    out: &mut String,
+    names: &Names,
+    places: &[Place],
+    given: &Given,
+) -> Result<(), AllocError>
+    ensures { OnOk result (string_bytes out.new ≡ string_bytes out.old ++ args_text (map (place_word names.now given.now) places.now)) }
 {
-    let Some((first, rest)) = args.split_first() else {
+    let Some((first, rest)) = places.split_first() else {
         return Ok(());
     };
-    push_arg(out, names, *first)?;
-    push_more_args(out, names, rest)?;
+    push_place(out, names, *first, given)?;
+    push_more_places(out, names, rest, given)?;
     Ok(())
 }
 
-fn args_with_timing(
-    alloc: Global,
-    object: ObjId,
-    middle: Arg,
-    timing: Timing,
-) -> Result<Vec<Arg>, AllocError>
-    ensures { IfOk result (λ v. v.items ≡ Arg.Object object ∷ middle ∷ time_of timing) }
-{
-    match timing {
-        Timing::Waits(time) => {
-            Ok(Vec::from_array(alloc, [Arg::Object(object), middle, Arg::Time(time)])?)
-        }
-        Timing::FromIsr => Ok(Vec::from_array(alloc, [Arg::Object(object), middle])?),
-    }
-}
-
-fn take_args(alloc: Global, object: ObjId, form: TakeForm) -> Result<Vec<Arg>, AllocError>
-    ensures { IfOk result (λ v. v.items ≡ Arg.Object object ∷ take_time_of form) }
-{
-    match form {
-        TakeForm::Plain(time) => Ok(Vec::from_array(
-            alloc,
-            [Arg::Object(object), Arg::Time(time)],
-        )?),
-        TakeForm::Recursive(time) => {
-            Ok(Vec::from_array(alloc, [Arg::Object(object), Arg::Time(time)])?)
-        }
-        TakeForm::FromIsr => Ok(Vec::from_array(alloc, [Arg::Object(object)])?),
-    }
-}
-
-fn action_args(alloc: Global, object: ObjId, action: Action) -> Result<Vec<Arg>, AllocError>
-    ensures { IfOk result (λ v. v.items ≡ (action_parts object action).args) }
-{
-    match action {
-        Action::QueueSend { value, timing, .. } => {
-            args_with_timing(alloc, object, Arg::Operand(value), timing)
-        }
-        Action::QueueReceive { into, timing, .. } => {
-            args_with_timing(alloc, object, Arg::Variable(into), timing)
-        }
-        Action::Take { form, .. } => take_args(alloc, object, form),
-        Action::Give { .. } => Ok(Vec::from_array(alloc, [Arg::Object(object)])?),
-        Action::Send { length, timing, .. } => {
-            args_with_timing(alloc, object, Arg::Length(length), timing)
-        }
-        Action::Receive { length, timing, .. } => {
-            args_with_timing(alloc, object, Arg::Length(length), timing)
-        }
-        Action::Reset { .. } => Ok(Vec::from_array(alloc, [Arg::Object(object)])?),
-    }
-}
-
-fn call_args(alloc: Global, call: Call) -> Result<Vec<Arg>, AllocError>
-    ensures { IfOk result (λ v. v.items ≡ (parts_of call).args) }
-{
-    match call {
-        Call::Delay(ticks) => Ok(Vec::from_array(alloc, [Arg::Ticks(ticks)])?),
-        Call::DeleteSelf => Ok(Vec::from_array(alloc, [Arg::Null])?),
-        Call::Create { object, .. } => Ok(Vec::from_array(alloc, [Arg::Object(object)])?),
-        Call::Delete { object, .. } => Ok(Vec::from_array(alloc, [Arg::Object(object)])?),
-        Call::On { object, action } => action_args(alloc, object, action),
-        _ => Ok(Vec::new(alloc)),
-    }
-}
-
-fn timing_form(timing: Timing) -> Form
-    ensures { result ≡ form_of timing }
-{
-    match timing {
-        Timing::Waits(_) => Form::Task,
-        Timing::FromIsr => Form::FromIsr,
-    }
-}
-
-fn take_form(form: TakeForm) -> GiveForm
-    ensures { result ≡ take_form_of form }
-{
-    match form {
-        TakeForm::Plain(_) => GiveForm::Plain,
-        TakeForm::Recursive(_) => GiveForm::Recursive,
-        TakeForm::FromIsr => GiveForm::FromIsr,
-    }
-}
-
-fn action_name(action: Action) -> CallName
-    ensures { (o : ObjId) → result ≡ (action_parts o action).name }
-{
-    match action {
-        Action::QueueSend { timing, .. } => CallName::QueueSend(timing_form(timing)),
-        Action::QueueReceive { timing, .. } => CallName::QueueReceive(timing_form(timing)),
-        Action::Take { form, .. } => CallName::Take(take_form(form)),
-        Action::Give { form, .. } => CallName::Give(form),
-        Action::Send { kind, timing, .. } => CallName::Send(kind, timing_form(timing)),
-        Action::Receive { kind, timing, .. } => CallName::Receive(kind, timing_form(timing)),
-        Action::Reset { kind, .. } => CallName::Reset(kind),
-    }
-}
-
-fn call_name(call: Call) -> CallName
-    ensures { result ≡ (parts_of call).name }
-{
-    match call {
-        Call::EnterCritical(form) => CallName::Enter(form),
-        Call::ExitCritical(form) => CallName::Exit(form),
-        Call::SuspendAll => CallName::SuspendAll,
-        Call::ResumeAll => CallName::ResumeAll,
-        Call::Yield => CallName::Yield,
-        Call::Delay(_) => CallName::Delay,
-        Call::DeleteSelf => CallName::DeleteSelf,
-        Call::Create { kind, .. } => CallName::Create(kind),
-        Call::Delete { kind, .. } => CallName::Delete(kind),
-        Call::On { action, .. } => action_name(action),
-    }
-}
-
-fn call_else(call: Call) -> Option<usize>
-    ensures { result ≡ (parts_of call).or_else }
-{
-    match call {
-        Call::Create { or_else, .. } => or_else,
-        Call::On { action, .. } => action.else_target(),
-        _ => None,
-    }
-}
-
-fn call_into(call: Call) -> Option<VarId>
-    ensures { result ≡ (parts_of call).into }
-{
-    match call {
-        Call::On { action, .. } => match action {
-            Action::Send { result, .. } => result,
-            Action::Receive { result, .. } => result,
-            _ => None,
-        },
-        _ => None,
-    }
-}
-
+/// Appends the variable of the result and the sign behind it, if there is one.
 #[tactic(auto, using(std::proofs::Common::append_assoc))]
 fn push_into(out: &mut String, names: &Names, into: Option<VarId>) -> Result<(), AllocError>
     ensures { OnOk result (string_bytes out.new ≡ string_bytes out.old ++ into_text (into_name names.now into)) }
@@ -249,6 +118,7 @@ fn push_into(out: &mut String, names: &Names, into: Option<VarId>) -> Result<(),
     }
 }
 
+/// Appends the target of a failure, if there is one.
 #[tactic(auto, using(std::proofs::Common::append_assoc))]
 fn push_else(out: &mut String, or_else: Option<usize>) -> Result<(), AllocError>
     ensures { OnOk result (string_bytes out.new ≡ string_bytes out.old ++ else_text (option_map natural or_else)) }
@@ -263,20 +133,47 @@ fn push_else(out: &mut String, or_else: Option<usize>) -> Result<(), AllocError>
     }
 }
 
+/// A call with this name and these places.
 #[tactic(auto, using(std::proofs::Common::append_assoc))]
-fn push_call(alloc: Global, out: &mut String, names: &Names, call: Call) -> Result<(), AllocError>
-    ensures { OnOk result (string_bytes out.new ≡ string_bytes out.old ++ call_text names.now call) }
+fn push_named(
+    out: &mut String,
+    names: &Names,
+    name: &str,
+    places: &[Place],
+    given: &Given,
+) -> Result<(), AllocError>
+    ensures { OnOk result (string_bytes out.new ≡ string_bytes out.old ++ call_text names.now name.now places.now given.now) }
 {
-    let args = call_args(alloc, call)?;
-    push_into(out, names, call_into(call))?;
-    out.push_str(call_name(call).text())?;
+    push_into(out, names, given.into)?;
+    out.push_str(name)?;
     out.push_str("(")?;
-    push_args(out, names, args.as_slice())?;
+    push_places(out, names, places, given)?;
     out.push_str(")")?;
-    push_else(out, call_else(call))?;
+    push_else(out, given.or_else)?;
     Ok(())
 }
 
+/// The name and the places in the row of a call, none where it has no row.
+fn name_and_places(call: Call) -> (&'static str, &'static [Place])
+    ensures name { result.0.now ≡ (row_of (verb_of call)).name }
+    ensures places { result.1.now ≡ (row_of (verb_of call)).places }
+{
+    match call::row_for(given::verb_of(call)) {
+        Some((name, _, places, _)) => (name, places),
+        None => ("", &[]),
+    }
+}
+
+/// Appends a call.
+fn push_call(out: &mut String, names: &Names, call: Call) -> Result<(), AllocError>
+    ensures { OnOk result (string_bytes out.new ≡ string_bytes out.old ++ line_text names.now (line.Call call)) }
+{
+    let (name, places) = name_and_places(call);
+    let given = given::given_of(call);
+    push_named(out, names, name, places, &given)
+}
+
+/// The operator with its spaces.
 fn operator_text(operator: Operator) -> &'static str
     ensures { result.now ≡ operator_text operator }
 {
@@ -287,6 +184,7 @@ fn operator_text(operator: Operator) -> &'static str
     }
 }
 
+/// The comparison with its spaces.
 fn comparison_text(comparison: Comparison) -> &'static str
     ensures { result.now ≡ comparison_text comparison }
 {
@@ -300,6 +198,7 @@ fn comparison_text(comparison: Comparison) -> &'static str
     }
 }
 
+/// Appends a `set`.
 #[tactic(auto, using(std::proofs::Common::append_assoc))]
 fn push_set(
     out: &mut String,
@@ -320,6 +219,7 @@ fn push_set(
     Ok(())
 }
 
+/// Appends an `if`.
 #[tactic(auto, using(std::proofs::Common::append_assoc))]
 fn push_if(
     out: &mut String,
@@ -340,6 +240,7 @@ fn push_if(
     Ok(())
 }
 
+/// Appends a `goto`.
 #[tactic(auto, using(std::proofs::Common::append_assoc))]
 fn push_goto(out: &mut String, target: usize) -> Result<(), AllocError>
     ensures { OnOk result (string_bytes out.new ≡ string_bytes out.old ++ goto_text target) }
@@ -349,6 +250,7 @@ fn push_goto(out: &mut String, target: usize) -> Result<(), AllocError>
     Ok(())
 }
 
+/// Appends a `pick`.
 #[tactic(auto, using(std::proofs::Common::append_assoc))]
 fn push_pick(
     out: &mut String,
@@ -368,7 +270,8 @@ fn push_pick(
     Ok(())
 }
 
-fn push_line(alloc: Global, out: &mut String, names: &Names, line: &Line) -> Result<(), AllocError>
+/// Appends a line.
+fn push_line(out: &mut String, names: &Names, line: &Line) -> Result<(), AllocError>
     ensures { OnOk result (string_bytes out.new ≡ string_bytes out.old ++ line_text names.now line.now) }
 {
     match *line {
@@ -386,7 +289,7 @@ fn push_line(alloc: Global, out: &mut String, names: &Names, line: &Line) -> Res
         } => push_if(out, names, left, comparison, right, target),
         Line::Goto { target } => push_goto(out, target),
         Line::Pick { target, lo, hi } => push_pick(out, names, target, lo, hi),
-        Line::Call(call) => push_call(alloc, out, names, call),
+        Line::Call(call) => push_call(out, names, call),
         Line::Return => out.push_str("return"),
     }
 }
@@ -406,6 +309,6 @@ pub fn write_line(alloc: Global, line: &Line, names: &Names) -> Result<String, A
 {
     names.are_names();
     let mut out = String::new(alloc);
-    push_line(alloc, &mut out, names, line)?;
+    push_line(&mut out, names, line)?;
     Ok(out)
 }

@@ -1,9 +1,9 @@
 -- An alternative that bears what a step can change holds after the step.
-use Rattle.std.proofs.Common.{◌≡◌, ◌≢◌, ℕ, length, Option, Some, None, sym, ap, ◌∙◌, subst, arith, ⊎_elim}
+use Rattle.std.proofs.Common.{◌≡◌, ◌≢◌, ℕ, length, Some, sym, ap, ◌∙◌, subst, arith, ⊎_elim}
 use Rattle.std.specs.Prelude.{ℤ, length, ◌↔◌, Bool, IsTrue, IfSome, Contains}
 use Rattle.std.proofs.lemmas.Int.{ints}
 use Rattle.std.proofs.lemmas.Option.{slice_get-get_or}
-use Rattle.fr_program.specs.declared.ids.ObjId.{ObjId}
+use Rattle.std.proofs.lemmas.List.Elements.{All-contains}
 use Rattle.fr_program.specs.declared.ids.Point.{Point}
 use Rattle.fr_program.specs.declared.ids.Side.{Side}
 use Rattle.fr_program.specs.declared.ids.Side.TheVariants.{Before, Inside}
@@ -11,9 +11,10 @@ use Rattle.fr_program.specs.declared.instr.Instr.{Instr}
 use Rattle.fr_program.specs.declared.instr.Instr.TheVariants.{Set, Pick, Call as Calls}
 use Rattle.fr_program.specs.declared.instr.Call.{Call}
 use Rattle.fr_program.specs.declared.instr.Call.TheVariants.{Create, Delete, On}
-use Rattle.fr_program.specs.declared.instr.Action.{Action}
-use Rattle.fr_program.specs.declared.instr.Action.TheVariants.{QueueReceive, Send, Receive, Reset}
-use Rattle.fr_program.specs.declared.instr.BufferKind.{BufferKind}
+use Rattle.fr_program.specs.declared.instr.ObjectCall.{ObjectCall}
+use Rattle.fr_program.specs.declared.instr.Act.{Act}
+use Rattle.fr_program.specs.declared.instr.Act.TheVariants.{Try, Move}
+use Rattle.fr_program.specs.declared.instr.Attempt.TheVariants.{QueueReceive}
 use Rattle.fr_program.specs.declared.instr.Operand.{Operand}
 use Rattle.fr_program.specs.declared.instr.Operand.TheVariants.{Number, Variable}
 use Rattle.fr_program.specs.declared.instr.Operator.{Operator}
@@ -24,7 +25,7 @@ use Rattle.fr_program.specs.declared.range.Range.{Range}
 use Rattle.fr_program.specs.Spans.{IsIn}
 use Rattle.fr_program.specs.Program.{Program}
 use Rattle.fr_program.specs.Lookup.{instr_of, no_object}
-use Rattle.fr_program.specs.Uses.{is_buffer}
+use Rattle.fr_program.specs.Uses.{acts_on}
 use Rattle.fr_program.specs.Fault.{IsFaultless, OperandsFit}
 use Rattle.fr_calls.specs.State.{State, kind_of}
 use Rattle.fr_calls.specs.Rule.{operand_of, result_of}
@@ -40,9 +41,9 @@ use Rattle.fr_notes.specs.Known.{Known, HasKnown, alone, beside, joint_range}
 use Rattle.fr_interfere.specs.declared.effects.Effect.{Effect}
 use Rattle.fr_interfere.specs.declared.effects.Effect.TheVariants.{Life, Gives, Sets}
 use Rattle.fr_interfere.specs.Disturbance.{IsSparedByRow, IsSparedByRows}
-use Rattle.fr_interfere.specs.Effects.{effect_inside, effect_of, IsMade, IsWritten, IsSeen, Bears, AllBear, IsComputable}
+use Rattle.fr_interfere.specs.Effects.{effect_inside, effect_of, IsMade, IsWritten, IsSeen, Bears, EachBears, AllBear, IsComputable}
 use Rattle.fr_interfere.proofs.DisturbanceLaws.{same-actor}
-use Rattle.fr_interfere.proofs.EffectLaws.{row-seen}
+use Rattle.fr_interfere.proofs.EffectLaws.{Suits, row-seen}
 
 -- an operand's number is one that it can be
 can-be : (m : Alternative) (a : ℕ) (S : State) → HoldsOne m a S → (operand : Operand) → CanBeIn (range_of m) operand (operand_of S operand)
@@ -56,7 +57,7 @@ module _ (m n : Alternative) where
 
   bears-value : (effect : Effect) (a : ℕ) (S : State) (x : ℕ) (v : ℤ) → HoldsOne m a S → Bears effect m n → IsWritten effect S x v → Within (range_of n x) v
   bears-value (Gives k lo hi) a S x v holds bears w =
-      subst (λ j. Within (range_of n j) v) w.0 (omega (arith, ints, bears.0, w.1), omega (arith, ints, bears.1, w.2))
+      subst (λ j. Within (range_of n j) v) w.0 (omega (arith, ints, bears.0.0, w.1), omega (arith, ints, bears.1.1, w.2))
   bears-value (Sets k l op r) a S x v holds bears w =
       subst (λ j. Within (range_of n j) v) w.0 (subst (λ u. Within (range_of n k.0) u) (sym w.1) (bears (operand_of S l) (operand_of S r) (can-be m a S holds l) (can-be m a S holds r)))
   bears-value effect a S x v holds bears w = absurd w
@@ -69,13 +70,13 @@ module _ (m n : Alternative) where
     variables = λ x. ⊎_elim (λ same. subst (λ v. Within (range_of n x) v) (sym same) (h.variables x)) (λ written. bears-value effect a S x _ holds bears written) (seen.values x);
   }
 
--- a reset is of a buffer
-reset-suits : (P : Program) → IsFaultless P → (a pc : ℕ) (i : Instr) (q : Point) → instr_of P q ≡ Some i → (o : ObjId) (buffer : BufferKind) (e : Option ℕ) → i ≡ Calls (On o (Reset buffer e)) → IsTrue (is_buffer buffer (kind_of P o.0))
-reset-suits P free a pc i q is o buffer e same =
+-- an application's object call is for its object's kind, and has a timing that its act can have
+call-suits : (P : Program) → IsFaultless P → (q : Point) (i : Instr) → instr_of P q ≡ Some i → (call : ObjectCall) → i ≡ Calls (On call) → Suits P call
+call-suits P free q i is call same =
     let at = is ∙ ap (λ x. Some x) same in
-    let l = (free.names.things q.actor.0 q.pc (Calls (On o (Reset buffer e))) at).1 in
-    let h = free.kinds q.actor.0 q.pc (Calls (On o (Reset buffer e))) at in
-    subst (λ x. IfSome x (λ object. IsTrue (is_buffer buffer object.kind))) (slice_get-get_or P.objects o.0 no_object l) h
+    let l = (free.names.things q.actor.0 q.pc (Calls (On call)) at).1 in
+    let h = free.kinds q.actor.0 q.pc (Calls (On call)) at in
+    (subst (λ x. IfSome x (λ object. IsTrue (acts_on call.act object.kind))) (slice_get-get_or P.objects call.object.0 no_object l) h, (free.limits.code q.actor.0 q.pc (Calls (On call)) at).0)
 
 module _ (P : Program) (free : IsFaultless P) (p q : Point) (ne : p.actor ≢ q.actor) (i : Instr) (is : instr_of P q ≡ Some i) where
   -- after each step the alternative of the actor that doesn't move holds still
@@ -84,7 +85,7 @@ module _ (P : Program) (free : IsFaultless P) (p q : Point) (ne : p.actor ≢ q.
       let at = known.mover.at in
       let row = row-of-step P S q.actor.0 q.pc q.side i way c T at is step in
       let freely = free-to-step P S q.actor.0 q.pc q.side i at is c (T, (way, step)) in
-      let seen = row-seen P S step.mid q.actor.0 p.actor.0 (λ e. ne (same-actor p.actor q.actor e)) known.mover.formed c q.side i way (reset-suits P free q.actor.0 q.pc i q is) freely row in
+      let seen = row-seen P S step.mid q.actor.0 p.actor.0 (λ e. ne (same-actor p.actor q.actor e)) known.mover.formed c q.side i way (call-suits P free q i is) freely row in
       let holds = bears-holds m n (effect_of P q.side i) q.actor.0 p.actor.0 S step.mid bears known.mover.holds known.other.holds seen in
       subst (λ U. HoldsOne n p.actor.0 U) (sym (landing-of-step P S q.actor.0 q.pc q.side i way c T at is step)) (record { critical = holds.critical; suspended = holds.suspended; objects = holds.objects; variables = holds.variables })
 
@@ -93,17 +94,15 @@ module _ (P : Program) (free : IsFaultless P) (p q : Point) (ne : p.actor ≢ q.
   borne-spared note others borne n m one other = (by_way Then, by_way Else)
     where
       by_way : (way : Way) → IsSparedByRow P p n q m way note
-      by_way way can = (n, one, λ S c T known step. bears-left n m way (borne m other n one) S c T known step)
+      by_way way can =
+          let bears = All-contains (λ k. Bears (effect_of P q.side i) m k) note n (All-contains (λ k. EachBears (effect_of P q.side i) k note) others m borne other) one in
+          (n, one, λ S c T known step. bears-left n m way bears S c T known step)
 
 -- what a call gives needs no product
-inside-computable : (kind : Kind) (action : Action) → IsComputable (effect_inside kind action)
-inside-computable (Queue size lo hi) (QueueReceive into timing e) = tt
-inside-computable kind (QueueReceive into timing e) = tt
-inside-computable kind (Send buffer length timing None) = tt
-inside-computable kind (Send buffer length timing (Some x)) = tt
-inside-computable kind (Receive buffer length timing None) = tt
-inside-computable kind (Receive buffer length timing (Some x)) = tt
-inside-computable kind action = tt
+inside-computable : (act : Act) (kind : Kind) → IsComputable (effect_inside act kind)
+inside-computable (Try (QueueReceive into) e) (Queue size lo hi) = tt
+inside-computable (Move end buffer length (Some x)) kind = tt
+inside-computable act kind = tt
 
 -- a `set` of an application has a number among the factors of its product
 pub computable : (P : Program) (side : Side) (i : Instr) → OperandsFit i → IsComputable (effect_of P side i)
@@ -116,7 +115,7 @@ computable P Before (Calls call) fits = by_call call
     by_call (Delete kind o) = tt
     by_call call = tt
 computable P Before (Pick x lo hi) fits = tt
-computable P Inside (Calls (On o action)) fits = inside-computable (kind_of P o.0) action
+computable P Inside (Calls (On call)) fits = inside-computable call.act (kind_of P call.object.0)
 computable P side i fits = tt
 
 -- the exact span of what a `set` computes lies in a range exactly where all of it does

@@ -29,9 +29,9 @@ same-actor a b e = let f : ℕ → ActorId = λ k. record { 0 = k } in ap f e
 -- a row that leaves a change leaves an alternative of the note where that is spared, and only there
 pub left-spares : (P : Program) (k : Known) (n : Alternative) → k.other ≡ Some n → (q : Point) (way : Way) (change : Change) → IsLeft P k q way change → (p : Point) → IsOther P k q p → (note : Note) → NoteFits P note → (SparesSome k n change note ↔ LeavesSome P k q p way p.actor.0 note)
 left-spares P k n e q way change left p other note fits = (
-  λ s can. (s.0, s.1, (exact s.0 s.1).0 s.2),
+  λ (i, m, l, at, spares) can. (m, (i, l, at), (exact m (i, l, at)).0 spares),
   λ leaves.
-      let s = leaves (left.can p other) in (s.0, s.1, (exact s.0 s.1).1 s.2),
+      let s = leaves (left.can p other) in (s.1.0, s.0, s.1.1, s.1.2, (exact s.0 s.1).1 s.2),
 )
   where
     exact : (m : Alternative) → Contains note m → (Spares k n change m ↔ AllLeave P k q p way p.actor.0 m)

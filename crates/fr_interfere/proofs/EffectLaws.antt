@@ -12,22 +12,31 @@ use Rattle.fr_program.specs.declared.instr.Instr.{Instr}
 use Rattle.fr_program.specs.declared.instr.Instr.TheVariants.{Set, If, Goto, Pick, Call as Calls, Return}
 use Rattle.fr_program.specs.declared.instr.Call.{Call}
 use Rattle.fr_program.specs.declared.instr.Call.TheVariants.{EnterCritical, ExitCritical, SuspendAll, ResumeAll, Yield, Delay, DeleteSelf, Create, Delete, On}
-use Rattle.fr_program.specs.declared.instr.Action.{Action}
-use Rattle.fr_program.specs.declared.instr.Action.TheVariants.{QueueSend, QueueReceive, Take, Give, Send, Receive, Reset}
+use Rattle.fr_program.specs.declared.instr.ObjectCall.{ObjectCall}
+use Rattle.fr_program.specs.declared.instr.Act.{Act}
+use Rattle.fr_program.specs.declared.instr.Act.TheVariants.{Try, Move}
+use Rattle.fr_program.specs.declared.instr.Attempt.{Attempt}
+use Rattle.fr_program.specs.declared.instr.Attempt.TheVariants.{QueueSend, QueueReceive, Take, Give, Reset}
+use Rattle.fr_program.specs.declared.instr.End.{End}
+use Rattle.fr_program.specs.declared.instr.End.TheVariants.{Writer, Reader}
+use Rattle.fr_program.specs.declared.instr.Timing.{Timing}
+use Rattle.fr_program.specs.declared.instr.Timing.TheVariants.{Now, FromIsr, Waits}
 use Rattle.fr_program.specs.declared.instr.BufferKind.{BufferKind}
 use Rattle.fr_program.specs.declared.instr.BufferKind.TheVariants.{Stream as OfStream, Message as OfMessage}
-use Rattle.fr_program.specs.declared.instr.GiveForm.{GiveForm}
-use Rattle.fr_program.specs.declared.instr.GiveForm.TheVariants.{Plain as PlainGive, Recursive as RecursiveGive, FromIsr as GiveFromIsr}
+use Rattle.fr_program.specs.declared.instr.SemaphoreForm.{SemaphoreForm}
+use Rattle.fr_program.specs.declared.instr.SemaphoreForm.TheVariants.{Plain as PlainForm, Recursive as RecursiveForm}
 use Rattle.fr_program.specs.declared.parts.Kind.{Kind}
 use Rattle.fr_program.specs.declared.parts.Kind.TheVariants.{Queue, Binary, Counting, Mutex, Recursive, Stream, Message}
 use Rattle.fr_program.specs.Program.{Program}
-use Rattle.fr_program.specs.Uses.{is_buffer}
+use Rattle.fr_program.specs.Uses.{is_buffer, acts_on}
+use Rattle.fr_program.specs.Timings.{suits_timing}
 use Rattle.fr_calls.specs.State.{State, Content, Dead, Values, Count, Free, Held, Bytes, Lengths, CanHave, IsWellFormed, content_of, value_of, depth_in, depth_of, suspension_of, count_held, kind_of, new_content, write, becomes, suspend_at, held_at}
 use Rattle.fr_calls.specs.declared.rules.Rule.TheVariants.{GivenByHolder, IsLive, DepthAboveZero}
 use Rattle.fr_calls.specs.Rule.{GivesUnheld, is_unsuited, operand_of}
 use Rattle.fr_calls.specs.declared.way.Way.{Way}
 use Rattle.fr_calls.specs.declared.way.Way.TheVariants.{Then, Else}
-use Rattle.fr_calls.specs.Step.{Row, Does, Completes, Puts, Moves, IsFree, with_result, transition, taken, given, queued, sent_bytes, received_bytes, sent_message, received_message}
+use Rattle.fr_calls.specs.Step.{Row, Does, Works, Ends, Puts, Moves, IsFree, with_result, transition, taken, given, queued, moved_bytes, sent_message, received_message}
+use Rattle.fr_calls.proofs.Endings.{on}
 use Rattle.fr_calls.proofs.Contents.{set_case}
 use Rattle.fr_notes.specs.declared.claim.Claim.{Claim}
 use Rattle.fr_notes.specs.declared.claim.Claim.TheVariants.{NotHeld, Alive, Gone, HeldTimes}
@@ -35,7 +44,7 @@ use Rattle.fr_notes.specs.Note.{Meets}
 use Rattle.fr_notes.proofs.Shown.{depth_for-other, held_at-other}
 use Rattle.fr_interfere.specs.declared.effects.Effect.{Effect}
 use Rattle.fr_interfere.specs.declared.effects.Effect.TheVariants.{Nothing, Life, Gives, Sets}
-use Rattle.fr_interfere.specs.Effects.{received, moved, effect_inside, effect_of, IsMade, IsWritten, IsSeen}
+use Rattle.fr_interfere.specs.Effects.{effect_inside, effect_of, IsMade, IsWritten, IsSeen}
 
 -- ---- contents
 
@@ -113,18 +122,15 @@ module _ (b : ℕ) where
       (tt, subst (λ c. IsOthers b c) (cond_some (int_lt (pos (length vs)) size) (Values (vs ++ v ∷ [])) new e).1 tt)
   queued-others v kind content new e = cc
 
-  sent-bytes-others : (k : ℕ) (kind : Kind) (content new : Content) → sent_bytes k kind content ≡ Some new → IsOthers b content × IsOthers b new
-  sent-bytes-others k (Stream size) (Bytes n) new e =
+  moved-others : (end : End) (k : ℕ) (kind : Kind) (content new : Content) → moved_bytes end k kind content ≡ Some new → IsOthers b content × IsOthers b new
+  moved-others Writer k (Stream size) (Bytes n) new e =
       (tt, subst (λ c. IsOthers b c) (cond_some (int_le (pos (n + k)) size) (Bytes (n + k)) new e).1 tt)
-  sent-bytes-others k kind content new e = cc
-
-  received-bytes-others : (k : ℕ) (content new : Content) → received_bytes k content ≡ Some new → IsOthers b content × IsOthers b new
-  received-bytes-others k (Bytes n) new e = less (nat_lt n k) e
+  moved-others Reader k kind (Bytes n) new e = less (nat_lt n k) e
     where
       less : (d : Bool) → (if d then None else Some (Bytes (n - k))) ≡ Some new → IsOthers b (Bytes n) × IsOthers b new
       less true f = cc
       less false f = (tt, subst (λ c. IsOthers b c) (same_Some _ _ f) tt)
-  received-bytes-others k content new e = cc
+  moved-others end k kind content new e = cc
 
   sent-message-others : (n : ℕ) (kind : Kind) (content new : Content) → sent_message n kind content ≡ Some new → IsOthers b content × IsOthers b new
   sent-message-others n (Message size) (Lengths ls) new e =
@@ -144,21 +150,28 @@ module _ (b : ℕ) where
   reset-others P OfMessage (Message size) content t can live = absurd can
   reset-others P buffer kind content t can live = cc
 
+-- an object call is for its object's kind, and has a timing that its act can have
+abbrev pub Suits : Program → ObjectCall → Type 0
+Suits P call = IsTrue (acts_on call.act (kind_of P call.object.0)) × IsTrue (suits_timing call.timing call.act)
+
 -- a mutex that is given is the giver's
 module _ (P : Program) (S : State) (a b : ℕ) (ne : b ≢ a) (o : ObjId) (e : Option ℕ) where
   not-others : (holder n : ℕ) → content_of S o.0 ≡ Held holder n → (count_held a (content_of S o.0) ≡ 0 → ⊥) → holder ≢ b
   not-others holder n has held same =
       held (ap (λ c. count_held a c) has ∙ depth_for-other holder n a (λ f. ne (sym same ∙ sym f)))
 
-  giver-holds : (form : GiveForm) (kind : Kind) → kind_of P o.0 ≡ kind → (GivesUnheld P S a (Calls (On o (Give form e))) → ⊥) → IsFalse (is_unsuited kind (Give form e)) → CanHave P kind (content_of S o.0) → (holder n : ℕ) → content_of S o.0 ≡ Held holder n → holder ≢ b
-  giver-holds PlainGive Mutex is gives suits can holder n has = not-others holder n has (λ none. gives (is, none))
-  giver-holds RecursiveGive Recursive is gives suits can holder n has =
+  giver-holds : (timing : Timing) (form : SemaphoreForm) (kind : Kind) → kind_of P o.0 ≡ kind → IsTrue (suits_timing timing (Try (Give form) e)) → (GivesUnheld P S a (Calls (On (on o timing (Give form) e))) → ⊥) → IsFalse (is_unsuited kind timing (Try (Give form) e)) → CanHave P kind (content_of S o.0) → (holder n : ℕ) → content_of S o.0 ≡ Held holder n → holder ≢ b
+  giver-holds Now PlainForm Mutex is timed gives suits can holder n has =
       not-others holder n has (λ none. gives (is, none))
-  giver-holds RecursiveGive Mutex is gives suits can holder n has = cc
-  giver-holds GiveFromIsr Mutex is gives suits can holder n has = cc
-  giver-holds PlainGive Recursive is gives suits can holder n has = cc
-  giver-holds GiveFromIsr Recursive is gives suits can holder n has = cc
-  giver-holds form kind is gives suits can holder n has = absurd (subst (λ c. CanHave P kind c) has can)
+  giver-holds Now RecursiveForm Recursive is timed gives suits can holder n has =
+      not-others holder n has (λ none. gives (is, none))
+  giver-holds Now RecursiveForm Mutex is timed gives suits can holder n has = cc
+  giver-holds Now PlainForm Recursive is timed gives suits can holder n has = cc
+  giver-holds FromIsr form Mutex is timed gives suits can holder n has = cc
+  giver-holds FromIsr form Recursive is timed gives suits can holder n has = cc
+  giver-holds (Waits time) form kind is timed gives suits can holder n has = cc
+  giver-holds timing form kind is timed gives suits can holder n has =
+      absurd (subst (λ c. CanHave P kind c) has can)
 
 -- ---- states
 
@@ -203,14 +216,19 @@ module _ (effect : Effect) (b : ℕ) (S : State) where
   puts-seen o new T others put =
       subst (λ U. IsSeen effect b S U) (sym put.2) (others-seen o put.0 (others put.0 put.1))
 
--- a call's result goes to its variable
-result-seen : (b : ℕ) (S T : State) (result : Option VarId) (n k : ℕ) (c : ℤ) → c ≡ pos k → k ≤ n → IsSeen (moved result n) b S T → IsSeen (moved result n) b S (with_result result c T)
-result-seen b S T None n k c is l seen = seen
-result-seen b S T (Some x) n k c is l seen = write-seen (Gives x (pos 0) (pos n)) b S x.0 c T seen (refl, omega (arith, ints, is), omega (arith, ints, is, l))
+-- the number of the bytes that a call moves goes to its variable
+module _ (b : ℕ) (S : State) (end : End) (buffer : BufferKind) (n : ℕ) (kind : Kind) (k : ℕ) (c : ℤ) (is : c ≡ pos k) (l : k ≤ n) where
+  abbrev moved : Option VarId → Effect
+  moved result = effect_inside (Move end buffer n result) kind
 
-moves-seen : (b : ℕ) (S T : State) (o : ℕ) (new : Option Content) (result : Option VarId) (n k : ℕ) (c : ℤ) → c ≡ pos k → k ≤ n → ((d : Content) → new ≡ Some d → IsOthers b (content_of S o) × IsOthers b d) → Moves o new result c S T → IsSeen (moved result n) b S T
-moves-seen b S T o new result n k c is l others (mid, put, same) =
-    subst (λ U. IsSeen (moved result n) b S U) (sym same) (result-seen b S mid result n k c is l (puts-seen (moved result n) b S o new mid others put))
+  result-seen : (result : Option VarId) (T : State) → IsSeen (moved result) b S T → IsSeen (moved result) b S (with_result result c T)
+  result-seen None T seen = seen
+  result-seen (Some x) T seen =
+      write-seen (moved (Some x)) b S x.0 c T seen (refl, omega (arith, ints, is), omega (arith, ints, is, l))
+
+  moves-seen : (result : Option VarId) (T : State) (o : ℕ) (new : Option Content) → ((d : Content) → new ≡ Some d → IsOthers b (content_of S o) × IsOthers b d) → Moves o new result c S T → IsSeen (moved result) b S T
+  moves-seen result T o new others (mid, put, same) =
+      subst (λ U. IsSeen (moved result) b S U) (sym same) (result-seen result mid (puts-seen (moved result) b S o new mid others put))
 
 -- an actor that is alone in the critical section is the only one with a depth
 none-in : (a b : ℕ) → b ≢ a → (c : Option (ℕ × ℕ)) → IfSome c (λ h. h.0 ≡ a) → depth_in c b ≡ 0
@@ -243,50 +261,46 @@ module _ (P : Program) (S T : State) (a b : ℕ) (ne : b ≢ a) (w : IsWellForme
   does-seen (Create kind o e) Else free h = same-seen (Life o) b S T h.2
   does-seen (Delete kind o) Then free h =
       subst (λ U. IsSeen (Life o) b S U) (sym h.1) (becomes-seen (Life o) b S o.0 Dead (λ claim none m. subst (λ d. Meets b d Dead) (sym (none refl)) refl))
-  does-seen (On o action) Then free h = same-seen Nothing b S T h.1
+  does-seen (On call) Then free h = same-seen Nothing b S T h.1
   does-seen call Else free h = elim h [ ]
 
-  ends-seen : (o : ObjId) (action : Action) (way : Way) → ((buffer : BufferKind) (e : Option ℕ) → action ≡ Reset buffer e → IsTrue (is_buffer buffer (kind_of P o.0))) → IsFree P S a Inside (Calls (On o action)) → Completes P (transition S a c T) o.0 action way → IsSeen (effect_inside (kind_of P o.0) action) b S T
-  ends-seen o (QueueSend value timing e) Then suits free h =
-      puts-seen Nothing b S o.0 _ T (λ new q. queued-others b (operand_of S value) (kind_of P o.0) (content_of S o.0) new q) h.1
-  ends-seen o (QueueSend value timing e) Else suits free h = same-seen Nothing b S T h.2
-  ends-seen o (QueueReceive into timing e) Then suits free h =
-      got (kind_of P o.0) (subst (λ d. CanHave P (kind_of P o.0) d) h.3 (w.contents o.0))
+  works-seen : (o : ObjId) (timing : Timing) (attempt : Attempt) (e : Option ℕ) → Suits P (on o timing attempt e) → IsFree P S a Inside (Calls (On (on o timing attempt e))) → Works P S a o.0 attempt T → IsSeen (effect_inside (Try attempt e) (kind_of P o.0)) b S T
+  works-seen o timing (QueueSend value) e suits free h =
+      puts-seen Nothing b S o.0 _ T (λ new q. queued-others b (operand_of S value) (kind_of P o.0) (content_of S o.0) new q) h
+  works-seen o timing (QueueReceive into) e suits free h =
+      got (kind_of P o.0) (subst (λ d. CanHave P (kind_of P o.0) d) h.2 (w.contents o.0))
     where
-      got : (kind : Kind) → CanHave P kind (Values (h.1 ∷ h.2)) → IsSeen (received into kind) b S T
+      got : (kind : Kind) → CanHave P kind (Values (h.0 ∷ h.1)) → IsSeen (effect_inside (Try (QueueReceive into) e) kind) b S T
       got (Queue size lo hi) can =
-          let first = can.1 0 h.1 (omega arith) in
-          subst (λ U. IsSeen (Gives into lo hi) b S U) (sym h.4) (write-seen (Gives into lo hi) b S into.0 h.1 _ (others-seen (Gives into lo hi) b S o.0 (Values h.2) (subst (λ d. IsOthers b d) (sym h.3) tt, tt)) (refl, first.0, first.1))
+          let first = can.1 0 h.0 (omega arith) in
+          subst (λ U. IsSeen (Gives into lo hi) b S U) (sym h.3) (write-seen (Gives into lo hi) b S into.0 h.0 _ (others-seen (Gives into lo hi) b S o.0 (Values h.1) (subst (λ d. IsOthers b d) (sym h.2) tt, tt)) (refl, first.0, first.1))
       got kind can = absurd can
-  ends-seen o (QueueReceive into timing e) Else suits free h = same-seen (received into (kind_of P o.0)) b S T h.2
-  ends-seen o (Take form e) Then suits free h =
-      puts-seen Nothing b S o.0 _ T (λ new q. taken-others a b ne (kind_of P o.0) (content_of S o.0) new q) h.1
-  ends-seen o (Take form e) Else suits free h = same-seen Nothing b S T h.2
-  ends-seen o (Give form e) Then suits free h =
-      let own = giver-holds P S a b ne o e form (kind_of P o.0) refl (free.0 GivenByHolder refl) free.1 (w.contents o.0) in
-      puts-seen Nothing b S o.0 _ T (λ new q. given-others b (kind_of P o.0) (content_of S o.0) new own q) h.1
-  ends-seen o (Give form e) Else suits free h = same-seen Nothing b S T h.2
-  ends-seen o (Send OfStream n timing result) Then suits free h =
-      moves-seen b S T o.0 _ result n h.0 c h.1 h.2 (λ new q. sent-bytes-others b h.0 (kind_of P o.0) (content_of S o.0) new q) h.3
-  ends-seen o (Send OfStream n timing result) Else suits free h = elim h [ ]
-  ends-seen o (Receive OfStream n timing result) Then suits free h =
-      moves-seen b S T o.0 _ result n h.0 c h.1 h.2 (λ new q. received-bytes-others b h.0 (content_of S o.0) new q) h.3
-  ends-seen o (Receive OfStream n timing result) Else suits free h = elim h [ ]
-  ends-seen o (Send OfMessage n timing result) Then suits free h =
-      moves-seen b S T o.0 _ result n n c h.0 (omega arith) (λ new q. sent-message-others b n (kind_of P o.0) (content_of S o.0) new q) h.1
-  ends-seen o (Send OfMessage n timing result) Else suits free h =
-      subst (λ U. IsSeen (moved result n) b S U) (sym h.1) (result-seen b S S result n 0 c h.0 (omega arith) (same-seen (moved result n) b S S refl))
-  ends-seen o (Receive OfMessage n timing result) Then suits free h =
-      moves-seen b S T o.0 _ result n h.0 c h.1 h.2 (λ new q. received-message-others b h.0 (content_of S o.0) new q) h.3
-  ends-seen o (Receive OfMessage n timing result) Else suits free h =
-      subst (λ U. IsSeen (moved result n) b S U) (sym h.1) (result-seen b S S result n 0 c h.0 (omega arith) (same-seen (moved result n) b S S refl))
-  ends-seen o (Reset buffer e) Then suits free h =
+  works-seen o timing (Take form) e suits free h =
+      puts-seen Nothing b S o.0 _ T (λ new q. taken-others a b ne (kind_of P o.0) (content_of S o.0) new q) h
+  works-seen o timing (Give form) e suits free h =
+      let own = giver-holds P S a b ne o e timing form (kind_of P o.0) refl suits.1 (free.0 GivenByHolder refl) free.1 (w.contents o.0) in
+      puts-seen Nothing b S o.0 _ T (λ new q. given-others b (kind_of P o.0) (content_of S o.0) new own q) h
+  works-seen o timing (Reset buffer) e suits free h =
       let live : content_of S o.0 ≢ Dead = λ dead. free.0 IsLive refl (o.0, refl, dead) in
-      subst (λ U. IsSeen Nothing b S U) (sym h.1) (others-seen Nothing b S o.0 (new_content (kind_of P o.0)) (reset-others b P buffer (kind_of P o.0) (content_of S o.0) (suits buffer e refl) (w.contents o.0) live, new-others b (kind_of P o.0)))
-  ends-seen o (Reset buffer e) Else suits free h = same-seen Nothing b S T h.1
+      subst (λ U. IsSeen Nothing b S U) (sym h) (others-seen Nothing b S o.0 (new_content (kind_of P o.0)) (reset-others b P buffer (kind_of P o.0) (content_of S o.0) suits.0 (w.contents o.0) live, new-others b (kind_of P o.0)))
 
-  -- what a row changes is the effect of its instruction; a reset is of a buffer
-  pub row-seen : (side : Side) (i : Instr) (way : Way) → ((o : ObjId) (buffer : BufferKind) (e : Option ℕ) → i ≡ Calls (On o (Reset buffer e)) → IsTrue (is_buffer buffer (kind_of P o.0))) → IsFree P S a side i → Row P (transition S a c T) side i way → IsSeen (effect_of P side i) b S T
+  ends-seen : (o : ObjId) (timing : Timing) (act : Act) (way : Way) → Suits P (record { object = o; timing = timing; act = act }) → IsFree P S a Inside (Calls (On (record { object = o; timing = timing; act = act }))) → Ends P (transition S a c T) (record { object = o; timing = timing; act = act }) way → IsSeen (effect_inside act (kind_of P o.0)) b S T
+  ends-seen o timing (Try attempt e) Then suits free h = works-seen o timing attempt e suits free h.1
+  ends-seen o timing (Try attempt e) Else suits free h =
+      same-seen (effect_inside (Try attempt e) (kind_of P o.0)) b S T h.2
+  ends-seen o timing (Move end OfStream n result) Then suits free h =
+      moves-seen b S end OfStream n (kind_of P o.0) h.0 c h.1 h.2 result T o.0 _ (λ new q. moved-others b end h.0 (kind_of P o.0) (content_of S o.0) new q) h.3
+  ends-seen o timing (Move end OfStream n result) Else suits free h = elim h [ ]
+  ends-seen o timing (Move Writer OfMessage n result) Then suits free h =
+      moves-seen b S Writer OfMessage n (kind_of P o.0) n c h.0 (omega arith) result T o.0 _ (λ new q. sent-message-others b n (kind_of P o.0) (content_of S o.0) new q) h.1
+  ends-seen o timing (Move Reader OfMessage n result) Then suits free h =
+      moves-seen b S Reader OfMessage n (kind_of P o.0) h.0 c h.1 h.2 result T o.0 _ (λ new q. received-message-others b h.0 (content_of S o.0) new q) h.3
+  ends-seen o timing (Move end OfMessage n result) Else suits free h =
+      let nothing = same-seen (effect_inside (Move end OfMessage n result) (kind_of P o.0)) b S S refl in
+      subst (λ U. IsSeen (effect_inside (Move end OfMessage n result) (kind_of P o.0)) b S U) (sym h.1) (result-seen b S end OfMessage n (kind_of P o.0) 0 c h.0 (omega arith) result S nothing)
+
+  -- what a row changes is the effect of its instruction
+  pub row-seen : (side : Side) (i : Instr) (way : Way) → ((call : ObjectCall) → i ≡ Calls (On call) → Suits P call) → IsFree P S a side i → Row P (transition S a c T) side i way → IsSeen (effect_of P side i) b S T
   row-seen Before (Set x l op r) Then suits free h =
       subst (λ U. IsSeen (Sets x l op r) b S U) (sym h.1) (write-seen (Sets x l op r) b S x.0 _ S (same-seen (Sets x l op r) b S S refl) (refl, refl))
   row-seen Before (If l comparison r target) Then suits free h = same-seen Nothing b S T h.2
@@ -296,6 +310,6 @@ module _ (P : Program) (S T : State) (a b : ℕ) (ne : b ≢ a) (w : IsWellForme
       subst (λ U. IsSeen (Gives x lo hi) b S U) (sym h.2) (write-seen (Gives x lo hi) b S x.0 c S (same-seen (Gives x lo hi) b S S refl) (refl, h.0, h.1))
   row-seen Before Return Then suits free h = same-seen Nothing b S T h.1
   row-seen Before (Calls call) way suits free h = does-seen call way free h
-  row-seen Inside (Calls (On o action)) way suits free h =
-      ends-seen o action way (λ buffer e is. suits o buffer e (ap (λ x. Calls (On o x)) is)) free h
+  row-seen Inside (Calls (On call)) way suits free h =
+      ends-seen call.object call.timing call.act way (suits call refl) free h
   row-seen side i way suits free h = elim h [ ]

@@ -10,15 +10,18 @@ use Rattle.fr_program.specs.declared.instr.Instr.{Instr}
 use Rattle.fr_program.specs.declared.instr.Instr.TheVariants.{Set, Pick, Call as Calls}
 use Rattle.fr_program.specs.declared.instr.Call.{Call}
 use Rattle.fr_program.specs.declared.instr.Call.TheVariants.{Create, Delete, On}
-use Rattle.fr_program.specs.declared.instr.Action.{Action}
-use Rattle.fr_program.specs.declared.instr.Action.TheVariants.{QueueReceive, Send, Receive}
+use Rattle.fr_program.specs.declared.instr.Act.{Act}
+use Rattle.fr_program.specs.declared.instr.Act.TheVariants.{Try, Move}
+use Rattle.fr_program.specs.declared.instr.Attempt.TheVariants.{QueueReceive}
+use Rattle.fr_program.specs.declared.instr.Timing.{Timing}
 use Rattle.fr_program.specs.declared.parts.Kind.{Kind}
 use Rattle.fr_program.specs.declared.changers.Changed.{Changed}
 use Rattle.fr_program.specs.declared.changers.Changed.TheVariants.{Anything}
 use Rattle.fr_program.specs.Program.{Program}
 use Rattle.fr_program.specs.Lookup.{IsPoint, instr_of}
 use Rattle.fr_program.specs.Points.{point_number}
-use Rattle.fr_program.specs.Changers.{result_of_end, changes, changes_at, is_changer, number_at, life_at}
+use Rattle.fr_program.specs.Uses.{written_by}
+use Rattle.fr_program.specs.Changers.{changes, changes_at, is_changer, number_at, life_at}
 use Rattle.fr_program.specs.Fault.{IsFaultless, NamesThings}
 use Rattle.fr_notes.specs.Note.{Note}
 use Rattle.fr_notes.specs.Noted.{note_at}
@@ -31,13 +34,10 @@ use Rattle.fr_interfere.specs.Undisturbed.{Undisturbed}
 use Rattle.fr_interfere.proofs.UnsaidLaws.{borne-undisturbed, changer-instr}
 
 -- what the steps of other points change is nothing
-still-end : (kind : Kind) (action : Action) → is_some (result_of_end action) ≡ false → effect_inside kind action ≡ Nothing
-still-end kind (QueueReceive into timing e) still = cc
-still-end kind (Send buffer length timing None) still = refl
-still-end kind (Send buffer length timing (Some x)) still = cc
-still-end kind (Receive buffer length timing None) still = refl
-still-end kind (Receive buffer length timing (Some x)) still = cc
-still-end kind action still = refl
+still-end : (act : Act) (kind : Kind) → is_some (written_by act) ≡ false → effect_inside act kind ≡ Nothing
+still-end (Try (QueueReceive into) e) kind still = cc
+still-end (Move end buffer length (Some x)) kind still = cc
+still-end act kind still = refl
 
 or-false : (a : Bool) → a || false ≡ false → a ≡ false
 or-false true e = cc
@@ -52,7 +52,7 @@ still-effect P Before (Calls call) still = by_call call still
     by_call (Create kind o e) still = cc
     by_call (Delete kind o) still = cc
     by_call call still = refl
-still-effect P Inside (Calls (On o action)) still = still-end (kind_of P o.0) action (or-false (is_some (result_of_end action)) still)
+still-effect P Inside (Calls (On call)) still = still-end call.act (kind_of P call.object.0) (or-false (is_some (written_by call.act)) still)
 still-effect P Before i still = refl
 still-effect P Inside i still = refl
 
@@ -60,7 +60,7 @@ still-effect P Inside i still = refl
 still-point : (P : Program) → IsFaultless P → (notes : List Note) (p q : Point) → IsPoint P q → is_changer P Anything q ≡ false → Undisturbed P notes p q
 still-point P free notes p q at still =
     let none = still-effect P q.side at.0 (subst (λ x. changes_at Anything q.side x ≡ false) at.1 still) in
-    let borne : AllBear (effect_of P q.side at.0) (note_at P notes q) (note_at P notes p) = subst (λ e. AllBear e (note_at P notes q) (note_at P notes p)) (sym none) (λ m k n l. tt) in
+    let borne : AllBear (effect_of P q.side at.0) (note_at P notes q) (note_at P notes p) = subst (λ e. AllBear e (note_at P notes q) (note_at P notes p)) (sym none) (λ k m l j n h. tt) in
     borne-undisturbed P free notes p q at.0 at.1 borne
 
 module _ (P : Program) (notes : List Note) (p : Point) where
@@ -113,20 +113,17 @@ abbrev ChangesOne : Program → Side → Instr → Type 0
 ChangesOne P side i =
     ((k : ℕ) × (k < length P.variables) × (changes (number_at k) side i ≡ true)) ⊎ ((k : ℕ) × (k < length P.objects) × (changes (life_at k) side i ≡ true))
 
-one-at-end : (P : Program) (o : ObjId) (action : Action) → NamesThings P (Calls (On o action)) → changes Anything Inside (Calls (On o action)) ≡ true → ChangesOne P Inside (Calls (On o action))
-one-at-end P o (QueueReceive into timing e) names can = inl (into.0, names.0 0 into (omega arith), same-number into.0)
-one-at-end P o (Send buffer length timing None) names can = cc
-one-at-end P o (Send buffer length timing (Some x)) names can = inl (x.0, names.0 0 x (omega arith), same-number x.0)
-one-at-end P o (Receive buffer length timing None) names can = cc
-one-at-end P o (Receive buffer length timing (Some x)) names can = inl (x.0, names.0 0 x (omega arith), same-number x.0)
-one-at-end P o action names can = cc
+one-at-end : (P : Program) (o : ObjId) (timing : Timing) (act : Act) → NamesThings P (Calls (On (record { object = o; timing = timing; act = act }))) → changes Anything Inside (Calls (On (record { object = o; timing = timing; act = act }))) ≡ true → ChangesOne P Inside (Calls (On (record { object = o; timing = timing; act = act })))
+one-at-end P o timing (Try (QueueReceive into) e) names can = inl (into.0, names.0 0 into (omega arith), same-number into.0)
+one-at-end P o timing (Move end buffer length (Some x)) names can = inl (x.0, names.0 0 x (omega arith), same-number x.0)
+one-at-end P o timing act names can = cc
 
 one-changed : (P : Program) (side : Side) (i : Instr) → NamesThings P i → changes Anything side i ≡ true → ChangesOne P side i
 one-changed P Before (Set x l op r) names can = inl (x.0, names.0 0 x (omega arith), same-number x.0)
 one-changed P Before (Pick x lo hi) names can = inl (x.0, names.0 0 x (omega arith), same-number x.0)
 one-changed P Before (Calls (Create kind o e)) names can = inr (o.0, names.1, same-number o.0)
 one-changed P Before (Calls (Delete kind o)) names can = inr (o.0, names.1, same-number o.0)
-one-changed P Inside (Calls (On o action)) names can = one-at-end P o action names can
+one-changed P Inside (Calls (On call)) names can = one-at-end P call.object call.timing call.act names can
 one-changed P side i names can = cc
 
 module _ (P : Program) (free : IsFaultless P) (notes : List Note) (p : Point) where

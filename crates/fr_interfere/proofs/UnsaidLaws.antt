@@ -1,6 +1,6 @@
 -- A step disturbs no note that doesn't speak of what it changes, where it leaves each variable in its declared range.
-use Rattle.std.proofs.Common.{◌≡◌, ℕ, Some, None, true, sym, ◌∙◌, subst, arith}
-use Rattle.std.specs.Prelude.{ℤ, ◌↔◌, Bool, List, IsTrue, Contains, length, nat_eq, slice_get}
+use Rattle.std.proofs.Common.{◌≡◌, ℕ, Some, true, sym, ◌∙◌, subst, arith}
+use Rattle.std.specs.Prelude.{ℤ, ◌<◌, ◌↔◌, Bool, List, IsTrue, All, length, nat_eq, slice_get}
 use Rattle.std.proofs.lemmas.Int.{ints}
 use Rattle.std.proofs.lemmas.Option.{same_Some}
 use Rattle.fr_program.specs.declared.ids.ObjId.{ObjId}
@@ -12,8 +12,9 @@ use Rattle.fr_program.specs.declared.instr.Instr.{Instr}
 use Rattle.fr_program.specs.declared.instr.Instr.TheVariants.{Set, Pick, Call as Calls}
 use Rattle.fr_program.specs.declared.instr.Call.{Call}
 use Rattle.fr_program.specs.declared.instr.Call.TheVariants.{Create, Delete, On}
-use Rattle.fr_program.specs.declared.instr.Action.{Action}
-use Rattle.fr_program.specs.declared.instr.Action.TheVariants.{QueueReceive, Send, Receive}
+use Rattle.fr_program.specs.declared.instr.Act.{Act}
+use Rattle.fr_program.specs.declared.instr.Act.TheVariants.{Try, Move}
+use Rattle.fr_program.specs.declared.instr.Attempt.TheVariants.{QueueReceive}
 use Rattle.fr_program.specs.declared.parts.Kind.{Kind}
 use Rattle.fr_program.specs.declared.parts.Kind.TheVariants.{Queue}
 use Rattle.fr_program.specs.declared.changers.Changed.{Changed}
@@ -21,7 +22,8 @@ use Rattle.fr_program.specs.declared.changers.Changed.TheVariants.{Anything, Num
 use Rattle.fr_program.specs.Program.{Program}
 use Rattle.fr_program.specs.Lookup.{IsPoint, instr_of}
 use Rattle.fr_program.specs.Points.{points_of}
-use Rattle.fr_program.specs.Changers.{result_of_end, written, made, is_variable, is_object, changes, changes_at, is_changer}
+use Rattle.fr_program.specs.Uses.{written_by, act_variables}
+use Rattle.fr_program.specs.Changers.{written, made, is_variable, is_object, changes, changes_at, is_changer}
 use Rattle.fr_program.specs.Fault.{IsFaultless, NamesThings}
 use Rattle.fr_calls.specs.State.{kind_of}
 use Rattle.fr_notes.specs.Note.{Alternative, Note, range_of}
@@ -49,17 +51,14 @@ module _ (P : Program) (m n : Alternative) (x y : VarId) (one : nat_eq y.0 x.0 �
   there = subst (λ k. IsPart (declared_of P k) (range_of n k)) (sym same) unsaid
 
   given : (lo hi : ℤ) → Stays P (Gives y lo hi) m → Bears (Gives y lo hi) m n
-  given lo hi stays = (omega (arith, ints, stays.0, there.0), omega (arith, ints, stays.1, there.1))
+  given lo hi stays = ((omega (arith, ints, stays.0.0, there.0), omega (arith, ints, stays.0.1, there.1)), (omega (arith, ints, stays.1.0, there.0), omega (arith, ints, stays.1.1, there.1)))
 
 module _ (P : Program) (m n : Alternative) where
-  unsaid-end : (x : VarId) → IsPart (declared_of P x.0) (range_of n x.0) → (kind : Kind) (action : Action) → is_variable (result_of_end action) x ≡ true → Stays P (effect_inside kind action) m → Bears (effect_inside kind action) m n
-  unsaid-end x unsaid (Queue size lo hi) (QueueReceive into timing e) one stays = given P m n x into one unsaid lo hi stays
-  unsaid-end x unsaid kind (QueueReceive into timing e) one stays = tt
-  unsaid-end x unsaid kind (Send buffer length timing None) one stays = tt
-  unsaid-end x unsaid kind (Send buffer length timing (Some y)) one stays = given P m n x y one unsaid _ _ stays
-  unsaid-end x unsaid kind (Receive buffer length timing None) one stays = tt
-  unsaid-end x unsaid kind (Receive buffer length timing (Some y)) one stays = given P m n x y one unsaid _ _ stays
-  unsaid-end x unsaid kind action one stays = cc
+  unsaid-end : (x : VarId) → IsPart (declared_of P x.0) (range_of n x.0) → (act : Act) (kind : Kind) → is_variable (written_by act) x ≡ true → Stays P (effect_inside act kind) m → Bears (effect_inside act kind) m n
+  unsaid-end x unsaid (Try (QueueReceive into) e) (Queue size lo hi) one stays = given P m n x into one unsaid lo hi stays
+  unsaid-end x unsaid (Try (QueueReceive into) e) kind one stays = tt
+  unsaid-end x unsaid (Move end buffer length (Some y)) kind one stays = given P m n x y one unsaid _ _ stays
+  unsaid-end x unsaid act kind one stays = cc
 
   unsaid-number : (x : VarId) → IsPart (declared_of P x.0) (range_of n x.0) → (side : Side) (i : Instr) → is_variable (written side i) x ≡ true → Stays P (effect_of P side i) m → Bears (effect_of P side i) m n
   unsaid-number x unsaid Before (Set y l op r) one stays = λ u v left right.
@@ -67,7 +66,7 @@ module _ (P : Program) (m n : Alternative) where
       let whole = there P m n x y one unsaid in
       (omega (arith, ints, inside.0, whole.0), omega (arith, ints, inside.1, whole.1))
   unsaid-number x unsaid Before (Pick y lo hi) one stays = given P m n x y one unsaid lo hi stays
-  unsaid-number x unsaid Inside (Calls (On o action)) one stays = unsaid-end x unsaid (kind_of P o.0) action one stays
+  unsaid-number x unsaid Inside (Calls (On call)) one stays = unsaid-end x unsaid call.act (kind_of P call.object.0) one stays
   unsaid-number x unsaid side i one stays = cc
 
   unsaid-life : (o : ObjId) → IsUnsaid P (Life o) n → (side : Side) (i : Instr) → is_object (made side i) o ≡ true → Bears (effect_of P side i) m n
@@ -90,20 +89,16 @@ changer-instr P changed q i is can = subst (λ x. changes_at changed q.side x �
 
 -- so where a note doesn't speak of it, no such point disturbs the note
 pub unsaid-undisturbed : (P : Program) → IsFaultless P → (notes : List Note) → AllStay P notes → (p q : Point) → IsPoint P q → (changed : Changed) → is_changer P changed q ≡ true →
-    ((n : Alternative) → Contains (note_at P notes p) n → IsUnsaid P changed n) → Undisturbed P notes p q
+    All (λ n. IsUnsaid P changed n) (note_at P notes p) → Undisturbed P notes p q
 unsaid-undisturbed P free notes stay p q at changed can unsaid =
-    borne-undisturbed P free notes p q at.0 at.1 (λ m other n one.
-    unsaid-bears P m n changed (unsaid n one) q.side at.0 (changer-instr P changed q at.0 at.1 can) (stay q at at.0 at.1 m other))
+    borne-undisturbed P free notes p q at.0 at.1 (λ k m l j n h.
+    unsaid-bears P _ _ changed (unsaid j n h) q.side at.0 (changer-instr P changed q at.0 at.1 can) (stay q at at.0 at.1 k m l))
 
 -- the variable that an application's step writes is there
-inside-target : (P : Program) (kind : Kind) (o : ObjId) (action : Action) → NamesThings P (Calls (On o action)) → HasTarget P (effect_inside kind action)
-inside-target P (Queue size lo hi) o (QueueReceive into timing e) names = names.0 0 into (omega arith)
-inside-target P kind o (QueueReceive into timing e) names = tt
-inside-target P kind o (Send buffer length timing None) names = tt
-inside-target P kind o (Send buffer length timing (Some x)) names = names.0 0 x (omega arith)
-inside-target P kind o (Receive buffer length timing None) names = tt
-inside-target P kind o (Receive buffer length timing (Some x)) names = names.0 0 x (omega arith)
-inside-target P kind o action names = tt
+inside-target : (P : Program) (act : Act) (kind : Kind) → All (λ x. x.0 < length P.variables) (act_variables act) → HasTarget P (effect_inside act kind)
+inside-target P (Try (QueueReceive into) e) (Queue size lo hi) names = names 0 into (omega arith)
+inside-target P (Move end buffer n (Some x)) kind names = names 0 x (omega arith)
+inside-target P act kind names = tt
 
 pub has-target : (P : Program) (side : Side) (i : Instr) → NamesThings P i → HasTarget P (effect_of P side i)
 has-target P Before (Set x l op r) names = names.0 0 x (omega arith)
@@ -114,14 +109,14 @@ has-target P Before (Calls call) names = by_call call
     by_call (Create kind o e) = tt
     by_call (Delete kind o) = tt
     by_call call = tt
-has-target P Inside (Calls (On o action)) names = inside-target P (kind_of P o.0) o action names
+has-target P Inside (Calls (On call)) names = inside-target P call.act (kind_of P call.object.0) names.0
 has-target P Before i names = tt
 has-target P Inside i names = tt
 
 -- what the code tells of the mover's note says whether the steps from its point stay in declared ranges
 pub stays-told : (P : Program) (notes : List Note) (k : ℕ) (r q : Point) → slice_get (points_of P) k ≡ Some r → slice_get (points_of P) k ≡ Some q → (i : Instr) → instr_of P r ≡ Some i → (effect : Effect) → effect ≡ effect_of P r.side i →
-    (others : Note) → others ≡ note_at P notes r → (result : Bool) → (IsTrue result ↔ ((m : Alternative) → Contains others m → Stays P effect m)) → (IsTrue result ↔ StaysAt P notes q)
+    (others : Note) → others ≡ note_at P notes r → (result : Bool) → (IsTrue result ↔ All (λ m. Stays P effect m) others) → (IsTrue result ↔ StaysAt P notes q)
 stays-told P notes k r q here there i at effect is others are result both = subst (λ x. IsTrue result ↔ StaysAt P notes x) (same-point P k r q here there) (
-  λ t j its m one. subst (λ y. Stays P (effect_of P r.side y) m) (same_Some i j (sym at ∙ its)) (subst (λ e. Stays P e m) is (both.0 t m (subst (λ (n : Note). Contains n m) (sym are) one))),
-  λ all. both.1 (λ m one. subst (λ e. Stays P e m) (sym is) (all i at m (subst (λ (n : Note). Contains n m) are one))),
+  λ t j its. subst (λ y. All (λ m. Stays P (effect_of P r.side y) m) (note_at P notes r)) (same_Some i j (sym at ∙ its)) (subst (λ e. All (λ m. Stays P e m) (note_at P notes r)) is (subst (λ (n : Note). All (λ m. Stays P effect m) n) are (both.0 t))),
+  λ all. both.1 (subst (λ (n : Note). All (λ m. Stays P effect m) n) (sym are) (subst (λ e. All (λ m. Stays P e m) (note_at P notes r)) (sym is) (all i at))),
 )

@@ -8,7 +8,7 @@
 -- | IsSparedByRow   | of two alternatives: one of the note's is left by every step by this row           |
 -- | IsSparedByRows  | the same, of both rows                                                             |
 -- | IsSpoiler       | the least point that disturbs a point's note, or none                              |
-use Rattle.std.specs.Prelude.{◌≡◌, ◌<◌, ℕ, List, Option, None, Some, slice_index_or, Contains}
+use Rattle.std.specs.Prelude.{◌≡◌, ◌<◌, ℕ, List, Option, None, Some, slice_index_or, Any}
 use Rattle.fr_program.specs.declared.ids.Point.{Point}
 use Rattle.fr_program.specs.Program.{Program}
 use Rattle.fr_program.specs.Lookup.{IsPoint}
@@ -26,7 +26,7 @@ IsAmong note bound n = (k : ℕ) × (k < bound) × (slice_index_or note k n ≡ 
 
 -- where the other actor had the alternative n: one of the note's holds of it after each step that makes this change
 abbrev pub SparesSome : Known → Alternative → Change → Note → Type 0
-SparesSome k n change note = (m : Alternative) × Contains note m × Spares k n change m
+SparesSome k n change note = Any (λ m. Spares k n change m) note
 
 -- where p's actor has the alternative n and q's the alternative m: one alternative of the note is left by every step
 -- from q by this row

@@ -1,6 +1,6 @@
 -- What a step can change of what the notes of other actors say. `AllStay` of `Staying`, which public contracts use, is
--- said by `Stays` and `effect_of`; so these two, and the words that they use (`received`, `moved`, `effect_inside`,
--- `declared_of`), are for public contracts. The other words are for private clauses.
+-- said by `Stays` and `effect_of`; so these two, and the words that they use (`effect_inside`, `declared_of`), are for
+-- public contracts. The other words are for private clauses.
 --
 -- | word                    | meaning                                                                          |
 -- |-------------------------|----------------------------------------------------------------------------------|
@@ -14,15 +14,15 @@
 -- | IsUnsaid                | an alternative says of a variable or of an object no more than each one does     |
 -- | Bears, EachBears,       | an alternative holds after an effect where it held before; each of a note's      |
 -- |   AllBear               | does; each does whichever alternative the mover has                              |
-use Rattle.std.specs.Prelude.{◌≡◌, ◌<◌, ◌≤ℤ◌, ◌⊎◌, ℕ, ℤ, pos, Option, None, Some, Contains, length}
-use Rattle.fr_program.specs.declared.ids.VarId.{VarId}
+use Rattle.std.specs.Prelude.{◌≡◌, ◌<◌, ◌≤ℤ◌, ◌⊎◌, ℕ, ℤ, pos, Some, All, length}
 use Rattle.fr_program.specs.declared.ids.Side.{Side}
 use Rattle.fr_program.specs.declared.ids.Side.TheVariants.{Before, Inside}
 use Rattle.fr_program.specs.declared.instr.Instr.{Instr}
 use Rattle.fr_program.specs.declared.instr.Instr.TheVariants.{Set, Pick, Call as Calls}
 use Rattle.fr_program.specs.declared.instr.Call.TheVariants.{Create, Delete, On}
-use Rattle.fr_program.specs.declared.instr.Action.{Action}
-use Rattle.fr_program.specs.declared.instr.Action.TheVariants.{QueueReceive, Send, Receive}
+use Rattle.fr_program.specs.declared.instr.Act.{Act}
+use Rattle.fr_program.specs.declared.instr.Act.TheVariants.{Try, Move}
+use Rattle.fr_program.specs.declared.instr.Attempt.TheVariants.{QueueReceive}
 use Rattle.fr_program.specs.declared.instr.Operator.TheVariants.{Times}
 use Rattle.fr_program.specs.declared.parts.Kind.{Kind}
 use Rattle.fr_program.specs.declared.parts.Kind.TheVariants.{Queue}
@@ -41,22 +41,12 @@ use Rattle.fr_notes.specs.Reckoning.{CanBeIn}
 use Rattle.fr_interfere.specs.declared.effects.Effect.{Effect}
 use Rattle.fr_interfere.specs.declared.effects.Effect.TheVariants.{Nothing, Life, Gives, Sets}
 
--- a receive from an object of this kind gives the variable a value of the queue
-abbrev pub received : VarId → Kind → Effect
-received into (Queue size lo hi) = Gives into lo hi
-received into kind = Nothing
-
--- a call that moves up to so many bytes gives the variable, where the line names one, their number
-abbrev pub moved : Option VarId → ℕ → Effect
-moved None length = Nothing
-moved (Some into) length = Gives into (pos 0) (pos length)
-
--- what the end of an object call can change
-abbrev pub effect_inside : Kind → Action → Effect
-effect_inside kind (QueueReceive into timing e) = received into kind
-effect_inside kind (Send buffer length timing result) = moved result length
-effect_inside kind (Receive buffer length timing result) = moved result length
-effect_inside kind action = Nothing
+-- what the end of an object call can change: a receive gives its variable a value of the queue, a call that moves bytes
+-- their number
+abbrev pub effect_inside : Act → Kind → Effect
+effect_inside (Try (QueueReceive into) e) (Queue size lo hi) = Gives into lo hi
+effect_inside (Move end buffer length (Some into)) kind = Gives into (pos 0) (pos length)
+effect_inside act kind = Nothing
 
 -- what the steps from this side of an instruction can change
 abbrev pub effect_of : Program → Side → Instr → Effect
@@ -64,7 +54,7 @@ effect_of P Before (Set target left operator right) = Sets target left operator 
 effect_of P Before (Pick target lo hi) = Gives target lo hi
 effect_of P Before (Calls (Create kind o e)) = Life o
 effect_of P Before (Calls (Delete kind o)) = Life o
-effect_of P Inside (Calls (On o action)) = effect_inside (kind_of P o.0) action
+effect_of P Inside (Calls (On call)) = effect_inside call.act (kind_of P call.object.0)
 effect_of P side i = Nothing
 
 -- the effect is on the life of this object
@@ -91,16 +81,16 @@ pub record IsSeen (effect : Effect) (b : ℕ) (S T : State) : Type 0 where
 abbrev pub Bears : Effect → Alternative → Alternative → Type 0
 Bears Nothing m n = Unit {0}
 Bears (Life o) m n = claim_of n o.0 ≡ NotHeld
-Bears (Gives x lo hi) m n = ((range_of n x.0).0 ≤ℤ lo) × (hi ≤ℤ (range_of n x.0).1)
+Bears (Gives x lo hi) m n = Within (range_of n x.0) lo × Within (range_of n x.0) hi
 Bears (Sets x l op r) m n = (u v : ℤ) → CanBeIn (range_of m) l u → CanBeIn (range_of m) r v → Within (range_of n x.0) (result_of op u v)
 
 -- so it is of each alternative of the note
 abbrev pub EachBears : Effect → Alternative → Note → Type 0
-EachBears effect m note = (n : Alternative) → Contains note n → Bears effect m n
+EachBears effect m note = All (λ n. Bears effect m n) note
 
 -- and whichever alternative the mover has
 abbrev pub AllBear : Effect → Note → Note → Type 0
-AllBear effect others note = (m : Alternative) → Contains others m → EachBears effect m note
+AllBear effect others note = All (λ m. EachBears effect m note) others
 
 -- a product has a number among its factors
 abbrev pub IsComputable : Effect → Type 0
@@ -119,7 +109,7 @@ declared_of P x = ((variable_at P x).lo, (variable_at P x).hi)
 
 -- every number that the variable can get, where the mover's alternative holds, is in its declared range
 abbrev pub Stays : Program → Effect → Alternative → Type 0
-Stays P (Gives x lo hi) m = IsPart (lo, hi) (declared_of P x.0)
+Stays P (Gives x lo hi) m = Within (declared_of P x.0) lo × Within (declared_of P x.0) hi
 Stays P (Sets x l op r) m = (u v : ℤ) → CanBeIn (range_of m) l u → CanBeIn (range_of m) r v → Within (declared_of P x.0) (result_of op u v)
 Stays P effect m = Unit {0}
 

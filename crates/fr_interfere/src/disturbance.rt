@@ -22,12 +22,12 @@ fn some_spared(known: &Known, alternative: &Alternative, change: &Change, note: 
     requires other { known.now.other ≡ Some alternative.now }
     ensures { IsTrue result ↔ SparesSome known.now alternative.now change.now note.now }
 {
-    for next in note.alternatives() {
-        if spares(known, alternative, change, next) {
-            return true;
-        }
-    }
-    false
+    note.alternatives().iter().any(
+        |next|
+            requires possible { IsPossible known.now }
+            requires other { known.now.other ≡ Some alternative.now }
+        { spares(known, alternative, change, next) },
+    )
 }
 
 /// Whether one alternative of the note is left by every step of the mover by this row.

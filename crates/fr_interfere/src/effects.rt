@@ -1,19 +1,17 @@
 // What a step can change of what the notes of other actors say.
-ghost use Rattle.std.specs.Prelude.{◌≡◌, ◌⊎◌, ◌<◌, ◌↔◌, ℤ, IsTrue, Contains, length};
+ghost use Rattle.std.specs.Prelude.{◌≡◌, ◌⊎◌, ◌↔◌, ℤ, IsTrue, All};
 ghost use Rattle.fr_program.specs.Fault.{IsConstant, NamesThings};
 ghost use Rattle.fr_program.specs.Changers.{IsThere};
-ghost use Rattle.fr_calls.specs.State.{kind_of};
 ghost use Rattle.fr_calls.specs.Rule.{result_of};
 ghost use Rattle.fr_notes.specs.Fits.{AlternativeFits, NoteFits};
-ghost use Rattle.fr_notes.specs.Implication.{IsPart};
-ghost use Rattle.fr_notes.specs.Note.{Alternative as AlternativeOf, Within, claim_of, range_of};
+ghost use Rattle.fr_notes.specs.Note.{Within, claim_of, range_of};
 ghost use Rattle.fr_notes.specs.Reckoning.{CanBeIn};
 ghost use Rattle.fr_notes.specs.View.{ends_of};
-ghost use Rattle.fr_interfere.specs.Effects.{received, moved, effect_inside, effect_of, IsComputable, Bears, EachBears, AllBear, HasTarget, Stays, IsUnsaid};
+ghost use Rattle.fr_interfere.specs.Effects.{effect_inside, effect_of, IsComputable, Bears, EachBears, AllBear, HasTarget, Stays, IsUnsaid};
 
 use fr_notes::{Alternative, Claim, Known, Note};
 use fr_program::{
-    Action, App, Call, Changed, Instr, Kind, ObjId, Operand, Operator, Range, Side, VarId,
+    Act, App, Attempt, Call, Changed, Instr, Kind, ObjId, Operand, Operator, Range, Side, VarId,
 };
 
 /// What the steps from a side of an instruction can change of what the notes of other actors say.
@@ -38,39 +36,31 @@ pub enum Effect {
     },
 }
 
-/// A receive from an object of this kind gives the variable a value of the queue.
-fn received(into: VarId, kind: Kind) -> Effect
-    ensures { result ≡ received into kind }
+/// What the end of an object call can change: a receive gives its variable a value of the queue, a
+/// call that moves bytes their number.
+fn effect_inside(act: Act, kind: Kind) -> Effect
+    ensures { result ≡ effect_inside act kind }
 {
-    match kind {
-        Kind::Queue { lo, hi, .. } => Effect::Gives { into, lo, hi },
-        _ => Effect::Nothing,
-    }
-}
-
-/// A call that moves up to so many bytes gives its variable, where it has one, the count of bytes.
-fn moved(into: Option<VarId>, length: u32) -> Effect
-    ensures { result ≡ moved into length }
-{
-    match into {
-        None => Effect::Nothing,
-        Some(into) => Effect::Gives {
+    match (act, kind) {
+        (
+            Act::Try {
+                attempt: Attempt::QueueReceive(into),
+                ..
+            },
+            Kind::Queue { lo, hi, .. },
+        ) => Effect::Gives { into, lo, hi },
+        (
+            Act::Move {
+                length,
+                result: Some(into),
+                ..
+            },
+            _,
+        ) => Effect::Gives {
             into,
             lo: 0,
             hi: i64::from(length),
         },
-    }
-}
-
-/// What the end of an object call can change.
-fn effect_inside(app: &App, object: ObjId, action: &Action) -> Effect
-    requires { object.0 < length app.now.objects }
-    ensures { result ≡ effect_inside (kind_of app.now object.0) action.now }
-{
-    match action {
-        Action::QueueReceive { into, .. } => received(*into, app.kind(object)),
-        Action::Send { length, result, .. } => moved(*result, *length),
-        Action::Receive { length, result, .. } => moved(*result, *length),
         _ => Effect::Nothing,
     }
 }
@@ -103,8 +93,8 @@ pub fn effect_of(app: &App, side: Side, instr: &Instr) -> Effect
         },
         (Side::Before, Instr::Call(Call::Create { object, .. })) => Effect::Life(*object),
         (Side::Before, Instr::Call(Call::Delete { object, .. })) => Effect::Life(*object),
-        (Side::Inside, Instr::Call(Call::On { object, action })) => {
-            effect_inside(app, *object, action)
+        (Side::Inside, Instr::Call(Call::On(call))) => {
+            effect_inside(call.act, app.kind(call.object))
         }
         _ => Effect::Nothing,
     }
@@ -115,13 +105,6 @@ fn says_nothing(alternative: &Alternative, object: ObjId) -> bool
     ensures { IsTrue result ↔ claim_of alternative.now object.0 ≡ Claim.NotHeld }
 {
     matches!(alternative.claim(object), Claim::NotHeld)
-}
-
-/// Whether the range has the numbers from the first to the second.
-fn is_part(ends: (i128, i128), range: Range) -> bool
-    ensures { IsTrue result ↔ IsPart ends (ends_of range) }
-{
-    range.lo <= ends.0 && ends.1 <= range.hi
 }
 
 /// Whether the range has all that a `set` computes where the mover's alternative holds.
@@ -153,7 +136,8 @@ fn bears(app: &App, effect: Effect, mover: &Alternative, alternative: &Alternati
         Effect::Nothing => true,
         Effect::Life(object) => says_nothing(alternative, object),
         Effect::Gives { into, lo, hi } => {
-            is_part((i128::from(lo), i128::from(hi)), alternative.range(into))
+            let range = alternative.range(into);
+            range.has(lo) && range.has(hi)
         }
         Effect::Sets {
             target,
@@ -173,12 +157,12 @@ fn each_bears(app: &App, effect: Effect, mover: &Alternative, note: &Note) -> bo
     requires computable { IsComputable effect }
     ensures { IsTrue result ↔ EachBears effect mover.now note.now }
 {
-    for alternative in note.alternatives() {
-        if !bears(app, effect, mover, alternative) {
-            return false;
-        }
-    }
-    true
+    note.alternatives().iter().all(
+        |alternative|
+            requires mover { AlternativeFits app.now mover.now }
+            requires computable { IsComputable effect }
+        { bears(app, effect, mover, alternative) },
+    )
 }
 
 /// Whether each alternative of the note holds after the effect where it held before, whichever
@@ -188,12 +172,12 @@ pub fn all_bear(app: &App, effect: Effect, others: &Note, note: &Note) -> bool
     requires computable { IsComputable effect }
     ensures { IsTrue result ↔ AllBear effect others.now note.now }
 {
-    for mover in others.alternatives() {
-        if !each_bears(app, effect, mover, note) {
-            return false;
-        }
-    }
-    true
+    others.alternatives().iter().all(
+        |mover|
+            requires mover { AlternativeFits app.now mover.now }
+            requires computable { IsComputable effect }
+        { each_bears(app, effect, mover, note) },
+    )
 }
 
 /// Whether each value that the effect can give its variable, where the mover's alternative holds, is in
@@ -206,7 +190,8 @@ pub fn stays(app: &App, effect: Effect, mover: &Alternative) -> bool
 {
     match effect {
         Effect::Gives { into, lo, hi } => {
-            is_part((i128::from(lo), i128::from(hi)), app.range(into))
+            let range = app.range(into);
+            range.has(lo) && range.has(hi)
         }
         Effect::Sets {
             target,
@@ -229,10 +214,7 @@ fn is_unsaid(app: &App, alternative: &Alternative, changed: Changed) -> bool
 {
     match changed {
         Changed::Anything => false,
-        Changed::Number(variable) => {
-            let range = app.range(variable);
-            is_part((range.lo, range.hi), alternative.range(variable))
-        }
+        Changed::Number(variable) => app.range(variable).within(alternative.range(variable)),
         Changed::Life(object) => says_nothing(alternative, object),
     }
 }
@@ -241,12 +223,11 @@ fn is_unsaid(app: &App, alternative: &Alternative, changed: Changed) -> bool
 /// alternative does.
 pub fn is_unsaid_by_each(app: &App, note: &Note, changed: Changed) -> bool
     requires { IsThere app.now changed }
-    ensures { IsTrue result ↔ ((n : AlternativeOf) → Contains note.now n → IsUnsaid app.now changed n) }
+    ensures { IsTrue result ↔ All (λ n. IsUnsaid app.now changed n) note.now }
 {
-    for alternative in note.alternatives() {
-        if !is_unsaid(app, alternative, changed) {
-            return false;
-        }
-    }
-    true
+    note.alternatives().iter().all(
+        |alternative|
+            requires { IsThere app.now changed }
+        { is_unsaid(app, alternative, changed) },
+    )
 }

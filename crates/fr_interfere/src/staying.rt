@@ -1,9 +1,8 @@
 // Whether steps leave each variable in its declared range.
-ghost use Rattle.std.specs.Prelude.{◌≡◌, ◌<◌, ◌↔◌, IsTrue, Some, Contains, length, slice_get};
+ghost use Rattle.std.specs.Prelude.{◌≡◌, ◌<◌, ◌↔◌, IsTrue, All, Some, length, slice_get};
 ghost use Rattle.fr_program.specs.declared.ids.Point.{Point};
 ghost use Rattle.fr_program.specs.Points.{points_of};
-ghost use Rattle.fr_notes.specs.Fits.{NoteFits, NotesFit};
-ghost use Rattle.fr_notes.specs.Note.{Alternative as AlternativeOf};
+ghost use Rattle.fr_notes.specs.Fits.{AlternativeFits, NoteFits, NotesFit};
 ghost use Rattle.fr_interfere.specs.Effects.{HasTarget, IsComputable, Stays};
 ghost use Rattle.fr_interfere.specs.Staying.{StaysAt, AllStay};
 
@@ -17,14 +16,15 @@ fn stays_by_each(app: &App, effect: Effect, others: &Note) -> bool
     requires others { NoteFits app.now others.now }
     requires computable { IsComputable effect }
     requires target { HasTarget app.now effect }
-    ensures { IsTrue result ↔ ((m : AlternativeOf) → Contains others.now m → Stays app.now effect m) }
+    ensures { IsTrue result ↔ All (λ m. Stays app.now effect m) others.now }
 {
-    for mover in others.alternatives() {
-        if !stays(app, effect, mover) {
-            return false;
-        }
-    }
-    true
+    others.alternatives().iter().all(
+        |mover|
+            requires mover { AlternativeFits app.now mover.now }
+            requires computable { IsComputable effect }
+            requires target { HasTarget app.now effect }
+        { stays(app, effect, mover) },
+    )
 }
 
 /// Whether the steps from the point with this number write only values in the declared range, where its

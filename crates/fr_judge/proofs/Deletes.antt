@@ -18,8 +18,8 @@ use Rattle.fr_program.specs.declared.changers.Changed.TheVariants.{Life}
 use Rattle.fr_program.specs.Changers.{changes_at, is_changer, changers_of}
 use Rattle.fr_program.proofs.ChangerLists.{AreChecked, checked-point}
 use Rattle.fr_notes.specs.Note.{Note}
-use Rattle.fr_ends.specs.Guarded.{Near}
-use Rattle.fr_ends.specs.Nearness.{used_inside, deleted_before, are_same}
+use Rattle.fr_ends.specs.Guarded.{deleted_before, Near}
+use Rattle.fr_ends.specs.Nearness.{used_inside, are_same}
 use Rattle.fr_ends.proofs.NearLaws.{near-unused}
 
 module _ (P : Program) (notes : List Note) (p q : Point) where
@@ -48,6 +48,6 @@ pub used-there : (P : Program) → IsFaultless P → (p : Point) (o : ObjId) →
 used-there P free p o used = by_instr p.side (instr_of P p) refl used
   where
     by_instr : (s : Side) (i : Option Instr) → instr_of P p ≡ i → used_inside s i ≡ Some o → o.0 < length P.objects
-    by_instr Inside (Some (Calls (On n action))) e is =
-        subst (λ (x : ObjId). x.0 < length P.objects) (same_Some n o is) (free.names.things p.actor.0 p.pc (Calls (On n action)) e).1
+    by_instr Inside (Some (Calls (On call))) e is =
+        subst (λ (x : ObjId). x.0 < length P.objects) (same_Some call.object o is) (free.names.things p.actor.0 p.pc (Calls (On call)) e).1
     by_instr s i e is = cc

@@ -8,21 +8,19 @@ use Rattle.std.proofs.lemmas.Bool.Decides.{eqb_tells}
 use Rattle.fr_program.specs.declared.instr.Instr.{Instr}
 use Rattle.fr_program.specs.declared.instr.Instr.TheVariants.{Call as Calls}
 use Rattle.fr_program.specs.declared.instr.Call.TheVariants.{On}
-use Rattle.fr_program.specs.declared.instr.Action.{Action}
+use Rattle.fr_program.specs.declared.instr.ObjectCall.{ObjectCall}
 use Rattle.fr_program.specs.declared.ids.ActorId.{ActorId}
-use Rattle.fr_program.specs.declared.ids.ObjId.{ObjId}
 use Rattle.fr_program.specs.declared.ids.Point.{Point}
 use Rattle.fr_program.specs.declared.ids.Side.{Side}
 use Rattle.fr_program.specs.declared.ids.Side.TheVariants.{Before, Inside}
 use Rattle.fr_program.specs.Program.{Program}
 use Rattle.fr_program.specs.Lookup.{HasSide, IsPoint, instr_of}
-use Rattle.fr_calls.specs.declared.buffer_end.End.{End}
+use Rattle.fr_program.specs.declared.instr.End.{End}
 use Rattle.fr_calls.specs.Rule.{is_at_end}
 use Rattle.fr_edge.specs.Own.{is_own}
 use Rattle.fr_ends.specs.Certificate.{Certificate}
-use Rattle.fr_ends.specs.Implied.{called_inside}
+use Rattle.fr_ends.specs.Guarded.{called_inside}
 use Rattle.fr_ends.specs.Nearness.{deletes_used}
-use Rattle.fr_ends.proofs.GuardLaws.{called-found}
 use Rattle.fr_ends.proofs.NearLaws.{clash-found, found-clash}
 use Rattle.fr_judge.specs.Part.{Part, EntryPart, RulePart, GoesPart, GuardPart, NearPart, SpoiledPart, IsKept}
 use Rattle.fr_judge.specs.Owed.{IsInsideDeleted, IsOwed, OnlyOwedPartsFail}
@@ -62,7 +60,7 @@ some-or (Some i) Q q = ⊎_elim (λ h. inl (i, refl, h)) (λ h. inr (λ x. h (su
 
 has-side-or : (side : Side) (i : Instr) → Decided (HasSide i side)
 has-side-or Before i = inl tt
-has-side-or Inside (Calls (On o action)) = inl tt
+has-side-or Inside (Calls (On call)) = inl tt
 has-side-or Inside i = inr (λ h. h)
 
 point-or : (P : Program) (q : Point) → Decided (IsPoint P q)
@@ -72,24 +70,20 @@ point-or P q = some-or (instr_of P q) (λ i. HasSide i q.side) (has-side-or q.si
 end-or : (P : Program) (p : Point) (b : ℕ) (end : End) → Decided (IsOwed P p (GuardPart b end))
 end-or P p b end = by-call (called_inside p.side (instr_of P p)) refl
   where
-    called : (x : IsOwed P p (GuardPart b end)) → called_inside p.side (instr_of P p) ≡ Some (x.1.0, x.0)
-    called x = rw (x.1.2, x.1.3) refl
-
-    by-call : (c : Option (ObjId × Action)) → called_inside p.side (instr_of P p) ≡ c → Decided (IsOwed P p (GuardPart b end))
-    by-call None e = inr (λ x. let f = sym e ∙ called x in cc)
-    by-call (Some c) e =
-        let there = called-found P p c.0 c.1 e in
-        ⊎_elim (λ h. inl (c.1, (c.0, h.0, there.side, there.is), h.1))
-        (λ no. inr (λ x. no (subst (λ d. (d.0.0 ≡ b) × IsTrue (is_at_end end d.1)) (same_Some _ _ (sym (called x) ∙ e)) (x.1.1, x.2))))
-        (both-or (number-or c.0.0 b) (true-or (is_at_end end c.1)))
+    by-call : (c : Option ObjectCall) → called_inside p.side (instr_of P p) ≡ c → Decided (IsOwed P p (GuardPart b end))
+    by-call None e = inr (λ x. let f = sym e ∙ x.1.1 in cc)
+    by-call (Some call) e =
+        ⊎_elim (λ h. inl (call, (h.0, e), h.1))
+        (λ no. inr (λ x. no (subst (λ d. (d.object.0 ≡ b) × IsTrue (is_at_end end d.act)) (same_Some x.0 call (sym x.1.1 ∙ e)) (x.1.0, x.2))))
+        (both-or (number-or call.object.0 b) (true-or (is_at_end end call.act)))
 
 -- the one point is inside a call on the object that the other one deletes, or it isn't
 deleted-or : (P : Program) (p q : Point) → Decided (IsInsideDeleted P p q)
 deleted-or P p q = by-test (deletes_used P p q) refl
   where
     by-test : (b : Bool) → deletes_used P p q ≡ b → Decided (IsInsideDeleted P p q)
-    by-test true e = let c = found-clash P p q e in inl (c.object, c.action, c.inside, c.deletes)
-    by-test false e = inr (λ x. false≢true (sym e ∙ clash-found P p q (record { object = x.0; action = x.1; inside = x.2; deletes = x.3 })))
+    by-test true e = let c = found-clash P p q e in inl (c.object, c.call, c.inside, c.deletes)
+    by-test false e = inr (λ x. false≢true (sym e ∙ clash-found P p q (record { object = x.0; call = x.1; inside = x.2; deletes = x.3 })))
 
 -- whether the point owes the part
 owed-or : (P : Program) (p : Point) (part : Part) → Decided (IsOwed P p part)
@@ -107,8 +101,8 @@ unowed-kept : (P : Program) (C : Certificate) (p : Point) (part : Part) → (IsO
 unowed-kept P C p EntryPart free = λ pc side. absurd (free (pc, side))
 unowed-kept P C p (RulePart rule) free = λ i is own. absurd (free (i, is, own))
 unowed-kept P C p (GoesPart t) free = λ at same. absurd (free (at, same))
-unowed-kept P C p (GuardPart buffer end) free = λ action inside at. absurd (free (action, inside, at))
-unowed-kept P C p (NearPart q) free = λ at apart o action inside deletes. absurd (free (at, apart, (o, action, inside, deletes)))
+unowed-kept P C p (GuardPart buffer end) free = λ call inside at. absurd (free (call, inside, at))
+unowed-kept P C p (NearPart q) free = λ at apart o call inside deletes. absurd (free (at, apart, (o, call, inside, deletes)))
 unowed-kept P C p (SpoiledPart q) free = λ at apart. absurd (free (at, apart))
 
 pub failing-owed : OnlyOwedPartsFail

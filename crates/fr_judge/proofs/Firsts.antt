@@ -8,8 +8,8 @@ use Rattle.fr_program.specs.Program.{Program}
 use Rattle.fr_program.specs.Points.{points_of, point_number}
 use Rattle.fr_program.proofs.PointLaws.{points_are_numbered}
 use Rattle.fr_program.specs.Fault.{IsFaultless}
-use Rattle.fr_calls.specs.declared.buffer_end.End.{End}
-use Rattle.fr_calls.specs.declared.buffer_end.End.TheVariants.{Writer, Reader}
+use Rattle.fr_program.specs.declared.instr.End.{End}
+use Rattle.fr_program.specs.declared.instr.End.TheVariants.{Writer, Reader}
 use Rattle.fr_edge.specs.declared.failure.Own.{Own}
 use Rattle.fr_edge.specs.declared.failure.Own.TheVariants.{Entry as OwnEntry, Rule as OwnRule, Goes as OwnGoes}
 use Rattle.fr_edge.specs.FirstOwn.{IsFirstOwn}

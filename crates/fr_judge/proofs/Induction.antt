@@ -8,7 +8,7 @@ use Rattle.std.proofs.lemmas.Bool.Decides.{eqb_tells}
 use Rattle.fr_program.specs.declared.instr.Instr.{Instr}
 use Rattle.fr_program.specs.declared.instr.Instr.TheVariants.{Call as Calls}
 use Rattle.fr_program.specs.declared.instr.Call.TheVariants.{Create, Delete}
-use Rattle.fr_program.specs.declared.instr.Action.{Action}
+use Rattle.fr_program.specs.declared.instr.ObjectCall.{ObjectCall}
 use Rattle.fr_program.specs.declared.ids.ActorId.{ActorId}
 use Rattle.fr_program.specs.declared.ids.Point.{Point}
 use Rattle.fr_program.specs.declared.ids.Side.{Side}
@@ -16,8 +16,8 @@ use Rattle.fr_program.specs.declared.ids.Side.TheVariants.{Before, Inside}
 use Rattle.fr_program.specs.Program.{Program}
 use Rattle.fr_program.specs.Lookup.{no_actor, IsPoint}
 use Rattle.fr_calls.specs.State.{State, At, Done, Exists, start}
-use Rattle.fr_calls.specs.declared.buffer_end.End.{End}
-use Rattle.fr_calls.specs.declared.buffer_end.End.TheVariants.{Writer, Reader}
+use Rattle.fr_program.specs.declared.instr.End.{End}
+use Rattle.fr_program.specs.declared.instr.End.TheVariants.{Writer, Reader}
 use Rattle.fr_calls.specs.declared.rules.Rule.{Rule}
 use Rattle.fr_calls.specs.declared.rules.Rule.TheVariants.{OneWriter, OneReader, LifeInOrder, InRange}
 use Rattle.fr_calls.specs.Rule.{Breach, SharesEnd, LifeOutOfOrder, Stands, is_at_end, IsInside}
@@ -30,6 +30,7 @@ use Rattle.fr_notes.specs.Noted.{note_at, IsAt, Noted, NotedBy}
 use Rattle.fr_edge.specs.Own.{is_own}
 use Rattle.fr_ends.specs.Guard.{Guard}
 use Rattle.fr_ends.specs.Certificate.{Certificate, HasGuard, guard_for}
+use Rattle.fr_ends.specs.Guarded.{called_inside, deleted_before}
 use Rattle.fr_judge.specs.Part.{EntryPart, RulePart, GoesPart, GuardPart, NearPart, SpoiledPart}
 use Rattle.fr_judge.specs.Sound.{KeepsNotes, Certified, StartKeepsNotes, StepKeepsNotes, NotesExcludeBreaches, IsSound}
 use Rattle.fr_judge.proofs.Turns.{guard-alone, distinct-listed}
@@ -84,10 +85,10 @@ module _ (P : Program) (C : Certificate) (certified : Certified P C) where
       same_actor p a q = let f : ℕ → ActorId = λ n. record { 0 = n } in ap f q
 
   -- the end's guard holds of an actor inside a call there
-  guarded : (S : State) (a o : ℕ) (end : End) (action : Action) → KeepsNotes P C S → IsInside P S a o action → IsTrue (is_at_end end action) → (g : Guard) × (guard_for C.ends o end ≡ Some g) × HasGuard g a S
-  guarded S a o end action keeps (n, same, stands) at =
+  guarded : (S : State) (a o : ℕ) (end : End) (call : ObjectCall) → KeepsNotes P C S → IsInside P S a o call → IsTrue (is_at_end end call.act) → (g : Guard) × (guard_for C.ends o end ≡ Some g) × HasGuard g a S
+  guarded S a o end call keeps (same, stands) at =
       let p = point a stands.pc Inside in
-      let g = certified.kept p (is_point S p keeps stands.at) (GuardPart o end) action (n, same, refl, stands.is) at in
+      let g = certified.kept p (is_point S p keeps stands.at) (GuardPart o end) call (same, ap (λ i. called_inside Inside i) stands.is) at in
       (g.0, g.1, g.2 S (noted S p keeps stands.at))
 
   no-sharing : (S : State) (a : ℕ) (end : End) → KeepsNotes P C S → SharesEnd P S a end → ⊥
@@ -103,12 +104,12 @@ module _ (P : Program) (C : Certificate) (certified : Certified P C) where
       certified.kept p (is_point S p keeps breach.stands.at) (RulePart rule) breach.instr breach.stands.is own S (noted S p keeps breach.stands.at) breach
 
   no-life : (S : State) (a : ℕ) (i : Instr) (side : Side) → KeepsNotes P C S → Stands P S a side i → LifeOutOfOrder P S a i side → ⊥
-  no-life S a (Calls (Delete kind o)) Before keeps stands (b, ne, action, (n, same, inside)) =
+  no-life S a (Calls (Delete kind o)) Before keeps stands (b, ne, call, (same, inside)) =
       let p = point b inside.pc Inside in
       let q = point a stands.pc Before in
       let at_q = is_point S q keeps stands.at in
-      certified.kept p (is_point S p keeps inside.at) (NearPart q) at_q (λ e. ne (sym (ap (λ i. i.0) e))) o.0 action (n, same, refl, inside.is)
-      (kind, o, refl, refl, stands.is) S (noted S p keeps inside.at) (noted S q keeps stands.at)
+      certified.kept p (is_point S p keeps inside.at) (NearPart q) at_q (λ e. ne (sym (ap (λ i. i.0) e))) o.0 call (same, ap (λ i. called_inside Inside i) inside.is)
+      (o, refl, ap (λ i. deleted_before Before i) stands.is) S (noted S p keeps inside.at) (noted S q keeps stands.at)
   no-life S a (Calls (Create kind o e)) Before keeps stands h =
       no-own S LifeInOrder a keeps (record { side = Before; instr = Calls (Create kind o e); stands = stands; breaches = h }) refl
   no-life S a i side keeps stands h = elim h [ ]

@@ -1,7 +1,15 @@
 -- What is told of a point is of the application.
-use Rattle.std.proofs.Common.{◌<◌, ◌≤◌, List, length, subst, arith}
+use Rattle.std.proofs.Common.{◌≡◌, ◌<◌, ◌≤◌, List, length, Option, Some, ap, subst, arith}
+use Rattle.std.proofs.lemmas.Option.{same_Some}
 use Rattle.std.specs.Prelude.{IsTrue, All}
+use Rattle.fr_program.specs.declared.instr.Instr.{Instr}
+use Rattle.fr_program.specs.declared.instr.Instr.TheVariants.{Call as Calls}
+use Rattle.fr_program.specs.declared.instr.Call.TheVariants.{On}
+use Rattle.fr_program.specs.declared.instr.ObjectCall.{ObjectCall}
 use Rattle.fr_program.specs.declared.ids.Point.{Point}
+use Rattle.fr_program.specs.declared.ids.Side.{Side}
+use Rattle.fr_program.specs.declared.ids.Side.TheVariants.{Inside}
+use Rattle.fr_program.specs.Lookup.{instr_of}
 use Rattle.fr_program.specs.Program.{Program}
 use Rattle.fr_program.specs.Fault.{IsFaultless}
 use Rattle.fr_calls.specs.declared.rules.Rule.{Rule}
@@ -11,6 +19,7 @@ use Rattle.fr_edge.specs.Own.{is_own}
 use Rattle.fr_ends.specs.Guard.{EndGuard, Guard, Sole, ByMutex, InCritical, Turn}
 use Rattle.fr_ends.specs.Certificate.{Certificate, HasDistinctTurns, AllHaveDistinctTurns}
 use Rattle.fr_ends.specs.Fits.{GuardFits, EndFits}
+use Rattle.fr_ends.specs.Guarded.{called_inside}
 use Rattle.fr_judge.specs.Part.{Part, EntryPart, RulePart, GoesPart, GuardPart, NearPart, SpoiledPart, IsKept}
 use Rattle.fr_judge.specs.Told.{told_part, IsPartOf}
 use Rattle.fr_judge.proofs.Failing.{failing-owed}
@@ -21,6 +30,11 @@ own-number i OneWriter h = cc
 own-number i OneReader h = cc
 own-number i rule h = omega arith
 
+-- a call that a point is inside is its instruction
+called-instr : (side : Side) (i : Option Instr) (call : ObjectCall) → called_inside side i ≡ Some call → i ≡ Some (Calls (On call))
+called-instr Inside (Some (Calls (On done))) call e = ap (λ c. Some (Calls (On c))) (same_Some done call e)
+called-instr side i call e = cc
+
 module _ (P : Program) (faultless : IsFaultless P) (C : Certificate) (p : Point) where
   -- a part that isn't kept names what the application has
   pub failing-is-of : (part : Part) → (IsKept P C p part → ⊥) → IsPartOf P (told_part part)
@@ -29,7 +43,7 @@ module _ (P : Program) (faultless : IsFaultless P) (C : Certificate) (p : Point)
   failing-is-of (GoesPart t) h = (failing-owed P C p (GoesPart t) h).0
   failing-is-of (GuardPart buffer end) h =
       let o = failing-owed P C p (GuardPart buffer end) h in
-      subst (λ b. b < length P.objects) o.1.1 (faultless.names.things _ _ _ o.1.3).1
+      subst (λ b. b < length P.objects) o.1.0 (faultless.names.things _ _ _ (called-instr p.side (instr_of P p) o.0 o.1.1)).1
   failing-is-of (NearPart q) h = (failing-owed P C p (NearPart q) h).0
   failing-is-of (SpoiledPart q) h = (failing-owed P C p (SpoiledPart q) h).0
 

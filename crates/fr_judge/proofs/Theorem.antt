@@ -3,13 +3,19 @@
 use Rattle.std.proofs.Common.{ℕ, List}
 use Rattle.fr_program.specs.Program.{Program}
 use Rattle.fr_ends.specs.Certificate.{Certificate, AllHaveDistinctTurns}
-use Rattle.fr_cert.specs.Meaning.{Means}
+use Rattle.fr_ends.specs.Fits.{EndFits}
+use Rattle.fr_cert.specs.Keys.{names_in}
+use Rattle.fr_cert.specs.Meaning.{IsEnd, Means}
+use Rattle.fr_cert.specs.Shapes.{IsObject}
+use Rattle.fr_cert.proofs.EntryLemmas.{each_both}
 use Rattle.fr_judge.specs.Theorem.{YesIsSafe}
 use Rattle.fr_judge.proofs.Induction.{certified-safe}
 use Rattle.fr_judge.proofs.Telling.{fitting-distinct}
 
 meant-distinct : (P : Program) (bytes : List ℕ) (C : Certificate) → Means P bytes C → AllHaveDistinctTurns C.ends
-meant-distinct P bytes C h = fitting-distinct P C.ends h.means.2.fit.0
+meant-distinct P bytes C h =
+    let ends = h.means.2.ends in
+    fitting-distinct P C.ends (each_both (IsObject (IsEnd (names_in P))) (EndFits P) ends.2.0 C.ends ends.2.2.0).1
 
 pub yes-is-safe : YesIsSafe
 yes-is-safe app certificate P C h k kept =

@@ -5,7 +5,7 @@ use Rattle.std.proofs.lemmas.Option.{same_Some}
 use Rattle.std.proofs.lemmas.Bool.{eqb-true}
 use Rattle.std.proofs.lemmas.List.Elements.{All-head, All-tail}
 use Rattle.fr_calls.specs.State.{State, Content, Held, content_of, depth_in, count_held}
-use Rattle.fr_calls.specs.declared.buffer_end.End.{End}
+use Rattle.fr_program.specs.declared.instr.End.{End}
 use Rattle.fr_ends.specs.Guard.{Guard, Sole, ByMutex, InCritical, Turn, EndGuard}
 use Rattle.fr_ends.specs.Certificate.{HasGuard, HasDistinctTurns, AllHaveDistinctTurns, same_end, guard_for}
 

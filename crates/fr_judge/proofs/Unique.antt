@@ -6,9 +6,8 @@ use Rattle.std.proofs.lemmas.Bool.{cases_lt}
 use Rattle.fr_program.specs.declared.ids.Point.{Point}
 use Rattle.fr_program.specs.Program.{Program}
 use Rattle.fr_program.specs.Points.{point_number}
-use Rattle.fr_program.specs.Uses.{object_named}
-use Rattle.fr_calls.specs.declared.buffer_end.End.{End}
-use Rattle.fr_calls.specs.declared.buffer_end.End.TheVariants.{Writer, Reader}
+use Rattle.fr_program.specs.declared.instr.End.{End}
+use Rattle.fr_program.specs.declared.instr.End.TheVariants.{Writer, Reader}
 use Rattle.fr_calls.specs.declared.rules.Rule.{Rule}
 use Rattle.fr_calls.specs.declared.rules.Rule.TheVariants.{OneWriter, OneReader, GivenByHolder, AllowedInCritical, AllowedSuspended, AllowedInInterrupt, IsLive, LifeInOrder, SuitsSemaphore, DepthAboveZero, EndsInOrder, InRange}
 use Rattle.fr_calls.specs.Rule.{number_of}
@@ -45,8 +44,8 @@ same-order x y h k =
 
 module _ (P : Program) (C : Certificate) (p : Point) where
   same-buffer : (b c : ℕ) (e f : End) → IsOwed P p (GuardPart b e) → IsOwed P p (GuardPart c f) → b ≡ c
-  same-buffer b c e f (action, (n, nb, side, is), at) (other, (m, mc, side', is'), at') =
-      sym nb ∙ same_Some _ _ (ap object_named (same_Some _ _ (sym is ∙ is'))) ∙ mc
+  same-buffer b c e f (call, (same, is), at) (other, (same', is'), at') =
+      sym same ∙ ap (λ x. x.object.0) (same_Some call other (sym is ∙ is')) ∙ same'
 
   same-part : (a b : Part) → (place_in_order P a).0 ≡ (place_in_order P b).0 → (place_in_order P a).1 ≡ (place_in_order P b).1 → IsOwed P p a → IsOwed P p b → a ≡ b
   same-part EntryPart EntryPart e f h k = refl

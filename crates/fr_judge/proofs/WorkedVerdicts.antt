@@ -1,6 +1,6 @@
 -- The worked verdicts. Both applications have one point. The step of `goto 0` changes nothing and comes back to it, so
 -- every part is kept. Before `return` the parts that come before rule 11 are kept, and the start shows that rule 11 isn't.
-use Rattle.std.proofs.Common.{◌≡◌, ℕ, zero, suc, ◌<◌, ◌≤◌, List, [], ◌∷◌, length, Some, refl, sym, ap, ◌∙◌, subst, inl, inr, ⊎_elim, true≢false, arith}
+use Rattle.std.proofs.Common.{◌≡◌, ℕ, zero, suc, ◌<◌, ◌≤◌, [], ◌∷◌, length, refl, sym, ap, ◌∙◌, subst, inl, inr, ⊎_elim, true≢false, arith}
 use Rattle.std.specs.Prelude.{ℤ, IsTrue, Contains, ◌||◌, true, All}
 use Rattle.std.specs.Cmp.Lexicographic.{nat_list_eq_equiv}
 use Rattle.std.proofs.lemmas.Int.{ints}
@@ -23,7 +23,7 @@ use Rattle.fr_calls.specs.Rule.{Breaches, number_of}
 use Rattle.fr_calls.specs.declared.way.Way.{Way}
 use Rattle.fr_calls.specs.declared.way.Way.TheVariants.{Then, Else}
 use Rattle.fr_calls.specs.Step.{StepBy, Row, landing, transition}
-use Rattle.fr_notes.specs.Note.{Alternative, HoldsOne}
+use Rattle.fr_notes.specs.Note.{HoldsOne}
 use Rattle.fr_notes.specs.Noted.{note_at, IsAt}
 use Rattle.fr_edge.specs.Own.{Goes, is_own}
 use Rattle.fr_ends.specs.Certificate.{HasDistinctTurns}
@@ -83,15 +83,12 @@ round-goes t at same m inside way can = (
     unmoved : (T : State) → HoldsOne m 0 T → HoldsOne m 0 (goes_to 0 (At 0 Before) T)
     unmoved T h = record { critical = h.critical; suspended = h.suspended; objects = h.objects; variables = h.variables }
 
-not-inside : Before ≡ Inside → ⊥
-not-inside e = cc
-
 round-kept : (part : Part) → IsKept (only_line (Goto 0)) one_note only_point part
 round-kept EntryPart = λ pc side. (silent, (0, omega arith, refl), silent-holds (Goto 0))
 round-kept (RulePart rule) = rule-kept (only_line (Goto 0)) only_point (Goto 0) refl one_note.notes rule (λ S noted own. round-free rule own S)
 round-kept (GoesPart t) = round-goes t
-round-kept (GuardPart buffer end) = λ action inside. absurd (not-inside inside.2)
-round-kept (NearPart q) = λ at apart o action inside. absurd (not-inside inside.2)
+round-kept (GuardPart buffer end) = λ call inside. let none = inside.1 in cc
+round-kept (NearPart q) = λ at apart o call inside. let none = inside.1 in cc
 round-kept (SpoiledPart q) = λ at apart. absurd (apart (ap (λ p. p.actor) (one-point (Goto 0) none q at)))
 
 pub round-is-yes : RoundIsYes

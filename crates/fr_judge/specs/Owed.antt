@@ -3,7 +3,7 @@
 -- that the point isn't inside, a delete or a step of the same actor. So the verdict never names such a part.
 use Rattle.std.specs.Prelude.{◌≡◌, ◌≢◌, ℕ, Some, IsTrue}
 use Rattle.fr_program.specs.declared.instr.Instr.{Instr}
-use Rattle.fr_program.specs.declared.instr.Action.{Action}
+use Rattle.fr_program.specs.declared.instr.ObjectCall.{ObjectCall}
 use Rattle.fr_program.specs.declared.ids.Point.{Point}
 use Rattle.fr_program.specs.declared.ids.Side.TheVariants.{Before}
 use Rattle.fr_program.specs.Program.{Program}
@@ -16,14 +16,14 @@ use Rattle.fr_judge.specs.Part.{Part, EntryPart, RulePart, GoesPart, GuardPart, 
 
 -- the point is inside a call on an object that q deletes
 abbrev pub IsInsideDeleted : Program → Point → Point → Type 0
-IsInsideDeleted P p q = (o : ℕ) × (action : Action) × IsInsideOn P p o action × Deletes P q o
+IsInsideDeleted P p q = (o : ℕ) × (call : ObjectCall) × IsInsideOn P p o call × Deletes P q o
 
 -- the point owes the part
 abbrev pub IsOwed : Program → Point → Part → Type 0
 IsOwed P p EntryPart = (p.pc ≡ 0) × (p.side ≡ Before)
 IsOwed P p (RulePart rule) = (i : Instr) × (instr_of P p ≡ Some i) × IsTrue (is_own i rule)
 IsOwed P p (GoesPart t) = IsPoint P t × (t.actor ≡ p.actor)
-IsOwed P p (GuardPart buffer end) = (action : Action) × IsInsideOn P p buffer action × IsTrue (is_at_end end action)
+IsOwed P p (GuardPart buffer end) = (call : ObjectCall) × IsInsideOn P p buffer call × IsTrue (is_at_end end call.act)
 IsOwed P p (NearPart q) = IsPoint P q × (q.actor ≢ p.actor) × IsInsideDeleted P p q
 IsOwed P p (SpoiledPart q) = IsPoint P q × (q.actor ≢ p.actor)
 

@@ -3,8 +3,8 @@ use Rattle.std.specs.Prelude.{◌≡◌, ◌<◌, ◌⊎◌, ℕ}
 use Rattle.fr_program.specs.declared.ids.Point.{Point}
 use Rattle.fr_program.specs.Program.{Program}
 use Rattle.fr_program.specs.Points.{point_number}
-use Rattle.fr_calls.specs.declared.buffer_end.End.{End}
-use Rattle.fr_calls.specs.declared.buffer_end.End.TheVariants.{Writer, Reader}
+use Rattle.fr_program.specs.declared.instr.End.{End}
+use Rattle.fr_program.specs.declared.instr.End.TheVariants.{Writer, Reader}
 use Rattle.fr_calls.specs.declared.rules.Rule.{Rule}
 use Rattle.fr_calls.specs.Rule.{number_of}
 use Rattle.fr_edge.specs.Own.{Entry, KeepsRule, Goes}

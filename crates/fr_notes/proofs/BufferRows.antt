@@ -1,6 +1,6 @@
--- The ends of sends to stream and message buffers, of receives from them, and of resets.
-use Rattle.std.proofs.Common.{◌≡◌, ℕ, ◌+◌, ◌-◌, ◌<◌, ◌≤◌, List, [], ◌∷◌, ◌++◌, length, Option, Some, None, Bool, true, false, refl, sym, ap, ◌∙◌, subst, arith, ⊎_elim, eq-eqb}
-use Rattle.std.specs.Prelude.{ℤ, pos, negsuc, ◌≤ℤ◌, ◌<ℤ◌, IsTrue, IfSome, All, int_le, nat_lt, nat_eq, sum, if◌then◌else◌}
+-- The ends of calls that move bytes: sends to stream and message buffers and receives from them.
+use Rattle.std.proofs.Common.{◌≡◌, ℕ, ◌+◌, ◌-◌, ◌≤◌, List, [], ◌∷◌, ◌++◌, Option, Some, None, Bool, true, false, refl, sym, ap, ◌∙◌, subst, arith, ⊎_elim, eq-eqb}
+use Rattle.std.specs.Prelude.{ℤ, pos, negsuc, ◌≤ℤ◌, ◌<ℤ◌, IsTrue, int_le, nat_lt, nat_eq, sum, if◌then◌else◌}
 use Rattle.std.specs.Int.{int_min}
 use Rattle.std.proofs.lemmas.Int.{ints, clamps}
 use Rattle.std.proofs.lemmas.Bool.{cases_lt, eqb-true}
@@ -10,36 +10,41 @@ use Rattle.std.proofs.lemmas.List.Sums.{sum_by-cons}
 use Rattle.std.proofs.lemmas.Grind.{common_steps}
 use Rattle.fr_program.specs.declared.ids.ObjId.{ObjId}
 use Rattle.fr_program.specs.declared.ids.VarId.{VarId}
-use Rattle.fr_program.specs.declared.ids.Point.{Point}
-use Rattle.fr_program.specs.declared.instr.Instr.TheVariants.{Call as Calls}
-use Rattle.fr_program.specs.declared.instr.Call.TheVariants.{On}
-use Rattle.fr_program.specs.declared.instr.Action.{Action}
-use Rattle.fr_program.specs.declared.instr.Action.TheVariants.{Send, Receive, Reset}
+use Rattle.fr_program.specs.declared.instr.Act.{Act}
+use Rattle.fr_program.specs.declared.instr.Act.TheVariants.{Move}
 use Rattle.fr_program.specs.declared.instr.BufferKind.{BufferKind}
 use Rattle.fr_program.specs.declared.instr.BufferKind.TheVariants.{Stream as OfStream, Message as OfMessage}
+use Rattle.fr_program.specs.declared.instr.End.{End}
+use Rattle.fr_program.specs.declared.instr.End.TheVariants.{Writer, Reader}
 use Rattle.fr_program.specs.declared.instr.Timing.{Timing}
 use Rattle.fr_program.specs.declared.parts.Kind.{Kind}
 use Rattle.fr_program.specs.declared.parts.Kind.TheVariants.{Stream, Message}
 use Rattle.fr_program.specs.declared.range.Range.{Range}
 use Rattle.fr_program.specs.Program.{Program}
 use Rattle.fr_program.specs.Limits.{KindInLimits}
-use Rattle.fr_program.specs.Uses.{is_buffer, option_list}
+use Rattle.fr_program.specs.Uses.{is_buffer}
 use Rattle.fr_calls.specs.declared.way.Way.TheVariants.{Then, Else}
-use Rattle.fr_calls.specs.State.{State, Content, Bytes, Lengths, CanHave, new_content, content_of, kind_of, becomes}
+use Rattle.fr_calls.specs.State.{State, Content, Bytes, Lengths, CanHave, content_of, kind_of, becomes}
 use Rattle.fr_calls.specs.Step.{Completes, Moves, sent_bytes, received_bytes, sent_message, received_message, with_result, transition}
 use Rattle.fr_notes.specs.Note.{Within}
 use Rattle.fr_notes.specs.View.{ends_of}
-use Rattle.fr_notes.specs.Known.{Known, IsOther, IsLeft, NeverSteps}
-use Rattle.fr_notes.specs.Holding.{Holding, Living, holding, mover_claim}
-use Rattle.fr_notes.specs.Results.{IsSpan}
-use Rattle.fr_notes.specs.Spot.{IsEnd, claiming, resulting}
-use Rattle.fr_notes.proofs.Shown.{new-live}
-use Rattle.fr_notes.proofs.Holdings.{IsIn, new-unheld}
+use Rattle.fr_notes.specs.Holding.{Holding, Living}
+use Rattle.fr_notes.specs.Results.{size_of, least_moved, results_of}
+use Rattle.fr_notes.proofs.Holdings.{IsIn}
+use Rattle.fr_notes.proofs.Seen.{Site, mover, other}
 use Rattle.fr_notes.proofs.Left.{end_of}
 use Rattle.fr_notes.proofs.ObjectRows.{same-content}
-use Rattle.fr_notes.proofs.EndRows.{end-left, end-never, end-names}
-use Rattle.fr_notes.proofs.Ends.{b, end-fits, end-limits, living-follows, some-content, stay-left, puts-left}
-use Rattle.fr_notes.proofs.QueueRows.{acts-on, can_be_held, living-only}
+use Rattle.fr_notes.proofs.EndRows.{IsEndRow}
+use Rattle.fr_notes.proofs.Ends.{IsTarget, some-content, living-only}
+use Rattle.fr_notes.proofs.AttemptRows.{buffer-unheld}
+
+-- the range goes from one number to another
+record IsSpan (span : Range) (lo hi : ℤ) : Type 0 where
+  lo_is : span.lo ≡ lo
+  hi_is : span.hi ≡ hi
+
+span-is : (span : Range) (lo hi : ℤ) → ends_of span ≡ (lo, hi) → IsSpan span lo hi
+span-is span lo hi is = record { lo_is = ap (λ r. r.0) is; hi_is = ap (λ r. r.1) is }
 
 pub bytes-in : (a b n : ℕ) → IsIn a b Living (Bytes n)
 bytes-in a b n = (λ e. cc, λ k e. cc, λ k e. cc)
@@ -53,39 +58,24 @@ least-number n (negsuc m) h = absurd (omega (arith, ints, h))
 least-number n (pos m) h =
     ⊎_elim (λ l. (n, omega (arith, ints, clamps), omega arith, omega (arith, ints))) (λ l. (m, omega (arith, ints, clamps), omega arith, omega (arith, ints))) (cases_lt n m)
 
-result-there : (P : Program) (result : Option VarId) → All (λ x. x.0 < length P.variables) (option_list result) → IfSome result (λ x. x.0 < length P.variables)
-result-there P None h = tt
-result-there P (Some x) h = All-head (λ x. x.0 < length P.variables) x [] h
-
--- what a call for this buffer acts on isn't held
-buffer-kind : (buffer : BufferKind) (kind : Kind) → IsTrue (is_buffer buffer kind) → can_be_held kind ≡ false
-buffer-kind OfStream (Stream size) t = refl
-buffer-kind OfMessage (Message size) t = refl
-buffer-kind buffer kind t = cc
-
 -- an end that makes something of the content and writes how much it moved; so much fits
-module _ (P : Program) (k : Known) (p : Point) (o : ObjId) (known : Holding) (action : Action) (e : IsEnd P k p o known action) (only : (q : Point) → IsOther P k p q → known ≡ Living) (result : Option VarId) (there : IfSome result (λ x. x.0 < length P.variables)) (Fits : ℕ → Type 0) (move : ℕ → Content → Option Content) (to : (S : State) (c : ℤ) (mid : State) → Completes P (transition S p.actor.0 c mid) o.0 action Then → (j : ℕ) × (c ≡ pos j) × Fits j × Moves o.0 (move j (content_of S o.0)) result c S mid) (from : (j : ℕ) (S mid : State) → Fits j → Moves o.0 (move j (content_of S o.0)) result (pos j) S mid → Completes P (transition S p.actor.0 (pos j) mid) o.0 action Then) where
-  moves-left : (span : Range) → ((x y j : ℕ) (content made : Content) → CanHave P (kind_of P o.0) content → Fits j → move j content ≡ Some made → IsIn x y Living made × Within (ends_of span) (pos j)) → ((x y : ℕ) (d : Bool) → (before : Content) × CanHave P (kind_of P o.0) before × IsIn x y Living before × (j : ℕ) × Fits j × (pos j ≡ end_of d (ends_of span)) × (made : Content) × (move j before ≡ Some made)) → IsLeft P k p Then (resulting k o (mover_claim known) result span)
-  moves-left span into shown = end-left P k p o known action e Then known result span (living-follows (holding k o.0) known e.living) there (λ q other. record {
+module _ (s : Site) (o : ObjId) (known : Holding) (only : known ≡ Living) (timing : Timing) (act : Act) (result : Option VarId) (span : Range) (Fits : ℕ → Type 0) (move : ℕ → Content → Option Content) (to : (S : State) (c : ℤ) (mid : State) → Completes s.app (transition S (mover s) c mid) o.0 timing act Then → (j : ℕ) × (c ≡ pos j) × Fits j × Moves o.0 (move j (content_of S o.0)) result c S mid) (from : (j : ℕ) (S mid : State) → Fits j → Moves o.0 (move j (content_of S o.0)) result (pos j) S mid → Completes s.app (transition S (mover s) (pos j) mid) o.0 timing act Then) where
+  moves-row : ((j : ℕ) (content made : Content) → CanHave s.app (kind_of s.app o.0) content → Fits j → move j content ≡ Some made → IsIn (mover s) (other s) Living made × Within (ends_of span) (pos j)) → ((d : Bool) → (before : Content) × CanHave s.app (kind_of s.app o.0) before × IsIn (mover s) (other s) Living before × (j : ℕ) × Fits j × (pos j ≡ end_of d (ends_of span)) × (made : Content) × (move j before ≡ Some made)) → IsEndRow s o known known timing act Then result span
+  moves-row into shown = record {
     after = λ S c mid is inside ends.
         let t = to S c mid ends in
         let put = t.3.1 in
-        let w = into p.actor.0 (b P k p o known action e q other) t.0 (content_of S o.0) put.0 (is.mover.formed.contents o.0) t.2 put.1 in
-        (put.0, c, t.3.2 ∙ ap (λ U. with_result result c U) put.2, subst (λ h. IsIn p.actor.0 (b P k p o known action e q other) h put.0) (sym (only q other)) w.0, subst (λ v. Within (ends_of span) v) (sym t.1) w.1);
+        let w = into t.0 (content_of S o.0) put.0 (is.mover.formed.contents o.0) t.2 put.1 in
+        (put.0, c, t.3.2 ∙ ap (λ U. with_result result c U) put.2, subst (λ h. IsIn (mover s) (other s) h put.0) (sym only) w.0, subst (λ v. Within (ends_of span) v) (sym t.1) w.1);
     shown = λ d.
-        let t = shown p.actor.0 (b P k p o known action e q other) d in (
+        let t = shown d in (
           t.0,
           t.1,
-          subst (λ h. IsIn p.actor.0 (b P k p o known action e q other) h t.0) (sym (only q other)) t.2,
-          λ S is has.
-              (pos t.3, t.6, subst (λ v. Completes P (transition S p.actor.0 (pos t.3) (with_result result v (becomes o.0 t.6 S))) o.0 action Then) t.5 (from t.3 S (with_result result (pos t.3) (becomes o.0 t.6 S)) t.4 (becomes o.0 t.6 S, (t.6, ap (λ c. move t.3 c) has ∙ t.7, refl), refl))),
+          subst (λ h. IsIn (mover s) (other s) h t.0) (sym only) t.2,
+          λ S has.
+              (pos t.3, t.6, subst (λ v. Completes s.app (transition S (mover s) (pos t.3) (with_result result v (becomes o.0 t.6 S))) o.0 timing act Then) t.5 (from t.3 S (with_result result (pos t.3) (becomes o.0 t.6 S)) t.4 (becomes o.0 t.6 S, (t.6, ap (λ c. move t.3 c) has ∙ t.7, refl), refl))),
         );
-  })
-
-  moves-never : ((j : ℕ) (content made : Content) → CanHave P (kind_of P o.0) content → Fits j → move j content ≡ Some made → ⊥) → NeverSteps P k p Then
-  moves-never none = end-never P k p o known action e Then (λ q other S c mid is inside ends.
-      let t = to S c mid ends in
-      none t.0 (content_of S o.0) t.3.1.0 (is.mover.formed.contents o.0) t.2 t.3.1.1)
+  }
 
 -- the size of a buffer of this kind
 abbrev pub HasSize : Kind → ℤ → Type 0
@@ -197,99 +187,82 @@ module _ (P : Program) (x y n : ℕ) (span : Range) where
       (Lengths (k.0 ∷ []), (omega (arith, ints, k.2, same, total), All-cons (λ n. 1 ≤ n) k.0 [] k.3 (All-nil (λ n. 1 ≤ n))), lengths-in x y (k.0 ∷ []), k.0, k.1, k.4, Lengths [], rw first)
   message-receives kind size d t same h some is = cc
 
--- an end that moves nothing, and writes so
-module _ (P : Program) (k : Known) (p : Point) (o : ObjId) (known : Holding) (action : Action) (e : IsEnd P k p o known action) (result : Option VarId) (there : IfSome result (λ x. x.0 < length P.variables)) (to : (S : State) (c : ℤ) (mid : State) → Completes P (transition S p.actor.0 c mid) o.0 action Else → (c ≡ pos 0) × (mid ≡ with_result result c S)) (from : (S mid : State) → mid ≡ with_result result (pos 0) S → Completes P (transition S p.actor.0 (pos 0) mid) o.0 action Else) where
-  nothing-left : (span : Range) → IsSpan span (pos 0) (pos 0) → IsLeft P k p Else (resulting k o (mover_claim known) result span)
-  nothing-left span is = end-left P k p o known action e Else known result span (living-follows (holding k o.0) known e.living) there (λ q other. record {
-    after = λ S c mid known_S inside ends.
-        let t = to S c mid ends in
-        (content_of S o.0, c, t.1 ∙ ap (λ U. with_result result c U) (same-content o S), inside, (let lo = is.lo_is in let zero_c = t.0 in (omega (arith, ints, lo, zero_c), (let hi = is.hi_is in omega (arith, ints, hi, zero_c)))));
+-- the size of a buffer, in one word
+has-size : (buffer : BufferKind) (kind : Kind) → IsTrue (is_buffer buffer kind) → HasSize kind (size_of kind)
+has-size OfStream (Stream size) t = refl
+has-size OfMessage (Message size) t = refl
+has-size buffer kind t = cc
+
+some-size : (buffer : BufferKind) (kind : Kind) → IsTrue (is_buffer buffer kind) → KindInLimits kind → pos 1 ≤ℤ size_of kind
+some-size OfStream (Stream size) t h = h.0
+some-size OfMessage (Message size) t h = h.0
+some-size buffer kind t h = cc
+
+module _ (s : Site) (o : ObjId) (known : Holding) (t : IsTarget s.app (mover s) (other s) (kind_of s.app o.0) known) (timing : Timing) (n : ℕ) (result : Option VarId) where
+  abbrev kind : Kind
+  kind = kind_of s.app o.0
+
+  abbrev a : ℕ
+  a = mover s
+
+  abbrev b : ℕ
+  b = other s
+
+  only-living : (buffer : BufferKind) → IsTrue (is_buffer buffer kind) → known ≡ Living
+  only-living buffer acts = living-only s.app a b kind known t (λ m c. buffer-unheld buffer kind m acts c)
+
+  -- a call that moves bytes
+  pub move-row : (end : End) (buffer : BufferKind) (span : Range) → IsTrue (is_buffer buffer kind) → 1 ≤ n → ends_of span ≡ results_of kind (Move end buffer n result) → IsEndRow s o known known timing (Move end buffer n result) Then result span
+  move-row Writer OfStream span acts some is =
+      let spans = span-is span (pos 0) (int_min (pos n) (size_of kind)) is in
+      moves-row s o known (only-living OfStream acts) timing (Move Writer OfStream n result) result span (λ j. j ≤ n) (λ j c. sent_bytes j kind c) (λ S c mid r. (r.0, r.1, r.2, r.3)) (λ j S mid l m. (j, refl, l, m))
+      (λ j content made can l m. sent-bytes-in s.app a b n span j kind (size_of kind) content made acts (has-size OfStream kind acts) spans l m)
+      (λ d. stream-sends s.app a b n span kind (size_of kind) d acts (has-size OfStream kind acts) t.limits spans)
+  move-row Reader OfStream span acts some is =
+      let spans = span-is span (pos 0) (int_min (pos n) (size_of kind)) is in
+      moves-row s o known (only-living OfStream acts) timing (Move Reader OfStream n result) result span (λ j. j ≤ n) (λ j c. received_bytes j c) (λ S c mid r. (r.0, r.1, r.2, r.3)) (λ j S mid l m. (j, refl, l, m))
+      (λ j content made can l m. received-bytes-in s.app a b n span j kind (size_of kind) content made acts (has-size OfStream kind acts) can spans l m)
+      (λ d. stream-receives s.app a b n span kind (size_of kind) d acts (has-size OfStream kind acts) t.limits spans)
+  move-row Writer OfMessage span acts some is =
+      let spans = span-is span (pos n) (int_min (pos n) (size_of kind)) is in
+      let low = spans.lo_is in
+      let high = spans.hi_is in
+      let fits : pos n ≤ℤ size_of kind = omega (arith, ints, clamps, low, high, span.ordered) in
+      let one : IsSpan span (pos n) (pos n) = record { lo_is = low; hi_is = omega (arith, ints, clamps, high, fits) } in
+      moves-row s o known (only-living OfMessage acts) timing (Move Writer OfMessage n result) result span (λ j. j ≡ n) (λ j c. sent_message j kind c) (λ S c mid r. (n, r.0, refl, r.1)) (λ j S mid l m. (ap (λ i. pos i) l, subst (λ i. Moves o.0 (sent_message i kind (content_of S o.0)) result (pos j) S mid) l m))
+      (λ j content made can l m. subst (λ i. IsIn a b Living made × Within (ends_of span) (pos i)) (sym l) (sent-message-in s.app a b n span kind content made acts one (subst (λ i. sent_message i kind content ≡ Some made) l m)))
+      (λ d.
+      let sends = message-sends s.app a b n span kind (size_of kind) d acts (has-size OfMessage kind acts) t.limits fits one in
+      (sends.0, sends.1, sends.2, n, refl, sends.3, sends.4, sends.5))
+  move-row Reader OfMessage span acts some is =
+      let spans = span-is span (pos 1) (int_min (pos n) (size_of kind)) is in
+      moves-row s o known (only-living OfMessage acts) timing (Move Reader OfMessage n result) result span (λ j. j ≤ n) (λ j c. received_message j c) (λ S c mid r. (r.0, r.1, r.2, r.3)) (λ j S mid l m. (j, refl, l, m))
+      (λ j content made can l m. received-message-in s.app a b n span j kind (size_of kind) content made acts (has-size OfMessage kind acts) can spans l m)
+      (λ d. message-receives s.app a b n span kind (size_of kind) d acts (has-size OfMessage kind acts) t.limits some spans)
+
+  -- there is no such call where no number of bytes can be moved: only of a message that is longer than the buffer
+  pub move-never : (end : End) (buffer : BufferKind) → IsTrue (is_buffer buffer kind) → 1 ≤ n → int_min (pos n) (size_of kind) <ℤ pos (least_moved end buffer n) → (S : State) (c : ℤ) (mid : State) → Completes s.app (transition S a c mid) o.0 timing (Move end buffer n result) Then → ⊥
+  move-never Writer OfMessage acts some none S c mid r =
+      let long : size_of kind <ℤ pos n = omega (arith, ints, clamps, none) in
+      message-too-long n kind (size_of kind) (content_of S o.0) r.1.1.0 (has-size OfMessage kind acts) long r.1.1.1
+  move-never Reader OfMessage acts some none S c mid r =
+      let size = some-size OfMessage kind acts t.limits in absurd (omega (arith, ints, clamps, size, some, none))
+  move-never Writer OfStream acts some none S c mid r =
+      let size = some-size OfStream kind acts t.limits in absurd (omega (arith, ints, clamps, size, some, none))
+  move-never Reader OfStream acts some none S c mid r =
+      let size = some-size OfStream kind acts t.limits in absurd (omega (arith, ints, clamps, size, some, none))
+
+  -- a call on a message buffer that moves nothing, and writes so
+  pub nothing-row : (end : End) (span : Range) → span.lo ≡ pos 0 → span.hi ≡ pos 0 → IsEndRow s o known known timing (Move end OfMessage n result) Else result span
+  nothing-row end span lo hi = record {
+    after = λ S c mid is inside ends.
+        let zero_c = ends.0 in
+        (content_of S o.0, c, ends.1 ∙ ap (λ U. with_result result c U) (same-content o S), inside, (omega (arith, ints, lo, zero_c), omega (arith, ints, hi, zero_c)));
     shown = λ d.
-        let s = some-content P k p o known action e q other in
-        (s.0, s.1, s.2, λ S known_S has. (pos 0, content_of S o.0, from S (with_result result (end_of d (ends_of span)) (becomes o.0 (content_of S o.0) S)) (ap (λ v. with_result result v (becomes o.0 (content_of S o.0) S)) (ends d) ∙ ap (λ U. with_result result (pos 0) U) (sym (same-content o S)))));
-  })
+        let before = some-content s.app a b kind known t in
+        (before.0, before.1, before.2, λ S has. (pos 0, content_of S o.0, (refl, ap (λ v. with_result result v (becomes o.0 (content_of S o.0) S)) (ends_at d) ∙ ap (λ U. with_result result (pos 0) U) (sym (same-content o S)))));
+  }
     where
-      ends : (d : Bool) → end_of d (ends_of span) ≡ pos 0
-      ends false = is.lo_is
-      ends true = is.hi_is
-
--- what is known of the buffer of a call
-only-living : (P : Program) (k : Known) (p : Point) (o : ObjId) (known : Holding) (buffer : BufferKind) (action : Action) (e : IsEnd P k p o known action) → IsTrue (is_buffer buffer (kind_of P o.0)) → ((q : Point) → IsOther P k p q → known ≡ Living)
-only-living P k p o known buffer action e t q other = living-only P p.actor.0 (b P k p o known action e q other) (kind_of P o.0) (holding k o.0) known (buffer-kind buffer (kind_of P o.0) t) e.living (end-fits P k p o known action e q other)
-
-module _ (P : Program) (k : Known) (p : Point) (o : ObjId) (known : Holding) (n : ℕ) (timing : Timing) (result : Option VarId) (size : ℤ) (same : HasSize (kind_of P o.0) size) where
-  pub stream-send-left : IsEnd P k p o known (Send OfStream n timing result) → (span : Range) → IsSpan span (pos 0) (int_min (pos n) size) → IsLeft P k p Then (resulting k o (mover_claim known) result span)
-  stream-send-left e span is =
-      let action = Send OfStream n timing result in
-      let t = acts-on P k p o known action e in
-      moves-left P k p o known action e (only-living P k p o known OfStream action e t) result (result-there P result (end-names P k p o known action e).1) (λ j. j ≤ n) (λ j c. sent_bytes j (kind_of P o.0) c) (λ S c mid r. (r.0, r.1, r.2, r.3)) (λ j S mid l m. (j, refl, l, m)) span
-      (λ x y j content made can l m. sent-bytes-in P x y n span j (kind_of P o.0) size content made t same is l m)
-      (λ x y d. stream-sends P x y n span (kind_of P o.0) size d t same (end-limits P k p o known action e) is)
-
-  pub stream-receive-left : IsEnd P k p o known (Receive OfStream n timing result) → (span : Range) → IsSpan span (pos 0) (int_min (pos n) size) → IsLeft P k p Then (resulting k o (mover_claim known) result span)
-  stream-receive-left e span is =
-      let action = Receive OfStream n timing result in
-      let t = acts-on P k p o known action e in
-      moves-left P k p o known action e (only-living P k p o known OfStream action e t) result (result-there P result (end-names P k p o known action e).1) (λ j. j ≤ n) (λ j c. received_bytes j c) (λ S c mid r. (r.0, r.1, r.2, r.3)) (λ j S mid l m. (j, refl, l, m)) span
-      (λ x y j content made can l m. received-bytes-in P x y n span j (kind_of P o.0) size content made t same can is l m)
-      (λ x y d. stream-receives P x y n span (kind_of P o.0) size d t same (end-limits P k p o known action e) is)
-
-  pub message-send-left : IsEnd P k p o known (Send OfMessage n timing result) → (span : Range) → pos n ≤ℤ size → IsSpan span (pos n) (pos n) → IsLeft P k p Then (resulting k o (mover_claim known) result span)
-  message-send-left e span fits is =
-      let action = Send OfMessage n timing result in
-      let t = acts-on P k p o known action e in
-      moves-left P k p o known action e (only-living P k p o known OfMessage action e t) result (result-there P result (end-names P k p o known action e).1) (λ j. j ≡ n) (λ j c. sent_message j (kind_of P o.0) c) (λ S c mid r. (n, r.0, refl, r.1)) (λ j S mid l m. (ap (λ i. pos i) l, subst (λ i. Moves o.0 (sent_message i (kind_of P o.0) (content_of S o.0)) result (pos j) S mid) l m)) span
-      (λ x y j content made can l m. subst (λ i. IsIn x y Living made × Within (ends_of span) (pos i)) (sym l) (sent-message-in P x y n span (kind_of P o.0) content made t is (subst (λ i. sent_message i (kind_of P o.0) content ≡ Some made) l m)))
-      (λ x y d.
-      let s = message-sends P x y n span (kind_of P o.0) size d t same (end-limits P k p o known action e) fits is in
-      (s.0, s.1, s.2, n, refl, s.3, s.4, s.5))
-
-  pub message-send-never : IsEnd P k p o known (Send OfMessage n timing result) → size <ℤ pos n → NeverSteps P k p Then
-  message-send-never e long =
-      let action = Send OfMessage n timing result in
-      let t = acts-on P k p o known action e in
-      moves-never P k p o known action e (only-living P k p o known OfMessage action e t) result (result-there P result (end-names P k p o known action e).1) (λ j. j ≡ n) (λ j c. sent_message j (kind_of P o.0) c) (λ S c mid r. (n, r.0, refl, r.1)) (λ j S mid l m. (ap (λ i. pos i) l, subst (λ i. Moves o.0 (sent_message i (kind_of P o.0) (content_of S o.0)) result (pos j) S mid) l m))
-      (λ j content made can l m. message-too-long n (kind_of P o.0) size content made same long (subst (λ i. sent_message i (kind_of P o.0) content ≡ Some made) l m))
-
-  pub message-receive-left : IsEnd P k p o known (Receive OfMessage n timing result) → (span : Range) → IsSpan span (pos 1) (int_min (pos n) size) → IsLeft P k p Then (resulting k o (mover_claim known) result span)
-  message-receive-left e span is =
-      let action = Receive OfMessage n timing result in
-      let t = acts-on P k p o known action e in
-      let some = (e.spot.faultless.limits.code p.actor.0 p.pc (Calls (On o action)) e.spot.instr).0.0 in
-      moves-left P k p o known action e (only-living P k p o known OfMessage action e t) result (result-there P result (end-names P k p o known action e).1) (λ j. j ≤ n) (λ j c. received_message j c) (λ S c mid r. (r.0, r.1, r.2, r.3)) (λ j S mid l m. (j, refl, l, m)) span
-      (λ x y j content made can l m. received-message-in P x y n span j (kind_of P o.0) size content made t same can is l m)
-      (λ x y d. message-receives P x y n span (kind_of P o.0) size d t same (end-limits P k p o known action e) some is)
-
-module _ (P : Program) (k : Known) (p : Point) (o : ObjId) (known : Holding) (n : ℕ) (timing : Timing) (result : Option VarId) where
-  pub message-unsent-left : IsEnd P k p o known (Send OfMessage n timing result) → (span : Range) → IsSpan span (pos 0) (pos 0) → IsLeft P k p Else (resulting k o (mover_claim known) result span)
-  message-unsent-left e span is =
-      let action = Send OfMessage n timing result in
-      nothing-left P k p o known action e result (result-there P result (end-names P k p o known action e).1) (λ S c mid r. r) (λ S mid r. (refl, r)) span is
-
-  pub message-unreceived-left : IsEnd P k p o known (Receive OfMessage n timing result) → (span : Range) → IsSpan span (pos 0) (pos 0) → IsLeft P k p Else (resulting k o (mover_claim known) result span)
-  message-unreceived-left e span is =
-      let action = Receive OfMessage n timing result in
-      nothing-left P k p o known action e result (result-there P result (end-names P k p o known action e).1) (λ S c mid r. r) (λ S mid r. (refl, r)) span is
-
-  -- a stream's call never fails
-  pub stream-send-never : IsEnd P k p o known (Send OfStream n timing result) → NeverSteps P k p Else
-  stream-send-never e = end-never P k p o known (Send OfStream n timing result) e Else (λ q there S c mid is i r. r)
-
-  pub stream-receive-never : IsEnd P k p o known (Receive OfStream n timing result) → NeverSteps P k p Else
-  stream-receive-never e = end-never P k p o known (Receive OfStream n timing result) e Else (λ q there S c mid is i r. r)
-
-module _ (P : Program) (k : Known) (p : Point) (o : ObjId) (known : Holding) (buffer : BufferKind) (or_else : Option ℕ) (e : IsEnd P k p o known (Reset buffer or_else)) where
-  pub reset-left : IsLeft P k p Then (claiming k o (mover_claim known))
-  reset-left =
-      let action = Reset buffer or_else in
-      let t = acts-on P k p o known action e in
-      let kind = kind_of P o.0 in
-      puts-left P k p o known action e Then (pos 1) (λ S c. Some (new_content (kind_of P o.0))) (λ S c mid r. (new_content (kind_of P o.0), refl, r.1)) (λ S mid r. (refl, r.2 ∙ ap (λ c. becomes o.0 c S) (sym (same_Some _ _ r.1)))) known (living-follows (holding k o.0) known e.living)
-      (λ q there S content made i m.
-      let new : IsIn p.actor.0 (b P k p o known action e q there) Living (new_content kind) = (new-live kind, λ n f. new-unheld p.actor.0 n kind f, λ n f. new-unheld (b P k p o known action e q there) n kind f) in
-      subst (λ h. IsIn p.actor.0 (b P k p o known action e q there) h made) (sym (only-living P k p o known buffer action e t q there)) (subst (λ c. IsIn p.actor.0 (b P k p o known action e q there) Living c) (same_Some _ _ m) new))
-      (λ q there. let s = some-content P k p o known action e q there in (s.0, s.1, s.2, λ S. (new_content kind, refl)))
-
-  pub reset-fails-left : IsLeft P k p Else (claiming k o (mover_claim known))
-  reset-fails-left = stay-left P k p o known (Reset buffer or_else) e Else (λ S c mid r. r.1) (λ q there.
-      let s = some-content P k p o known (Reset buffer or_else) e q there in (s.0, s.1, s.2, λ S has. (refl, refl)))
+      ends_at : (d : Bool) → end_of d (ends_of span) ≡ pos 0
+      ends_at false = lo
+      ends_at true = hi

@@ -1,195 +1,171 @@
 -- The ends of calls as the code has them: which change, and where there is none.
-use Rattle.std.proofs.Common.{◌≡◌, ℕ, ◌≤◌, Option, Some, None, Bool, true, false, refl, sym, ap, ◌∙◌, subst, arith}
-use Rattle.std.specs.Prelude.{ℤ, pos, ◌≤ℤ◌, ◌<ℤ◌, IsTrue, if◌then◌else◌}
-use Rattle.std.proofs.lemmas.Int.{ints, clamps, by_lt_z}
-use Rattle.std.proofs.lemmas.Bool.{false≢true}
+use Rattle.std.proofs.Common.{◌≡◌, ℕ, ◌-◌, ◌<◌, ◌≤◌, [], length, Option, Some, None, Bool, true, false, refl, sym, ap, ◌∙◌, subst, arith}
+use Rattle.std.specs.Prelude.{ℤ, pos, ◌<ℤ◌, IsTrue, IfSome, All, nat_le, if◌then◌else◌}
+use Rattle.std.proofs.lemmas.Int.{ints}
 use Rattle.std.proofs.lemmas.Option.{same_Some}
+use Rattle.std.proofs.lemmas.List.Elements.{All-head}
 use Rattle.fr_program.specs.declared.ids.ObjId.{ObjId}
 use Rattle.fr_program.specs.declared.ids.VarId.{VarId}
 use Rattle.fr_program.specs.declared.ids.Point.{Point}
-use Rattle.fr_program.specs.declared.instr.Instr.TheVariants.{Call as Calls}
-use Rattle.fr_program.specs.declared.instr.Call.TheVariants.{On}
-use Rattle.fr_program.specs.declared.instr.Action.{Action}
-use Rattle.fr_program.specs.declared.instr.Action.TheVariants.{Take, Give, QueueSend, QueueReceive, Send, Receive, Reset}
-use Rattle.fr_program.specs.declared.instr.BufferKind.{BufferKind}
+use Rattle.fr_program.specs.declared.instr.ObjectCall.{ObjectCall}
+use Rattle.fr_program.specs.declared.instr.Act.{Act}
+use Rattle.fr_program.specs.declared.instr.Act.TheVariants.{Try, Move}
+use Rattle.fr_program.specs.declared.instr.Attempt.{Attempt}
+use Rattle.fr_program.specs.declared.instr.Attempt.TheVariants.{QueueSend, QueueReceive, Take, Give, Reset}
 use Rattle.fr_program.specs.declared.instr.BufferKind.TheVariants.{Stream as OfStream, Message as OfMessage}
-use Rattle.fr_program.specs.declared.instr.TakeForm.{TakeForm}
-use Rattle.fr_program.specs.declared.instr.GiveForm.{GiveForm}
-use Rattle.fr_program.specs.declared.instr.Operand.{Operand}
 use Rattle.fr_program.specs.declared.instr.Timing.{Timing}
 use Rattle.fr_program.specs.declared.parts.Kind.{Kind}
 use Rattle.fr_program.specs.declared.parts.Kind.TheVariants.{Queue, Binary, Counting, Mutex, Recursive, Stream, Message}
 use Rattle.fr_program.specs.declared.range.Range.{Range}
 use Rattle.fr_program.specs.Program.{Program}
-use Rattle.fr_program.specs.Limits.{KindInLimits}
-use Rattle.fr_program.specs.Uses.{acts_on, is_buffer}
-use Rattle.fr_calls.specs.declared.way.Way.{Way}
+use Rattle.fr_program.specs.Limits.{KindInLimits, ActInLimits}
+use Rattle.fr_program.specs.Timings.{suits_timing}
+use Rattle.fr_program.specs.Uses.{acts_on, act_variables, written_by, option_list}
 use Rattle.fr_calls.specs.declared.way.Way.TheVariants.{Then, Else}
-use Rattle.fr_calls.specs.State.{kind_of}
-use Rattle.fr_calls.specs.Step.{can_time_out, take_can_time_out}
+use Rattle.fr_calls.specs.State.{State, kind_of, content_of}
+use Rattle.fr_calls.specs.Rule.{is_unsuited}
+use Rattle.fr_calls.specs.Step.{Completes, transition}
 use Rattle.fr_notes.specs.declared.change.Change.{Change}
 use Rattle.fr_notes.specs.Note.{Claim, NotHeld, Alive, Gone, HeldTimes, claim_of}
+use Rattle.fr_notes.specs.View.{ends_of}
 use Rattle.fr_notes.specs.Fits.{CanClaim}
-use Rattle.fr_notes.specs.Known.{Known, KnownFits, IsLeft, NeverSteps}
-use Rattle.fr_notes.specs.Holding.{Holding, holding, holding_of, others_claim, living, mover_claim, taken_by, given_by, can_be_full}
-use Rattle.fr_notes.specs.Results.{HasValues, NoValues, size_of, IsSpan, IsUpTo, NothingUpTo, IsSmall}
-use Rattle.fr_notes.specs.Spot.{IsEnd, Leaves, EndLeaves, claiming, resulting}
-use Rattle.fr_notes.proofs.Ends.{end-limits}
-use Rattle.fr_notes.proofs.SemaphoreRows.{take-left, take-never, take-fails-left, take-fails-never, give-left, give-never, give-fails-left, give-fails-never}
-use Rattle.fr_notes.proofs.QueueRows.{acts-on, send-left, send-fails-left, send-fails-never, receive-left, receive-fails-left, receive-fails-never}
-use Rattle.fr_notes.proofs.BufferRows.{HasSize, stream-send-left, stream-send-never, stream-receive-left, stream-receive-never, message-send-left, message-send-never, message-unsent-left, message-receive-left, message-unreceived-left, reset-left, reset-fails-left}
+use Rattle.fr_notes.specs.Known.{Known, KnownFits, IsLeft}
+use Rattle.fr_notes.specs.Holding.{Holding, Living, Own, holding, holding_of, others_claim, living, mover_claim, taken_by, given_by, worked_by, can_fail_on, is_mutex, is_given_unheld}
+use Rattle.fr_notes.specs.Results.{results_of, failed_into, IsSmall}
+use Rattle.fr_notes.specs.Spot.{IsEnd, EndLeaves, resulting}
+use Rattle.fr_notes.proofs.Holdings.{IsIn}
+use Rattle.fr_notes.proofs.Seen.{Site, mover, other}
+use Rattle.fr_notes.proofs.EndRows.{IsEndRow, Follows, IsAlive, living-alive, at, end-names, end-left, end-never}
+use Rattle.fr_notes.proofs.Ends.{IsTarget, target, acts-on, in-limits}
+use Rattle.fr_notes.proofs.AttemptRows.{attempt-row, attempt-never, failed-row, fails-never, given-own}
+use Rattle.fr_notes.proofs.BufferRows.{move-row, move-never, nothing-row}
 
-module _ (k : Known) (o : ObjId) (kind : Kind) (known : Holding) (way w : Way) (is : way ≡ w) where
-  some-end : (action : Action) (change made : Change) → change ≡ made → ((P : Program) (p : Point) → kind_of P o.0 ≡ kind → IsEnd P k p o known action → IsLeft P k p w made) → EndLeaves k o kind known action way (Some change)
-  some-end action change made e left = λ P p same at.
-      subst (λ x. IsLeft P k p x change) (sym is) (subst (λ x. IsLeft P k p w x) (sym e) (left P p same at))
+taken-follows : (kind : Kind) (known new : Holding) → taken_by kind known ≡ Some new → Follows known new
+taken-follows Mutex Living (Own n) t = (tt, refl)
+taken-follows Recursive Living (Own n) t = (tt, refl)
+taken-follows Recursive (Own m) (Own n) t = (tt, refl)
+taken-follows Binary Living Living t = (tt, refl)
+taken-follows (Counting size first) Living Living t = (tt, refl)
+taken-follows kind known new t = cc
 
-  none-end : (action : Action) (change : Option Change) → change ≡ None → ((P : Program) (p : Point) → kind_of P o.0 ≡ kind → IsEnd P k p o known action → NeverSteps P k p w) → EndLeaves k o kind known action way change
-  none-end action change e never = λ P p same at.
-      subst (λ x. Leaves P k p way x) (sym e) (subst (λ x. NeverSteps P k p x) (sym is) (never P p same at))
+given-follows : (kind : Kind) (known new : Holding) → given_by kind known ≡ Some new → Follows known new
+given-follows Mutex (Own n) Living t = (tt, refl)
+given-follows Recursive (Own n) new t = either (nat_le n 1) t
+  where
+    either : (d : Bool) → Some (if d then Living else Own (n - 1)) ≡ Some new → Follows (Own n) new
+    either true e = subst (Follows (Own n)) (same_Some _ _ e) (tt, refl)
+    either false e = subst (Follows (Own n)) (same_Some _ _ e) (tt, refl)
+given-follows Binary Living Living t = (tt, refl)
+given-follows (Counting size first) Living Living t = (tt, refl)
+given-follows kind known new t = cc
 
-  either-end : (action : Action) (change : Option Change) (made : Change) (can : Bool) → change ≡ (if can then Some made else None) → (can ≡ true → (P : Program) (p : Point) → kind_of P o.0 ≡ kind → IsEnd P k p o known action → IsLeft P k p w made) → (can ≡ false → (P : Program) (p : Point) → kind_of P o.0 ≡ kind → IsEnd P k p o known action → NeverSteps P k p w) → EndLeaves k o kind known action way change
-  either-end action change made true e left never = λ P p same at.
-      subst (λ x. Leaves P k p way x) (sym e) (some-end action made made refl (left refl) P p same at)
-  either-end action change made false e left never = none-end action change e (never refl)
+worked-follows : (kind : Kind) (act : Act) (known new : Holding) → IsAlive known → worked_by kind act known ≡ Some new → Follows known new
+worked-follows kind (Try (Take form) e) known new alive w = taken-follows kind known new w
+worked-follows kind (Try (Give form) e) known new alive w = given-follows kind known new w
+worked-follows kind act known new alive w = subst (Follows known) (same_Some _ _ w) (alive, refl)
 
-module _ (k : Known) (o : ObjId) (kind : Kind) (known : Holding) (way : Way) where
-  abbrev same-claim : Change
-  same-claim = claiming k o (mover_claim known)
+option-there : (x : Option VarId) (n : ℕ) → All (λ x. x.0 < n) (option_list x) → IfSome x (λ x. x.0 < n)
+option-there None n h = tt
+option-there (Some x) n h = All-head (λ x. x.0 < n) x [] h
 
-  -- takes
-  pub take-then : way ≡ Then → (form : TakeForm) (or_else : Option ℕ) (after : Holding) → taken_by kind known ≡ Some after → (change : Change) → change ≡ claiming k o (mover_claim after) → EndLeaves k o kind known (Take form or_else) way (Some change)
-  take-then is form or_else after t change e = some-end k o kind known way Then is (Take form or_else) change (claiming k o (mover_claim after)) e (λ P p same at.
-      take-left P k p o known form or_else at after (ap (λ x. taken_by x known) same ∙ t))
+-- the variable that an act writes is one that it names
+written-there : (act : Act) (n : ℕ) → All (λ x. x.0 < n) (act_variables act) → IfSome (written_by act) (λ x. x.0 < n)
+written-there (Try (QueueReceive into) e) n h = All-head (λ x. x.0 < n) into [] h
+written-there (Try (QueueSend value) e) n h = tt
+written-there (Try (Take form) e) n h = tt
+written-there (Try (Give form) e) n h = tt
+written-there (Try (Reset buffer) e) n h = tt
+written-there (Move end buffer k result) n h = option-there result n h
 
-  pub take-none : way ≡ Then → (form : TakeForm) (or_else : Option ℕ) → taken_by kind known ≡ None → (change : Option Change) → change ≡ None → EndLeaves k o kind known (Take form or_else) way change
-  take-none is form or_else t change e = none-end k o kind known way Then is (Take form or_else) change e (λ P p same at.
-      take-never P k p o known form or_else at (ap (λ x. taken_by x known) same ∙ t))
+failed-there : (act : Act) (n : ℕ) → All (λ x. x.0 < n) (act_variables act) → IfSome (failed_into act) (λ x. x.0 < n)
+failed-there (Try attempt e) n h = tt
+failed-there (Move end buffer k result) n h = option-there result n h
 
-  pub take-else : way ≡ Else → (form : TakeForm) (or_else : Option ℕ) (can : Bool) → can ≡ take_can_time_out form → (change : Option Change) → change ≡ (if can then Some same-claim else None) → EndLeaves k o kind known (Take form or_else) way change
-  take-else is form or_else can t change e = either-end k o kind known way Else is (Take form or_else) change same-claim can e (λ c P p same at.
-      take-fails-left P k p o known form or_else at (sym t ∙ c)) (λ c P p same at. take-fails-never P k p o known form or_else at (sym t ∙ c))
+-- a queue has values, and a range from 0 to 0 is one
+values-there : (kind : Kind) (attempt : Attempt) (e : Option ℕ) → KindInLimits kind → (results_of kind (Try attempt e)).1 <ℤ (results_of kind (Try attempt e)).0 → ⊥
+values-there (Queue size lo hi) attempt e h none = absurd (omega (arith, ints, none, h.1))
+values-there Binary attempt e h none = absurd (omega (arith, ints, none))
+values-there (Counting size first) attempt e h none = absurd (omega (arith, ints, none))
+values-there Mutex attempt e h none = absurd (omega (arith, ints, none))
+values-there Recursive attempt e h none = absurd (omega (arith, ints, none))
+values-there (Stream size) attempt e h none = absurd (omega (arith, ints, none))
+values-there (Message size) attempt e h none = absurd (omega (arith, ints, none))
 
-  -- gives
-  pub give-then : way ≡ Then → (form : GiveForm) (or_else : Option ℕ) (after : Holding) → given_by kind known ≡ Some after → (change : Change) → change ≡ claiming k o (mover_claim after) → EndLeaves k o kind known (Give form or_else) way (Some change)
-  give-then is form or_else after t change e = some-end k o kind known way Then is (Give form or_else) change (claiming k o (mover_claim after)) e (λ P p same at.
-      give-left P k p o known form or_else at after (ap (λ x. given_by x known) same ∙ t))
+-- the row of an act that works, of one that can't, and of one that gives no number
+module _ (s : Site) (o : ObjId) (known : Holding) (t : IsTarget s.app (mover s) (other s) (kind_of s.app o.0) known) (timing : Timing) where
+  abbrev kind : Kind
+  kind = kind_of s.app o.0
 
-  pub give-none : way ≡ Then → (form : GiveForm) (or_else : Option ℕ) → given_by kind known ≡ None → (change : Option Change) → change ≡ None → EndLeaves k o kind known (Give form or_else) way change
-  give-none is form or_else t change e = none-end k o kind known way Then is (Give form or_else) change e (λ P p same at.
-      give-never P k p o known form or_else at (ap (λ x. given_by x known) same ∙ t))
+  work-row : (act : Act) (new : Holding) (span : Range) → IsTrue (acts_on act kind) → ActInLimits act → worked_by kind act known ≡ Some new → ends_of span ≡ results_of kind act → IsEndRow s o known new timing act Then (written_by act) span
+  work-row (Try attempt e) new span acts limits w is = attempt-row s o known t timing attempt e new span acts w is
+  work-row (Move end buffer n result) new span acts limits w is =
+      subst (λ h. IsEndRow s o known h timing (Move end buffer n result) Then result span) (same_Some _ _ w) (move-row s o known t timing n result end buffer span acts limits.0 is)
 
-  pub give-else : way ≡ Else → (form : GiveForm) (or_else : Option ℕ) (can : Bool) → can ≡ can_be_full kind → (change : Option Change) → change ≡ (if can then Some same-claim else None) → EndLeaves k o kind known (Give form or_else) way change
-  give-else is form or_else can t change e = either-end k o kind known way Else is (Give form or_else) change same-claim can e (λ c P p same at.
-      give-fails-left P k p o known form or_else at (ap can_be_full same ∙ sym t ∙ c)) (λ c P p same at.
-      give-fails-never P k p o known form or_else at (ap can_be_full same ∙ sym t ∙ c))
+  work-never : (act : Act) → ((form : _) (e : Option ℕ) → act ≡ Try (Give form) e → is_mutex kind (Some kind) ≡ true → (n : ℕ) × (known ≡ Own n)) → worked_by kind act known ≡ None → (S : State) (c : ℤ) (mid : State) → IsIn (mover s) (other s) known (content_of S o.0) → Completes s.app (transition S (mover s) c mid) o.0 timing act Then → ⊥
+  work-never (Try attempt e) own w S c mid inside ends = attempt-never s o known t attempt e (λ form same. own form e (ap (λ x. Try x e) same)) w S mid inside ends.1
+  work-never (Move end buffer n result) own w S c mid inside ends = cc
 
-  -- queues
-  pub send-then : way ≡ Then → (value : Operand) (timing : Timing) (or_else : Option ℕ) (change : Change) → change ≡ same-claim → EndLeaves k o kind known (QueueSend value timing or_else) way (Some change)
-  send-then is value timing or_else change e = some-end k o kind known way Then is (QueueSend value timing or_else) change same-claim e (λ P p same at.
-      send-left P k p o known value timing or_else at)
+  span-never : (act : Act) → IsTrue (acts_on act kind) → ActInLimits act → (results_of kind act).1 <ℤ (results_of kind act).0 → (S : State) (c : ℤ) (mid : State) → Completes s.app (transition S (mover s) c mid) o.0 timing act Then → ⊥
+  span-never (Try attempt e) acts limits none S c mid r = values-there kind attempt e t.limits none
+  span-never (Move end buffer n result) acts limits none S c mid r = move-never s o known t timing n result end buffer acts limits.0 none S c mid r
 
-  pub send-else : way ≡ Else → (value : Operand) (timing : Timing) (or_else : Option ℕ) (can : Bool) → can ≡ can_time_out timing → (change : Option Change) → change ≡ (if can then Some same-claim else None) → EndLeaves k o kind known (QueueSend value timing or_else) way change
-  send-else is value timing or_else can t change e = either-end k o kind known way Else is (QueueSend value timing or_else) change same-claim can e (λ c P p same at.
-      send-fails-left P k p o known value timing or_else at (sym t ∙ c)) (λ c P p same at.
-      send-fails-never P k p o known value timing or_else at (sym t ∙ c))
+  fail-row : (act : Act) (span : Range) → span.lo ≡ pos 0 → span.hi ≡ pos 0 → can_fail_on kind timing act ≡ true → IsEndRow s o known known timing act Else (failed_into act) span
+  fail-row (Try attempt e) span lo hi f = failed-row s o known t timing attempt e span f
+  fail-row (Move end OfMessage n result) span lo hi f = nothing-row s o known t timing n result end span lo hi
+  fail-row (Move end OfStream n result) span lo hi f = cc
 
-  pub receive-then : way ≡ Then → (into : VarId) (timing : Timing) (or_else : Option ℕ) (span : Range) → HasValues kind span → (change : Change) → change ≡ resulting k o (mover_claim known) (Some into) span → EndLeaves k o kind known (QueueReceive into timing or_else) way (Some change)
-  receive-then is into timing or_else span h change e = some-end k o kind known way Then is (QueueReceive into timing or_else) change (resulting k o (mover_claim known) (Some into) span) e (λ P p same at.
-      receive-left P k p o known into timing or_else at span (subst (λ x. HasValues x span) (sym same) h))
+  fail-never : (act : Act) → can_fail_on kind timing act ≡ false → (S : State) (c : ℤ) (mid : State) → Completes s.app (transition S (mover s) c mid) o.0 timing act Else → ⊥
+  fail-never (Try attempt e) f S c mid ends = fails-never timing kind (content_of S o.0) attempt e f ends.1
+  fail-never (Move end OfMessage n result) f S c mid ends = cc
+  fail-never (Move end OfStream n result) f S c mid ends = ends
 
-  -- a queue has values
-  values-there : (into : VarId) (timing : Timing) (or_else : Option ℕ) (kind : Kind) → IsTrue (acts_on (QueueReceive into timing or_else) kind) → KindInLimits kind → NoValues kind → ⊥
-  values-there into timing or_else (Queue size lo hi) t h none = absurd (omega (arith, ints, none, h.1))
-  values-there into timing or_else kind t h none = cc
+both-ends : (span : Range) (r : ℤ × ℤ) → (span.lo ≡ r.0) × (span.hi ≡ r.1) → ends_of span ≡ r
+both-ends span r (lo, hi) = ap (λ x. (x, span.hi)) lo ∙ ap (λ x. (r.0, x)) hi
 
-  pub receive-none : way ≡ Then → (into : VarId) (timing : Timing) (or_else : Option ℕ) → NoValues kind → (change : Option Change) → change ≡ None → EndLeaves k o kind known (QueueReceive into timing or_else) way change
-  receive-none is into timing or_else none change e = none-end k o kind known way Then is (QueueReceive into timing or_else) change e (λ P p same at.
-      absurd (values-there into timing or_else (kind_of P o.0) (acts-on P k p o known (QueueReceive into timing or_else) at) (end-limits P k p o known (QueueReceive into timing or_else) at) (subst NoValues (sym same) none)))
+module _ (k : Known) (kind : Kind) (known : Holding) (call : ObjectCall) where
+  abbrev act : Act
+  act = call.act
 
-  pub receive-else : way ≡ Else → (into : VarId) (timing : Timing) (or_else : Option ℕ) (can : Bool) → can ≡ can_time_out timing → (change : Option Change) → change ≡ (if can then Some same-claim else None) → EndLeaves k o kind known (QueueReceive into timing or_else) way change
-  receive-else is into timing or_else can t change e = either-end k o kind known way Else is (QueueReceive into timing or_else) change same-claim can e (λ c P p same at.
-      receive-fails-left P k p o known into timing or_else at (sym t ∙ c)) (λ c P p same at.
-      receive-fails-never P k p o known into timing or_else at (sym t ∙ c))
+  pub works-left : (new : Holding) (span : Range) (change : Change) → worked_by kind act known ≡ Some new → (span.lo ≡ (results_of kind act).0) × (span.hi ≡ (results_of kind act).1) → change ≡ resulting k call.object (mover_claim new) (written_by act) span → EndLeaves k kind known call Then (Some change)
+  works-left new span change w is same = λ P p e at_end.
+      let w' = ap (λ x. worked_by x act known) e ∙ w in
+      let is' : ends_of span ≡ results_of (kind_of P call.object.0) act = both-ends span (results_of kind act) is ∙ ap (λ x. results_of x act) (sym e) in
+      let names = end-names P k p known call at_end in
+      subst (λ x. IsLeft P k p Then x) (sym same)
+      (end-left P k p known call at_end Then new (written_by act) span (worked-follows (kind_of P call.object.0) act known new (living-alive (holding k call.object.0) known at_end.living) w') (written-there act (length P.variables) names.1)
+      (λ q there. work-row (at P k p known call at_end q there) call.object known (target P k p known call at_end q there) call.timing act new span (acts-on P k p known call at_end) (in-limits P k p known call at_end).2 w' is'))
 
--- the size of a buffer, in one word
-has-size : (buffer : BufferKind) (kind : Kind) → IsTrue (is_buffer buffer kind) → HasSize kind (size_of kind)
-has-size OfStream (Stream size) t = refl
-has-size OfMessage (Message size) t = refl
-has-size buffer kind t = cc
+  pub works-never : worked_by kind act known ≡ None → EndLeaves k kind known call Then None
+  works-never w = λ P p e at_end.
+      let w' = ap (λ x. worked_by x act known) e ∙ w in
+      end-never P k p known call at_end Then (λ q there S c mid is inside ends.
+      work-never (at P k p known call at_end q there) call.object known (target P k p known call at_end q there) call.timing act
+      (λ form or_else same mutex. own P p at_end form or_else same mutex) w' S c mid inside ends)
+    where
+      own : (P : Program) (p : Point) (at_end : IsEnd P k p known call) (form : _) (or_else : Option ℕ) → act ≡ Try (Give form) or_else → is_mutex (kind_of P call.object.0) (Some (kind_of P call.object.0)) ≡ true → (n : ℕ) × (known ≡ Own n)
+      own P p at_end form or_else same mutex =
+          given-own (kind_of P call.object.0) call.object call.timing form or_else known
+          (subst (λ x. IsTrue (suits_timing call.timing x)) same (in-limits P k p known call at_end).0)
+          (subst (λ x. is_unsuited (kind_of P call.object.0) call.timing x ≡ false) same at_end.suits)
+          (subst (λ x. is_given_unheld (kind_of P call.object.0) (record call { act = x }) known ≡ false) same at_end.held) mutex
 
-some-size : (buffer : BufferKind) (kind : Kind) → IsTrue (is_buffer buffer kind) → KindInLimits kind → pos 1 ≤ℤ size_of kind
-some-size OfStream (Stream size) t h = h.0
-some-size OfMessage (Message size) t h = h.0
-some-size buffer kind t h = cc
+  pub no-span : (results_of kind act).1 <ℤ (results_of kind act).0 → EndLeaves k kind known call Then None
+  no-span none = λ P p e at_end.
+      end-never P k p known call at_end Then (λ q there S c mid is inside ends.
+      span-never (at P k p known call at_end q there) call.object known (target P k p known call at_end q there) call.timing act (acts-on P k p known call at_end) (in-limits P k p known call at_end).2
+      (subst (λ x. (results_of x act).1 <ℤ (results_of x act).0) (sym e) none) S c mid ends)
 
-module _ (k : Known) (o : ObjId) (kind : Kind) (known : Holding) (way : Way) (n : ℕ) (into : Option VarId) (timing : Timing) where
-  abbrev given_result : Range → Change
-  given_result span = resulting k o (mover_claim known) into span
+  pub fails-left : (span : Range) (change : Change) → span.lo ≡ pos 0 → span.hi ≡ pos 0 → can_fail_on kind call.timing act ≡ true → change ≡ resulting k call.object (mover_claim known) (failed_into act) span → EndLeaves k kind known call Else (Some change)
+  fails-left span change lo hi f same = λ P p e at_end.
+      let alive = living-alive (holding k call.object.0) known at_end.living in
+      subst (λ x. IsLeft P k p Else x) (sym same)
+      (end-left P k p known call at_end Else known (failed_into act) span (alive, refl) (failed-there act (length P.variables) (end-names P k p known call at_end).1)
+      (λ q there. fail-row (at P k p known call at_end q there) call.object known (target P k p known call at_end q there) call.timing act span lo hi (ap (λ x. can_fail_on x call.timing act) e ∙ f)))
 
-  abbrev Sends : BufferKind → Action
-  Sends buffer = Send buffer n timing into
-
-  abbrev Receives : BufferKind → Action
-  Receives buffer = Receive buffer n timing into
-
-  pub stream-send-then : way ≡ Then → (span : Range) → IsUpTo 0 n kind span → (change : Change) → change ≡ given_result span → EndLeaves k o kind known (Send OfStream n timing into) way (Some change)
-  stream-send-then is span u change e = some-end k o kind known way Then is (Sends OfStream) change (given_result span) e (λ P p same at.
-      stream-send-left P k p o known n timing into (size_of kind) (subst (λ x. HasSize (kind_of P o.0) (size_of x)) same (has-size OfStream (kind_of P o.0) (acts-on P k p o known (Sends OfStream) at))) at span u)
-
-  pub stream-receive-then : way ≡ Then → (span : Range) → IsUpTo 0 n kind span → (change : Change) → change ≡ given_result span → EndLeaves k o kind known (Receive OfStream n timing into) way (Some change)
-  stream-receive-then is span u change e = some-end k o kind known way Then is (Receives OfStream) change (given_result span) e (λ P p same at.
-      stream-receive-left P k p o known n timing into (size_of kind) (subst (λ x. HasSize (kind_of P o.0) (size_of x)) same (has-size OfStream (kind_of P o.0) (acts-on P k p o known (Receives OfStream) at))) at span u)
-
-  pub message-receive-then : way ≡ Then → (span : Range) → IsUpTo 1 n kind span → (change : Change) → change ≡ given_result span → EndLeaves k o kind known (Receive OfMessage n timing into) way (Some change)
-  message-receive-then is span u change e = some-end k o kind known way Then is (Receives OfMessage) change (given_result span) e (λ P p same at.
-      message-receive-left P k p o known n timing into (size_of kind) (subst (λ x. HasSize (kind_of P o.0) (size_of x)) same (has-size OfMessage (kind_of P o.0) (acts-on P k p o known (Receives OfMessage) at))) at span u)
-
-  pub message-send-then : way ≡ Then → (span : Range) → pos n ≤ℤ size_of kind → IsSpan span (pos n) (pos n) → (change : Change) → change ≡ given_result span → EndLeaves k o kind known (Send OfMessage n timing into) way (Some change)
-  message-send-then is span fits u change e = some-end k o kind known way Then is (Sends OfMessage) change (given_result span) e (λ P p same at.
-      message-send-left P k p o known n timing into (size_of kind) (subst (λ x. HasSize (kind_of P o.0) (size_of x)) same (has-size OfMessage (kind_of P o.0) (acts-on P k p o known (Sends OfMessage) at))) at span fits u)
-
-  pub message-send-none : way ≡ Then → size_of kind <ℤ pos n → (change : Option Change) → change ≡ None → EndLeaves k o kind known (Send OfMessage n timing into) way change
-  message-send-none is long change e = none-end k o kind known way Then is (Sends OfMessage) change e (λ P p same at.
-      message-send-never P k p o known n timing into (size_of kind) (subst (λ x. HasSize (kind_of P o.0) (size_of x)) same (has-size OfMessage (kind_of P o.0) (acts-on P k p o known (Sends OfMessage) at))) at long)
-
-  -- there is always such a range
-  up-to-there : (buffer : BufferKind) (kind : Kind) (least : ℕ) → IsTrue (is_buffer buffer kind) → KindInLimits kind → 1 ≤ n → least ≤ 1 → NothingUpTo least n kind → ⊥
-  up-to-there buffer kind least t h some l none =
-      let size = some-size buffer kind t h in absurd (omega (arith, ints, clamps, size, some, l, none))
-
-  pub send-span-none : way ≡ Then → (buffer : BufferKind) (least : ℕ) → least ≤ 1 → NothingUpTo least n kind → (change : Option Change) → change ≡ None → EndLeaves k o kind known (Send buffer n timing into) way change
-  send-span-none is buffer least l none change e = none-end k o kind known way Then is (Sends buffer) change e (λ P p same at.
-      let some = (at.spot.faultless.limits.code p.actor.0 p.pc (Calls (On o (Sends buffer))) at.spot.instr).0.0 in
-      absurd (up-to-there buffer (kind_of P o.0) least (acts-on P k p o known (Sends buffer) at) (end-limits P k p o known (Sends buffer) at) some l (subst (λ x. NothingUpTo least n x) (sym same) none)))
-
-  pub receive-span-none : way ≡ Then → (buffer : BufferKind) (least : ℕ) → least ≤ 1 → NothingUpTo least n kind → (change : Option Change) → change ≡ None → EndLeaves k o kind known (Receive buffer n timing into) way change
-  receive-span-none is buffer least l none change e = none-end k o kind known way Then is (Receives buffer) change e (λ P p same at.
-      let some = (at.spot.faultless.limits.code p.actor.0 p.pc (Calls (On o (Receives buffer))) at.spot.instr).0.0 in
-      absurd (up-to-there buffer (kind_of P o.0) least (acts-on P k p o known (Receives buffer) at) (end-limits P k p o known (Receives buffer) at) some l (subst (λ x. NothingUpTo least n x) (sym same) none)))
-
-  pub stream-send-else : way ≡ Else → (change : Option Change) → change ≡ None → EndLeaves k o kind known (Send OfStream n timing into) way change
-  stream-send-else is change e = none-end k o kind known way Else is (Sends OfStream) change e (λ P p same at. stream-send-never P k p o known n timing into at)
-
-  pub stream-receive-else : way ≡ Else → (change : Option Change) → change ≡ None → EndLeaves k o kind known (Receive OfStream n timing into) way change
-  stream-receive-else is change e = none-end k o kind known way Else is (Receives OfStream) change e (λ P p same at. stream-receive-never P k p o known n timing into at)
-
-  pub message-unsent : (span : Range) → IsSpan span (pos 0) (pos 0) → (change : Change) → change ≡ given_result span → EndLeaves k o kind known (Send OfMessage n timing into) Else (Some change)
-  message-unsent span u change e = some-end k o kind known Else Else refl (Sends OfMessage) change (given_result span) e (λ P p same at. message-unsent-left P k p o known n timing into at span u)
-
-  pub message-unreceived : (span : Range) → IsSpan span (pos 0) (pos 0) → (change : Change) → change ≡ given_result span → EndLeaves k o kind known (Receive OfMessage n timing into) Else (Some change)
-  message-unreceived span u change e = some-end k o kind known Else Else refl (Receives OfMessage) change (given_result span) e (λ P p same at. message-unreceived-left P k p o known n timing into at span u)
-
-pub reset-any : (k : Known) (o : ObjId) (kind : Kind) (known : Holding) (way : Way) (buffer : BufferKind) (or_else : Option ℕ) (change : Change) → change ≡ claiming k o (mover_claim known) → EndLeaves k o kind known (Reset buffer or_else) way (Some change)
-reset-any k o kind known Then buffer or_else change e = some-end k o kind known Then Then refl (Reset buffer or_else) change (claiming k o (mover_claim known)) e (λ P p same at. reset-left P k p o known buffer or_else at)
-reset-any k o kind known Else buffer or_else change e = some-end k o kind known Else Else refl (Reset buffer or_else) change (claiming k o (mover_claim known)) e (λ P p same at. reset-fails-left P k p o known buffer or_else at)
-
--- another way, where the way is the same
-pub by-way : (k : Known) (o : ObjId) (kind : Kind) (known : Holding) (action : Action) (way w : Way) (change : Option Change) → way ≡ w → EndLeaves k o kind known action w change → EndLeaves k o kind known action way change
-by-way k o kind known action way w change is left = subst (λ x. EndLeaves k o kind known action x change) (sym is) left
-
-pub too-long : (x y : ℤ) (b : Bool) → (x ≤ℤ y → IsTrue b) → b ≡ false → y <ℤ x
-too-long x y b fits f = by_lt_z y x (λ h. h) (λ h. absurd (false≢true (sym f ∙ fits h)))
+  pub never-fails : can_fail_on kind call.timing act ≡ false → EndLeaves k kind known call Else None
+  never-fails f = λ P p e at_end.
+      end-never P k p known call at_end Else (λ q there S c mid is inside ends.
+      fail-never (at P k p known call at_end q there) call.object known (target P k p known call at_end q there) call.timing act (ap (λ x. can_fail_on x call.timing act) e ∙ f) S c mid ends)
 
 -- how often the mover holds it is what its claim says
 pub living-small : (P : Program) (k : Known) (o : ObjId) (known : Holding) → KnownFits P k → living (holding k o.0) ≡ Some known → IsSmall known

@@ -1,52 +1,35 @@
--- Two forms that most ends have: the state stays, or the object gets what a function makes of its content.
-use Rattle.std.proofs.Common.{◌≡◌, ℕ, ◌<◌, length, Option, Some, None, refl, ap, ◌∙◌, subst, arith}
-use Rattle.std.specs.Prelude.{ℤ, pos, ◌≤ℤ◌}
+-- The object of a call that can end: what is known of it, and contents that it can have.
+use Rattle.std.proofs.Common.{◌≡◌, ◌≢◌, ℕ, Some, Bool, true, false, refl, subst, arith}
+use Rattle.std.specs.Prelude.{IsTrue, IfSome}
 use Rattle.std.proofs.lemmas.Int.{ints}
-use Rattle.std.proofs.lemmas.Option.{same_Some}
-use Rattle.fr_program.specs.declared.ids.ObjId.{ObjId}
+use Rattle.std.proofs.lemmas.Option.{same_Some, slice_get-get_or}
 use Rattle.fr_program.specs.declared.ids.Point.{Point}
-use Rattle.fr_program.specs.declared.ids.Side.TheVariants.{Inside}
+use Rattle.fr_program.specs.declared.instr.ObjectCall.{ObjectCall}
 use Rattle.fr_program.specs.declared.instr.Instr.TheVariants.{Call as Calls}
 use Rattle.fr_program.specs.declared.instr.Call.TheVariants.{On}
-use Rattle.fr_program.specs.declared.instr.Action.{Action}
 use Rattle.fr_program.specs.declared.parts.Kind.{Kind}
 use Rattle.fr_program.specs.declared.range.Range.{Range}
 use Rattle.fr_program.specs.Program.{Program}
 use Rattle.fr_program.specs.Lookup.{no_object}
-use Rattle.fr_program.specs.Limits.{KindInLimits}
-use Rattle.fr_program.specs.Fault.{IsFaultless}
-use Rattle.fr_calls.specs.declared.way.Way.{Way}
-use Rattle.fr_calls.specs.State.{State, Content, CanHave, content_of, kind_of, becomes}
-use Rattle.fr_calls.specs.Step.{Completes, Puts, transition}
-use Rattle.fr_calls.proofs.Built.{is-built}
-use Rattle.fr_notes.specs.Known.{Known, IsOther, IsLeft, NeverSteps}
-use Rattle.fr_notes.specs.Holding.{Holding, Unheld, Living, Lifeless, Own, Others, holding, living, mover_claim}
-use Rattle.fr_notes.specs.Spot.{IsEnd, claiming}
+use Rattle.fr_program.specs.Limits.{KindInLimits, InstrInLimits}
+use Rattle.fr_program.specs.Uses.{acts_on}
+use Rattle.fr_calls.specs.State.{Content, CanHave, kind_of}
+use Rattle.fr_calls.proofs.Built.{HasSizes, is-built}
+use Rattle.fr_notes.specs.Note.{Within, HeldTimes}
+use Rattle.fr_notes.specs.View.{ends_of}
+use Rattle.fr_notes.specs.Fits.{CanClaim}
+use Rattle.fr_notes.specs.Known.{Known, IsOther}
+use Rattle.fr_notes.specs.Holding.{Holding, Unheld, Living, Lifeless, Own, Others, holding, living}
+use Rattle.fr_notes.specs.Spot.{IsEnd}
 use Rattle.fr_notes.proofs.Holdings.{IsIn, HoldingFits, content_in, content-in, content-can}
-use Rattle.fr_notes.proofs.Seen.{Site, other, known-fits}
-use Rattle.fr_notes.proofs.Rows.{site}
-use Rattle.fr_notes.proofs.ObjectRows.{same-content}
-use Rattle.fr_notes.proofs.EndRows.{Follows, end-left, end-never, end-names}
+use Rattle.fr_notes.proofs.Seen.{apart, known-fits}
+use Rattle.fr_notes.proofs.Left.{end_of}
+use Rattle.fr_notes.proofs.EndRows.{IsAlive, living-alive, at, b, end-names}
 
--- where there is no result, any range does
-pub no_range : Range
-no_range = record { lo = pos 0; hi = pos 0; ordered = omega (arith, ints) }
-
-no-range-lo : no_range.lo ≡ pos 0
-unfolding no_range
-no-range-lo = refl
-
-pub no-range-in : (no_range.lo ≤ℤ pos 0) × (pos 0 ≤ℤ no_range.hi)
-unfolding no_range
-no-range-in = (omega (arith, ints), omega (arith, ints))
-
--- what is known of a live object is kept by a step that leaves it alone
-pub living-follows : (before known : Holding) → living before ≡ Some known → Follows known known
-living-follows Unheld known e = subst (λ h. Follows h h) (same_Some _ _ e) tt
-living-follows Living known e = subst (λ h. Follows h h) (same_Some _ _ e) tt
-living-follows Lifeless known e = cc
-living-follows (Own n) known e = subst (λ h. Follows h h) (same_Some _ _ e) tt
-living-follows (Others n) known e = subst (λ h. Follows h h) (same_Some _ _ e) refl
+-- both ends of a range are in it
+pub end-in : (span : Range) (d : Bool) → Within (ends_of span) (end_of d (ends_of span))
+end-in span false = (omega (arith, ints), span.ordered)
+end-in span true = (span.ordered, omega (arith, ints))
 
 pub living-fits : (P : Program) (a b : ℕ) (kind : Kind) (before known : Holding) → living before ≡ Some known → HoldingFits P a b kind before → HoldingFits P a b kind known
 living-fits P a b kind Unheld known e f = subst (λ h. HoldingFits P a b kind h) (same_Some _ _ e) tt
@@ -55,55 +38,39 @@ living-fits P a b kind Lifeless known e f = cc
 living-fits P a b kind (Own n) known e f = subst (λ h. HoldingFits P a b kind h) (same_Some _ _ e) f
 living-fits P a b kind (Others n) known e f = subst (λ h. HoldingFits P a b kind h) (same_Some _ _ e) f
 
-pub kind-limits : (P : Program) → IsFaultless P → (o : ℕ) → o < length P.objects → KindInLimits (kind_of P o)
-kind-limits P f o l = f.limits.objects o no_object l
+-- a live object of this kind, and what is known of it for an actor a that is inside a call on it, and for another actor b
+pub record IsTarget (P : Program) (a b : ℕ) (kind : Kind) (known : Holding) : Type 0 where
+  pub limits : KindInLimits kind
+  pub sizes : HasSizes kind
+  pub fits : HoldingFits P a b kind known
+  pub alive : IsAlive known
+  pub apart : b ≢ a
 
-module _ (P : Program) (k : Known) (p : Point) (o : ObjId) (known : Holding) (action : Action) (e : IsEnd P k p o known action) where
-  abbrev pub at : (q : Point) → IsOther P k p q → Site
-  at q there = site P k p q Inside (Calls (On o action)) e.spot there
+-- a content that it can have
+pub some-content : (P : Program) (a b : ℕ) (kind : Kind) (known : Holding) → IsTarget P a b kind known → (before : Content) × CanHave P kind before × IsIn a b known before
+some-content P a b kind known t = (content_in a b kind known, content-can P a b kind known t.sizes t.fits, content-in P a b kind known t.fits)
 
-  abbrev pub b : (q : Point) → IsOther P k p q → ℕ
-  b q there = other (at q there)
+-- of one that can't be held no more is known than that it is live
+pub living-only : (P : Program) (a b : ℕ) (kind : Kind) (known : Holding) → IsTarget P a b kind known → ((n : ℕ) → CanClaim kind (HeldTimes n) → ⊥) → known ≡ Living
+living-only P a b kind Unheld t none = absurd t.alive
+living-only P a b kind Living t none = refl
+living-only P a b kind Lifeless t none = absurd t.alive
+living-only P a b kind (Own n) t none = absurd (none n t.fits.0)
+living-only P a b kind (Others n) t none = absurd (none n t.fits.0)
 
-  pub end-fits : (q : Point) (there : IsOther P k p q) → HoldingFits P p.actor.0 (b q there) (kind_of P o.0) known
-  end-fits q there = living-fits P p.actor.0 (b q there) (kind_of P o.0) (holding k o.0) known e.living (known-fits (at q there) o.0)
+module _ (P : Program) (k : Known) (p : Point) (known : Holding) (call : ObjectCall) (e : IsEnd P k p known call) where
+  pub target : (q : Point) (there : IsOther P k p q) → IsTarget P p.actor.0 (b P k p known call e q there) (kind_of P call.object.0) known
+  target q there = record {
+    limits = e.spot.faultless.limits.objects call.object.0 no_object (end-names P k p known call e).0;
+    sizes = (is-built P e.spot.faultless).sizes call.object.0;
+    fits = living-fits P p.actor.0 (b P k p known call e q there) (kind_of P call.object.0) (holding k call.object.0) known e.living (known-fits (at P k p known call e q there) call.object.0);
+    alive = living-alive (holding k call.object.0) known e.living;
+    apart = apart (at P k p known call e q there);
+  }
 
-  pub end-limits : KindInLimits (kind_of P o.0)
-  end-limits = kind-limits P e.spot.faultless o.0 (end-names P k p o known action e).0
+  -- the call is for objects of its kind, and within its limits
+  pub acts-on : IsTrue (acts_on call.act (kind_of P call.object.0))
+  acts-on = subst (λ x. IfSome x (λ object. IsTrue (acts_on call.act object.kind))) (slice_get-get_or P.objects call.object.0 no_object (end-names P k p known call e).0) (e.spot.faultless.kinds p.actor.0 p.pc (Calls (On call)) e.spot.instr)
 
-  -- a content that the object can have, with what is known of it
-  pub some-content : (q : Point) (there : IsOther P k p q) → (before : Content) × CanHave P (kind_of P o.0) before × IsIn p.actor.0 (b q there) known before
-  some-content q there = (content_in p.actor.0 (b q there) (kind_of P o.0) known, content-can P p.actor.0 (b q there) (kind_of P o.0) known ((is-built P e.spot.faultless).sizes o.0) (end-fits q there), content-in P p.actor.0 (b q there) (kind_of P o.0) known (end-fits q there))
-
-  -- an end that leaves the state as it is, from one content
-  pub stay-left : (way : Way) → ((S : State) (c : ℤ) (mid : State) → Completes P (transition S p.actor.0 c mid) o.0 action way → mid ≡ S) → ((q : Point) (there : IsOther P k p q) → (before : Content) × CanHave P (kind_of P o.0) before × IsIn p.actor.0 (b q there) known before × ((S : State) → content_of S o.0 ≡ before → Completes P (transition S p.actor.0 (pos 0) S) o.0 action way)) → IsLeft P k p way (claiming k o (mover_claim known))
-  stay-left way after shown = end-left P k p o known action e way known None no_range (living-follows (holding k o.0) known e.living) tt (λ q there. record {
-    after = λ S c mid is inside ends.
-        (content_of S o.0, pos 0, after S c mid ends ∙ same-content o S, inside, no-range-in);
-    shown = λ d.
-        let t = shown q there in
-        (t.0, t.1, t.2, λ S is has. (pos 0, content_of S o.0, subst (λ T. Completes P (transition S p.actor.0 (pos 0) T) o.0 action way) (same-content o S) (t.3 S has)));
-  })
-
-  -- an end that makes something of the content
-  module _ (way : Way) (choice : ℤ) (move : State → Content → Option Content) (to : (S : State) (c : ℤ) (mid : State) → Completes P (transition S p.actor.0 c mid) o.0 action way → Puts o.0 (move S (content_of S o.0)) S mid) (from : (S mid : State) → Puts o.0 (move S (content_of S o.0)) S mid → Completes P (transition S p.actor.0 choice mid) o.0 action way) where
-    pub puts-left : (new : Holding) → Follows known new → ((q : Point) (there : IsOther P k p q) (S : State) (content made : Content) → IsIn p.actor.0 (b q there) known content → move S content ≡ Some made → IsIn p.actor.0 (b q there) new made) → ((q : Point) (there : IsOther P k p q) → (before : Content) × CanHave P (kind_of P o.0) before × IsIn p.actor.0 (b q there) known before × ((S : State) → (made : Content) × (move S before ≡ Some made))) → IsLeft P k p way (claiming k o (mover_claim new))
-    puts-left new follows into shown = end-left P k p o known action e way new None no_range follows tt (λ q there. record {
-      after = λ S c mid is inside ends.
-          let t = to S c mid ends in
-          (t.0, pos 0, t.2, into q there S (content_of S o.0) t.0 inside t.1, no-range-in);
-      shown = λ d.
-          let t = shown q there in (
-            t.0,
-            t.1,
-            t.2,
-            λ S is has.
-                let m = t.3 S in
-                (choice, m.0, from S (becomes o.0 m.0 S) (m.0, ap (λ c. move S c) has ∙ m.1, refl)),
-          );
-    })
-
-    pub puts-never : ((q : Point) (there : IsOther P k p q) (S : State) (content made : Content) → CanHave P (kind_of P o.0) content → IsIn p.actor.0 (b q there) known content → move S content ≡ Some made → ⊥) → NeverSteps P k p way
-    puts-never none = end-never P k p o known action e way (λ q there S c mid is inside ends.
-        let t = to S c mid ends in
-        none q there S (content_of S o.0) t.0 (is.mover.formed.contents o.0) inside t.1)
+  pub in-limits : InstrInLimits (Calls (On call))
+  in-limits = e.spot.faultless.limits.code p.actor.0 p.pc (Calls (On call)) e.spot.instr

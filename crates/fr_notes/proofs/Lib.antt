@@ -16,8 +16,7 @@ pub mod ObjectRows
 pub mod EndRows
 pub mod SemaphoreContents
 pub mod Ends
-pub mod SemaphoreRows
-pub mod QueueRows
+pub mod AttemptRows
 pub mod BufferRows
 pub mod LifeRows
 pub mod VariableRows

@@ -1,6 +1,7 @@
 -- Creates, deletes, and the begins of object calls.
-use Rattle.std.proofs.Common.{◌≡◌, ◌≢◌, ℕ, ◌<◌, length, Option, Some, None, true, false, refl, sym, ◌∙◌, subst}
-use Rattle.std.specs.Prelude.{pos}
+use Rattle.std.proofs.Common.{◌≡◌, ◌≢◌, ℕ, ◌<◌, length, Option, Some, None, true, false, refl, sym, ◌∙◌, subst, arith}
+use Rattle.std.specs.Prelude.{pos, ◌≤ℤ◌}
+use Rattle.std.proofs.lemmas.Int.{ints}
 use Rattle.fr_program.specs.declared.ids.ObjId.{ObjId}
 use Rattle.fr_program.specs.declared.ids.Point.{Point}
 use Rattle.fr_program.specs.declared.ids.Side.TheVariants.{Before}
@@ -9,7 +10,8 @@ use Rattle.fr_program.specs.declared.instr.Instr.TheVariants.{Call as Calls}
 use Rattle.fr_program.specs.declared.instr.Call.TheVariants.{Create, Delete, On}
 use Rattle.fr_program.specs.declared.instr.CreatedKind.{CreatedKind}
 use Rattle.fr_program.specs.declared.instr.DeletedKind.{DeletedKind}
-use Rattle.fr_program.specs.declared.instr.Action.{Action}
+use Rattle.fr_program.specs.declared.instr.ObjectCall.{ObjectCall}
+use Rattle.fr_program.specs.declared.range.Range.{Range}
 use Rattle.fr_program.specs.Program.{Program}
 use Rattle.fr_calls.specs.declared.way.Way.{Way}
 use Rattle.fr_calls.specs.declared.way.Way.TheVariants.{Then, Else}
@@ -26,8 +28,16 @@ use Rattle.fr_notes.proofs.Seen.{other, contents-in, known-fits}
 use Rattle.fr_notes.proofs.Rows.{row-never, site}
 use Rattle.fr_notes.proofs.PlainRows.{free-before}
 use Rattle.fr_notes.proofs.ObjectRows.{object-left, same-content}
-use Rattle.fr_notes.proofs.EndRows.{follows-taught, living-in, in-living, living-live, gives-held, free-live}
-use Rattle.fr_notes.proofs.Ends.{no_range, no-range-in, living-follows, living-fits}
+use Rattle.fr_notes.proofs.EndRows.{follows-taught, living-in, in-living, living-alive, alive-live, gives-held, free-live}
+use Rattle.fr_notes.proofs.Ends.{living-fits}
+
+-- where there is no result, any range does
+no_range : Range
+no_range = record { lo = pos 0; hi = pos 0; ordered = omega (arith, ints) }
+
+no-range-in : (no_range.lo ≤ℤ pos 0) × (pos 0 ≤ℤ no_range.hi)
+unfolding no_range
+no-range-in = (omega (arith, ints), omega (arith, ints))
 
 -- nothing is known of the object, or that it is dead
 abbrev pub IsCreatable : Holding → Type 0
@@ -114,27 +124,30 @@ module _ (P : Program) (k : Known) (p : Point) (deleted : DeletedKind) (o : ObjI
       let before = content_in p.actor.0 (other s) (kind_of P o.0) known in
       let inside = content-in P p.actor.0 (other s) (kind_of P o.0) known fits in record {
         after = λ S c mid is free r. (Dead, pos 0, r.1, refl, no-range-in);
-        shown = λ d. (before, content-can P p.actor.0 (other s) (kind_of P o.0) known ((is-built P spot.faultless).sizes o.0) fits, in-living p.actor.0 (other s) before (holding k o.0) known live inside, λ S is has. (pos 0, Dead, (refl, refl), free-before s delete none S is (λ g. g) (live-use P S p.actor.0 delete Before o.0 refl (λ dead. living-live p.actor.0 (other s) before (holding k o.0) known live inside (sym has ∙ dead)))));
+        shown = λ d. (before, content-can P p.actor.0 (other s) (kind_of P o.0) known ((is-built P spot.faultless).sizes o.0) fits, in-living p.actor.0 (other s) before (holding k o.0) known live inside, λ S is has. (pos 0, Dead, (refl, refl), free-before s delete none S is (λ g. g) (live-use P S p.actor.0 delete Before o.0 refl (λ dead. alive-live p.actor.0 (other s) known before (living-alive (holding k o.0) known live) inside (sym has ∙ dead)))));
         taught = refl;
         some = λ e. cc;
         object = (spot.faultless.names.things p.actor.0 p.pc delete spot.instr).1;
         variable = tt;
       })
 
-module _ (P : Program) (k : Known) (p : Point) (o : ObjId) (action : Action) (spot : IsSpot P k p Before (Calls (On o action))) where
+module _ (P : Program) (k : Known) (p : Point) (done : ObjectCall) (spot : IsSpot P k p Before (Calls (On done))) where
   abbrev call : Instr
-  call = Calls (On o action)
+  call = Calls (On done)
+
+  abbrev o : ObjId
+  o = done.object
 
   -- the begin of a call on an object that is live, of a mutex that is the mover's if it gives one
-  pub begin-left : IsUnforbidden P k p call → (known : Holding) → living (holding k o.0) ≡ Some known → is_given_unheld (kind_of P o.0) action known ≡ false → IsLeft P k p Then (claiming k o (mover_claim known))
+  pub begin-left : IsUnforbidden P k p call → (known : Holding) → living (holding k o.0) ≡ Some known → is_given_unheld (kind_of P o.0) done known ≡ false → IsLeft P k p Then (claiming k o (mover_claim known))
   begin-left none known live held = object-left P k p Before call Then spot o known None no_range (λ q there.
       let s = site P k p q Before call spot there in
       let fits = living-fits P p.actor.0 (other s) (kind_of P o.0) (holding k o.0) known live (known-fits s o.0) in
       let before = content_in p.actor.0 (other s) (kind_of P o.0) known in
       let inside = content-in P p.actor.0 (other s) (kind_of P o.0) known fits in
-      let f = follows-taught (holding k o.0) known known live (living-follows (holding k o.0) known live) in record {
-        after = λ S c mid is free r. (content_of S o.0, pos 0, r.1 ∙ same-content o S, living-in p.actor.0 (other s) (content_of S o.0) (holding k o.0) known live (free-live P S p.actor.0 (other s) o Before call refl free) (contents-in s S is o.0), no-range-in);
-        shown = λ d. (before, content-can P p.actor.0 (other s) (kind_of P o.0) known ((is-built P spot.faultless).sizes o.0) fits, in-living p.actor.0 (other s) before (holding k o.0) known live inside, λ S is has. (pos 0, content_of S o.0, (refl, sym (same-content o S)), free-before s call none S is (gives-held P S p.actor.0 (other s) o action known held (subst (λ c. IsIn p.actor.0 (other s) known c) (sym has) inside)) (live-use P S p.actor.0 call Before o.0 refl (λ dead. living-live p.actor.0 (other s) before (holding k o.0) known live inside (sym has ∙ dead)))));
+      let f = follows-taught (holding k o.0) known known live (living-alive (holding k o.0) known live, refl) in record {
+        after = λ S c mid is free r. (content_of S o.0, pos 0, r.1 ∙ same-content o S, living-in p.actor.0 (other s) (content_of S o.0) (holding k o.0) known live (free-live P S p.actor.0 (other s) o.0 Before call refl free) (contents-in s S is o.0), no-range-in);
+        shown = λ d. (before, content-can P p.actor.0 (other s) (kind_of P o.0) known ((is-built P spot.faultless).sizes o.0) fits, in-living p.actor.0 (other s) before (holding k o.0) known live inside, λ S is has. (pos 0, content_of S o.0, (refl, sym (same-content o S)), free-before s call none S is (gives-held P S p.actor.0 (other s) done known held (subst (λ c. IsIn p.actor.0 (other s) known c) (sym has) inside)) (live-use P S p.actor.0 call Before o.0 refl (λ dead. alive-live p.actor.0 (other s) known before (living-alive (holding k o.0) known live) inside (sym has ∙ dead)))));
         taught = f.0;
         some = f.1;
         object = (spot.faultless.names.things p.actor.0 p.pc call spot.instr).1;

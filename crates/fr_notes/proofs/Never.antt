@@ -12,7 +12,7 @@ use Rattle.fr_program.specs.declared.instr.Instr.{Instr}
 use Rattle.fr_program.specs.declared.instr.Instr.TheVariants.{Call as Calls}
 use Rattle.fr_program.specs.declared.instr.Form.{Form}
 use Rattle.fr_program.specs.declared.instr.Call.TheVariants.{ExitCritical, ResumeAll, On}
-use Rattle.fr_program.specs.declared.instr.Action.{Action}
+use Rattle.fr_program.specs.declared.instr.ObjectCall.{ObjectCall}
 use Rattle.fr_program.specs.Program.{Program}
 use Rattle.fr_calls.specs.declared.way.Way.{Way}
 use Rattle.fr_calls.specs.declared.rules.Rule.{Rule}
@@ -79,18 +79,19 @@ module _ (P : Program) (k : Known) (p : Point) (way : Way) where
   pub dead-never : (side : Side) (i : Instr) (o : ObjId) → used_object i side ≡ Some o.0 → IsSpot P k p side i → living (holding k o.0) ≡ None → NeverSteps P k p way
   dead-never side i o uses spot e = row-never P k p side i way spot (λ q there S c mid is free row.
       let s = site P k p q side i spot there in
-      free-live P S p.actor.0 (other s) o side i uses free (subst (λ h. IsIn p.actor.0 (other s) h (content_of S o.0)) (is-lifeless (holding k o.0) e) (contents-in s S is o.0)))
+      free-live P S p.actor.0 (other s) o.0 side i uses free (subst (λ h. IsIn p.actor.0 (other s) h (content_of S o.0)) (is-lifeless (holding k o.0) e) (contents-in s S is o.0)))
 
   -- a mutex is given that the mover isn't known to hold
-  pub unheld-never : (side : Side) (o : ObjId) (action : Action) (known : Holding) → used_object (Calls (On o action)) side ≡ Some o.0 → IsSpot P k p side (Calls (On o action)) → living (holding k o.0) ≡ Some known → is_given_unheld (kind_of P o.0) action known ≡ true → NeverSteps P k p way
-  unheld-never side o action known uses spot live t = row-never P k p side (Calls (On o action)) way spot (λ q there S c mid is free row.
-      let s = site P k p q side (Calls (On o action)) spot there in
-      let inside = living-in p.actor.0 (other s) (content_of S o.0) (holding k o.0) known live (free-live P S p.actor.0 (other s) o side (Calls (On o action)) uses free) (contents-in s S is o.0) in
-      free.0 GivenByHolder refl (unheld-gives P S p.actor.0 (other s) o (apart s) (kind_of P o.0) action known refl t inside))
+  pub unheld-never : (side : Side) (call : ObjectCall) (known : Holding) → used_object (Calls (On call)) side ≡ Some call.object.0 → IsSpot P k p side (Calls (On call)) → living (holding k call.object.0) ≡ Some known → is_given_unheld (kind_of P call.object.0) call known ≡ true → NeverSteps P k p way
+  unheld-never side call known uses spot live t = row-never P k p side (Calls (On call)) way spot (λ q there S c mid is free row.
+      let s = site P k p q side (Calls (On call)) spot there in
+      let o = call.object in
+      let inside = living-in p.actor.0 (other s) (content_of S o.0) (holding k o.0) known live (free-live P S p.actor.0 (other s) o.0 side (Calls (On call)) uses free) (contents-in s S is o.0) in
+      free.0 GivenByHolder refl (unheld-gives P S p.actor.0 (other s) (apart s) call known t inside))
 
   -- inside a take or a give that doesn't suit the kind
-  pub unsuited-never : (o : ObjId) (action : Action) → IsSpot P k p Inside (Calls (On o action)) → is_unsuited (kind_of P o.0) action ≡ true → NeverSteps P k p way
-  unsuited-never o action spot t = row-never P k p Inside (Calls (On o action)) way spot (λ q there S c mid is free row.
+  pub unsuited-never : (call : ObjectCall) → IsSpot P k p Inside (Calls (On call)) → is_unsuited (kind_of P call.object.0) call.timing call.act ≡ true → NeverSteps P k p way
+  unsuited-never call spot t = row-never P k p Inside (Calls (On call)) way spot (λ q there S c mid is free row.
       false≢true (sym free.1 ∙ t))
 
   -- the table has no such row

@@ -1,18 +1,19 @@
 -- What takes and gives make of a content, beside what is known of it.
-use Rattle.std.proofs.Common.{◌≡◌, ◌≢◌, ℕ, suc, ◌+◌, ◌-◌, ◌≤◌, Some, None, Bool, true, false, refl, sym, ap, subst, arith, eq-eqb}
-use Rattle.std.specs.Prelude.{◌≤ℤ◌, ℤ, pos, nat_eq, nat_le, nat_lt, int_lt, if◌then◌else◌}
+use Rattle.std.proofs.Common.{◌≡◌, ℕ, suc, ◌+◌, ◌-◌, ◌≤◌, Some, None, Bool, true, false, refl, sym, ap, subst, arith, eq-eqb}
+use Rattle.std.specs.Prelude.{◌≤ℤ◌, ℤ, pos, negsuc, IsTrue, nat_eq, nat_le, nat_lt, int_lt, if◌then◌else◌}
 use Rattle.std.proofs.lemmas.Bool.{eqb-true}
+use Rattle.std.proofs.lemmas.Bool.Decides.{Decides-int_eq}
 use Rattle.std.proofs.lemmas.Int.{ints}
 use Rattle.std.proofs.lemmas.Option.{same_Some, cond_some}
 use Rattle.std.proofs.lemmas.Grind.{common_steps}
 use Rattle.fr_program.specs.declared.parts.Kind.{Kind}
 use Rattle.fr_program.specs.declared.parts.Kind.TheVariants.{Queue, Binary, Counting, Mutex, Recursive, Stream, Message}
 use Rattle.fr_program.specs.Program.{Program}
-use Rattle.fr_program.specs.Limits.{KindInLimits}
 use Rattle.fr_calls.specs.State.{Content, Count, Free, Held, CanHave}
-use Rattle.fr_calls.specs.Step.{taken, given}
-use Rattle.fr_notes.specs.Holding.{Holding, Unheld, Living, Lifeless, Own, Others, living, taken_by, given_by}
-use Rattle.fr_notes.proofs.Holdings.{IsIn, HoldingFits, held-once, content-can}
+use Rattle.fr_calls.specs.Step.{taken, given, is_full}
+use Rattle.fr_notes.specs.Holding.{Holding, Unheld, Living, Lifeless, Own, Others, taken_by, given_by, can_be_full, is_mutex}
+use Rattle.fr_notes.proofs.Holdings.{IsIn, held-once, content-can}
+use Rattle.fr_notes.proofs.Ends.{IsTarget}
 
 same-test : (k : ℕ) → nat_eq k k ≡ true
 same-test k = eq-eqb k k refl
@@ -23,21 +24,6 @@ count-in a b n = (λ e. cc, λ k e. cc, λ k e. cc)
 
 pub free-in : (a b : ℕ) → IsIn a b Living Free
 free-in a b = (λ e. cc, λ k e. cc, λ k e. cc)
-
--- what is known of a live object isn't that nothing is known, or that it is dead
-pub never-unheld : (before : Holding) → living before ≡ Some Unheld → ⊥
-never-unheld Unheld e = cc
-never-unheld Living e = cc
-never-unheld Lifeless e = cc
-never-unheld (Own n) e = cc
-never-unheld (Others n) e = cc
-
-pub never-lifeless : (before : Holding) → living before ≡ Some Lifeless → ⊥
-never-lifeless Unheld e = cc
-never-lifeless Living e = cc
-never-lifeless Lifeless e = cc
-never-lifeless (Own n) e = cc
-never-lifeless (Others n) e = cc
 
 module _ (P : Program) (a b : ℕ) where
   -- after a take that works
@@ -62,34 +48,35 @@ module _ (P : Program) (a b : ℕ) where
   taken-in kind known new content made t i m = cc
 
   -- a content before such a take
-  pub take-shown : (kind : Kind) (known new : Holding) → KindInLimits kind → HoldingFits P a b kind known → taken_by kind known ≡ Some new → (before : Content) × CanHave P kind before × IsIn a b known before × (made : Content) × (taken kind a before ≡ Some made)
-  take-shown Mutex Living new h f t = (Free, tt, free-in a b, Held a 1, refl)
-  take-shown Recursive Living new h f t = (Free, tt, free-in a b, Held a 1, refl)
-  take-shown Recursive (Own n) new h f t = (Held a n, content-can P a b Recursive (Own n) tt f, (refl, held-once Recursive n f.0), Held a (n + 1), rw same-test)
-  take-shown Binary Living new h f t = (Count 1, omega arith, count-in a b 1, Count 0, refl)
-  take-shown (Counting size first) Living new h f t = (Count 1, h.0.0, count-in a b 1, Count 0, refl)
-  take-shown kind known new h f t = cc
+  pub take-shown : (kind : Kind) (known new : Holding) → IsTarget P a b kind known → taken_by kind known ≡ Some new → (before : Content) × CanHave P kind before × IsIn a b known before × (made : Content) × (taken kind a before ≡ Some made)
+  take-shown Mutex Living new t w = (Free, tt, free-in a b, Held a 1, refl)
+  take-shown Recursive Living new t w = (Free, tt, free-in a b, Held a 1, refl)
+  take-shown Recursive (Own n) new t w =
+      (Held a n, content-can P a b Recursive (Own n) t.sizes t.fits, (refl, held-once Recursive n t.fits.0), Held a (n + 1), rw same-test)
+  take-shown Binary Living new t w = (Count 1, omega arith, count-in a b 1, Count 0, refl)
+  take-shown (Counting size first) Living new t w = (Count 1, t.limits.0.0, count-in a b 1, Count 0, refl)
+  take-shown kind known new t w = cc
 
   -- no take works on what the mover or the other actor holds, but for a recursive take of the mover's own
-  pub taken-none : (kind : Kind) (before known : Holding) (content made : Content) → b ≢ a → living before ≡ Some known → HoldingFits P a b kind known → taken_by kind known ≡ None → IsIn a b known content → taken kind a content ≡ Some made → ⊥
-  taken-none Mutex before (Own n) content made ne l f t i m =
+  pub taken-none : (kind : Kind) (known : Holding) (content made : Content) → IsTarget P a b kind known → taken_by kind known ≡ None → IsIn a b known content → taken kind a content ≡ Some made → ⊥
+  taken-none Mutex (Own n) content made t w i m =
       let k : taken Mutex a (Held a n) ≡ Some made = subst (λ c. taken Mutex a c ≡ Some made) i.0 m in cc
-  taken-none Mutex before (Others n) content made ne l f t i m =
+  taken-none Mutex (Others n) content made t w i m =
       let k : taken Mutex a (Held b n) ≡ Some made = subst (λ c. taken Mutex a c ≡ Some made) i.0 m in cc
-  taken-none Recursive before (Others n) content made ne l f t i m =
+  taken-none Recursive (Others n) content made t w i m =
       let k : taken Recursive a (Held b n) ≡ Some made = subst (λ c. taken Recursive a c ≡ Some made) i.0 m in
       let e = cond_some (nat_eq b a) (Held a (n + 1)) made k in
-      ne (eqb-true b a e.0)
-  taken-none Binary before (Own n) content made ne l f t i m = f.0
-  taken-none Binary before (Others n) content made ne l f t i m = f.0
-  taken-none (Counting size first) before (Own n) content made ne l f t i m = f.0
-  taken-none (Counting size first) before (Others n) content made ne l f t i m = f.0
-  taken-none (Queue size lo hi) before known content made ne l f t i m = cc
-  taken-none (Stream size) before known content made ne l f t i m = cc
-  taken-none (Message size) before known content made ne l f t i m = cc
-  taken-none kind before Lifeless content made ne l f t i m = never-lifeless before l
-  taken-none kind before Unheld content made ne l f t i m = never-unheld before l
-  taken-none kind before known content made ne l f t i m = cc
+      t.apart (eqb-true b a e.0)
+  taken-none Binary (Own n) content made t w i m = t.fits.0
+  taken-none Binary (Others n) content made t w i m = t.fits.0
+  taken-none (Counting size first) (Own n) content made t w i m = t.fits.0
+  taken-none (Counting size first) (Others n) content made t w i m = t.fits.0
+  taken-none (Queue size lo hi) known content made t w i m = cc
+  taken-none (Stream size) known content made t w i m = cc
+  taken-none (Message size) known content made t w i m = cc
+  taken-none kind Lifeless content made t w i m = t.alive
+  taken-none kind Unheld content made t w i m = t.alive
+  taken-none kind known content made t w i m = cc
 
   -- after a give that works
   back-in : (n : ℕ) (c d : Bool) → 1 ≤ n → nat_eq n 1 ≡ c → nat_le n 1 ≡ d → IsIn a b (if d then Living else Own (n - 1)) (if c then Free else Held a (n - 1))
@@ -118,11 +105,47 @@ module _ (P : Program) (a b : ℕ) where
   room : (size : ℤ) → pos 1 ≤ℤ size → int_lt (pos 0) size ≡ true
   room size h = grind (arith, ints)
 
-  pub give-shown : (kind : Kind) (known new : Holding) → KindInLimits kind → HoldingFits P a b kind known → given_by kind known ≡ Some new → (before : Content) × CanHave P kind before × IsIn a b known before × (made : Content) × (given kind before ≡ Some made)
-  give-shown Mutex (Own n) new h f t = (Held a n, content-can P a b Mutex (Own n) tt f, (refl, held-once Mutex n f.0), Free, refl)
-  give-shown Recursive (Own n) new h f t =
-      (Held a n, content-can P a b Recursive (Own n) tt f, (refl, held-once Recursive n f.0), if nat_eq n 1 then Free else Held a (n - 1), refl)
-  give-shown Binary Living new h f t = (Count 0, omega arith, count-in a b 0, Count 1, refl)
-  give-shown (Counting size first) Living new h f t =
-      let r = room size h.0.0 in (Count 0, omega (arith, ints, h.0.0), count-in a b 0, Count 1, rw r)
-  give-shown kind known new h f t = cc
+  pub give-shown : (kind : Kind) (known new : Holding) → IsTarget P a b kind known → given_by kind known ≡ Some new → (before : Content) × CanHave P kind before × IsIn a b known before × (made : Content) × (given kind before ≡ Some made)
+  give-shown Mutex (Own n) new t w = (Held a n, content-can P a b Mutex (Own n) t.sizes t.fits, (refl, held-once Mutex n t.fits.0), Free, refl)
+  give-shown Recursive (Own n) new t w =
+      (Held a n, content-can P a b Recursive (Own n) t.sizes t.fits, (refl, held-once Recursive n t.fits.0), if nat_eq n 1 then Free else Held a (n - 1), refl)
+  give-shown Binary Living new t w = (Count 0, omega arith, count-in a b 0, Count 1, refl)
+  give-shown (Counting size first) Living new t w =
+      let r = room size t.limits.0.0 in (Count 0, omega (arith, ints, t.limits.0.0), count-in a b 0, Count 1, rw r)
+  give-shown kind known new t w = cc
+
+  -- of a mutex that isn't known to be the mover's no give is left
+  pub given-none : (kind : Kind) (known : Holding) (content made : Content) → IsTarget P a b kind known → (is_mutex kind (Some kind) ≡ true → (n : ℕ) × (known ≡ Own n)) → given_by kind known ≡ None → given kind content ≡ Some made → ⊥
+  given-none Mutex known content made t own w m =
+      let k : given_by Mutex (Own (own refl).0) ≡ None = subst (λ h. given_by Mutex h ≡ None) (own refl).1 w in cc
+  given-none Recursive known content made t own w m =
+      let k : given_by Recursive (Own (own refl).0) ≡ None = subst (λ h. given_by Recursive h ≡ None) (own refl).1 w in cc
+  given-none Binary (Own n) content made t own w m = t.fits.0
+  given-none Binary (Others n) content made t own w m = t.fits.0
+  given-none (Counting size first) (Own n) content made t own w m = t.fits.0
+  given-none (Counting size first) (Others n) content made t own w m = t.fits.0
+  given-none (Queue size lo hi) known content made t own w m = cc
+  given-none (Stream size) known content made t own w m = cc
+  given-none (Message size) known content made t own w m = cc
+  given-none kind Lifeless content made t own w m = t.alive
+  given-none kind Unheld content made t own w m = t.alive
+  given-none kind known content made t own w m = cc
+
+  -- a full semaphore
+  pub full-shown : (kind : Kind) (known : Holding) → IsTarget P a b kind known → can_be_full kind ≡ true → (content : Content) × CanHave P kind content × IsIn a b known content × IsTrue (is_full kind content)
+  full-shown Binary Living t w = (Count 1, omega arith, count-in a b 1, refl)
+  full-shown (Counting (pos n) first) Living t w =
+      (Count n, omega (arith, ints), count-in a b n, (Decides-int_eq (pos n) (pos n)).1 refl)
+  full-shown (Counting (negsuc n) first) Living t w = absurd (omega (arith, ints, t.limits.0.0))
+  full-shown Binary (Own n) t w = absurd t.fits.0
+  full-shown Binary (Others n) t w = absurd t.fits.0
+  full-shown (Counting size first) (Own n) t w = absurd t.fits.0
+  full-shown (Counting size first) (Others n) t w = absurd t.fits.0
+  full-shown kind Lifeless t w = absurd t.alive
+  full-shown kind Unheld t w = absurd t.alive
+  full-shown kind known t w = cc
+
+pub never-full : (kind : Kind) (content : Content) → can_be_full kind ≡ false → IsTrue (is_full kind content) → ⊥
+never-full Binary content f t = cc
+never-full (Counting size first) content f t = cc
+never-full kind content f t = cc

@@ -6,11 +6,10 @@ use Rattle.std.specs.Int.{int_min, int_max}
 use Rattle.std.proofs.lemmas.Int.{ints, clamps}
 use Rattle.std.proofs.lemmas.Bool.{cases_lt}
 use Rattle.std.proofs.lemmas.List.{get_or_past}
-use Rattle.fr_program.specs.declared.ids.ObjId.{ObjId}
 use Rattle.fr_program.specs.declared.instr.Instr.{Instr}
 use Rattle.fr_program.specs.declared.instr.Instr.TheVariants.{Call as Calls}
 use Rattle.fr_program.specs.declared.instr.Call.TheVariants.{On}
-use Rattle.fr_program.specs.declared.instr.Action.{Action}
+use Rattle.fr_program.specs.declared.instr.ObjectCall.{ObjectCall}
 use Rattle.fr_program.specs.Program.{Program}
 use Rattle.fr_program.specs.Lookup.{no_variable}
 use Rattle.fr_program.specs.Limits.{IsNumber}
@@ -62,5 +61,5 @@ are-possible P k fits = go k.other fits.other
     go (Some n) h = h.1
 
 -- an object call names an object of the application
-pub object-there : (P : Program) (i : Instr) (o : ObjId) (action : Action) → NamesThings P i → i ≡ Calls (On o action) → o.0 < length P.objects
-object-there P i o action names same = (subst (λ x. NamesThings P x) same names).1
+pub object-there : (P : Program) (i : Instr) (call : ObjectCall) → NamesThings P i → i ≡ Calls (On call) → call.object.0 < length P.objects
+object-there P i call names same = (subst (λ x. NamesThings P x) same names).1

@@ -1,6 +1,6 @@
 -- What is known of one object, for the actor that moves and for another actor at once. `taken_by`, `given_by`,
--- `can_be_full` and `other_claim` are for private clauses; the other words are for the public contracts of `Holding`,
--- `Known` and `is_given_unheld`.
+-- `worked_by`, `can_fail_on` and `other_claim` are for private clauses; the other words are for the public contracts of
+-- `Holding`, `Known` and `is_given_unheld`.
 --
 -- | word                      | meaning                                                                        |
 -- |---------------------------|--------------------------------------------------------------------------------|
@@ -10,14 +10,19 @@
 -- | can_be_dead               | whether it can be dead                                                         |
 -- | living                    | what is known of it where it is live                                           |
 -- | taken_by, given_by        | what a take or a give by the mover makes of it                                 |
--- | can_be_full               | whether a give can be refused                                                  |
+-- | worked_by, can_fail_on    | what an act that works makes of it; whether an act can fail                    |
 -- | is_given_unheld           | a give of a mutex that the mover isn't known to hold                           |
 use Rattle.std.specs.Prelude.{ℕ, ◌+◌, ◌-◌, Option, None, Some, Bool, true, false, nat_le, if◌then◌else◌}
-use Rattle.fr_program.specs.declared.instr.Action.{Action}
-use Rattle.fr_program.specs.declared.instr.Action.TheVariants.{Give}
-use Rattle.fr_program.specs.declared.instr.GiveForm.TheVariants.{Plain as PlainGive, Recursive as RecursiveGive}
+use Rattle.fr_program.specs.declared.instr.ObjectCall.{ObjectCall}
+use Rattle.fr_program.specs.declared.instr.Act.{Act}
+use Rattle.fr_program.specs.declared.instr.Act.TheVariants.{Try, Move}
+use Rattle.fr_program.specs.declared.instr.Attempt.TheVariants.{Take, Give, Reset}
+use Rattle.fr_program.specs.declared.instr.BufferKind.TheVariants.{Stream as OfStream, Message as OfMessage}
+use Rattle.fr_program.specs.declared.instr.Timing.{Timing}
 use Rattle.fr_program.specs.declared.parts.Kind.{Kind}
 use Rattle.fr_program.specs.declared.parts.Kind.TheVariants.{Binary, Counting, Mutex, Recursive}
+use Rattle.fr_calls.specs.Rule.{given_kind}
+use Rattle.fr_calls.specs.Step.{can_time_out}
 pub use Rattle.fr_notes.specs.declared.holding.Holding.{Holding}
 pub use Rattle.fr_notes.specs.declared.holding.Holding.TheVariants.{Unheld, Living, Lifeless, Own, Others}
 use Rattle.fr_notes.specs.Note.{Claim, NotHeld, Alive, Gone, HeldTimes, claim_of}
@@ -88,16 +93,33 @@ given_by Binary Living = Some Living
 given_by (Counting size first) Living = Some Living
 given_by kind known = None
 
+-- what an act that works makes of a live object: all but takes and gives leave what is known of it
+abbrev pub worked_by : Kind → Act → Holding → Option Holding
+worked_by kind (Try (Take form) e) known = taken_by kind known
+worked_by kind (Try (Give form) e) known = given_by kind known
+worked_by kind act known = Some known
+
 -- whether a give to this kind of object can be refused, since there is no room
 abbrev pub can_be_full : Kind → Bool
 can_be_full Binary = true
 can_be_full (Counting size first) = true
 can_be_full kind = false
 
--- whether the action is a give of a mutex, in the form that suits it, which the mover isn't known to hold
-abbrev pub is_given_unheld : Kind → Action → Holding → Bool
-is_given_unheld Mutex (Give PlainGive e) (Own count) = false
-is_given_unheld Mutex (Give PlainGive e) known = true
-is_given_unheld Recursive (Give RecursiveGive e) (Own count) = false
-is_given_unheld Recursive (Give RecursiveGive e) known = true
-is_given_unheld kind action known = false
+-- whether an act on a live object of this kind can fail
+abbrev pub can_fail_on : Kind → Timing → Act → Bool
+can_fail_on kind timing (Try (Give form) e) = can_be_full kind
+can_fail_on kind timing (Try (Reset buffer) e) = true
+can_fail_on kind timing (Try attempt e) = can_time_out timing
+can_fail_on kind timing (Move end OfStream n result) = false
+can_fail_on kind timing (Move end OfMessage n result) = true
+
+-- whether the second kind, if there is one, is the first, of a mutex
+abbrev pub is_mutex : Kind → Option Kind → Bool
+is_mutex Mutex (Some Mutex) = true
+is_mutex Recursive (Some Recursive) = true
+is_mutex kind given = false
+
+-- whether the call is a give of a mutex, in the form that suits it, which the mover isn't known to hold
+abbrev pub is_given_unheld : Kind → ObjectCall → Holding → Bool
+is_given_unheld kind call (Own count) = false
+is_given_unheld kind call known = is_mutex kind (given_kind call.act call.timing)

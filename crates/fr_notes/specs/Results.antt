@@ -1,29 +1,25 @@
--- For private clauses: what the ends of queue and buffer calls give a variable.
+-- For private clauses: what the ends of object calls give a variable.
 --
 -- | word                  | meaning                                                                     |
 -- |-----------------------|-----------------------------------------------------------------------------|
--- | HasValues, NoValues   | the range is what a queue can hold; the kind has no such range              |
 -- | size_of               | the size of a buffer                                                        |
--- | IsSpan                | a range from one number to another                                          |
--- | IsUpTo, NothingUpTo   | a range up to the lesser of a length and a buffer's size; there is none     |
+-- | least_moved           | the least number of bytes that a call moves, where it moves any             |
+-- | results_of            | the least and the greatest number that a call that works can give           |
+-- | failed_into           | the variable that gets 0 where a call fails                                 |
 -- | IsSmall               | a mutex is held at the most so often as a note can say                      |
-use Rattle.std.specs.Prelude.{◌≡◌, ◌≤◌, ◌<ℤ◌, ℕ, ℤ, pos}
+use Rattle.std.specs.Prelude.{◌≤◌, ℕ, ℤ, pos, Option, None}
 use Rattle.std.specs.Int.{int_min}
+use Rattle.fr_program.specs.declared.ids.VarId.{VarId}
+use Rattle.fr_program.specs.declared.instr.Act.{Act}
+use Rattle.fr_program.specs.declared.instr.Act.TheVariants.{Try, Move}
+use Rattle.fr_program.specs.declared.instr.BufferKind.{BufferKind}
+use Rattle.fr_program.specs.declared.instr.BufferKind.TheVariants.{Stream as OfStream, Message as OfMessage}
+use Rattle.fr_program.specs.declared.instr.End.{End}
+use Rattle.fr_program.specs.declared.instr.End.TheVariants.{Writer, Reader}
 use Rattle.fr_program.specs.declared.parts.Kind.{Kind}
 use Rattle.fr_program.specs.declared.parts.Kind.TheVariants.{Queue, Stream, Message}
-use Rattle.fr_program.specs.declared.range.Range.{Range}
 use Rattle.fr_notes.specs.Fits.{most_depth}
 use Rattle.fr_notes.specs.Holding.{Holding, Own}
-
--- the range has the values that a queue of this kind can hold
-abbrev pub HasValues : Kind → Range → Type 0
-HasValues (Queue size lo hi) span = (span.lo ≡ lo) × (span.hi ≡ hi)
-HasValues kind span = ⊥
-
--- this is no queue, or one that can hold no value
-abbrev pub NoValues : Kind → Type 0
-NoValues (Queue size lo hi) = hi <ℤ lo
-NoValues kind = Unit {0}
 
 -- the size of a buffer
 abbrev pub size_of : Kind → ℤ
@@ -31,18 +27,22 @@ size_of (Stream size) = size
 size_of (Message size) = size
 size_of kind = pos 0
 
--- the range goes from one number to another
-pub record IsSpan (span : Range) (lo hi : ℤ) : Type 0 where
-  pub lo_is : span.lo ≡ lo
-  pub hi_is : span.hi ≡ hi
+-- the least number of bytes that a call of this length moves where it works: a message is sent whole
+abbrev pub least_moved : End → BufferKind → ℕ → ℕ
+least_moved end OfStream n = 0
+least_moved Reader OfMessage n = 1
+least_moved Writer OfMessage n = n
 
--- the range goes up to the lesser of the length and the size
-abbrev pub IsUpTo : ℕ → ℕ → Kind → Range → Type 0
-IsUpTo least length kind span = IsSpan span (pos least) (int_min (pos length) (size_of kind))
+-- the least and the greatest number that a call that works can give a variable: a value of the queue, or a number of bytes
+abbrev pub results_of : Kind → Act → ℤ × ℤ
+results_of kind (Move end buffer n result) = (pos (least_moved end buffer n), int_min (pos n) (size_of kind))
+results_of (Queue size lo hi) (Try attempt e) = (lo, hi)
+results_of kind (Try attempt e) = (pos 0, pos 0)
 
--- the lesser of them is below the least number
-abbrev pub NothingUpTo : ℕ → ℕ → Kind → Type 0
-NothingUpTo least length kind = int_min (pos length) (size_of kind) <ℤ pos least
+-- the variable to which a call that fails gives 0
+abbrev pub failed_into : Act → Option VarId
+failed_into (Try attempt e) = None
+failed_into (Move end buffer n result) = result
 
 -- the mover holds it at the most so often as a note can say
 abbrev pub IsSmall : Holding → Type 0

@@ -20,7 +20,7 @@ use Rattle.fr_program.specs.declared.ids.Side.TheVariants.{Before, Inside}
 use Rattle.fr_program.specs.declared.instr.Instr.{Instr}
 use Rattle.fr_program.specs.declared.instr.Instr.TheVariants.{Call as Calls}
 use Rattle.fr_program.specs.declared.instr.Call.TheVariants.{On}
-use Rattle.fr_program.specs.declared.instr.Action.{Action}
+use Rattle.fr_program.specs.declared.instr.ObjectCall.{ObjectCall}
 use Rattle.fr_program.specs.declared.parts.Kind.{Kind}
 use Rattle.fr_program.specs.declared.range.Range.{Range}
 use Rattle.fr_program.specs.Program.{Program}
@@ -71,16 +71,16 @@ abbrev pub LeavesBefore : Program → Known → Instr → Way → Option Change 
 LeavesBefore P k i way change = (p : Point) → IsSpot P k p Before i → IsUnforbidden P k p i → Leaves P k p way change
 
 -- inside a call on a live object of which this is known: the call suits the kind, and a mutex that it gives is the mover's
-pub record IsEnd (P : Program) (k : Known) (p : Point) (o : ObjId) (known : Holding) (action : Action) : Type 0 where
-  pub spot : IsSpot P k p Inside (Calls (On o action))
-  pub living : living (holding k o.0) ≡ Some known
-  pub suits : is_unsuited (kind_of P o.0) action ≡ false
-  pub held : is_given_unheld (kind_of P o.0) action known ≡ false
+pub record IsEnd (P : Program) (k : Known) (p : Point) (known : Holding) (call : ObjectCall) : Type 0 where
+  pub spot : IsSpot P k p Inside (Calls (On call))
+  pub living : living (holding k call.object.0) ≡ Some known
+  pub suits : is_unsuited (kind_of P call.object.0) call.timing call.act ≡ false
+  pub held : is_given_unheld (kind_of P call.object.0) call known ≡ false
 
 -- so at each end of such a call on an object of this kind
-abbrev pub EndLeaves : Known → ObjId → Kind → Holding → Action → Way → Option Change → Type 0
-EndLeaves k o kind known action way change =
-    (P : Program) (p : Point) → kind_of P o.0 ≡ kind → IsEnd P k p o known action → Leaves P k p way change
+abbrev pub EndLeaves : Known → Kind → Holding → ObjectCall → Way → Option Change → Type 0
+EndLeaves k kind known call way change =
+    (P : Program) (p : Point) → kind_of P call.object.0 ≡ kind → IsEnd P k p known call → Leaves P k p way change
 
 -- the change that changes nothing
 abbrev pub unchanged : Known → Change

@@ -45,6 +45,7 @@ impl Model for Alts {
 }
 
 // Whether the notes have at most four alternatives in all.
+/// Whether the notes have at most four alternatives together.
 fn are_few(notes: &[Note]) -> bool
     ensures { IsTrue result ↔ (length (joined notes.now) ≤ most_alternatives) }
 {
@@ -60,6 +61,7 @@ fn are_few(notes: &[Note]) -> bool
 }
 
 // Whether one of the notes has no alternative.
+/// Whether one of the notes is "never".
 fn has_never(notes: &[Note]) -> bool
     ensures { IsTrue result ↔ Any (λ note. note ≡ []) notes.now }
 {
@@ -67,6 +69,7 @@ fn has_never(notes: &[Note]) -> bool
 }
 
 // Moves the alternatives of all notes behind the others, for which there is room.
+/// Appends the alternatives of all notes, for which there is room.
 fn join(alternatives: &mut Vec<Alternative>, notes: Vec<Note>)
     requires { vec_len alternatives.old + length (joined notes.items) ≤ vec_capacity alternatives.old }
     ensures { alternatives.new.items ≡ alternatives.old.items ++ joined notes.items }
@@ -130,6 +133,7 @@ impl Alts {
 }
 
 // Moves the notes behind the others, for which there is room.
+/// Appends the note of each list of alternatives, for which there is room.
 fn take(notes: &mut Vec<Note>, alts: Vec<Alts>)
     requires { vec_len notes.old + length alts.items ≤ vec_capacity notes.old }
     ensures { notes.new.items ≡ notes.old.items ++ alts.items }

@@ -16,7 +16,7 @@ use crate::inside::is_given_unheld;
 use crate::known::Known;
 use fr_calls::Way;
 use fr_program::{
-    Action, App, Call, Comparison, Instr, Kind, ObjId, Operand, Operator, Range, VarId,
+    App, Call, Comparison, Instr, Kind, ObjId, ObjectCall, Operand, Operator, Range, VarId,
 };
 
 /// An entry of the critical section: no step while another actor is in it.
@@ -98,15 +98,15 @@ pub fn deleted(known: &Known, object: ObjId) -> Option<Change>
 }
 
 /// The begin of a call on an object, which is live then.
-pub fn begun(known: &Known, kind: Kind, object: ObjId, action: &Action) -> Option<Change>
-    ensures { (P : Program) → kind_of P object.0 ≡ kind →
-        LeavesBefore P known.now (Instr.Call (Call.On object action.now)) Way.Then result }
+pub fn begun(known: &Known, kind: Kind, call: &ObjectCall) -> Option<Change>
+    ensures { (P : Program) → kind_of P call.now.object.0 ≡ kind →
+        LeavesBefore P known.now (Instr.Call (Call.On call.now)) Way.Then result }
 {
-    let holding = known.holding(object.0).living()?;
-    if is_given_unheld(kind, action, holding) {
+    let holding = known.holding(call.object.0).living()?;
+    if is_given_unheld(kind, call, holding) {
         return None;
     }
-    Some(known.claiming(object, holding.claim()))
+    Some(known.claiming(call.object, holding.claim()))
 }
 
 /// A `set`, also one that leaves its variable out of its declared range.

@@ -19,6 +19,7 @@ pub fn is_part(range: Range, other: Range) -> bool
     range.within(other)
 }
 
+/// Whether each claim implies the other's claim about the same object.
 fn claims_imply(claims: &[Claim], others: &[Claim]) -> bool
     ensures { IsTrue result ↔ ClaimsImply claims.now others.now }
 {
@@ -33,6 +34,7 @@ fn claims_imply(claims: &[Claim], others: &[Claim]) -> bool
     true
 }
 
+/// Whether each range is inside the other's range of the same variable.
 fn ranges_imply(ranges: &[Range], others: &[Range]) -> bool
     ensures { IsTrue result ↔ RangesImply (map ends_of ranges.now) (map ends_of others.now) }
 {
@@ -47,6 +49,7 @@ fn ranges_imply(ranges: &[Range], others: &[Range]) -> bool
     true
 }
 
+/// Whether the other alternative holds of an actor wherever this one does.
 fn is_stronger(alternative: &Alternative, other: &Alternative) -> bool
     ensures { IsTrue result ↔ IsStronger alternative.now other.now }
 {
@@ -56,12 +59,14 @@ fn is_stronger(alternative: &Alternative, other: &Alternative) -> bool
         && ranges_imply(&alternative.ranges, &other.ranges)
 }
 
+/// Whether the alternative implies one of the others.
 fn implies_some(alternative: &Alternative, others: &[Alternative]) -> bool
     ensures { IsTrue result ↔ ImpliesSome others.now alternative.now }
 {
     others.iter().any(|other| is_stronger(alternative, other))
 }
 
+/// Whether each alternative implies one of the others.
 fn imply_each(alternatives: &[Alternative], others: &[Alternative]) -> bool
     ensures yes { OnTrue result (All (ImpliesSome others.now) alternatives.now) }
     ensures no { OnFalse result (Any (λ n. ImpliesSome others.now n → ⊥) alternatives.now) }

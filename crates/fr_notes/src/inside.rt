@@ -1,30 +1,18 @@
 // What the end of an object call leaves of what is known before it.
-ghost use Rattle.std.specs.Prelude.{◌≡◌, ◌<◌, ◌≤◌, ◌≤ℤ◌, ◌↔◌, ℕ, pos, IsTrue, Option, Some, None, IfSome, IfNone, length, if◌then◌else◌};
-ghost use Rattle.fr_program.specs.declared.instr.GiveForm.{GiveForm as GiveFormOf};
-ghost use Rattle.fr_program.specs.declared.instr.Timing.{Timing as TimingOf};
-ghost use Rattle.fr_notes.specs.Known.{KnownFits};
-ghost use Rattle.fr_program.specs.declared.instr.Operand.{Operand as OperandOf};
-ghost use Rattle.fr_program.specs.declared.instr.BufferKind.{BufferKind as BufferKindOf};
-ghost use Rattle.fr_notes.specs.Holding.{mover_claim, taken_by, given_by, can_be_full, is_given_unheld};
-ghost use Rattle.fr_notes.specs.Results.{HasValues, NoValues, size_of, IsSpan, IsUpTo, NothingUpTo, IsSmall};
+ghost use Rattle.std.specs.Prelude.{◌≡◌, ◌<◌, ◌<ℤ◌, IfSome, IfNone, length};
 ghost use Rattle.fr_program.specs.declared.ids.Side.TheVariants.{Inside};
 ghost use Rattle.fr_program.specs.declared.instr.Instr.TheVariants.{Call as Calls};
 ghost use Rattle.fr_program.specs.declared.instr.Call.TheVariants.{On};
-ghost use Rattle.fr_notes.specs.Spot.{LeavesAt, EndLeaves, claiming};
+ghost use Rattle.fr_notes.specs.Known.{KnownFits};
+ghost use Rattle.fr_notes.specs.Holding.{taken_by, given_by, worked_by, can_fail_on, is_given_unheld};
+ghost use Rattle.fr_notes.specs.Results.{size_of, least_moved, results_of, failed_into, IsSmall};
+ghost use Rattle.fr_notes.specs.Spot.{LeavesAt, EndLeaves};
 
 use crate::change::Change;
 use crate::holding::Holding;
 use crate::known::Known;
-use fr_calls::{Way, can_time_out, is_unsuited, take_can_time_out};
-use fr_program::{Action, App, BufferKind, GiveForm, Kind, ObjId, Range, TakeForm, Timing, VarId};
-
-/// The live object of a call: its number, its kind, and what is known of it.
-#[derive(Clone, Copy)]
-struct Target {
-    object: ObjId,
-    kind: Kind,
-    holding: Holding,
-}
+use fr_calls::{Way, can_time_out, given_kind, is_unsuited};
+use fr_program::{Act, App, Attempt, BufferKind, End, Kind, ObjectCall, Range, Timing, VarId};
 
 /// What a take that works makes of a live object; None where it can't work.
 fn taken(kind: Kind, holding: Holding) -> Option<Holding>
@@ -57,46 +45,18 @@ fn given(kind: Kind, holding: Holding) -> Option<Holding>
     }
 }
 
-/// Whether a give to this kind of object can be refused, since there is no room.
-fn can_be_full(kind: Kind) -> bool
-    ensures { result ≡ can_be_full kind }
+/// Whether the call is a give of a mutex, in the form that suits it, which the mover isn't known to
+/// hold.
+pub fn is_given_unheld(kind: Kind, call: &ObjectCall, holding: Holding) -> bool
+    ensures { result ≡ is_given_unheld kind call.now holding }
 {
-    matches!(kind, Kind::Binary | Kind::Counting { .. })
-}
-
-/// Whether the action is a give of a mutex, in the form that suits it, which the mover isn't known
-/// to hold.
-pub fn is_given_unheld(kind: Kind, action: &Action, holding: Holding) -> bool
-    ensures { result ≡ is_given_unheld kind action.now holding }
-{
-    match (kind, action) {
-        (
-            Kind::Mutex,
-            Action::Give {
-                form: GiveForm::Plain,
-                ..
-            },
-        )
-        | (
-            Kind::Recursive,
-            Action::Give {
-                form: GiveForm::Recursive,
-                ..
-            },
-        ) => !matches!(holding, Holding::Own(_)),
-        _ => false,
+    if let Holding::Own(_) = holding {
+        return false;
     }
-}
-
-/// The values that a queue can hold.
-fn values_of(kind: Kind) -> Option<Range>
-    ensures some { IfSome result (λ span. HasValues kind span) }
-    ensures none { IfNone result (NoValues kind) }
-{
-    match kind {
-        Kind::Queue { lo, hi, .. } => Range::new(i128::from(lo), i128::from(hi)),
-        _ => None,
-    }
+    matches!(
+        (kind, given_kind(call.act, call.timing)),
+        (Kind::Mutex, Some(Kind::Mutex)) | (Kind::Recursive, Some(Kind::Recursive))
+    )
 }
 
 /// How many bytes a buffer holds.
@@ -109,253 +69,140 @@ fn size_of(kind: Kind) -> i64
     }
 }
 
-/// The numbers from the least one up to the lesser of the length and the buffer's size.
-fn up_to(least: u32, length: u32, kind: Kind) -> Option<Range>
-    ensures some { IfSome result (λ span. IsUpTo least length kind span) }
-    ensures none { IfNone result (NothingUpTo least length kind) }
+/// The least number of bytes that a call of this length moves where it works.
+fn least_moved(end: End, buffer: BufferKind, length: u32) -> u32
+    ensures { result ≡ least_moved end buffer length }
 {
-    Range::new(
-        i128::from(least),
-        i128::from(length).min(i128::from(size_of(kind))),
-    )
-}
-
-/// Whether a message of this length fits an empty buffer.
-fn fits(length: u32, kind: Kind) -> bool
-    ensures { IsTrue result ↔ (pos length ≤ℤ size_of kind) }
-{
-    i128::from(length) <= i128::from(size_of(kind))
-}
-
-/// This number alone.
-fn exactly(number: u32) -> Range
-    ensures { IsSpan result (pos number) (pos number) }
-{
-    let number = i128::from(number);
-    Range {
-        lo: number,
-        hi: number,
+    match (buffer, end) {
+        (BufferKind::Stream, _) => 0,
+        (BufferKind::Message, End::Reader) => 1,
+        (BufferKind::Message, End::Writer) => length,
     }
 }
 
-/// The change that keeps what is known of a live object.
-fn kept(known: &Known, target: Target) -> Change
-    ensures { result ≡ claiming known.now target.object (mover_claim target.holding) }
+/// The numbers that a call that works can give a variable; None where there is none, and then it
+/// can't work.
+fn results_of(kind: Kind, act: Act) -> Option<Range>
+    ensures some { IfSome result (λ span. (span.lo ≡ (results_of kind act).0) × (span.hi ≡ (results_of kind act).1)) }
+    ensures none { IfNone result ((results_of kind act).1 <ℤ (results_of kind act).0) }
 {
-    known.claiming(target.object, target.holding.claim())
-}
-
-/// The end of a call that fails, where it can.
-fn failed(known: &Known, target: Target, can: bool) -> Option<Change>
-    ensures { result ≡ (if can then Some (claiming known.now target.object (mover_claim target.holding)) else None) }
-{
-    if can { Some(kept(known, target)) } else { None }
-}
-
-/// The end of a take.
-fn take(known: &Known, target: Target, form: TakeForm, way: Way) -> Option<Change>
-    requires { IsSmall target.holding }
-    ensures { (or_else : Option ℕ) →
-        EndLeaves known.now target.object target.kind target.holding (Action.Take form or_else) way result }
-{
-    match way {
-        Way::Then => {
-            let after = taken(target.kind, target.holding)?;
-            Some(known.claiming(target.object, after.claim()))
+    match (act, kind) {
+        (
+            Act::Move {
+                end,
+                kind: buffer,
+                length,
+                ..
+            },
+            _,
+        ) => Range::new(
+            i128::from(least_moved(end, buffer, length)),
+            i128::from(length).min(i128::from(size_of(kind))),
+        ),
+        (Act::Try { .. }, Kind::Queue { lo, hi, .. }) => {
+            Range::new(i128::from(lo), i128::from(hi))
         }
-        Way::Else => failed(known, target, take_can_time_out(form)),
+        (Act::Try { .. }, _) => Some(Range::only(0)),
     }
 }
 
-/// The end of a give.
-fn give(known: &Known, target: Target, way: Way) -> Option<Change>
-    ensures { (form : GiveFormOf) (or_else : Option ℕ) →
-        EndLeaves known.now target.object target.kind target.holding (Action.Give form or_else) way result }
+/// Whether an act on a live object of this kind can fail.
+fn can_fail(kind: Kind, timing: Timing, act: Act) -> bool
+    ensures { result ≡ can_fail_on kind timing act }
 {
-    match way {
-        Way::Then => {
-            let after = given(target.kind, target.holding)?;
-            Some(known.claiming(target.object, after.claim()))
-        }
-        Way::Else => failed(known, target, can_be_full(target.kind)),
-    }
-}
-
-/// The end of a queue send. A value out of the queue's range is sent too.
-fn queue_send(known: &Known, target: Target, timing: Timing, way: Way) -> Option<Change>
-    ensures { (value : OperandOf) (or_else : Option ℕ) →
-        EndLeaves known.now target.object target.kind target.holding (Action.QueueSend value timing or_else) way result }
-{
-    match way {
-        Way::Then => Some(kept(known, target)),
-        Way::Else => failed(known, target, can_time_out(timing)),
-    }
-}
-
-/// The end of a queue receive: the variable gets some value that the queue can hold.
-fn queue_receive(
-    known: &Known,
-    target: Target,
-    into: VarId,
-    timing: Timing,
-    way: Way,
-) -> Option<Change>
-    ensures { (or_else : Option ℕ) →
-        EndLeaves known.now target.object target.kind target.holding (Action.QueueReceive into timing or_else) way result }
-{
-    match way {
-        Way::Then => {
-            let range = values_of(target.kind)?;
-            Some(known.resulting(target.object, target.holding.claim(), Some(into), range))
-        }
-        Way::Else => failed(known, target, can_time_out(timing)),
-    }
-}
-
-/// The end of a send to a stream buffer or of a receive from one, which moves as many bytes as
-/// there are, or as there is room for, and never fails.
-fn stream(
-    known: &Known,
-    target: Target,
-    length: u32,
-    into: Option<VarId>,
-    way: Way,
-) -> Option<Change>
-    ensures sends { (timing : TimingOf) →
-        EndLeaves known.now target.object target.kind target.holding (Action.Send BufferKind.Stream length timing into) way result }
-    ensures receives { (timing : TimingOf) →
-        EndLeaves known.now target.object target.kind target.holding (Action.Receive BufferKind.Stream length timing into) way result }
-{
-    match way {
-        Way::Then => {
-            let range = up_to(0, length, target.kind)?;
-            Some(known.resulting(target.object, target.holding.claim(), into, range))
-        }
-        Way::Else => None,
-    }
-}
-
-/// The end of a message buffer's call that moves nothing.
-fn nothing_moved(known: &Known, target: Target, into: Option<VarId>) -> Change
-    ensures sends { (length : ℕ) (timing : TimingOf) →
-        EndLeaves known.now target.object target.kind target.holding (Action.Send BufferKind.Message length timing into) Way.Else (Some result) }
-    ensures receives { (length : ℕ) (timing : TimingOf) →
-        EndLeaves known.now target.object target.kind target.holding (Action.Receive BufferKind.Message length timing into) Way.Else (Some result) }
-{
-    known.resulting(target.object, target.holding.claim(), into, exactly(0))
-}
-
-/// The end of a send to a message buffer. A message that is longer than the buffer is never sent.
-fn message_send(
-    known: &Known,
-    target: Target,
-    length: u32,
-    into: Option<VarId>,
-    way: Way,
-) -> Option<Change>
-    ensures { (timing : TimingOf) →
-        EndLeaves known.now target.object target.kind target.holding (Action.Send BufferKind.Message length timing into) way result }
-{
-    match way {
-        Way::Then => {
-            if !fits(length, target.kind) {
-                return None;
-            }
-            let range = exactly(length);
-            Some(known.resulting(target.object, target.holding.claim(), into, range))
-        }
-        Way::Else => Some(nothing_moved(known, target, into)),
-    }
-}
-
-/// The end of a receive from a message buffer: of a message that is at most so long.
-fn message_receive(
-    known: &Known,
-    target: Target,
-    length: u32,
-    into: Option<VarId>,
-    way: Way,
-) -> Option<Change>
-    ensures { (timing : TimingOf) →
-        EndLeaves known.now target.object target.kind target.holding (Action.Receive BufferKind.Message length timing into) way result }
-{
-    match way {
-        Way::Then => {
-            let range = up_to(1, length, target.kind)?;
-            Some(known.resulting(target.object, target.holding.claim(), into, range))
-        }
-        Way::Else => Some(nothing_moved(known, target, into)),
-    }
-}
-
-/// The end of a reset, whether it works or not.
-fn reset(known: &Known, target: Target, way: Way) -> Change
-    ensures { (buffer : BufferKindOf) (or_else : Option ℕ) →
-        EndLeaves known.now target.object target.kind target.holding (Action.Reset buffer or_else) way (Some result) }
-{
-    let _way = way;
-    kept(known, target)
-}
-
-/// The end of a call on a live object: each action with the function of its name.
-fn end(known: &Known, target: Target, action: &Action, way: Way) -> Option<Change>
-    requires { IsSmall target.holding }
-    ensures { EndLeaves known.now target.object target.kind target.holding action.now way result }
-{
-    match *action {
-        Action::Take { form, .. } => take(known, target, form, way),
-        Action::Give { .. } => give(known, target, way),
-        Action::QueueSend { timing, .. } => queue_send(known, target, timing, way),
-        Action::QueueReceive { into, timing, .. } => {
-            queue_receive(known, target, into, timing, way)
-        }
-        Action::Send {
-            kind,
-            length,
-            result,
-            ..
-        } => match kind {
-            BufferKind::Stream => stream(known, target, length, result, way),
-            BufferKind::Message => message_send(known, target, length, result, way),
+    match act {
+        Act::Try { attempt, .. } => match attempt {
+            Attempt::Give(_) => matches!(kind, Kind::Binary | Kind::Counting { .. }),
+            Attempt::Reset(_) => true,
+            _ => can_time_out(timing),
         },
-        Action::Receive {
-            kind,
-            length,
-            result,
-            ..
-        } => match kind {
-            BufferKind::Stream => stream(known, target, length, result, way),
-            BufferKind::Message => message_receive(known, target, length, result, way),
-        },
-        Action::Reset { .. } => Some(reset(known, target, way)),
+        Act::Move { kind: buffer, .. } => matches!(buffer, BufferKind::Message),
+    }
+}
+
+/// The variable to which a call that fails gives 0.
+fn failed_into(act: Act) -> Option<VarId>
+    ensures { result ≡ failed_into act }
+{
+    match act {
+        Act::Try { .. } => None,
+        Act::Move { result, .. } => result,
+    }
+}
+
+/// An object call inside which an actor is: the call, the kind of its object, which is live, and what
+/// is known of that object.
+#[derive(Clone, Copy)]
+struct Ending {
+    call: ObjectCall,
+    kind: Kind,
+    holding: Holding,
+}
+
+impl Ending {
+    /// What is known of the object where the call works; None where it can't work.
+    fn worked(self) -> Option<Holding>
+        requires { IsSmall self.holding }
+        ensures { result ≡ worked_by self.kind self.call.act self.holding }
+    {
+        match self.call.act {
+            Act::Try {
+                attempt: Attempt::Take(_),
+                ..
+            } => taken(self.kind, self.holding),
+            Act::Try {
+                attempt: Attempt::Give(_),
+                ..
+            } => given(self.kind, self.holding),
+            _ => Some(self.holding),
+        }
+    }
+
+    /// The end of a call that works.
+    fn works(self, known: &Known) -> Option<Change>
+        requires { IsSmall self.holding }
+        ensures { EndLeaves known.now self.kind self.holding self.call Way.Then result }
+    {
+        let holding = self.worked()?;
+        let range = results_of(self.kind, self.call.act)?;
+        let into = self.call.act.written();
+        Some(known.resulting(self.call.object, holding.claim(), into, range))
+    }
+
+    /// The end of a call that fails: it gives 0 to its variable, if it has one.
+    fn fails(self, known: &Known) -> Option<Change>
+        ensures { EndLeaves known.now self.kind self.holding self.call Way.Else result }
+    {
+        if !can_fail(self.kind, self.call.timing, self.call.act) {
+            return None;
+        }
+        let into = failed_into(self.call.act);
+        Some(known.resulting(self.call.object, self.holding.claim(), into, Range::only(0)))
     }
 }
 
 /// The rows of an actor that is inside a call on this object: None where the object is dead, where
 /// the call doesn't suit it, and where a mutex is given that the actor doesn't hold.
-pub fn change_inside(
-    app: &App,
-    known: &Known,
-    object: ObjId,
-    action: &Action,
-    way: Way,
-) -> Option<Change>
-    requires object { object.0 < length app.now.objects }
+pub fn change_inside(app: &App, known: &Known, call: &ObjectCall, way: Way) -> Option<Change>
+    requires object { call.now.object.0 < length app.now.objects }
     requires fits { KnownFits app.now known.now }
-    ensures { LeavesAt app.now known.now Inside (Calls (On object action.now)) way result }
+    ensures { LeavesAt app.now known.now Inside (Calls (On call.now)) way result }
 {
-    let kind = app.kind(object);
-    let holding = known.holding(object.0).living()?;
-    if is_unsuited(kind, action) {
+    let kind = app.kind(call.object);
+    let holding = known.holding(call.object.0).living()?;
+    if is_unsuited(kind, call.timing, call.act) {
         return None;
     }
-    if is_given_unheld(kind, action, holding) {
+    if is_given_unheld(kind, call, holding) {
         return None;
     }
-    let target = Target {
-        object,
+    let ending = Ending {
+        call: *call,
         kind,
         holding,
     };
-    end(known, target, action, way)
+    match way {
+        Way::Then => ending.works(known),
+        Way::Else => ending.fails(known),
+    }
 }

@@ -66,6 +66,7 @@ pub fn other_after(change: &Change, object: usize, claim: Claim) -> Claim
     }
 }
 
+/// Whether the range has each number that the variable can have after the change.
 fn says_range(known: &Known, change: &Change, variable: usize, range: Range) -> bool
     requires { IsPossible known.now }
     ensures { IsTrue result ↔ IsPart (new_range change.now variable (joint_range known.now variable)) (ends_of range) }
@@ -73,12 +74,14 @@ fn says_range(known: &Known, change: &Change, variable: usize, range: Range) -> 
     is_part(new_range(change, variable, known.range(variable)), range)
 }
 
+/// Whether the claim follows from what is known of the object after the change.
 fn says_claim(known: &Known, change: &Change, object: usize, claim: Claim) -> bool
     ensures { IsTrue result ↔ ClaimImplies (claim_after change.now.claim object (joint_claim known.now object)) claim }
 {
     claim_after(change, object, known.claim(object)).implies(claim)
 }
 
+/// Whether the other actor's claim follows from what is known of the object after the change.
 fn spares_claim(
     known: &Known,
     other: &Alternative,
@@ -92,6 +95,7 @@ fn spares_claim(
     other_after(change, object, known.other_claim(object)).implies(claim)
 }
 
+/// Whether each range has each number that its variable can have after the change.
 fn says_ranges(known: &Known, change: &Change, ranges: &[Range]) -> bool
     requires { IsPossible known.now }
     ensures { IsTrue result ↔ ((x : ℕ) → x < length ranges.now →
@@ -105,6 +109,7 @@ fn says_ranges(known: &Known, change: &Change, ranges: &[Range]) -> bool
     true
 }
 
+/// Whether each claim follows from what is known of its object after the change.
 fn says_claims(known: &Known, change: &Change, claims: &[Claim]) -> bool
     ensures { IsTrue result ↔ ((o : ℕ) → o < length claims.now →
         ClaimImplies (claim_after change.now.claim o (joint_claim known.now o)) (slice_index_or claims.now o NotHeld)) }
@@ -117,6 +122,7 @@ fn says_claims(known: &Known, change: &Change, claims: &[Claim]) -> bool
     true
 }
 
+/// Whether each claim of the other actor follows from what is known of its object after the change.
 fn spares_claims(known: &Known, other: &Alternative, change: &Change, claims: &[Claim]) -> bool
     requires { known.now.other ≡ Some other.now }
     ensures { IsTrue result ↔ ((o : ℕ) → o < length claims.now →

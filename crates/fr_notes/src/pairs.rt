@@ -29,6 +29,7 @@ fn ranges_meet(range: Range, other: Range) -> bool
     range.lo <= other.hi && other.lo <= range.hi
 }
 
+/// Whether each claim can hold together with the other's claim about the same object.
 fn each_claim_meets(claims: &[Claim], others: &[Claim]) -> bool
     ensures { IsTrue result ↔ EachClaimMeets claims.now others.now }
 {
@@ -43,6 +44,7 @@ fn each_claim_meets(claims: &[Claim], others: &[Claim]) -> bool
     true
 }
 
+/// Whether each range has a number in common with the other's range of the same variable.
 fn each_range_meets(ranges: &[Range], others: &[Range]) -> bool
     ensures { IsTrue result ↔ EachRangeMeets (map ends_of ranges.now) (map ends_of others.now) }
 {
@@ -67,12 +69,14 @@ pub fn can_meet(alternative: &Alternative, other: &Alternative) -> bool
         && each_range_meets(&alternative.ranges, &other.ranges)
 }
 
+/// Whether the alternative can hold together with one of the others.
 fn meets_some(alternative: &Alternative, others: &[Alternative]) -> bool
     ensures { IsTrue result ↔ MeetsSome others.now alternative.now }
 {
     others.iter().any(|other| can_meet(alternative, other))
 }
 
+/// Whether one of the alternatives can hold together with one of the others.
 fn some_meet(alternatives: &[Alternative], others: &[Alternative]) -> bool
     ensures { IsTrue result ↔ Any (MeetsSome others.now) alternatives.now }
 {

@@ -19,13 +19,7 @@ impl<'a> Known<'a> {
         ensures { ends_of result ≡ operand_in (joint_range self.now) operand }
     {
         match operand {
-            Operand::Number(number) => {
-                let number = i128::from(number);
-                Range {
-                    lo: number,
-                    hi: number,
-                }
-            }
+            Operand::Number(number) => Range::only(number),
             Operand::Variable(variable) => self.range(variable.0),
         }
     }

@@ -43,7 +43,7 @@ fn called(app: &App, known: &Known, call: &Call) -> Option<Change>
         Call::DeleteSelf => Some(known.unchanged()),
         Call::Create { object, .. } => created(known, *object, Way::Then),
         Call::Delete { object, .. } => deleted(known, *object),
-        Call::On { object, action } => begun(known, app.kind(*object), *object, action),
+        Call::On(call) => begun(known, app.kind(call.object), call),
     }
 }
 
@@ -112,9 +112,7 @@ pub fn change_by(app: &App, known: &Known, point: Point, instr: &Instr, way: Way
             }
         }
         Side::Inside => match instr {
-            Instr::Call(Call::On { object, action }) => {
-                change_inside(app, known, *object, action, way)
-            }
+            Instr::Call(Call::On(call)) => change_inside(app, known, call, way),
             _ => None,
         },
     }

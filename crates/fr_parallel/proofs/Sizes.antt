@@ -12,7 +12,7 @@ use Rattle.fr_program.specs.Points.{count_of_instr, points_along, points_from, p
 use Rattle.fr_program.proofs.PointLaws.{length_points_along}
 
 count-small : (i : Instr) → count_of_instr i ≤ 2
-count-small (Calls (On o action)) = omega arith
+count-small (Calls (On call)) = omega arith
 count-small i = omega arith
 
 code-small : (code : List Instr) → sum_by count_of_instr code ≤ 2 * length code

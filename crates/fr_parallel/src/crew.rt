@@ -23,6 +23,7 @@ impl<'s> Promise<Pass> for Assignment<'s> {
 }
 
 // Waits for the threads that were started.
+/// Joins the threads and lets their passes go.
 fn join_all<'s, R: Threads>(rt: &R, mut handles: Vec<PromisedHandle<Pass, Assignment<'s>>>) {
     while let Some(handle) = handles.pop() {
         handle.join(rt);
@@ -30,6 +31,7 @@ fn join_all<'s, R: Threads>(rt: &R, mut handles: Vec<PromisedHandle<Pass, Assign
 }
 
 // One thread for each pass. Where one can't be started, those that were are joined.
+/// Starts a thread for each pass.
 fn start_all<'s, E, R: Threads, G: Gate>(
     rt: &R,
     scope: &Scope<'s, E>,
@@ -78,6 +80,7 @@ fn start_all<'s, E, R: Threads, G: Gate>(
 }
 
 // Joins all threads, and their passes into one.
+/// Joins the threads, and their passes into one.
 fn gather<'s, R: Threads>(
     rt: &R,
     assignment: Assignment<'s>,

@@ -21,6 +21,7 @@ use std::sync::Wait;
 use std::thread::Threads;
 
 // Whether there can be so many workers.
+/// Whether there can be so many workers: 1 to 64.
 pub(crate) fn is_crew(workers: usize) -> bool
     ensures { IsTrue result ↔ IsSeatCount workers }
 {
@@ -28,6 +29,7 @@ pub(crate) fn is_crew(workers: usize) -> bool
 }
 
 // A board with a job for each point, and a pass for each worker.
+/// A board with a job for each point and a pass for each worker.
 fn board_for(alloc: Global, app: &App, workers: usize) -> Result<(Board, Vec<Pass>), ParFault>
     requires { IsSeatCount workers }
     ensures new { IfOk result (λ r. IsNewBoard (length (points_of app.now)) workers r.0 r.1.items) }
@@ -43,6 +45,7 @@ fn board_for(alloc: Global, app: &App, workers: usize) -> Result<(Board, Vec<Pas
 }
 
 // The verdict No, where the least point that fails has this number.
+/// The verdict No at the point with this number, the least that failed.
 fn refused_at(app: &App, certificate: &Certificate, number: usize) -> Verdict
     requires fits { CertificateFits app.now certificate.now }
     requires least { IsLeastFailing app.now certificate.now (Some number) }
@@ -59,6 +62,7 @@ fn refused_at(app: &App, certificate: &Certificate, number: usize) -> Verdict
 }
 
 // The verdict, where the least point that fails has this number, or none does.
+/// The verdict where this number is the least that failed, if one did.
 fn verdict_at(app: &App, certificate: &Certificate, least: Option<u64>) -> Verdict
     requires fits { CertificateFits app.now certificate.now }
     requires least { IsLeastFailing app.now certificate.now least }

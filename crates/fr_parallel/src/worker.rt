@@ -27,6 +27,7 @@ pub(crate) struct Assignment<'s> {
 
 // What a worker does with one claim: it leaves it where a lower number has failed, and judges it otherwise, with what
 // `all_stay` says of the notes.
+/// Looks, and then skips the claim or judges its point and marks it.
 fn settle<G: Gate>(
     assignment: Assignment,
     stay: bool,

@@ -62,15 +62,15 @@ mapped f (Some x) y at = (x, refl, sym (same_Some (f x) y at))
 -- ---- sides
 
 side_stands : (i : Instr) (s : Side) → HasSide i s → slice_get (sides_of i) (side_number s) ≡ Some s
-side_stands (Calls (On o action)) Before has = refl
-side_stands (Calls (On o action)) Inside has = refl
+side_stands (Calls (On call)) Before has = refl
+side_stands (Calls (On call)) Inside has = refl
 side_stands i Before has = refl
 side_stands i Inside has = absurd has
 
 side_listed : (i : Instr) (k : ℕ) (s : Side) → slice_get (sides_of i) k ≡ Some s → HasSide i s × (side_number s ≡ k)
-side_listed (Calls (On o action)) zero s at = subst (λ t. HasSide (Calls (On o action)) t × (side_number t ≡ 0)) (same_Some Before s at) (tt, refl)
-side_listed (Calls (On o action)) (suc zero) s at = subst (λ t. HasSide (Calls (On o action)) t × (side_number t ≡ 1)) (same_Some Inside s at) (tt, refl)
-side_listed (Calls (On o action)) (suc (suc k)) s at = absurd (none-some s at)
+side_listed (Calls (On call)) zero s at = subst (λ t. HasSide (Calls (On call)) t × (side_number t ≡ 0)) (same_Some Before s at) (tt, refl)
+side_listed (Calls (On call)) (suc zero) s at = subst (λ t. HasSide (Calls (On call)) t × (side_number t ≡ 1)) (same_Some Inside s at) (tt, refl)
+side_listed (Calls (On call)) (suc (suc k)) s at = absurd (none-some s at)
 side_listed i zero s at = subst (λ t. HasSide i t × (side_number t ≡ 0)) (same_Some Before s at) (tt, refl)
 side_listed i (suc k) s at = absurd (none-some s at)
 

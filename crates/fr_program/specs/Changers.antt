@@ -18,26 +18,18 @@ use Rattle.fr_program.specs.declared.ids.Side.TheVariants.{Before, Inside}
 use Rattle.fr_program.specs.declared.instr.Instr.{Instr}
 use Rattle.fr_program.specs.declared.instr.Instr.TheVariants.{Set, Pick, Call as Calls}
 use Rattle.fr_program.specs.declared.instr.Call.TheVariants.{Create, Delete, On}
-use Rattle.fr_program.specs.declared.instr.Action.{Action}
-use Rattle.fr_program.specs.declared.instr.Action.TheVariants.{QueueReceive, Send, Receive}
 use Rattle.fr_program.specs.declared.changers.Changed.{Changed}
 use Rattle.fr_program.specs.declared.changers.Changed.TheVariants.{Anything, Number, Life}
 use Rattle.fr_program.specs.Program.{Program}
+use Rattle.fr_program.specs.Uses.{written_by}
 use Rattle.fr_program.specs.Lookup.{instr_of}
 use Rattle.fr_program.specs.Points.{points_of}
-
--- the variable to which the end of an object call gives a number
-abbrev pub result_of_end : Action → Option VarId
-result_of_end (QueueReceive into timing e) = Some into
-result_of_end (Send buffer length timing result) = result
-result_of_end (Receive buffer length timing result) = result
-result_of_end action = None
 
 -- the variable that the steps from this side of an instruction write
 abbrev pub written : Side → Instr → Option VarId
 written Before (Set target left operator right) = Some target
 written Before (Pick target lo hi) = Some target
-written Inside (Calls (On o action)) = result_of_end action
+written Inside (Calls (On call)) = written_by call.act
 written side i = None
 
 -- the object that they create or delete

@@ -16,12 +16,13 @@
 -- | NamesThings      | each number in the instruction names a variable or an object                        |
 -- | IsFreeOf         | this fault is not present at the line or the actor that it is about                 |
 -- | IsFaultless      | none of the eleven faults is present                                                |
-use Rattle.std.specs.Prelude.{◌≡◌, ◌≢◌, ◌≤◌, ◌<◌, ◌≤ℤ◌, ◌⊎◌, ◌+◌, ℕ, ℤ, pos, Option, None, Some, Bool, false, IsTrue, length, IfSome, All, AllPairs, count_by, slice_get, is_none}
+use Rattle.std.specs.Prelude.{◌≡◌, ◌≢◌, ◌≤◌, ◌<◌, ◌≤ℤ◌, ◌⊎◌, ◌+◌, ℕ, ℤ, pos, Option, None, Some, Bool, true, false, IsTrue, length, IfSome, All, AllPairs, count_by, slice_get, is_none}
 use Rattle.fr_program.specs.declared.instr.Instr.{Instr}
 use Rattle.fr_program.specs.declared.instr.Instr.TheVariants.{Set, If, Goto, Pick, Call as Calls, Return}
 use Rattle.fr_program.specs.declared.instr.Call.TheVariants.{DeleteSelf, Create, Delete, On}
-use Rattle.fr_program.specs.declared.instr.Action.{Action}
-use Rattle.fr_program.specs.declared.instr.Action.TheVariants.{QueueReceive, Send, Receive}
+use Rattle.fr_program.specs.declared.instr.Call.{Call}
+use Rattle.fr_program.specs.declared.instr.Act.{Act}
+use Rattle.fr_program.specs.declared.instr.Act.TheVariants.{Try, Move}
 use Rattle.fr_program.specs.declared.instr.Operand.{Operand}
 use Rattle.fr_program.specs.declared.instr.Operand.TheVariants.{Number, Variable}
 use Rattle.fr_program.specs.declared.instr.Operator.TheVariants.{Times}
@@ -36,7 +37,7 @@ use Rattle.fr_program.specs.declared.fault.BuildFault.TheVariants.{Memory, TooMa
 use Rattle.fr_program.specs.Program.{Program, ActorOf}
 use Rattle.fr_program.specs.Lookup.{actor_at, variable_at, instr_at}
 use Rattle.fr_program.specs.Limits.{VariableInLimits, KindInLimits, InstrInLimits, IsName, names_of, most_actors, most_variables, most_objects, most_instructions}
-use Rattle.fr_program.specs.Uses.{variables_of, object_named, TargetsBelow, makes_kind, drops_kind, acts_on, is_from_isr}
+use Rattle.fr_program.specs.Uses.{variables_of, object_of_call, object_named, received_by, TargetsBelow, makes_kind, drops_kind, acts_on, is_from_isr}
 
 -- something about each instruction, and the actor that has it
 abbrev pub EachInstr : Program → (ℕ → Instr → Type 0) → Type 0
@@ -77,11 +78,16 @@ MayUseAll P a i = All (λ x. MayUse P a x) (variables_of i)
 abbrev pub HasKind : Program → ℕ → (Kind → Bool) → Type 0
 HasKind P o test = IfSome (slice_get P.objects o) (λ object. IsTrue (test object.kind))
 
--- the object of a create, a delete or an object call, where there is one, is of a kind that the call is for
+-- whether the call is for objects of this kind; also if it is for none
+abbrev pub is_for : Call → Kind → Bool
+is_for (Create created o e) kind = makes_kind created kind
+is_for (Delete deleted o) kind = drops_kind deleted kind
+is_for (On call) kind = acts_on call.act kind
+is_for call kind = true
+
+-- the object that a call names, where there is one, is of a kind that the call is for
 abbrev pub SuitsKind : Program → Instr → Type 0
-SuitsKind P (Calls (Create created o e)) = HasKind P o.0 (makes_kind created)
-SuitsKind P (Calls (Delete deleted o)) = HasKind P o.0 (drops_kind deleted)
-SuitsKind P (Calls (On o action)) = HasKind P o.0 (acts_on action)
+SuitsKind P (Calls call) = IfSome (object_of_call call) (λ o. HasKind P o.0 (is_for call))
 SuitsKind P i = Unit {0}
 
 -- a task makes no call that is for interrupts
@@ -99,16 +105,14 @@ CoversQueue P x (Queue size lo hi) = Covers P x lo hi
 CoversQueue P x kind = Unit {0}
 
 -- a receiving variable has the range of the queue, where there is one; a result variable has 0 to the call's length
-abbrev pub TakesIn : Program → ObjId → Action → Type 0
-TakesIn P o (QueueReceive into timing e) = IfSome (slice_get P.objects o.0) (λ object. CoversQueue P into object.kind)
-TakesIn P o (Send buffer n timing result) = IfSome result (λ x. Covers P x (pos 0) (pos n))
-TakesIn P o (Receive buffer n timing result) = IfSome result (λ x. Covers P x (pos 0) (pos n))
-TakesIn P o action = Unit {0}
+abbrev pub TakesIn : Program → ObjId → Act → Type 0
+TakesIn P o (Try attempt e) = IfSome (received_by attempt) (λ into. IfSome (slice_get P.objects o.0) (λ object. CoversQueue P into object.kind))
+TakesIn P o (Move end buffer n result) = IfSome result (λ x. Covers P x (pos 0) (pos n))
 
 -- both bounds of a `pick` are in the range of its variable, and that of an object call's has all that the call can give
 abbrev pub ResultsFit : Program → Instr → Type 0
 ResultsFit P (Pick x lo hi) = Covers P x lo lo × Covers P x hi hi
-ResultsFit P (Calls (On o action)) = TakesIn P o action
+ResultsFit P (Calls (On call)) = TakesIn P call.object call.act
 ResultsFit P i = Unit {0}
 
 -- the operand is a number
@@ -130,7 +134,7 @@ OperandsFit i = Unit {0}
 
 -- each number in the instruction names a variable or an object
 abbrev pub NamesThings : Program → Instr → Type 0
-NamesThings P i = All (λ x. x.0 < length P.variables) (variables_of i) × IfSome (object_named i) (λ o. o < length P.objects)
+NamesThings P i = All (λ x. x.0 < length P.variables) (variables_of i) × IfSome (object_named i) (λ o. o.0 < length P.objects)
 
 -- names are names, each is given once, and each number names something
 pub record HasNames (P : Program) : Type 0 where

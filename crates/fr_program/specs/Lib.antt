@@ -4,6 +4,7 @@ pub mod Lookup
 pub mod Points
 pub mod FaultText
 pub mod Limits
+pub mod Timings
 pub mod Uses
 pub mod Fault
 pub mod InstrFault

@@ -9,13 +9,14 @@
 -- | most_ticks                                    | a block time or a delay is 0 to 2147483647 ticks                |
 -- | VariableInLimits, KindInLimits, InstrInLimits | the numbers of a variable, an object, an instruction are within |
 -- | IsName, names_of                              | what a name may be, and all names of an application             |
-use Rattle.std.specs.Prelude.{◌≡◌, ◌≤◌, ◌≤ℤ◌, ℕ, ℤ, pos, List, [], ◌∷◌, ◌++◌, Bool, true, false, length, All, FitsSigned, slice_index, nat_le, nat_eq, ◌&&◌, ◌||◌, codes, Contains, map}
+use Rattle.std.specs.Prelude.{◌≡◌, ◌≤◌, ◌≤ℤ◌, ℕ, ℤ, pos, List, [], ◌∷◌, ◌++◌, Bool, true, false, length, All, IsTrue, FitsSigned, slice_index, nat_le, nat_eq, ◌&&◌, ◌||◌, codes, Contains, map}
 use Rattle.std.specs.Int.{w64}
 use Rattle.fr_program.specs.declared.instr.Instr.{Instr}
 use Rattle.fr_program.specs.declared.instr.Instr.TheVariants.{Set, If, Pick, Call as Calls}
 use Rattle.fr_program.specs.declared.instr.Call.TheVariants.{Delay, On}
-use Rattle.fr_program.specs.declared.instr.Action.{Action}
-use Rattle.fr_program.specs.declared.instr.Action.TheVariants.{QueueSend, QueueReceive, Take, Give, Send, Receive, Reset}
+use Rattle.fr_program.specs.declared.instr.Act.{Act}
+use Rattle.fr_program.specs.declared.instr.Act.TheVariants.{Try, Move}
+use Rattle.fr_program.specs.declared.instr.Attempt.TheVariants.{QueueSend}
 use Rattle.fr_program.specs.declared.instr.Operand.{Operand}
 use Rattle.fr_program.specs.declared.instr.Operand.TheVariants.{Number, Variable}
 use Rattle.fr_program.specs.declared.parts.Kind.{Kind}
@@ -23,9 +24,9 @@ use Rattle.fr_program.specs.declared.parts.Kind.TheVariants.{Queue, Counting, St
 use Rattle.fr_program.specs.declared.instr.BlockTime.{BlockTime}
 use Rattle.fr_program.specs.declared.instr.BlockTime.TheVariants.{Ticks, MaxDelay}
 use Rattle.fr_program.specs.declared.instr.Timing.{Timing}
-use Rattle.fr_program.specs.declared.instr.Timing.TheVariants.{Waits, FromIsr}
-use Rattle.fr_program.specs.declared.instr.TakeForm.TheVariants.{Plain as PlainTake, Recursive as RecursiveTake, FromIsr as TakeFromIsr}
+use Rattle.fr_program.specs.declared.instr.Timing.TheVariants.{Waits}
 use Rattle.fr_program.specs.Program.{Program, VariableOf}
+use Rattle.fr_program.specs.Timings.{suits_timing}
 
 -- a constant, a bound of a range, or a variable's value
 abbrev pub IsNumber : ℤ → Type 0
@@ -84,26 +85,16 @@ abbrev pub BlockTimeInLimits : BlockTime → Type 0
 BlockTimeInLimits (Ticks n) = n ≤ most_ticks
 BlockTimeInLimits MaxDelay = Unit {0}
 
--- the same of the block time of a queue or buffer call, if it has one
+-- the same of the block time of an object call, if it has one
 abbrev pub TimingInLimits : Timing → Type 0
 TimingInLimits (Waits time) = BlockTimeInLimits time
-TimingInLimits FromIsr = Unit {0}
+TimingInLimits timing = Unit {0}
 
--- a buffer call's length is a size
-abbrev pub LengthInLimits : ℕ → Type 0
-LengthInLimits n = (1 ≤ n) × (n ≤ most_size)
-
--- the operand, the length and the block time of an object call, where it has them, are within their limits
-abbrev pub ActionInLimits : Action → Type 0
-ActionInLimits (QueueSend value timing e) = OperandInLimits value × TimingInLimits timing
-ActionInLimits (QueueReceive into timing e) = TimingInLimits timing
-ActionInLimits (Take (PlainTake time) e) = BlockTimeInLimits time
-ActionInLimits (Take (RecursiveTake time) e) = BlockTimeInLimits time
-ActionInLimits (Take TakeFromIsr e) = Unit {0}
-ActionInLimits (Give form e) = Unit {0}
-ActionInLimits (Send kind n timing result) = LengthInLimits n × TimingInLimits timing
-ActionInLimits (Receive kind n timing result) = LengthInLimits n × TimingInLimits timing
-ActionInLimits (Reset kind e) = Unit {0}
+-- the length of a buffer call is a size, and the number that is sent to a queue is one
+abbrev pub ActInLimits : Act → Type 0
+ActInLimits (Try (QueueSend value) e) = OperandInLimits value
+ActInLimits (Try attempt e) = Unit {0}
+ActInLimits (Move end buffer n result) = (1 ≤ n) × (n ≤ most_size)
 
 -- the numbers of an instruction, but for targets, are within their limits, and a `pick` has its lower bound first
 abbrev pub InstrInLimits : Instr → Type 0
@@ -111,7 +102,7 @@ InstrInLimits (Set x l op r) = OperandInLimits l × OperandInLimits r
 InstrInLimits (If l comparison r target) = OperandInLimits l × OperandInLimits r
 InstrInLimits (Pick x lo hi) = IsNumber lo × IsNumber hi × (lo ≤ℤ hi)
 InstrInLimits (Calls (Delay n)) = n ≤ most_ticks
-InstrInLimits (Calls (On o action)) = ActionInLimits action
+InstrInLimits (Calls (On call)) = IsTrue (suits_timing call.timing call.act) × TimingInLimits call.timing × ActInLimits call.act
 InstrInLimits i = Unit {0}
 
 -- an ASCII letter or an underscore

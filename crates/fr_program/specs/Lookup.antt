@@ -55,7 +55,7 @@ instr_at P a pc = slice_get (actor_at P a).code pc
 -- an actor can stand before each instruction, and inside an object call
 abbrev pub HasSide : Instr → Side → Type 0
 HasSide i Before = Unit {0}
-HasSide (Calls (On o action)) Inside = Unit {0}
+HasSide (Calls (On call)) Inside = Unit {0}
 HasSide i Inside = ⊥
 
 -- the application has this place: an instruction of the actor, at a side at which an actor can stand

@@ -20,7 +20,7 @@ use Rattle.fr_program.specs.Lookup.{actor_at}
 
 -- an actor can stand before each instruction, and inside an object call
 abbrev pub sides_of : Instr → List Side
-sides_of (Calls (On o action)) = Before ∷ Inside ∷ []
+sides_of (Calls (On call)) = Before ∷ Inside ∷ []
 sides_of i = Before ∷ []
 
 -- the points of one instruction, of this actor and at this place of its code

@@ -8,7 +8,8 @@
 use Rattle.std.specs.Prelude.{◌≡◌, pos, [], ◌∷◌, None, Some, true, length, slice_get}
 use Rattle.fr_program.specs.declared.instr.Instr.TheVariants.{Goto, Call as Calls}
 use Rattle.fr_program.specs.declared.instr.Call.TheVariants.{On}
-use Rattle.fr_program.specs.declared.instr.Action.TheVariants.{Send}
+use Rattle.fr_program.specs.declared.instr.Act.TheVariants.{Move}
+use Rattle.fr_program.specs.declared.instr.End.TheVariants.{Writer}
 use Rattle.fr_program.specs.declared.instr.BufferKind.TheVariants.{Stream as OfStream}
 use Rattle.fr_program.specs.declared.instr.Timing.TheVariants.{Waits}
 use Rattle.fr_program.specs.declared.instr.BlockTime.TheVariants.{MaxDelay}
@@ -24,7 +25,7 @@ abbrev pub sender : ActorOf
 sender = record {
   name = [];
   kind = Task;
-  code = Calls (On (record { 0 = 0 }) (Send OfStream 8 (Waits MaxDelay) None)) ∷ Goto 0 ∷ [];
+  code = Calls (On (record { object = record { 0 = 0 }; timing = Waits MaxDelay; act = Move Writer OfStream 8 None })) ∷ Goto 0 ∷ [];
 }
 
 -- two senders and their stream buffer

@@ -2,13 +2,13 @@
 ghost use Rattle.std.specs.Prelude.{◌≡◌, ◌++◌, OnOk, IfOk, IfErr, length, map};
 ghost use Rattle.std.specs.Option.{option_copied};
 ghost use Rattle.std.specs.List.{range_with_len};
-ghost use Rattle.fr_program.specs.Changers.{result_of_end, written, made, is_variable, is_object, changes, is_changer, if_wanted, changers_from, number_at, life_at};
+ghost use Rattle.fr_program.specs.Changers.{written, made, is_variable, is_object, changes, is_changer, if_wanted, changers_from, number_at, life_at};
 ghost use Rattle.fr_program.specs.Lookup.{instr_of};
 ghost use Rattle.fr_program.specs.View.{program_of};
 
 use crate::fault::BuildFault;
 use crate::ids::{ObjId, Point, Side, VarId};
-use crate::instr::{Action, Call, Instr};
+use crate::instr::{Call, Instr};
 use crate::parts::Parts;
 use std::alloc::Global;
 
@@ -32,18 +32,6 @@ pub struct Changers {
     pub lives: Vec<Vec<usize>>,
 }
 
-/// The variable to which the end of an object call gives a value.
-fn result_of_end(action: &Action) -> Option<VarId>
-    ensures { result ≡ result_of_end action.now }
-{
-    match action {
-        Action::QueueReceive { into, .. } => Some(*into),
-        Action::Send { result, .. } => *result,
-        Action::Receive { result, .. } => *result,
-        _ => None,
-    }
-}
-
 /// The variable that the steps from this side of the instruction write.
 fn written(side: Side, instr: &Instr) -> Option<VarId>
     ensures { result ≡ written side instr.now }
@@ -51,7 +39,7 @@ fn written(side: Side, instr: &Instr) -> Option<VarId>
     match (side, instr) {
         (Side::Before, Instr::Set { target, .. }) => Some(*target),
         (Side::Before, Instr::Pick { target, .. }) => Some(*target),
-        (Side::Inside, Instr::Call(Call::On { action, .. })) => result_of_end(action),
+        (Side::Inside, Instr::Call(Call::On(call))) => call.act.written(),
         _ => None,
     }
 }

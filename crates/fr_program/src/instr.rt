@@ -37,18 +37,19 @@ pub enum BlockTime {
 }
 
 /// The form of a call that has no block time: the one for tasks, or the one for interrupts.
-#[derive(Clone, Copy)]
+#[derive(Clone, Copy, PartialEq, Eq)]
 pub enum Form {
     Task,
     FromIsr,
 }
 
-/// The form of a call on a queue or a buffer: a task's, with its block time, or the one for
-/// interrupts, which answers at once.
+/// When an object call answers: at once, since it has no block time; at once, in the form for
+/// interrupts; or within its block time.
 #[derive(Clone, Copy)]
 pub enum Timing {
-    Waits(BlockTime),
+    Now,
     FromIsr,
+    Waits(BlockTime),
 }
 
 impl Timing {
@@ -62,31 +63,22 @@ impl Timing {
     }
 }
 
-/// `xSemaphoreTake`, `xSemaphoreTakeRecursive` or `xSemaphoreTakeFromISR`.
-#[derive(Clone, Copy)]
-pub enum TakeForm {
-    Plain(BlockTime),
-    Recursive(BlockTime),
-    FromIsr,
-}
-
-/// `xSemaphoreGive`, `xSemaphoreGiveRecursive` or `xSemaphoreGiveFromISR`.
-#[derive(Clone, Copy)]
-pub enum GiveForm {
+/// The form of a take or a give: the plain one, or the one for recursive mutexes.
+#[derive(Clone, Copy, PartialEq, Eq)]
+pub enum SemaphoreForm {
     Plain,
     Recursive,
-    FromIsr,
 }
 
 /// Whether a buffer call is one for stream buffers or one for message buffers.
-#[derive(Clone, Copy)]
+#[derive(Clone, Copy, PartialEq, Eq)]
 pub enum BufferKind {
     Stream,
     Message,
 }
 
 /// What a create call makes.
-#[derive(Clone, Copy)]
+#[derive(Clone, Copy, PartialEq, Eq)]
 pub enum CreatedKind {
     Queue,
     Binary,
@@ -98,7 +90,7 @@ pub enum CreatedKind {
 }
 
 /// What a delete call takes: `vSemaphoreDelete` is for semaphores and mutexes of every kind.
-#[derive(Clone, Copy)]
+#[derive(Clone, Copy, PartialEq, Eq)]
 pub enum DeletedKind {
     Queue,
     Semaphore,
@@ -106,79 +98,103 @@ pub enum DeletedKind {
     Message,
 }
 
-/// What an object call does. Such a call has a begin and an end, and between them its actor is
-/// inside it. `or_else` is the instruction that follows a failure, where the line names one.
+/// An end of a stream or message buffer: sends are at the writer's, receives at the reader's.
+#[derive(Clone, Copy, PartialEq, Eq)]
+pub enum End {
+    Writer,
+    Reader,
+}
+
+impl End {
+    ghost use Rattle.fr_program.specs.Uses.{end_text};
+
+    /// The end's name, as certificates and reports have it.
+    pub fn text(self) -> &'static str
+        ensures { result.now ≡ end_text self }
+    {
+        match self {
+            End::Writer => "writer",
+            End::Reader => "reader",
+        }
+    }
+}
+
+/// What an object call tries to do, which can fail.
 #[derive(Clone, Copy)]
-pub enum Action {
-    QueueSend {
-        value: Operand,
-        timing: Timing,
+pub enum Attempt {
+    QueueSend(Operand),
+    QueueReceive(VarId),
+    Take(SemaphoreForm),
+    Give(SemaphoreForm),
+    Reset(BufferKind),
+}
+
+/// What an object call does. Such a call has a begin and an end, and between them its actor is
+/// inside it.
+#[derive(Clone, Copy)]
+pub enum Act {
+    /// It works or fails; `or_else` is the instruction that follows a failure, where the line names
+    /// one.
+    Try {
+        attempt: Attempt,
         or_else: Option<usize>,
     },
-    QueueReceive {
-        into: VarId,
-        timing: Timing,
-        or_else: Option<usize>,
-    },
-    Take {
-        form: TakeForm,
-        or_else: Option<usize>,
-    },
-    Give {
-        form: GiveForm,
-        or_else: Option<usize>,
-    },
-    /// A send of up to `length` bytes; `result` takes the number of bytes that were moved.
-    Send {
+    /// It moves up to `length` bytes at an end of a buffer; `result` takes the number of bytes that
+    /// were moved.
+    Move {
+        end: End,
         kind: BufferKind,
         length: u32,
-        timing: Timing,
         result: Option<VarId>,
-    },
-    /// A receive of up to `length` bytes; `result` takes the number of bytes that were moved.
-    Receive {
-        kind: BufferKind,
-        length: u32,
-        timing: Timing,
-        result: Option<VarId>,
-    },
-    Reset {
-        kind: BufferKind,
-        or_else: Option<usize>,
     },
 }
 
-impl Action {
-    ghost use Rattle.fr_program.specs.Uses.{else_of, is_action_from_isr};
+impl Attempt {
+    ghost use Rattle.fr_program.specs.Uses.{received_by};
+
+    /// The variable to which a call that works gives a value, if there is one.
+    pub fn received(self) -> Option<VarId>
+        ensures { result ≡ received_by self }
+    {
+        match self {
+            Attempt::QueueReceive(into) => Some(into),
+            _ => None,
+        }
+    }
+}
+
+impl Act {
+    ghost use Rattle.fr_program.specs.Uses.{else_of, written_by};
 
     /// The instruction that follows a failure, where the line names one.
     pub fn else_target(self) -> Option<usize>
         ensures { result ≡ else_of self }
     {
         match self {
-            Action::QueueSend { or_else, .. }
-            | Action::QueueReceive { or_else, .. }
-            | Action::Take { or_else, .. }
-            | Action::Give { or_else, .. }
-            | Action::Reset { or_else, .. } => or_else,
-            Action::Send { .. } | Action::Receive { .. } => None,
+            Act::Try { or_else, .. } => or_else,
+            Act::Move { .. } => None,
         }
     }
 
-    /// Whether this is a form for interrupts.
-    pub fn is_from_isr(self) -> bool
-        ensures { result ≡ is_action_from_isr self }
+    /// The variable to which the end of the call gives a value, if there is one.
+    pub fn written(self) -> Option<VarId>
+        ensures { result ≡ written_by self }
     {
         match self {
-            Action::QueueSend { timing, .. }
-            | Action::QueueReceive { timing, .. }
-            | Action::Send { timing, .. }
-            | Action::Receive { timing, .. } => timing.is_from_isr(),
-            Action::Take { form, .. } => matches!(form, TakeForm::FromIsr),
-            Action::Give { form, .. } => matches!(form, GiveForm::FromIsr),
-            Action::Reset { .. } => false,
+            Act::Try { attempt, .. } => attempt.received(),
+            Act::Move { result, .. } => result,
         }
     }
+}
+
+/// A call on an object. Which act goes with which timing is a limit of applications: gives and resets
+/// have no block time and all other acts have one; resets and the forms for recursive mutexes aren't
+/// for interrupts.
+#[derive(Clone, Copy)]
+pub struct ObjectCall {
+    pub object: ObjId,
+    pub timing: Timing,
+    pub act: Act,
 }
 
 /// A kernel call.
@@ -202,14 +218,11 @@ pub enum Call {
         object: ObjId,
     },
     /// An object call: the one kind of call that has two steps.
-    On {
-        object: ObjId,
-        action: Action,
-    },
+    On(ObjectCall),
 }
 
 impl Call {
-    ghost use Rattle.fr_program.specs.Uses.{is_from_isr};
+    ghost use Rattle.fr_program.specs.Uses.{is_from_isr, object_of_call};
 
     /// Whether the call's name ends in FromISR or _FROM_ISR.
     pub fn is_from_isr(self) -> bool
@@ -217,8 +230,19 @@ impl Call {
     {
         match self {
             Call::EnterCritical(form) | Call::ExitCritical(form) => matches!(form, Form::FromIsr),
-            Call::On { action, .. } => action.is_from_isr(),
+            Call::On(call) => call.timing.is_from_isr(),
             _ => false,
+        }
+    }
+
+    /// The object that the call names, if it names one.
+    pub fn object(self) -> Option<ObjId>
+        ensures { result ≡ object_of_call self }
+    {
+        match self {
+            Call::Create { object, .. } | Call::Delete { object, .. } => Some(object),
+            Call::On(call) => Some(call.object),
+            _ => None,
         }
     }
 }

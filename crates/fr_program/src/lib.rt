@@ -20,8 +20,8 @@ pub use check::{MOST_SIZE, MOST_TICKS, is_name};
 pub use fault::{BuildFault, CodeLine};
 pub use ids::{ActorId, ObjId, Point, Side, VarId};
 pub use instr::{
-    Action, BlockTime, BufferKind, Call, Comparison, CreatedKind, DeletedKind, Form, GiveForm,
-    Instr, Operand, Operator, TakeForm, Timing,
+    Act, Attempt, BlockTime, BufferKind, Call, Comparison, CreatedKind, DeletedKind, End, Form,
+    Instr, ObjectCall, Operand, Operator, SemaphoreForm, Timing,
 };
 pub use parts::{Actor, ActorKind, Kind, Object, Parts, Variable};
 pub use range::Range;

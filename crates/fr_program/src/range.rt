@@ -24,6 +24,33 @@ impl Range {
         }
     }
 
+    /// This number alone.
+    pub fn only(number: i64) -> Range
+        ensures lo { result.lo ≡ number }
+        ensures hi { result.hi ≡ number }
+    {
+        let number = i128::from(number);
+        Range {
+            lo: number,
+            hi: number,
+        }
+    }
+
+    /// Whether the number is in the range.
+    pub fn has(self, number: i64) -> bool
+        ensures { IsTrue result ↔ IsIn self number }
+    {
+        let number = i128::from(number);
+        self.lo <= number && number <= self.hi
+    }
+
+    /// Whether some number is in both ranges.
+    pub fn meets(self, other: Range) -> bool
+        ensures { IsTrue result ↔ (z : ℤ) × IsIn self z × IsIn other z }
+    {
+        self.meet(other).is_some()
+    }
+
     /// The numbers that are in both ranges, or None where there is none.
     pub fn meet(self, other: Range) -> Option<Range>
         ensures some { IfSome result (λ both. (z : ℤ) → (IsIn both z ↔ (IsIn self z × IsIn other z))) }

@@ -23,6 +23,7 @@ pub(crate) struct ActorText<'a> {
     pub lines: Vec<&'a str>,
 }
 
+/// The kind of actor that the word means.
 fn kind_of_word(word: &str) -> Option<ActorKind>
     ensures some { IfSome result (λ kind. word.now ≡ actor_word kind) }
     ensures none { IfNone result ((kind : ActorKind) → word.now ≡ actor_word kind → ⊥) }
@@ -34,6 +35,7 @@ fn kind_of_word(word: &str) -> Option<ActorKind>
     }
 }
 
+/// The kind of actor that the table gives.
 fn kind_at(table: &Table, name: TableName) -> Result<ActorKind, ReadFault>
     ensures ok { IfOk result (λ kind. field Key.Kind (table_view table.now) ≡ Some (string (actor_word kind))) }
     ensures err { IfErr result (Standing (InKind actor_word name (table_view table.now))) }
@@ -50,6 +52,7 @@ fn kind_at(table: &Table, name: TableName) -> Result<ActorKind, ReadFault>
     }
 }
 
+/// The array of lines that the table gives.
 fn code_at(table: &Table, name: TableName) -> Result<&Array, ReadFault>
     ensures ok { IfOk result (λ a. field Key.Code (table_view table.now) ≡ Some (array (array_view a.now))) }
     ensures err { IfErr result (Standing (InTable TableKind.Actor name (table_view table.now))) }
@@ -63,6 +66,7 @@ fn code_at(table: &Table, name: TableName) -> Result<&Array, ReadFault>
     }
 }
 
+/// The text of a line.
 fn line_of(value: &Value, name: TableName) -> Result<&str, ReadFault>
     ensures ok { IfOk result (λ line. IsText (view value.now) (line_text line)) }
     ensures err { IfErr result (Standing (InLine name (view value.now))) }
@@ -98,6 +102,7 @@ fn actor_of(alloc: Global, table: &Table, name: TableName) -> Result<ActorText<'
     })
 }
 
+/// The actor in an entry of the array of actors.
 fn entry_of(alloc: Global, value: &Value, name: TableName) -> Result<ActorText<'_>, ReadFault>
     ensures ok { IfOk result (λ a. IsTableOf IsActor (view value.now) (actor_text a)) }
     ensures err { IfErr result (Standing (InEntry Key.Actor name (InActor name) (view value.now))) }

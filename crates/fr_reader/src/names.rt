@@ -22,18 +22,21 @@ pub(crate) struct NameLists<'a> {
     pub actors: Vec<&'a str>,
 }
 
+/// The names of the variables, in order.
 fn variable_names<'a>(alloc: Global, texts: &[VariableText<'a>]) -> Result<Vec<&'a str>, AllocError>
     ensures { IfOk result (λ names. names.items ≡ map (λ v. v.name) texts.now) }
 {
     texts.iter().map(|v| v.name).collect(alloc)
 }
 
+/// The names of the objects, in order.
 fn object_names<'a>(alloc: Global, texts: &[ObjectText<'a>]) -> Result<Vec<&'a str>, AllocError>
     ensures { IfOk result (λ names. names.items ≡ map (λ o. o.name) texts.now) }
 {
     texts.iter().map(|o| o.name).collect(alloc)
 }
 
+/// The names of the actors, in order.
 fn actor_names<'a>(alloc: Global, texts: &[ActorText<'a>]) -> Result<Vec<&'a str>, AllocError>
     ensures { IfOk result (λ names. names.items ≡ map (λ a. a.name) texts.now) }
 {

@@ -23,6 +23,7 @@ pub(crate) struct ObjectText<'a> {
     pub live: bool,
 }
 
+/// The kind of object that the word means.
 fn kind_of_word(word: &str) -> Option<ObjectKind>
     ensures some { IfSome result (λ kind. word.now ≡ kind_word kind) }
     ensures none { IfNone result ((kind : ObjectKind) → word.now ≡ kind_word kind → ⊥) }
@@ -39,6 +40,7 @@ fn kind_of_word(word: &str) -> Option<ObjectKind>
     }
 }
 
+/// The kind of object that the table gives.
 fn kind_at(table: &Table, name: TableName) -> Result<ObjectKind, ReadFault>
     ensures ok { IfOk result (λ kind. field Key.Kind (table_view table.now) ≡ Some (string (kind_word kind))) }
     ensures err { IfErr result (Standing (InKind kind_word name (table_view table.now))) }
@@ -104,6 +106,7 @@ fn object_of(
     })
 }
 
+/// The object in an entry of the array of objects.
 fn entry_of(alloc: Global, value: &Value, name: TableName) -> Result<ObjectText<'_>, ReadFault>
     ensures ok { IfOk result (λ o. IsTableOf IsObject (view value.now) (object_text o)) }
     ensures err { IfErr result (Standing (InEntry Key.Object name (InObject name) (view value.now))) }

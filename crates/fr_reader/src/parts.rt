@@ -19,6 +19,7 @@ use fr_instr::Names;
 use fr_program::{Actor, ActorId, Instr, Object, Parts, Variable};
 use std::alloc::Global;
 
+/// The actor that a variable's owner names, where it has one.
 fn owner_of(
     names: &Names,
     table: TableName,
@@ -36,6 +37,7 @@ fn owner_of(
     }
 }
 
+/// A variable as an application has it.
 fn variable_of(
     alloc: Global,
     names: &Names,
@@ -54,6 +56,7 @@ fn variable_of(
     })
 }
 
+/// The variables as an application has them.
 fn variables_of(
     alloc: Global,
     names: &Names,
@@ -69,6 +72,7 @@ fn variables_of(
     Ok(variables)
 }
 
+/// An object as an application has it.
 fn object_of(alloc: Global, text: &ObjectText) -> Result<Object, ReadFault>
     ensures ok { IfOk result (λ o. program.object_of o ≡ object_text text.now) }
     ensures err { IfErr result (λ f. is_memory f ≡ true) }
@@ -80,6 +84,7 @@ fn object_of(alloc: Global, text: &ObjectText) -> Result<Object, ReadFault>
     })
 }
 
+/// The objects as an application has them.
 fn objects_of(alloc: Global, texts: &[ObjectText]) -> Result<Vec<Object>, ReadFault>
     ensures ok { IfOk result (λ os. AllZip (λ text o. o ≡ text) (map object_text texts.now) (map program.object_of os.items)) }
     ensures err { IfErr result (λ f. is_memory f ≡ true) }
@@ -112,6 +117,7 @@ fn instr_of(
     }
 }
 
+/// The instructions that the lines of this actor mean.
 fn code_of(
     alloc: Global,
     names: &Names,
@@ -128,6 +134,7 @@ fn code_of(
     Ok(code)
 }
 
+/// An actor as an application has it.
 fn actor_of(alloc: Global, names: &Names, text: &ActorText) -> Result<Actor, ReadFault>
     ensures ok { IfOk result (λ a. IsCoded names.now (actor_text text.now) (program.actor_of a)) }
     ensures err { IfErr result (Standing (InLines names.now text.now.name.now (map line_text text.now.lines.items))) }
@@ -139,6 +146,7 @@ fn actor_of(alloc: Global, names: &Names, text: &ActorText) -> Result<Actor, Rea
     })
 }
 
+/// The actors as an application has them.
 fn actors_of(alloc: Global, names: &Names, texts: &[ActorText]) -> Result<Vec<Actor>, ReadFault>
     ensures ok { IfOk result (λ xs. AllZip (IsCoded names.now) (map actor_text texts.now) (map program.actor_of xs.items)) }
     ensures err { IfErr result (Standing (InCode names.now (map actor_text texts.now))) }

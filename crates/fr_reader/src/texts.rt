@@ -41,6 +41,7 @@ fn array_at(table: &Table, key: Key) -> Result<Option<&Array>, ReadFault>
     }
 }
 
+/// The variables that the table gives; none where it has no such key.
 fn variables_at(alloc: Global, table: &Table) -> Result<Vec<VariableText<'_>>, ReadFault>
     ensures ok { IfOk result (λ vs. EachAt (IsTableOf IsVariable) (field Key.Variable (table_view table.now)) (map variable_text vs.items)) }
     ensures err { IfErr result (Standing (InApplication (table_view table.now))) }
@@ -51,6 +52,7 @@ fn variables_at(alloc: Global, table: &Table) -> Result<Vec<VariableText<'_>>, R
     }
 }
 
+/// The objects that the table gives; none where it has no such key.
 fn objects_at(alloc: Global, table: &Table) -> Result<Vec<ObjectText<'_>>, ReadFault>
     ensures ok { IfOk result (λ os. EachAt (IsTableOf IsObject) (field Key.Object (table_view table.now)) (map object_text os.items)) }
     ensures err { IfErr result (Standing (InApplication (table_view table.now))) }
@@ -61,6 +63,7 @@ fn objects_at(alloc: Global, table: &Table) -> Result<Vec<ObjectText<'_>>, ReadF
     }
 }
 
+/// The actors that the table gives; none where it has no such key.
 fn actors_at(alloc: Global, table: &Table) -> Result<Vec<ActorText<'_>>, ReadFault>
     ensures ok { IfOk result (λ xs. EachAt (IsTableOf IsActor) (field Key.Actor (table_view table.now)) (map actor_text xs.items)) }
     ensures err { IfErr result (Standing (InApplication (table_view table.now))) }

@@ -24,6 +24,7 @@ pub(crate) struct VariableText<'a> {
     pub owner: Option<&'a str>,
 }
 
+/// The owner that the table gives, if it has one.
 fn owner_at(table: &Table, name: TableName) -> Result<Option<&str>, ReadFault>
     ensures ok { IfOk result (λ o. field Key.Owner (table_view table.now) ≡ option_map string (option_copied o)) }
     ensures err { IfErr result (Standing (InTable TableKind.Variable name (table_view table.now))) }
@@ -52,6 +53,7 @@ fn variable_of(alloc: Global, table: &Table, name: TableName) -> Result<Variable
     })
 }
 
+/// The variable in an entry of the array of variables.
 fn entry_of(alloc: Global, value: &Value, name: TableName) -> Result<VariableText<'_>, ReadFault>
     ensures ok { IfOk result (λ v. IsTableOf IsVariable (view value.now) (variable_text v)) }
     ensures err { IfErr result (Standing (InEntry Key.Variable name (InVariable name) (view value.now))) }

@@ -17,7 +17,7 @@ use Rattle.fr_program.specs.Points.{point_number}
 use Rattle.fr_calls.specs.declared.rules.Rule.{Rule as RuleOf}
 use Rattle.fr_calls.specs.declared.rules.Rule.TheVariants.{OneWriter, OneReader, GivenByHolder, AllowedInCritical, AllowedSuspended, AllowedInInterrupt, IsLive, LifeInOrder, SuitsSemaphore, DepthAboveZero, EndsInOrder, InRange}
 use Rattle.fr_calls.specs.Rule.{number_of}
-use Rattle.fr_calls.specs.BufferEnd.{end_text}
+use Rattle.fr_program.specs.Uses.{end_text}
 use Rattle.fr_judge.specs.declared.part.Part.{Part}
 use Rattle.fr_judge.specs.declared.part.Part.TheVariants.{Entry, Rule, Goes, Guard, Near, Spoiled}
 use Rattle.fr_judge.specs.declared.part.Verdict.{Verdict}

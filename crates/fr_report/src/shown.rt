@@ -61,6 +61,7 @@ pub fn object_name(app: &App, object: ObjId) -> &str
     }
 }
 
+/// The side's name, as a report has it.
 pub(crate) fn side_name(side: Side) -> &'static str
     ensures { result.now ≡ side_text side }
 {

@@ -23,6 +23,7 @@ pub fn report(alloc: Global, app: &App, verdict: &Verdict) -> Result<String, All
     }
 }
 
+/// The line of a No at this point, by this part.
 fn refusal(alloc: Global, app: &App, point: Point, part: Part) -> Result<String, AllocError>
     requires point { IsPoint app.now point }
     requires part { IsPartOf app.now part }
@@ -33,6 +34,7 @@ fn refusal(alloc: Global, app: &App, point: Point, part: Part) -> Result<String,
     format!(in alloc; "no: {at}: {why}\n")
 }
 
+/// The text of a part that fails.
 fn part_text(alloc: Global, app: &App, part: Part) -> Result<String, AllocError>
     requires { IsPartOf app.now part }
     ensures { IfOk result (λ text. string_bytes text ≡ part_text app.now part) }
@@ -59,6 +61,7 @@ fn part_text(alloc: Global, app: &App, part: Part) -> Result<String, AllocError>
     }
 }
 
+/// The text of a guard that fails.
 fn guard_text(alloc: Global, app: &App, end: EndName) -> Result<String, AllocError>
     ensures { IfOk result (λ text. string_bytes text ≡ part_text app.now (Part.Guard end)) }
 {

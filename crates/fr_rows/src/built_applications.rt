@@ -1,7 +1,7 @@
 // What no clause says: that builds succeed, the sizes that are taken, and examples of refusals.
 use fr_program::{
-    Action, Actor, ActorId, ActorKind, App, BlockTime, BufferKind, BuildFault, Call, CodeLine,
-    Instr, Kind, ObjId, Object, Parts, Point, Side, Timing, VarId, Variable,
+    Act, Actor, ActorId, ActorKind, App, BlockTime, BufferKind, BuildFault, Call, CodeLine, End,
+    Instr, Kind, ObjId, Object, ObjectCall, Parts, Point, Side, Timing, VarId, Variable,
 };
 use std::alloc::{AllocError, Global};
 use std::process::Abort;
@@ -67,15 +67,16 @@ fn parts(
 }
 
 fn send(length: u32) -> Instr {
-    Instr::Call(Call::On {
+    Instr::Call(Call::On(ObjectCall {
         object: ObjId(0),
-        action: Action::Send {
+        timing: Timing::Waits(BlockTime::Ticks(10)),
+        act: Act::Move {
+            end: End::Writer,
             kind: BufferKind::Stream,
             length,
-            timing: Timing::Waits(BlockTime::Ticks(10)),
             result: None,
         },
-    })
+    }))
 }
 
 fn pick(x: usize) -> Instr {

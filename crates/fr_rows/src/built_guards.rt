@@ -1,7 +1,6 @@
 // Guards that are built from their parts, and those that are refused, which come back.
-use fr_calls::End;
 use fr_ends::{EndGuard, EndName, Ends, EndsFault, Guard};
-use fr_program::{ActorId, App, ObjId, VarId};
+use fr_program::{ActorId, App, End, ObjId, VarId};
 use fr_reader::read_app;
 use std::alloc::{AllocError, Global};
 use std::collections::BTreeMap;

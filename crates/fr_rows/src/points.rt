@@ -3,7 +3,7 @@ ghost use Rattle.std.specs.Prelude.{◌<◌, IsTrue, length};
 ghost use Rattle.fr_program.specs.Lookup.{IsPoint};
 ghost use Rattle.fr_program.specs.Points.{points_of};
 ghost use Rattle.fr_notes.specs.Fits.{NotesFit};
-ghost use Rattle.fr_judge.specs.Told.{IsOf};
+ghost use Rattle.fr_judge.specs.Told.{IsPartOf};
 
 use crate::files::wrong;
 use crate::judged_files::Files;
@@ -62,7 +62,7 @@ fn is_point(app: &App, point: Point) -> bool
 
 /// Whether the part names only what the application has, so that a report can tell it.
 fn is_of(app: &App, part: Part) -> bool
-    ensures { IsTrue result → IsOf app.now part }
+    ensures { IsTrue result → IsPartOf app.now part }
 {
     match part {
         Part::Entry => true,

@@ -55,6 +55,7 @@ fn run_threads<'a, K: Course + Send, R: Threads + Wait + Sync, G: Gate>(
     });
 }
 
+/// A run of the machine under a lock, with a thread for each actor.
 fn run_locked<'a, K: Course + Send, R: Threads + Wait + Sync, G: Gate>(
     rt: &R,
     machine: Machine<'a>,

@@ -1,29 +1,36 @@
 // Calls on objects of another kind, and calls that are for interrupts.
 ghost use Rattle.std.specs.Prelude.{◌≡◌, ◌≤◌, ◌↔◌, IsTrue};
-ghost use Rattle.fr_program.specs.Uses.{makes_kind, drops_kind, acts_on, is_semaphore, is_buffer};
-ghost use Rattle.fr_program.specs.Fault.{SuitsKind, SuitsActor};
+ghost use Rattle.fr_program.specs.Uses.{makes_kind, drops_kind, attempts_on, acts_on, is_semaphore, is_buffer};
+ghost use Rattle.fr_program.specs.Fault.{is_for, SuitsKind, SuitsActor};
 ghost use Rattle.fr_program.specs.View.{actor_of, program_of};
 
-use crate::instr::{Action, BufferKind, Call, CreatedKind, DeletedKind, Instr};
+use crate::instr::{Act, Attempt, BufferKind, Call, CreatedKind, DeletedKind, Instr};
 use crate::parts::{Actor, ActorKind, Kind, Parts};
 
 /// Whether the instruction's object, where there is one, is of a kind that the call is for.
 pub fn suits_kind(parts: &Parts, instr: Instr) -> bool
     ensures { IsTrue result ↔ SuitsKind (program_of parts.now) instr }
 {
-    match instr {
-        Instr::Call(Call::Create { kind, object, .. }) => match parts.objects.get(object.0) {
-            Some(found) => makes_kind(kind, found.kind),
-            None => true,
-        },
-        Instr::Call(Call::Delete { kind, object }) => match parts.objects.get(object.0) {
-            Some(found) => drops_kind(kind, found.kind),
-            None => true,
-        },
-        Instr::Call(Call::On { object, action }) => match parts.objects.get(object.0) {
-            Some(found) => acts_on(action, found.kind),
-            None => true,
-        },
+    let Instr::Call(call) = instr else {
+        return true;
+    };
+    let Some(object) = call.object() else {
+        return true;
+    };
+    match parts.objects.get(object.0) {
+        Some(found) => is_for(call, found.kind),
+        None => true,
+    }
+}
+
+/// Whether the call is for objects of the kind; also if it is for none.
+fn is_for(call: Call, kind: Kind) -> bool
+    ensures { result ≡ is_for call kind }
+{
+    match call {
+        Call::Create { kind: created, .. } => makes_kind(created, kind),
+        Call::Delete { kind: deleted, .. } => drops_kind(deleted, kind),
+        Call::On(call) => acts_on(call.act, kind),
         _ => true,
     }
 }
@@ -81,19 +88,27 @@ fn is_buffer(buffer: BufferKind, kind: Kind) -> bool
     }
 }
 
-/// Whether the object call is for objects of the kind.
-fn acts_on(action: Action, kind: Kind) -> bool
-    ensures { result ≡ acts_on action kind }
+/// Whether what an object call tries is for objects of the kind.
+fn attempts_on(attempt: Attempt, kind: Kind) -> bool
+    ensures { result ≡ attempts_on attempt kind }
 {
-    match (action, kind) {
-        (Action::QueueSend { .. }, Kind::Queue { .. }) => true,
-        (Action::QueueReceive { .. }, Kind::Queue { .. }) => true,
-        (Action::Take { .. }, _) => is_semaphore(kind),
-        (Action::Give { .. }, _) => is_semaphore(kind),
-        (Action::Send { kind: buffer, .. }, _) => is_buffer(buffer, kind),
-        (Action::Receive { kind: buffer, .. }, _) => is_buffer(buffer, kind),
-        (Action::Reset { kind: buffer, .. }, _) => is_buffer(buffer, kind),
+    match (attempt, kind) {
+        (Attempt::QueueSend(_), Kind::Queue { .. }) => true,
+        (Attempt::QueueReceive(_), Kind::Queue { .. }) => true,
+        (Attempt::Take(_), _) => is_semaphore(kind),
+        (Attempt::Give(_), _) => is_semaphore(kind),
+        (Attempt::Reset(buffer), _) => is_buffer(buffer, kind),
         _ => false,
+    }
+}
+
+/// Whether the object call is for objects of the kind.
+fn acts_on(act: Act, kind: Kind) -> bool
+    ensures { result ≡ acts_on act kind }
+{
+    match act {
+        Act::Try { attempt, .. } => attempts_on(attempt, kind),
+        Act::Move { kind: buffer, .. } => is_buffer(buffer, kind),
     }
 }
 

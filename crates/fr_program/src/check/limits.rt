@@ -1,10 +1,11 @@
 // Too many things, and numbers out of their limits.
 ghost use Rattle.std.specs.Prelude.{◌≡◌, ◌≤◌, ◌↔◌, IsTrue, All, length};
 ghost use Rattle.fr_program.specs.Fault.{IsSmall};
-ghost use Rattle.fr_program.specs.Limits.{IsSize, VariableInLimits, KindInLimits, OperandInLimits, BlockTimeInLimits, TimingInLimits, LengthInLimits, ActionInLimits, InstrInLimits, most_actors, most_variables, most_objects, most_instructions};
+ghost use Rattle.fr_program.specs.Limits.{IsSize, VariableInLimits, KindInLimits, OperandInLimits, BlockTimeInLimits, TimingInLimits, ActInLimits, InstrInLimits, most_actors, most_variables, most_objects, most_instructions};
+ghost use Rattle.fr_program.specs.Timings.{suits_timing};
 ghost use Rattle.fr_program.specs.View.{variable_of, actor_of, program_of};
 
-use crate::instr::{Action, BlockTime, Call, Instr, TakeForm, Timing};
+use crate::instr::{Act, Attempt, BlockTime, Call, Instr, SemaphoreForm, Timing};
 use crate::parts::{Actor, Kind, Object, Parts, Variable};
 
 /// The most actors that an application has.
@@ -105,38 +106,44 @@ pub fn is_instr_in_limits(instr: Instr) -> bool
     match instr {
         Instr::Pick { target: _, lo, hi } => lo <= hi,
         Instr::Call(Call::Delay(ticks)) => ticks <= MOST_TICKS,
-        Instr::Call(Call::On { object: _, action }) => is_action_in_limits(action),
+        Instr::Call(Call::On(call)) => {
+            suits_timing(call.timing, call.act)
+                && is_timing_in_limits(call.timing)
+                && is_act_in_limits(call.act)
+        }
         _ => true,
     }
 }
 
-/// Whether the length and the block time of an object call, where it has them, are in their limits.
-fn is_action_in_limits(action: Action) -> bool
-    ensures { IsTrue result ↔ ActionInLimits action }
+/// Whether a call with this act can have this timing: gives and resets have no block time and all
+/// others have one, and resets and the forms for recursive mutexes aren't for interrupts.
+fn suits_timing(timing: Timing, act: Act) -> bool
+    ensures { result ≡ suits_timing timing act }
 {
-    match action {
-        Action::QueueSend { timing, .. } => is_timing_in_limits(timing),
-        Action::QueueReceive { timing, .. } => is_timing_in_limits(timing),
-        Action::Take {
-            form: TakeForm::Plain(time),
-            ..
-        } => is_block_time_in_limits(time),
-        Action::Take {
-            form: TakeForm::Recursive(time),
-            ..
-        } => is_block_time_in_limits(time),
-        Action::Take {
-            form: TakeForm::FromIsr,
-            ..
-        } => true,
-        Action::Send { length, timing, .. } => {
-            is_length_in_limits(length) && is_timing_in_limits(timing)
+    match (timing, act) {
+        (_, Act::Move { .. }) => !matches!(timing, Timing::Now),
+        (Timing::Now, Act::Try { attempt, .. }) => {
+            matches!(attempt, Attempt::Give(_) | Attempt::Reset(_))
         }
-        Action::Receive { length, timing, .. } => {
-            is_length_in_limits(length) && is_timing_in_limits(timing)
+        (Timing::FromIsr, Act::Try { attempt, .. }) => !matches!(
+            attempt,
+            Attempt::Take(SemaphoreForm::Recursive)
+                | Attempt::Give(SemaphoreForm::Recursive)
+                | Attempt::Reset(_)
+        ),
+        (Timing::Waits(_), Act::Try { attempt, .. }) => {
+            !matches!(attempt, Attempt::Give(_) | Attempt::Reset(_))
         }
-        Action::Give { .. } => true,
-        Action::Reset { .. } => true,
+    }
+}
+
+/// Whether the length of an object call, where it has one, is in its limits.
+fn is_act_in_limits(act: Act) -> bool
+    ensures { IsTrue result ↔ ActInLimits act }
+{
+    match act {
+        Act::Try { .. } => true,
+        Act::Move { length, .. } => 1 <= length && length <= MOST_SIZE,
     }
 }
 
@@ -146,7 +153,7 @@ fn is_timing_in_limits(timing: Timing) -> bool
 {
     match timing {
         Timing::Waits(time) => is_block_time_in_limits(time),
-        Timing::FromIsr => true,
+        _ => true,
     }
 }
 
@@ -158,11 +165,4 @@ fn is_block_time_in_limits(time: BlockTime) -> bool
         BlockTime::Ticks(ticks) => ticks <= MOST_TICKS,
         BlockTime::MaxDelay => true,
     }
-}
-
-/// Whether the length of a buffer call is in its limits.
-fn is_length_in_limits(length: u32) -> bool
-    ensures { IsTrue result ↔ LengthInLimits length }
-{
-    1 <= length && length <= MOST_SIZE
 }

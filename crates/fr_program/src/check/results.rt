@@ -4,7 +4,7 @@ ghost use Rattle.fr_program.specs.Fault.{Covers, CoversQueue, TakesIn, ResultsFi
 ghost use Rattle.fr_program.specs.View.{program_of};
 
 use crate::ids::{ObjId, VarId};
-use crate::instr::{Action, Call, Instr, Operand, Operator};
+use crate::instr::{Act, Call, Instr, Operand, Operator};
 use crate::parts::{Kind, Parts};
 
 /// Whether the instruction's result fits its variable: both bounds of a `pick` are in the variable's
@@ -15,31 +15,25 @@ pub fn results_fit(parts: &Parts, instr: Instr) -> bool
     match instr {
         Instr::Pick { target, lo, hi } => covers(parts, target, lo, lo)
             && covers(parts, target, hi, hi),
-        Instr::Call(Call::On { object, action }) => takes_in(parts, object, action),
+        Instr::Call(Call::On(call)) => takes_in(parts, call.object, call.act),
         _ => true,
     }
 }
 
 /// Whether the range of the variable of an object call's result has every number that the call can give.
-fn takes_in(parts: &Parts, object: ObjId, action: Action) -> bool
-    ensures { IsTrue result ↔ TakesIn (program_of parts.now) object action }
+fn takes_in(parts: &Parts, object: ObjId, act: Act) -> bool
+    ensures { IsTrue result ↔ TakesIn (program_of parts.now) object act }
 {
-    match action {
-        Action::QueueReceive { into, .. } => match parts.objects.get(object.0) {
-            Some(found) => covers_queue(parts, into, found.kind),
-            None => true,
+    match act {
+        Act::Try { attempt, .. } => match (attempt.received(), parts.objects.get(object.0)) {
+            (Some(into), Some(found)) => covers_queue(parts, into, found.kind),
+            _ => true,
         },
-        Action::Send {
+        Act::Move {
             length,
             result: count,
             ..
         } => covers_count(parts, count, length),
-        Action::Receive {
-            length,
-            result: count,
-            ..
-        } => covers_count(parts, count, length),
-        _ => true,
     }
 }
 

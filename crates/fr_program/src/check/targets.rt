@@ -15,7 +15,7 @@ pub fn are_targets_below(length: usize, instr: Instr) -> bool
         Instr::If { target, .. } => target < length,
         Instr::Goto { target } => target < length,
         Instr::Call(Call::Create { or_else, .. }) => is_else_below(length, or_else),
-        Instr::Call(Call::On { object: _, action }) => is_else_below(length, action.else_target()),
+        Instr::Call(Call::On(call)) => is_else_below(length, call.act.else_target()),
         _ => true,
     }
 }

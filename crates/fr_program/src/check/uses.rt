@@ -1,12 +1,12 @@
 // The variables of an instruction: how many are shared, whose they are, and whether they are there.
 ghost use Rattle.std.specs.Prelude.{◌≡◌, ◌≤◌, ◌<◌, ◌↔◌, ◌++◌, IsTrue, IfSome, All, count_by, length};
-ghost use Rattle.fr_program.specs.Uses.{variables_of, action_variables, operand_variables, option_list, object_named};
+ghost use Rattle.fr_program.specs.Uses.{variables_of, act_variables, operand_variables, option_list, object_named};
 ghost use Rattle.fr_program.specs.Fault.{is_shared, SharesAtMostOne, MayUse, MayUseAll, NamesThings};
 ghost use Rattle.fr_program.specs.InstrFault.{used, InEachPlace, IsVariable};
 ghost use Rattle.fr_program.specs.View.{program_of};
 
 use crate::ids::{ActorId, VarId};
-use crate::instr::{Action, Call, Instr, Operand};
+use crate::instr::{Act, Attempt, Call, Instr, Operand};
 use crate::parts::Parts;
 
 /// The variables of an instruction: the one that it sets, and those of its two operands.
@@ -36,7 +36,7 @@ pub fn uses_of(instr: Instr) -> Uses
             made_of(None, operand_variable(left), operand_variable(right))
         }
         Instr::Pick { target, .. } => made_of(Some(target), None, None),
-        Instr::Call(Call::On { object: _, action }) => made_of(None, None, action_variable(action)),
+        Instr::Call(Call::On(call)) => made_of(None, None, act_variable(call.act)),
         _ => made_of(None, None, None),
     }
 }
@@ -55,15 +55,15 @@ fn made_of(target: Option<VarId>, left: Option<VarId>, right: Option<VarId>) -> 
 }
 
 /// The variable that an object call names, if it names one.
-fn action_variable(action: Action) -> Option<VarId>
-    ensures { option_list result ≡ action_variables action }
+fn act_variable(act: Act) -> Option<VarId>
+    ensures { option_list result ≡ act_variables act }
 {
-    match action {
-        Action::QueueSend { value, .. } => operand_variable(value),
-        Action::QueueReceive { into, .. } => Some(into),
-        Action::Send { result: count, .. } => count,
-        Action::Receive { result: count, .. } => count,
-        _ => None,
+    match act {
+        Act::Try {
+            attempt: Attempt::QueueSend(value),
+            ..
+        } => operand_variable(value),
+        _ => act.written(),
     }
 }
 
@@ -179,12 +179,13 @@ fn names_variable(parts: &Parts, x: Option<VarId>) -> bool
 /// Whether the application has the object that the instruction names, if it names one.
 fn names_object(parts: &Parts, instr: Instr) -> bool
     ensures { IsTrue result
-        ↔ IfSome (object_named instr) (λ o. o < length (program_of parts.now).objects) }
+        ↔ IfSome (object_named instr) (λ o. o.0 < length (program_of parts.now).objects) }
 {
     match instr {
-        Instr::Call(Call::Create { object, .. }) => object.0 < parts.objects.len(),
-        Instr::Call(Call::Delete { object, .. }) => object.0 < parts.objects.len(),
-        Instr::Call(Call::On { object, .. }) => object.0 < parts.objects.len(),
+        Instr::Call(call) => match call.object() {
+            Some(object) => object.0 < parts.objects.len(),
+            None => true,
+        },
         _ => true,
     }
 }

@@ -15,8 +15,8 @@ change_before-requires-clause-names c = c.recall_faultless.ensures.names.things 
 pub change_inside-requires-clause-object : goal.change_inside-requires-clause-object
 change_inside-requires-clause-object c =
     let it = c.in-Call-On in
-    let call : it.field-0 ≡ On it.object it.action = rw it.is at it.field-0-is in
-    object-there c.args.app.now c.args.instr.now it.object it.action (c.recall_faultless.ensures.names.things _ _ _ c.requires.instr) (it.is ∙ ap (λ x. Calls x) call)
+    let call : it.field-0 ≡ On it.call = rw it.is at it.field-0-is in
+    object-there c.args.app.now c.args.instr.now it.call (c.recall_faultless.ensures.names.things _ _ _ c.requires.instr) (it.is ∙ ap (λ x. Calls x) call)
 
 pub returns-in-Some-clause-none : goal.returns-in-Some-clause-none
 returns-in-Some-clause-none c =
