@@ -25,7 +25,8 @@ use Rattle.fr_cert.specs.declared.key.Place.{Place}
 use Rattle.fr_cert.specs.declared.key.Place.TheVariants as place
 use Rattle.fr_cert.specs.declared.fault.CertFault.{CertFault}
 use Rattle.fr_cert.specs.declared.fault.CertFault.TheVariants as fault
-use Rattle.fr_cert.proofs.Laws.{both, never, one_at, one_name, one_text, one_version, one_end, one_fit_end, unknown, apart, list_apart, object_apart}
+use Rattle.fr_cert.proofs.Laws.{both, never, one_at, one_name, one_text, one_version, one_end, one_end_value, unknown, apart, list_apart, object_apart}
+use Rattle.fr_cert.proofs.EntryLemmas.{each_both}
 
 -- ---- values by their shape
 
@@ -238,7 +239,10 @@ free_fit_end P d e f h (inl s) = never (as_object d) h.0.0 s.0 h.0.1
 free_fit_end P d e f h (inr s) = free_end P h.0.0 e f h.0.2 h.1 (subst (λ ms. InEnd P ms f) (both (as_object d) s.0 h.0.0 s.1 h.0.1) s.2)
 
 free_all_ends : (P : Program) → FreeOf (AreFitEnds P) (InAllEnds P)
-free_all_ends P = free_once (IsFitEnd P) (InObject (InEnd P)) AreOfOneEnd (fault.EndTwice []) (one_fit_end P) (free_fit_end P)
+free_all_ends P ds es f h (inl s) = free_entries (IsFitEnd P) (InObject (InEnd P)) (free_fit_end P) ds es f h.0 s
+free_all_ends P ds es f h (inr s) =
+    let M = IsObject (IsEnd (names_in P)) in
+    free_once M (λ d g. ⊥) AreOfOneEnd (fault.EndTwice []) (one_end_value (names_in P)) (λ d e g means never_. never_) ds es f ((each_both M (EndFits P) ds es h.0).0, h.1) (inr s)
 
 -- ---- the whole
 

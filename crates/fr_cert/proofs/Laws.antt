@@ -250,8 +250,8 @@ one_end N ms e f h g =
     let whole : end_made e.buffer e.end e.guard ≡ end_made f.buffer f.end f.guard = rw (buffer, end, guard) refl in
     whole
 
-pub one_fit_end : (P : Program) → One (IsFitEnd P)
-one_fit_end P d e f h g = one_object (IsEnd (names_in P)) (one_end (names_in P)) d e f h.0 g.0
+pub one_end_value : (N : NamesOf) → One (IsObject (IsEnd N))
+one_end_value N = one_object (IsEnd N) (one_end N)
 
 -- ---- the whole
 
@@ -264,7 +264,7 @@ certificate_made notes ends = record { notes = notes; ends = ends }
 one_certificate : (P : Program) → OneIn (IsCertificate P)
 one_certificate P ms C D h g =
     let version = one_at key.Version IsVersion one_version ms h.version g.version h.numbered g.numbered in
-    let each_end : OneOf (AreFitEnds P) = λ ds es fs p q. one_entries (IsFitEnd P) (one_fit_end P) ds es fs p.0 q.0 in
+    let each_end : OneOf (AreFitEnds P) = λ ds es fs p q. one_entries (IsFitEnd P) (λ d e f m n. one_end_value (names_in P) d e f m.0 n.0) ds es fs p.0 q.0 in
     let ends = one_at key.Ends (IsList (AreFitEnds P)) (one_list (AreFitEnds P) each_end) ms C.ends D.ends h.ends g.ends in
     let there = subst (λ v. At key.Notes (IsList (AreNotes P v)) ms D.notes) (sym version) g.notes in
     let each_note : OneOf (AreNotes P h.version) = λ ds xs ys p q. one_entries (IsNote P h.version) (one_note P h.version) ds xs ys p.0 q.0 in

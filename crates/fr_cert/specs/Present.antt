@@ -26,8 +26,8 @@ use Rattle.fr_ends.specs.Guard.{EndGuard}
 use Rattle.fr_ends.specs.Fits.{EndFits, AreOfOneEnd}
 use Rattle.fr_instr.specs.Names.{NamesOf}
 use Rattle.fr_cert.specs.Keys.{field, integer_of, names_in}
-use Rattle.fr_cert.specs.Shapes.{At}
-use Rattle.fr_cert.specs.Meaning.{NoteText, IsNoteText, NoteTextFits, IsEndName, IsEnd, IsFitEnd, IsVersion, IsTreeText, most_bytes}
+use Rattle.fr_cert.specs.Shapes.{At, IsObject}
+use Rattle.fr_cert.specs.Meaning.{NoteText, IsNoteText, NoteTextFits, IsEndName, IsEnd, IsVersion, IsTreeText, most_bytes}
 use Rattle.fr_cert.specs.Faults.{Departs, InKeys, InField, InNeeded, InObject, InList, InEntries, InMembers, InNamed, InInteger, InDepth, InName, IsTwice, InNames, InSpan}
 use Rattle.fr_cert.specs.declared.key.Key.{Key}
 use Rattle.fr_cert.specs.declared.key.Key.TheVariants as key
@@ -118,7 +118,7 @@ InEnd P ms f =
 
 -- the fault is in an entry of the list of ends, or an end is listed twice
 abbrev pub InAllEnds : Program → Items → CertFault → Type 0
-InAllEnds P ds f = InEntries (InObject (InEnd P)) ds f ⊎ IsTwice (IsFitEnd P) AreOfOneEnd (fault.EndTwice []) ds f
+InAllEnds P ds f = InEntries (InObject (InEnd P)) ds f ⊎ IsTwice (IsObject (IsEnd (names_in P))) AreOfOneEnd (fault.EndTwice []) ds f
 
 -- the value is no integer, or another one than 1 and 2
 abbrev pub InVersion : Data → CertFault → Type 0

@@ -1,4 +1,5 @@
-use Rattle.std.proofs.Common.{List, sym, subst, map}
+use Rattle.std.proofs.Common.{List, [], sym, subst, map, inl, inr}
+use Rattle.std.proofs.lemmas.Result.{err_from_is_err_and}
 use Rattle.serde_json.specs.Data.{Items}
 use Rattle.serde_json.specs.View.{view}
 use Rattle.fr_program.specs.Program.{Program}
@@ -8,7 +9,9 @@ use Rattle.fr_ends.specs.View.{end_of}
 use Rattle.fr_cert.specs.Keys.{names_in}
 use Rattle.fr_cert.specs.Shapes.{IsObject, IsList}
 use Rattle.fr_cert.specs.Meaning.{IsEnd, AreFitEnds}
+use Rattle.fr_cert.specs.declared.fault.CertFault.TheVariants as fault
 use Rattle.fr_cert.proofs.EntryLemmas.{each_both}
+use Rattle.fr_cert.proofs.TwiceLemmas.{twice_weaker}
 use Rattle.fr_cert.proofs.end.FitEndsReader.read.Goals as goal
 
 fits : (P : Program) (ds : Items) (es : List EndGuard) → AreFitEnds P ds es → EndsFit P es
@@ -25,3 +28,12 @@ returns-clause-ok c =
     let P = c.args.scope.now in
     let h = c.in_ok-ends.ensures.ok in
     subst (λ es. IsList (AreFitEnds P) (view c.args.value.now) es × EndsFit P es) (sym c.of.ensures) (h, fits P h.0 (map end_of c.in_ok-ends.ends.items) h.2)
+
+pub returns-in_err-ends-clause-err : goal.returns-in_err-ends-clause-err
+returns-in_err-ends-clause-err c =
+    let p = err_from_is_err_and c.from_residual.result c.from_residual.ensures.1 in
+    let M = IsObject (IsEnd (names_in c.args.scope.now)) in
+    rw (p.1, p.2) (λ named. elim (c.in_err-ends.ensures.err named) [
+      | inl h ↦ inl h
+      | inr h ↦ inr (h.0, h.1, elim h.2 [ inl s ↦ inl s | inr s ↦ inr (twice_weaker _ M _ (fault.EndTwice []) (λ d x m. m.0) h.0 _ s) ])
+    ])
