@@ -123,7 +123,8 @@ fn alternatives_of(scope: &Scope, list: &Vec<Value>) -> Result<Note, CertFault>
     ensures err { IfErr result (Standing (InAlternatives scope.now (items_view list.now.items))) }
 {
     check_few(scope.alloc, list)?;
-    Ok(Note::of(each_entry(scope, list, &PlainNote)?))
+    let alternatives = each_entry(scope, list, &PlainNote)?;
+    Ok(Note::of(alternatives))
 }
 
 /// Whether the value is the text `never`.

@@ -3,13 +3,12 @@ ghost use Rattle.std.specs.Prelude.{◌≡◌, ◌<◌, ◌↔◌, ℕ, length, 
 ghost use Rattle.fr_calls.specs.State.{start};
 ghost use Rattle.fr_notes.specs.Fits.{AlternativeFits};
 ghost use Rattle.fr_notes.specs.Note.{HoldsOne, Holds, Within};
-ghost use Rattle.fr_notes.specs.Noted.{note_at};
 ghost use Rattle.fr_notes.specs.View.{ends_of};
 ghost use Rattle.fr_edge.specs.Own.{Entry};
 ghost use Rattle.fr_edge.specs.Starts.{begins_as, BeginsAs, BeginsWithin};
 
-use fr_notes::{Alternative, Claim, Note, Notes};
-use fr_program::{App, Object, Point, Range, Side, Variable};
+use fr_notes::{Alternative, Claim, Note, Spot};
+use fr_program::{App, Object, Range, Side, Variable};
 
 /// Whether the claim is true of the object at the start.
 fn begins_as(claim: Claim, object: &Object) -> bool
@@ -87,16 +86,14 @@ fn some_holds_at_start(app: &App, note: &Note) -> bool
 }
 
 /// Whether the point's actor doesn't begin there, or begins with the note.
-pub fn enters(app: &App, notes: &Notes, note: &Note, point: Point) -> bool
-    requires fits { All (λ n. AlternativeFits app.now n) note.now }
-    requires note { note.now ≡ note_at app.now notes.now point }
-    ensures { IsTrue result ↔ Entry app.now notes.now point }
+pub fn enters(spot: &Spot) -> bool
+    ensures { IsTrue result ↔ Entry spot.now.app.now spot.now.notes.now spot.now.point }
 {
-    if point.pc != 0 {
+    if spot.point.pc != 0 {
         return true;
     }
-    match point.side {
-        Side::Before => some_holds_at_start(app, note),
+    match spot.point.side {
+        Side::Before => some_holds_at_start(spot.app, spot.note),
         Side::Inside => true,
     }
 }

@@ -9,7 +9,7 @@ use crate::entry::enters;
 use crate::failure::Own;
 use crate::rules::least_rule;
 use crate::steps::least_missed;
-use fr_notes::Notes;
+use fr_notes::{Case, Notes};
 use fr_program::App;
 
 /// The first of the own obligations of the point with this number that fails: its entry, the least
@@ -21,19 +21,16 @@ pub fn own(app: &App, notes: &Notes, number: usize) -> Option<Own>
     ensures { (p : Point) → slice_get (points_of app.now) number ≡ Some p →
         IsFirstOwn app.now notes.now p result }
 {
-    let point = app.point(number);
-    app.recall_faultless();
-    app.recall_numbered();
-    let note = notes.get(number)?;
-    let instr = app.instr(point)?;
-    if !enters(app, notes, note, point) {
+    let spot = Case { app, notes }.spot(number)?;
+    spot.app.recall_numbered();
+    if !enters(&spot) {
         return Some(Own::Entry);
     }
-    if let Some(rule) = least_rule(app, note, point, instr) {
+    if let Some(rule) = least_rule(&spot) {
         return Some(Own::Rule(rule));
     }
-    match least_missed(app, notes, note, point, instr) {
-        Some(missed) => Some(Own::Goes(app.point(missed))),
+    match least_missed(&spot) {
+        Some(missed) => Some(Own::Goes(spot.app.point(missed))),
         None => None,
     }
 }

@@ -1,7 +1,7 @@
 // The rules that a point keeps by itself.
-ghost use Rattle.std.specs.Prelude.{◌≡◌, ◌<◌, ◌↔◌, ◌≤ℤ◌, Some, length, All, IsTrue, IsFalse};
+ghost use Rattle.std.specs.Prelude.{◌≡◌, ◌<◌, ◌↔◌, ◌≤ℤ◌, length, IsTrue, IsFalse};
 ghost use Rattle.std.specs.Option.{option_map};
-ghost use Rattle.fr_program.specs.Lookup.{instr_of, variable_at, IsPoint};
+ghost use Rattle.fr_program.specs.Lookup.{variable_at};
 ghost use Rattle.fr_program.specs.Fault.{NamesThings, OperandsFit};
 ghost use Rattle.fr_calls.specs.Rule.{used_object};
 ghost use Rattle.fr_notes.specs.Fits.{AlternativeFits};
@@ -10,20 +10,21 @@ ghost use Rattle.fr_notes.specs.Reckoning.{HasNumbersIn};
 ghost use Rattle.fr_edge.specs.Alternatives.{RuleOutcome, NoteOutcome, AnyRule, IsDecided, IsUndecided, gives_unheld, uses_dead, creates_live, SendsIn, SendsOutBy, StaysIn, IsOutBy, lesser_of};
 
 use fr_calls::{Rule, first_forbidden};
-use fr_notes::{Alternative, Holding, Known, Note, condition_at, is_given_unheld};
-use fr_program::{Act, App, Attempt, Call, Instr, Kind, ObjId, Point, Range, Side, VarId};
+use fr_notes::{Alternative, Holding, Known, Spot, condition_at, is_given_unheld};
+use fr_program::{Act, App, Attempt, Call, Instr, Kind, ObjId, Range, Side, VarId};
 
 /// The least of the rules that the actor's condition decides, before an instruction.
-fn decided_rule(app: &App, alternative: &Alternative, point: Point, instr: &Instr) -> Option<Rule>
-    requires point { IsPoint app.now point }
-    requires instr { instr_of app.now point ≡ Some instr.now }
-    requires fits { AlternativeFits app.now alternative.now }
-    ensures { RuleOutcome app.now point alternative.now IsDecided result }
+fn decided_rule(spot: &Spot, alternative: &Alternative) -> Option<Rule>
+    requires fits { AlternativeFits spot.now.app.now alternative.now }
+    ensures { RuleOutcome spot.now.app.now spot.now.point alternative.now IsDecided result }
 {
-    app.recall_faultless();
+    spot.app.recall_faultless();
     let known = Known::alone(alternative);
-    match point.side {
-        Side::Before => first_forbidden(app, condition_at(app, &known, point), instr),
+    match spot.point.side {
+        Side::Before => {
+            let condition = condition_at(spot.app, &known, spot.point);
+            first_forbidden(spot.app, condition, spot.instr)
+        }
         Side::Inside => None,
     }
 }
@@ -133,24 +134,23 @@ fn stays_in_range(app: &App, known: &Known, instr: &Instr, side: Side) -> bool
 }
 
 /// The least of the other rules that is breached in some state in which the alternative holds.
-fn undecided_rule(app: &App, alternative: &Alternative, point: Point, instr: &Instr) -> Option<Rule>
-    requires point { IsPoint app.now point }
-    requires instr { instr_of app.now point ≡ Some instr.now }
-    requires fits { AlternativeFits app.now alternative.now }
-    ensures { RuleOutcome app.now point alternative.now IsUndecided result }
+fn undecided_rule(spot: &Spot, alternative: &Alternative) -> Option<Rule>
+    requires fits { AlternativeFits spot.now.app.now alternative.now }
+    ensures { RuleOutcome spot.now.app.now spot.now.point alternative.now IsUndecided result }
 {
+    let (app, instr, side) = (spot.app, spot.instr, spot.point.side);
     app.recall_faultless();
     let known = Known::alone(alternative);
     if gives_unheld(app, &known, instr) {
         return Some(Rule::GivenByHolder);
     }
-    if uses_dead(&known, instr, point.side) {
+    if uses_dead(&known, instr, side) {
         return Some(Rule::IsLive);
     }
-    if creates_live(&known, instr, point.side) {
+    if creates_live(&known, instr, side) {
         return Some(Rule::LifeInOrder);
     }
-    if stays_in_range(app, &known, instr, point.side) {
+    if stays_in_range(app, &known, instr, side) {
         None
     } else {
         Some(Rule::InRange)
@@ -175,27 +175,23 @@ fn lesser(one: Option<Rule>, other: Option<Rule>) -> Option<Rule>
 }
 
 /// The least rule that is breached in some state in which the alternative holds.
-fn rule_breached(app: &App, alternative: &Alternative, point: Point, instr: &Instr) -> Option<Rule>
-    requires point { IsPoint app.now point }
-    requires instr { instr_of app.now point ≡ Some instr.now }
-    requires fits { AlternativeFits app.now alternative.now }
-    ensures { RuleOutcome app.now point alternative.now AnyRule result }
+fn rule_breached(spot: &Spot, alternative: &Alternative) -> Option<Rule>
+    requires fits { AlternativeFits spot.now.app.now alternative.now }
+    ensures { RuleOutcome spot.now.app.now spot.now.point alternative.now AnyRule result }
 {
-    let decided = decided_rule(app, alternative, point, instr);
-    let undecided = undecided_rule(app, alternative, point, instr);
-    lesser(decided, undecided)
+    lesser(
+        decided_rule(spot, alternative),
+        undecided_rule(spot, alternative),
+    )
 }
 
 /// The least rule that is breached in some state in which the note holds.
-pub fn least_rule(app: &App, note: &Note, point: Point, instr: &Instr) -> Option<Rule>
-    requires point { IsPoint app.now point }
-    requires instr { instr_of app.now point ≡ Some instr.now }
-    requires fits { All (λ n. AlternativeFits app.now n) note.now }
-    ensures { NoteOutcome app.now point note.now (length note.now) result }
+pub fn least_rule(spot: &Spot) -> Option<Rule>
+    ensures { NoteOutcome spot.now.app.now spot.now.point spot.now.note.now (length spot.now.note.now) result }
 {
     let mut least = None;
-    for alternative in note.alternatives() {
-        least = lesser(least, rule_breached(app, alternative, point, instr));
+    for alternative in spot.note.alternatives() {
+        least = lesser(least, rule_breached(spot, alternative));
     }
     least
 }

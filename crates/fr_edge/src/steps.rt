@@ -2,15 +2,14 @@
 ghost use Rattle.std.specs.Prelude.{◌≡◌, ◌<◌, ◌+◌, ◌↔◌, Some, length, All, IsTrue, Contains, slice_get};
 ghost use Rattle.fr_program.specs.Lookup.{instr_of, IsPoint};
 ghost use Rattle.fr_program.specs.Points.{points_of, point_number};
-ghost use Rattle.fr_notes.specs.Fits.{AlternativeFits, NotesFit};
+ghost use Rattle.fr_notes.specs.Fits.{AlternativeFits, NoteFits};
 ghost use Rattle.fr_notes.specs.Known.{IsPossible, Keeps};
 ghost use Rattle.fr_notes.specs.Noted.{note_at};
 ghost use Rattle.fr_edge.specs.Alternatives.{GoesWell, WayOutcome, GoesOutcome};
 ghost use Rattle.fr_notes.specs.Note.{Alternative as AlternativeOf};
 
 use fr_calls::{Landing, Way, lands_at};
-use fr_notes::{Alternative, Change, Known, Note, Notes, change_by, keeps};
-use fr_program::{App, Instr, Point};
+use fr_notes::{Alternative, Change, Known, Note, Spot, change_by, keeps};
 
 /// Whether some alternative of a note holds of the mover after each step that makes this change.
 fn is_kept(known: &Known, change: &Change, next: &Note) -> bool
@@ -18,47 +17,34 @@ fn is_kept(known: &Known, change: &Change, next: &Note) -> bool
     ensures { IsTrue result ↔
         ((m : AlternativeOf) × Contains next.now m × Keeps known.now change.now m) }
 {
-    for other in next.alternatives() {
-        if keeps(known, change, other) {
-            return true;
-        }
-    }
-    false
+    next.alternatives().iter().any(
+        |other|
+            requires { IsPossible known.now }
+        { keeps(known, change, other) },
+    )
 }
 
 /// Whether steps by this row, from a state in which the alternative holds, keep the next note.
-fn goes_well(
-    app: &App,
-    alternative: &Alternative,
-    point: Point,
-    instr: &Instr,
-    way: Way,
-    next: &Note,
-) -> bool
-    requires point { IsPoint app.now point }
-    requires instr { instr_of app.now point ≡ Some instr.now }
-    requires fits { AlternativeFits app.now alternative.now }
-    requires next { All (λ m. AlternativeFits app.now m) next.now }
-    ensures { IsTrue result ↔ GoesWell app.now point alternative.now way next.now }
+fn goes_well(spot: &Spot, alternative: &Alternative, way: Way, next: &Note) -> bool
+    requires fits { AlternativeFits spot.now.app.now alternative.now }
+    requires next { NoteFits spot.now.app.now next.now }
+    ensures { IsTrue result ↔ GoesWell spot.now.app.now spot.now.point alternative.now way next.now }
 {
     let known = Known::alone(alternative);
-    match change_by(app, &known, point, instr, way) {
+    match change_by(spot.app, &known, spot.point, spot.instr, way) {
         Some(change) => is_kept(&known, &change, next),
         None => true,
     }
 }
 
 /// Whether steps by this row keep the next note, whichever alternative of the note holds before.
-fn all_go_well(app: &App, note: &Note, point: Point, instr: &Instr, way: Way, next: &Note) -> bool
-    requires point { IsPoint app.now point }
-    requires instr { instr_of app.now point ≡ Some instr.now }
-    requires fits { All (λ n. AlternativeFits app.now n) note.now }
-    requires next { All (λ m. AlternativeFits app.now m) next.now }
+fn all_go_well(spot: &Spot, way: Way, next: &Note) -> bool
+    requires next { NoteFits spot.now.app.now next.now }
     ensures { IsTrue result ↔
-        ((n : AlternativeOf) → Contains note.now n → GoesWell app.now point n way next.now) }
+        ((n : AlternativeOf) → Contains spot.now.note.now n → GoesWell spot.now.app.now spot.now.point n way next.now) }
 {
-    for alternative in note.alternatives() {
-        if !goes_well(app, alternative, point, instr, way, next) {
+    for alternative in spot.note.alternatives() {
+        if !goes_well(spot, alternative, way, next) {
             return false;
         }
     }
@@ -66,54 +52,30 @@ fn all_go_well(app: &App, note: &Note, point: Point, instr: &Instr, way: Way, ne
 }
 
 /// The number of the point at which steps by this row land without keeping its note.
-fn missed(
-    app: &App,
-    notes: &Notes,
-    note: &Note,
-    point: Point,
-    instr: &Instr,
-    way: Way,
-) -> Option<usize>
-    requires point { IsPoint app.now point }
-    requires instr { instr_of app.now point ≡ Some instr.now }
-    requires fit { NotesFit app.now notes.now }
-    requires note { note.now ≡ note_at app.now notes.now point }
-    ensures { WayOutcome app.now notes.now point way result }
+fn missed(spot: &Spot, way: Way) -> Option<usize>
+    ensures { WayOutcome spot.now.app.now spot.now.notes.now spot.now.point way result }
 {
-    app.recall_faultless();
-    app.recall_numbered();
-    let Landing::At(target) = lands_at(point, point.pc + 1, instr, way) else {
+    spot.app.recall_faultless();
+    spot.app.recall_numbered();
+    let Landing::At(target) = lands_at(spot.point, spot.point.pc + 1, spot.instr, way) else {
         return None;
     };
-    match app.number(target) {
+    match spot.app.number(target) {
         None => None,
-        Some(number) => match notes.get(number) {
-            None => None,
-            Some(next) => if all_go_well(app, note, point, instr, way, next) {
-                None
-            } else {
-                Some(number)
-            },
+        Some(number) => if all_go_well(spot, way, spot.notes.at(spot.app, number)) {
+            None
+        } else {
+            Some(number)
         },
     }
 }
 
 /// The least number of a point to which a step goes without keeping its note.
-pub fn least_missed(
-    app: &App,
-    notes: &Notes,
-    note: &Note,
-    point: Point,
-    instr: &Instr,
-) -> Option<usize>
-    requires point { IsPoint app.now point }
-    requires instr { instr_of app.now point ≡ Some instr.now }
-    requires fit { NotesFit app.now notes.now }
-    requires note { note.now ≡ note_at app.now notes.now point }
-    ensures { GoesOutcome app.now notes.now point result }
+pub fn least_missed(spot: &Spot) -> Option<usize>
+    ensures { GoesOutcome spot.now.app.now spot.now.notes.now spot.now.point result }
 {
-    let one = missed(app, notes, note, point, instr, Way::Then);
-    let other = missed(app, notes, note, point, instr, Way::Else);
+    let one = missed(spot, Way::Then);
+    let other = missed(spot, Way::Else);
     match (one, other) {
         (Some(one), Some(other)) => Some(one.min(other)),
         (Some(one), None) => Some(one),

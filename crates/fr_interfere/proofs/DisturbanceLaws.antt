@@ -81,3 +81,8 @@ numbered-point P numbered k p e = (numbered.listed k p e).0
 
 pub same-point : (P : Program) (k : ℕ) (p q : Point) → slice_get (points_of P) k ≡ Some p → slice_get (points_of P) k ≡ Some q → p ≡ q
 same-point P k p q e f = same_Some p q (sym e ∙ f)
+
+-- of what is equal the same is disturbed
+pub undisturbed-there : {P Q : Program} {ns ms : List Note} {p q r s : Point} → P ≡ Q → ns ≡ ms → p ≡ q → r ≡ s → Undisturbed P ns p r ≡ Undisturbed Q ms q s
+undisturbed-there {P} {Q} {ns} {ms} {p} {q} {r} {s} app notes one other =
+    ap (λ A. Undisturbed A ns p r) app ∙ ap (λ L. Undisturbed Q L p r) notes ∙ ap (λ x. Undisturbed Q ms x r) one ∙ ap (λ x. Undisturbed Q ms q x) other

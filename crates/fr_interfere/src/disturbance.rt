@@ -1,19 +1,18 @@
 // Whether another actor's steps leave a point's note holding.
 ghost use Rattle.std.specs.Prelude.{◌≡◌, ◌≢◌, ◌<◌, ◌↔◌, IsTrue, Some, Contains, length, slice_get};
 ghost use Rattle.fr_program.specs.declared.ids.Point.{Point};
-ghost use Rattle.fr_program.specs.Lookup.{IsPoint, instr_of};
+ghost use Rattle.fr_program.specs.Lookup.{IsPoint};
 ghost use Rattle.fr_program.specs.Points.{points_of};
 ghost use Rattle.fr_notes.specs.Fits.{AlternativeFits, NoteFits, NotesFit};
 ghost use Rattle.fr_notes.specs.Known.{IsPossible, KnownFits, IsOther, LeavesSome};
 ghost use Rattle.fr_notes.specs.Note.{Alternative as AlternativeOf};
 ghost use Rattle.fr_interfere.specs.Disturbance.{SparesSome, IsSparedByRows};
-ghost use Rattle.fr_interfere.specs.Effects.{effect_of};
 ghost use Rattle.fr_interfere.specs.Undisturbed.{Undisturbed};
 
-use crate::effects::{Effect, all_bear, effect_of};
+use crate::effects::{all_bear, effect_of};
 use fr_calls::Way;
-use fr_notes::{Alternative, Change, Known, Note, Notes, can_meet, change_by, spares};
-use fr_program::{App, Instr, Point};
+use fr_notes::{Alternative, Case, Change, Known, Note, Notes, Spot, can_meet, change_by, spares};
+use fr_program::App;
 
 /// Whether some alternative of the note holds of the other actor after each step that makes this
 /// change, where this one held before.
@@ -32,23 +31,19 @@ fn some_spared(known: &Known, alternative: &Alternative, change: &Change, note: 
 
 /// Whether one alternative of the note is left by every step of the mover by this row.
 fn is_spared_by_row(
-    app: &App,
+    mover: &Spot,
     known: &Known,
     alternative: &Alternative,
-    mover: Point,
-    instr: &Instr,
     way: Way,
     note: &Note,
 ) -> bool
-    requires fits { KnownFits app.now known.now }
+    requires fits { KnownFits mover.now.app.now known.now }
     requires other { known.now.other ≡ Some alternative.now }
-    requires point { IsPoint app.now mover }
-    requires instr { instr_of app.now mover ≡ Some instr.now }
-    requires note { NoteFits app.now note.now }
-    ensures { (p : Point) → IsOther app.now known.now mover p →
-        (IsTrue result ↔ LeavesSome app.now known.now mover p way p.actor.0 note.now) }
+    requires note { NoteFits mover.now.app.now note.now }
+    ensures { (p : Point) → IsOther mover.now.app.now known.now mover.now.point p →
+        (IsTrue result ↔ LeavesSome mover.now.app.now known.now mover.now.point p way p.actor.0 note.now) }
 {
-    match change_by(app, known, mover, instr, way) {
+    match change_by(mover.app, known, mover.point, mover.instr, way) {
         Some(change) => some_spared(known, alternative, &change, note),
         None => true,
     }
@@ -57,50 +52,31 @@ fn is_spared_by_row(
 /// Whether, for this alternative of the note and that one of the mover's, one alternative of the note is
 /// left by every step of the mover by either row. Where the two exclude each other, no state has such a
 /// step.
-fn is_spared(
-    app: &App,
-    alternative: &Alternative,
-    other: &Alternative,
-    mover: Point,
-    instr: &Instr,
-    note: &Note,
-) -> bool
-    requires alternative { AlternativeFits app.now alternative.now }
-    requires other { AlternativeFits app.now other.now }
-    requires point { IsPoint app.now mover }
-    requires instr { instr_of app.now mover ≡ Some instr.now }
-    requires note { NoteFits app.now note.now }
-    ensures { (p : Point) → IsPoint app.now p → p.actor ≢ mover.actor →
-        (IsTrue result ↔ IsSparedByRows app.now p alternative.now mover other.now note.now) }
+fn is_spared(mover: &Spot, alternative: &Alternative, other: &Alternative, note: &Note) -> bool
+    requires alternative { AlternativeFits mover.now.app.now alternative.now }
+    requires other { AlternativeFits mover.now.app.now other.now }
+    requires note { NoteFits mover.now.app.now note.now }
+    ensures { (p : Point) → IsPoint mover.now.app.now p → p.actor ≢ mover.now.point.actor →
+        (IsTrue result ↔ IsSparedByRows mover.now.app.now p alternative.now mover.now.point other.now note.now) }
 {
     if !can_meet(other, alternative) {
         return true;
     }
     let known = Known::beside(other, alternative);
-    is_spared_by_row(app, &known, alternative, mover, instr, Way::Then, note)
-        && is_spared_by_row(app, &known, alternative, mover, instr, Way::Else, note)
+    is_spared_by_row(mover, &known, alternative, Way::Then, note)
+        && is_spared_by_row(mover, &known, alternative, Way::Else, note)
 }
 
 /// Whether, for this alternative of the note and each one of the mover's, one alternative of the note is
 /// left by every step of the mover, row by row.
-fn is_spared_beside_each(
-    app: &App,
-    alternative: &Alternative,
-    others: &Note,
-    mover: Point,
-    instr: &Instr,
-    note: &Note,
-) -> bool
-    requires alternative { AlternativeFits app.now alternative.now }
-    requires others { NoteFits app.now others.now }
-    requires point { IsPoint app.now mover }
-    requires instr { instr_of app.now mover ≡ Some instr.now }
-    requires note { NoteFits app.now note.now }
-    ensures { (p : Point) → IsPoint app.now p → p.actor ≢ mover.actor →
-        (IsTrue result ↔ ((m : AlternativeOf) → Contains others.now m → IsSparedByRows app.now p alternative.now mover m note.now)) }
+fn is_spared_beside_each(mover: &Spot, alternative: &Alternative, note: &Note) -> bool
+    requires alternative { AlternativeFits mover.now.app.now alternative.now }
+    requires note { NoteFits mover.now.app.now note.now }
+    ensures { (p : Point) → IsPoint mover.now.app.now p → p.actor ≢ mover.now.point.actor →
+        (IsTrue result ↔ ((m : AlternativeOf) → Contains mover.now.note.now m → IsSparedByRows mover.now.app.now p alternative.now mover.now.point m note.now)) }
 {
-    for other in others.alternatives() {
-        if !is_spared(app, alternative, other, mover, instr, note) {
+    for other in mover.note.alternatives() {
+        if !is_spared(mover, alternative, other, note) {
             return false;
         }
     }
@@ -109,16 +85,13 @@ fn is_spared_beside_each(
 
 /// Whether, for each alternative of the note and each one of the mover's, one alternative of the note is
 /// left by every step of the mover, row by row.
-fn is_each_spared(app: &App, note: &Note, others: &Note, mover: Point, instr: &Instr) -> bool
-    requires note { NoteFits app.now note.now }
-    requires others { NoteFits app.now others.now }
-    requires point { IsPoint app.now mover }
-    requires instr { instr_of app.now mover ≡ Some instr.now }
-    ensures { (p : Point) → IsPoint app.now p → p.actor ≢ mover.actor →
-        (IsTrue result ↔ ((n m : AlternativeOf) → Contains note.now n → Contains others.now m → IsSparedByRows app.now p n mover m note.now)) }
+fn is_each_spared(mover: &Spot, note: &Note) -> bool
+    requires { NoteFits mover.now.app.now note.now }
+    ensures { (p : Point) → IsPoint mover.now.app.now p → p.actor ≢ mover.now.point.actor →
+        (IsTrue result ↔ ((n m : AlternativeOf) → Contains note.now n → Contains mover.now.note.now m → IsSparedByRows mover.now.app.now p n mover.now.point m note.now)) }
 {
     for alternative in note.alternatives() {
-        if !is_spared_beside_each(app, alternative, others, mover, instr, note) {
+        if !is_spared_beside_each(mover, alternative, note) {
             return false;
         }
     }
@@ -127,24 +100,14 @@ fn is_each_spared(app: &App, note: &Note, others: &Note, mover: Point, instr: &I
 
 /// Whether no step from the mover's point disturbs the note. Where each alternative of the note holds
 /// after what the instruction can change, nothing else is asked.
-fn is_left(
-    app: &App,
-    effect: Effect,
-    note: &Note,
-    others: &Note,
-    mover: Point,
-    instr: &Instr,
-) -> bool
-    requires effect { effect ≡ effect_of app.now mover.side instr.now }
-    requires note { NoteFits app.now note.now }
-    requires others { NoteFits app.now others.now }
-    requires point { IsPoint app.now mover }
-    requires instr { instr_of app.now mover ≡ Some instr.now }
-    ensures { (p : Point) → IsPoint app.now p → p.actor ≢ mover.actor →
-        (IsTrue result ↔ ((n m : AlternativeOf) → Contains note.now n → Contains others.now m → IsSparedByRows app.now p n mover m note.now)) }
+fn is_left(mover: &Spot, note: &Note) -> bool
+    requires { NoteFits mover.now.app.now note.now }
+    ensures { (p : Point) → IsPoint mover.now.app.now p → p.actor ≢ mover.now.point.actor →
+        (IsTrue result ↔ ((n m : AlternativeOf) → Contains note.now n → Contains mover.now.note.now m → IsSparedByRows mover.now.app.now p n mover.now.point m note.now)) }
 {
-    app.recall_faultless();
-    all_bear(app, effect, others, note) || is_each_spared(app, note, others, mover, instr)
+    mover.app.recall_faultless();
+    let effect = effect_of(mover.app, mover.point.side, mover.instr);
+    all_bear(mover.app, effect, mover.note, note) || is_each_spared(mover, note)
 }
 
 /// Whether no step of another actor from the point with the other number disturbs the note of the
@@ -157,18 +120,12 @@ pub fn undisturbed(app: &App, notes: &Notes, number: usize, other: usize) -> boo
     ensures { (p q : Point) → slice_get (points_of app.now) number ≡ Some p →
         slice_get (points_of app.now) other ≡ Some q → (IsTrue result ↔ Undisturbed app.now notes.now p q) }
 {
-    app.recall_faultless();
     app.recall_numbered();
-    let (point, mover) = (app.point(number), app.point(other));
-    if point.actor.0 == mover.actor.0 {
-        return true;
-    }
-    match app.instr(mover) {
+    let point = app.point(number);
+    match (Case { app, notes }).spot(other) {
         None => true,
-        Some(instr) => {
-            let effect = effect_of(app, mover.side, instr);
-            let (note, others) = (notes.at(app, number), notes.at(app, other));
-            is_left(app, effect, note, others, mover, instr)
+        Some(mover) => {
+            point.actor.0 == mover.point.actor.0 || is_left(&mover, notes.at(app, number))
         }
     }
 }

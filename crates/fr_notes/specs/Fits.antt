@@ -14,7 +14,7 @@ use Rattle.fr_program.specs.Program.{Program}
 use Rattle.fr_program.specs.Lookup.{variable_at}
 use Rattle.fr_program.specs.Points.{points_of}
 use Rattle.fr_calls.specs.State.{kind_of}
-use Rattle.fr_notes.specs.Note.{Alternative, Note, Claim, NotHeld, HeldTimes, range_of}
+use Rattle.fr_notes.specs.Note.{Alternative, Note, Claim, NotHeld, Alive, Gone, HeldTimes, range_of}
 
 -- the most that a depth or a count in a note can be
 abbrev pub most_depth : ℕ
@@ -26,10 +26,12 @@ most_alternatives = 4
 
 -- what can be said of an object of this kind: a mutex is held once, a recursive one 1 to 255 times, nothing else ever
 abbrev pub CanClaim : Kind → Claim → Type 0
+CanClaim kind NotHeld = Unit {0}
+CanClaim kind Alive = Unit {0}
+CanClaim kind Gone = Unit {0}
 CanClaim Mutex (HeldTimes count) = count ≡ 1
 CanClaim Recursive (HeldTimes count) = (1 ≤ count) × (count ≤ most_depth)
 CanClaim kind (HeldTimes count) = ⊥
-CanClaim kind claim = Unit {0}
 
 -- a claim for each object, and each can be said of it
 abbrev pub ClaimsFit : Program → List Claim → Type 0

@@ -2,6 +2,7 @@ pub mod Note
 pub mod View
 pub mod Noted
 pub mod Fits
+pub mod Facts
 pub mod Parts
 pub mod Compare
 pub mod Implication

@@ -5,6 +5,7 @@
 
 mod alternatives;
 mod before;
+mod case;
 mod change;
 mod checks;
 mod claim;
@@ -27,6 +28,7 @@ mod steps;
 mod worked;
 
 pub use alternatives::{Alts, AltsFault, MOST_ALTERNATIVES};
+pub use case::{Case, Spot};
 pub use change::Change;
 pub use claim::Claim;
 pub use fault::{NoteFault, NotesFault};

@@ -2,4 +2,4 @@ use Rattle.fr_edge.specs.Alternatives.{NoteOutcome}
 use Rattle.fr_edge.proofs.rules.least_rule.Given as goal
 
 abbrev pub invariant-loop-alternative : goal.invariant-loop-alternative
-invariant-loop-alternative l = NoteOutcome l.app l.point l.alternative-items l.alternative-index l.least
+invariant-loop-alternative l = NoteOutcome l.spot.app.now l.spot.point l.alternative-items l.alternative-index l.least

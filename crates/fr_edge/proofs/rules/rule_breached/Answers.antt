@@ -5,4 +5,4 @@ use Rattle.fr_edge.proofs.rules.rule_breached.Goals as goal
 
 pub returns : goal.returns
 returns c =
-    subst (λ least. RuleOutcome c.args.app.now c.args.point c.args.alternative.now AnyRule least) (sym c.lesser.ensures) (both-outcomes c.args.app.now c.args.point c.args.alternative.now c.decided_rule-decided.result c.undecided_rule-undecided.result c.decided_rule-decided.ensures c.undecided_rule-undecided.ensures)
+    subst (λ least. RuleOutcome c.args.spot.now.app.now c.args.spot.now.point c.args.alternative.now AnyRule least) (sym c.lesser.ensures) (both-outcomes c.args.spot.now.app.now c.args.spot.now.point c.args.alternative.now c.decided_rule.result c.undecided_rule.result c.decided_rule.ensures c.undecided_rule.ensures)

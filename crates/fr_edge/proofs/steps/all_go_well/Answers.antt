@@ -6,7 +6,7 @@ use Rattle.fr_edge.proofs.steps.all_go_well.Goals as goal
 
 pub goes_well-requires-clause-fits : goal.goes_well-requires-clause-fits
 goes_well-requires-clause-fits c =
-    item-fits c.args.app.now c.alternatives-alternative-items.result.now c.args.note.now c.loop-alternative.alternative-index c.alternative-item.result c.alternatives-alternative-items.ensures c.loop-alternative-test.true c.alternative-item.is c.requires.fits
+    item-fits c.args.spot.now.app.now c.alternatives-alternative-items.result.now c.args.spot.now.note.now c.loop-alternative.alternative-index c.alternative-item.result c.alternatives-alternative-items.ensures c.loop-alternative-test.true c.alternative-item.is c.args.spot.now.fits.1
 
 pub returns-then-not-goes_well : goal.returns-then-not-goes_well
 returns-then-not-goes_well c = (
@@ -19,8 +19,8 @@ returns-then-not-goes_well c = (
 
 pub loop-alternative-preserved : goal.loop-alternative-preserved
 loop-alternative-preserved c = λ n k.
-    among-case (GoesWell c.args.app.now c.args.point n c.args.way c.args.next.now) c.alternatives-alternative-items.result.now c.loop-alternative.alternative-index c.alternative-item.result n c.loop-alternative-test.true c.alternative-item.is k (λ old. c.loop-alternative.invariant n old) (λ e.
-    subst (λ q. GoesWell c.args.app.now c.args.point q c.args.way c.args.next.now) e (c.goes_well.ensures.0 c.if-not-goes_well.false))
+    among-case (GoesWell c.args.spot.now.app.now c.args.spot.now.point n c.args.way c.args.next.now) c.alternatives-alternative-items.result.now c.loop-alternative.alternative-index c.alternative-item.result n c.loop-alternative-test.true c.alternative-item.is k (λ old. c.loop-alternative.invariant n old) (λ e.
+    subst (λ q. GoesWell c.args.spot.now.app.now c.args.spot.now.point q c.args.way c.args.next.now) e (c.goes_well.ensures.0 c.if-not-goes_well.false))
 
 pub returns : goal.returns
 returns c = (

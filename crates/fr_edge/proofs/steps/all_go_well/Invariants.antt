@@ -3,4 +3,4 @@ use Rattle.fr_edge.specs.Alternatives.{IsAmong, GoesWell}
 use Rattle.fr_edge.proofs.steps.all_go_well.Given as goal
 
 abbrev pub invariant-loop-alternative : goal.invariant-loop-alternative
-invariant-loop-alternative l = (n : Alternative) → IsAmong l.alternative-items l.alternative-index n → GoesWell l.app l.point n l.way l.next
+invariant-loop-alternative l = (n : Alternative) → IsAmong l.alternative-items l.alternative-index n → GoesWell l.spot.app.now l.spot.point n l.way l.next

@@ -7,4 +7,4 @@ use Rattle.fr_interfere.proofs.disturbance.is_each_spared.Given as goal
 
 abbrev pub invariant-loop-alternative : goal.invariant-loop-alternative
 invariant-loop-alternative l =
-    (p : Point) → IsPoint l.app p → p.actor ≢ l.mover.actor → (n : Alternative) → IsAmong l.alternative-items l.alternative-index n → (m : Alternative) → Contains l.others m → IsSparedByRows l.app p n l.mover m l.note
+    (p : Point) → IsPoint l.mover.app.now p → p.actor ≢ l.mover.point.actor → (n : Alternative) → IsAmong l.alternative-items l.alternative-index n → (m : Alternative) → Contains l.mover.note.now m → IsSparedByRows l.mover.app.now p n l.mover.point m l.note

@@ -6,7 +6,7 @@ use Rattle.fr_interfere.proofs.disturbance.is_spared_beside_each.Goals as goal
 
 pub is_spared-requires-clause-other : goal.is_spared-requires-clause-other
 is_spared-requires-clause-other c =
-    item-fits c.args.app.now c.alternatives-other-items.result.now c.args.others.now c.loop-other.other-index c.other-item.result c.alternatives-other-items.ensures c.loop-other-test.true c.other-item.is c.requires.others
+    item-fits c.args.mover.now.app.now c.alternatives-other-items.result.now c.args.mover.now.note.now c.loop-other.other-index c.other-item.result c.alternatives-other-items.ensures c.loop-other-test.true c.other-item.is c.args.mover.now.fits
 
 pub returns-then-not-is_spared : goal.returns-then-not-is_spared
 returns-then-not-is_spared c = λ p at ne. (
@@ -19,8 +19,8 @@ returns-then-not-is_spared c = λ p at ne. (
 
 pub loop-other-preserved : goal.loop-other-preserved
 loop-other-preserved c = λ p at ne m k.
-    among-case (IsSparedByRows c.args.app.now p c.args.alternative.now c.args.mover m c.args.note.now) c.alternatives-other-items.result.now c.loop-other.other-index c.other-item.result m c.loop-other-test.true c.other-item.is k (λ old. c.loop-other.invariant p at ne m old) (λ e.
-    subst (λ q. IsSparedByRows c.args.app.now p c.args.alternative.now c.args.mover q c.args.note.now) e ((c.is_spared.ensures p at ne).0 c.if-not-is_spared.false))
+    among-case (IsSparedByRows c.args.mover.now.app.now p c.args.alternative.now c.args.mover.now.point m c.args.note.now) c.alternatives-other-items.result.now c.loop-other.other-index c.other-item.result m c.loop-other-test.true c.other-item.is k (λ old. c.loop-other.invariant p at ne m old) (λ e.
+    subst (λ q. IsSparedByRows c.args.mover.now.app.now p c.args.alternative.now c.args.mover.now.point q c.args.note.now) e ((c.is_spared.ensures p at ne).0 c.if-not-is_spared.false))
 
 pub returns : goal.returns
 returns c = λ p at ne. (

@@ -7,4 +7,4 @@ use Rattle.fr_interfere.proofs.disturbance.is_spared_beside_each.Given as goal
 
 abbrev pub invariant-loop-other : goal.invariant-loop-other
 invariant-loop-other l =
-    (p : Point) → IsPoint l.app p → p.actor ≢ l.mover.actor → (m : Alternative) → IsAmong l.other-items l.other-index m → IsSparedByRows l.app p l.alternative l.mover m l.note
+    (p : Point) → IsPoint l.mover.app.now p → p.actor ≢ l.mover.point.actor → (m : Alternative) → IsAmong l.other-items l.other-index m → IsSparedByRows l.mover.app.now p l.alternative l.mover.point m l.note

@@ -1,25 +1,25 @@
-use Rattle.std.proofs.Common.{sym, ap, subst}
+use Rattle.std.proofs.Common.{◌≡◌, sym, ap, subst}
 use Rattle.std.specs.Prelude.{◌≢◌, ◌↔◌, IsTrue}
-use Rattle.fr_interfere.specs.Undisturbed.{Undisturbed}
-use Rattle.fr_interfere.proofs.DisturbanceLaws.{numbered-point, same-point, each-undisturbed}
+use Rattle.fr_program.specs.Lookup.{IsPoint}
+use Rattle.fr_notes.specs.Fits.{NoteFits}
+use Rattle.fr_notes.specs.Noted.{note_at}
+use Rattle.fr_interfere.proofs.DisturbanceLaws.{numbered-point, same-point, each-undisturbed, undisturbed-there}
 use Rattle.fr_interfere.proofs.disturbance.undisturbed.Goals as goal
 
-pub effect_of-effect-requires : goal.effect_of-effect-requires
-effect_of-effect-requires c =
-    let q = c.point-mover.result in
-    c.recall_faultless.ensures.names.things q.actor.0 q.pc c.in-Some.instr.now (sym c.in-Some.ensures)
+pub is_left-requires : goal.is_left-requires
+is_left-requires c = subst (λ P. NoteFits P c.at.result.now) (sym (ap (λ a. a.now) c.in-Some.ensures.some.0)) c.at.ensures.fits
 
-pub returns-in-Some : goal.returns-in-Some
-returns-in-Some c = λ p q here there.
-    let P = c.args.app.now in
-    let notes = c.args.notes.now in
+pub returns-else-point-mover : goal.returns-else-point-mover
+returns-else-point-mover c = λ p q here there.
+    let m = c.in-Some.mover in
+    let is = c.in-Some.ensures.some in
+    let app = ap (λ a. a.now) is.0 in
+    let notes = ap (λ n. n.now) is.1 in
     let one = c.point-point.result in
-    let other = c.point-mover.result in
-    let at = numbered-point P c.recall_numbered.ensures c.args.number one c.point-point.ensures in
-    let stands = numbered-point P c.recall_numbered.ensures c.args.other other c.point-mover.ensures in
-    let left = same-point P c.args.number one p c.point-point.ensures here in
-    let right = same-point P c.args.other other q c.point-mover.ensures there in
-    let ne : other.actor ≢ one.actor = λ e. c.if-point-mover.false (ap (λ a. a.0) (sym e)) in
+    let note = c.at.result.now in
+    let at = subst (λ P. IsPoint P one) (sym app) (numbered-point c.args.app.now c.recall_numbered.ensures c.args.number one c.point-point.ensures) in
+    let is_note : note ≡ note_at m.app.now m.notes.now one = subst (λ P. note ≡ note_at P m.notes.now one) (sym app) (subst (λ ns. note ≡ note_at c.args.app.now ns one) (sym notes) (c.at.ensures.is one c.point-point.ensures)) in
+    let ne : m.point.actor ≢ one.actor = λ e. c.if-point-mover.false (ap (λ a. a.0) (sym e)) in
     let each = c.is_left.ensures one at (λ e. ne (sym e)) in
-    let both = each-undisturbed P notes one other stands ne c.at-note.result.now c.at-others.result.now (c.at-note.ensures.is one c.point-point.ensures) (c.at-others.ensures.is other c.point-mover.ensures) c.is_left.result each in
-    subst (λ x. IsTrue c.is_left.result ↔ Undisturbed P notes x q) left (subst (λ y. IsTrue c.is_left.result ↔ Undisturbed P notes one y) right both)
+    let both = each-undisturbed m.app.now m.notes.now one m.point (m.instr.now, m.has_instr, m.has_side) ne note m.note.now is_note m.has_note c.is_left.result each in
+    subst (λ u. IsTrue c.is_left.result ↔ u) (undisturbed-there app notes (same-point c.args.app.now c.args.number one p c.point-point.ensures here) (same-point c.args.app.now c.args.other m.point q is.2 there)) both
