@@ -17,6 +17,7 @@ use crate::answer::answer_fault;
 use crate::exit::{DONE, NO};
 use crate::fault::CheckFault;
 use fr_ends::Certificate;
+use fr_interfere::Index;
 use fr_judge::{Passed, read_both};
 use fr_parallel::Gate;
 use fr_program::App;
@@ -77,7 +78,10 @@ fn output<R: Threads + Wait + Sync, G: Gate>(
     ensures refused { IfErr result
         (λ f. (app certificate : List ℕ) → CanRefuseRun app certificate polls f) }
 {
-    match Passed::check(app, certificate) {
+    let Ok(index) = Index::build(alloc, &app) else {
+        return Err(CheckFault::Memory);
+    };
+    match Passed::check_by(app, certificate, &index) {
         Ok(passed) => Ok((DONE, run_text(rt, alloc, &passed, polls, words, gate)?)),
         Err((app, _, verdict)) => match report(alloc, &app, &verdict) {
             Ok(text) => Ok((NO, text)),

@@ -5,7 +5,7 @@ ghost use Rattle.fr_finder.specs.Spots.{IsPlaced, IsSpot};
 use crate::spot::{Spot, spot_at};
 use fr_calls::Way;
 use fr_notes::{Alternative, Change, Known, Notes, change_by};
-use fr_program::{ActorId, App, Changed, Instr, Point, Range, VarId};
+use fr_program::{ActorId, App, Instr, Point, Range, VarId};
 use std::alloc::{AllocError, Global};
 
 /// What a step from a point can change of other actors' notes, where one alternative of its own note
@@ -112,8 +112,8 @@ pub fn effects(alloc: Global, app: &App, notes: &Notes) -> Result<Vec<Effect>, A
     requires { NotesFit app.now notes.now }
 {
     let mut effects = Vec::new(alloc);
-    for number in app.changers(Changed::Anything) {
-        if let Some(spot) = spot_at(app, notes, *number) {
+    for number in 0..app.points() {
+        if let Some(spot) = spot_at(app, notes, number) {
             add_effects(app, spot, &mut effects)?;
         }
     }

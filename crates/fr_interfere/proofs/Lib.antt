@@ -2,5 +2,7 @@ pub mod BearLaws
 pub mod DisturbanceLaws
 pub mod EffectLaws
 pub mod Lists
+pub mod IndexLaws
+pub mod StayLaws
 pub mod UnsaidLaws
 pub mod SpoilerLaws

@@ -1,8 +1,9 @@
--- The first point that disturbs a note is one whose steps can change something.
-use Rattle.std.proofs.Common.{◌≡◌, ℕ, ◌+◌, ◌<◌, ◌≤◌, List, length, Option, Some, None, true, false, refl, sym, subst, arith, ⊎_elim, inl, inr}
-use Rattle.std.specs.Prelude.{◌⊎◌, ◌||◌, Bool, is_some, nat_eq, nat_le, if◌then◌else◌}
+-- The first point that disturbs a note is one whose steps can change something that the note says, or that can leave a
+-- declared range.
+use Rattle.std.proofs.Common.{◌≡◌, ℕ, ◌+◌, ◌<◌, ◌≤◌, List, [], length, Option, Some, None, true, false, refl, sym, ap, subst, arith, ⊎_elim, inl, inr}
+use Rattle.std.specs.Prelude.{◌⊎◌, Bool, nat_le, if◌then◌else◌}
 use Rattle.std.proofs.lemmas.Bool.{cases_lt}
-use Rattle.fr_program.specs.declared.ids.ObjId.{ObjId}
+use Rattle.std.proofs.lemmas.List.{get_or_past}
 use Rattle.fr_program.specs.declared.ids.Point.{Point}
 use Rattle.fr_program.specs.declared.ids.Side.{Side}
 use Rattle.fr_program.specs.declared.ids.Side.TheVariants.{Before, Inside}
@@ -13,57 +14,36 @@ use Rattle.fr_program.specs.declared.instr.Call.TheVariants.{Create, Delete, On}
 use Rattle.fr_program.specs.declared.instr.Act.{Act}
 use Rattle.fr_program.specs.declared.instr.Act.TheVariants.{Try, Move}
 use Rattle.fr_program.specs.declared.instr.Attempt.TheVariants.{QueueReceive}
-use Rattle.fr_program.specs.declared.instr.Timing.{Timing}
 use Rattle.fr_program.specs.declared.parts.Kind.{Kind}
-use Rattle.fr_program.specs.declared.changers.Changed.{Changed}
-use Rattle.fr_program.specs.declared.changers.Changed.TheVariants.{Anything}
+use Rattle.fr_program.specs.declared.parts.Kind.TheVariants.{Queue}
 use Rattle.fr_program.specs.Program.{Program}
-use Rattle.fr_program.specs.Lookup.{IsPoint, instr_of}
+use Rattle.fr_program.specs.Lookup.{IsPoint}
 use Rattle.fr_program.specs.Points.{point_number}
-use Rattle.fr_program.specs.Uses.{written_by}
-use Rattle.fr_program.specs.Changers.{changes, changes_at, is_changer, number_at, life_at}
+use Rattle.fr_program.specs.PointNumbers.{PointsAreNumbered}
 use Rattle.fr_program.specs.Fault.{IsFaultless, NamesThings}
+use Rattle.fr_calls.specs.State.{kind_of}
+use Rattle.fr_notes.specs.Fits.{NoteFits, NotesFit}
 use Rattle.fr_notes.specs.Note.{Note}
 use Rattle.fr_notes.specs.Noted.{note_at}
-use Rattle.fr_interfere.specs.declared.effects.Effect.TheVariants.{Nothing}
+use Rattle.fr_interfere.specs.declared.effects.Effect.{Effect}
+use Rattle.fr_interfere.specs.declared.effects.Effect.TheVariants.{Nothing, Life, Gives, Sets}
 use Rattle.fr_interfere.specs.Disturbance.{IsSpoiler}
-use Rattle.fr_interfere.specs.Effects.{effect_inside, effect_of, AllBear}
-use Rattle.fr_calls.specs.State.{kind_of}
-use Rattle.fr_interfere.specs.Spoilers.{IsFirstOf, IsChanger, ChangesBelow, least_of}
+use Rattle.fr_interfere.specs.Effects.{effect_inside, effect_of, effect_by, effect_at, target_of, made_of, HasTarget}
+use Rattle.fr_interfere.specs.Index.{CanLeave, IsIndexOf, IndexOf}
+use Rattle.fr_interfere.specs.Spoilers.{IsFirstOf, IsListed, WritesInside, MakesOne, IsBelow, least_of}
+use Rattle.fr_interfere.specs.Staying.{AllStay, StaysAt}
 use Rattle.fr_interfere.specs.Undisturbed.{Undisturbed}
-use Rattle.fr_interfere.proofs.UnsaidLaws.{borne-undisturbed, changer-instr}
-
--- what the steps of other points change is nothing
-still-end : (act : Act) (kind : Kind) → is_some (written_by act) ≡ false → effect_inside act kind ≡ Nothing
-still-end (Try (QueueReceive into) e) kind still = cc
-still-end (Move end buffer length (Some x)) kind still = cc
-still-end act kind still = refl
-
-or-false : (a : Bool) → a || false ≡ false → a ≡ false
-or-false true e = cc
-or-false false e = refl
-
-still-effect : (P : Program) (side : Side) (i : Instr) → changes Anything side i ≡ false → effect_of P side i ≡ Nothing
-still-effect P Before (Set target left operator right) still = cc
-still-effect P Before (Pick target lo hi) still = cc
-still-effect P Before (Calls call) still = by_call call still
-  where
-    by_call : (call : Call) → changes Anything Before (Calls call) ≡ false → effect_of P Before (Calls call) ≡ Nothing
-    by_call (Create kind o e) still = cc
-    by_call (Delete kind o) still = cc
-    by_call call still = refl
-still-effect P Inside (Calls (On call)) still = still-end call.act (kind_of P call.object.0) (or-false (is_some (written_by call.act)) still)
-still-effect P Before i still = refl
-still-effect P Inside i still = refl
-
--- so they disturb nobody
-still-point : (P : Program) → IsFaultless P → (notes : List Note) (p q : Point) → IsPoint P q → is_changer P Anything q ≡ false → Undisturbed P notes p q
-still-point P free notes p q at still =
-    let none = still-effect P q.side at.0 (subst (λ x. changes_at Anything q.side x ≡ false) at.1 still) in
-    let borne : AllBear (effect_of P q.side at.0) (note_at P notes q) (note_at P notes p) = subst (λ e. AllBear e (note_at P notes q) (note_at P notes p)) (sym none) (λ k m l j n h. tt) in
-    borne-undisturbed P free notes p q at.0 at.1 borne
+use Rattle.fr_interfere.proofs.IndexLaws.{in-list, listed-point}
+use Rattle.fr_interfere.proofs.StayLaws.{calm-point}
+use Rattle.fr_interfere.proofs.UnsaidLaws.{still-undisturbed, has-target}
 
 module _ (P : Program) (notes : List Note) (p : Point) where
+  -- the first one of more points is the first one of these
+  pub first-fewer : (A B : Point → Type 0) → ((q : Point) → IsPoint P q → B q → A q) → (r : Option ℕ) → IsFirstOf P notes p A r → IsFirstOf P notes p B r
+  first-fewer A B in_a None f = λ q at b. f q at (in_a q at b)
+  first-fewer A B in_a (Some k) (q, at, number, disturbs, least) =
+      (q, at, number, disturbs, λ other there b less. least other there (in_a other there b) less)
+
   -- the lesser of the first ones of two sorts is the first one of both
   module _ (A B C : Point → Type 0) (split : (q : Point) → IsPoint P q → C q → (A q ⊎ B q)) where
     lower : (j k : ℕ) → j ≤ k → IsFirstOf P notes p A (Some j) → IsFirstOf P notes p B (Some k) → IsFirstOf P notes p C (Some j)
@@ -74,7 +54,7 @@ module _ (P : Program) (notes : List Note) (p : Point) where
     upper j k lt (q, at, number, disturbs, least) (r, there, of, spoils, lowest) =
         (r, there, of, spoils, λ other is c less. ⊎_elim (λ a. least other is a (omega (arith, less, lt))) (λ b. lowest other is b less) (split other is c))
 
-    first-both : (r s : Option ℕ) → IsFirstOf P notes p A r → IsFirstOf P notes p B s → IsFirstOf P notes p C (least_of r s)
+    pub first-both : (r s : Option ℕ) → IsFirstOf P notes p A r → IsFirstOf P notes p B s → IsFirstOf P notes p C (least_of r s)
     first-both None None f g = λ q at c. ⊎_elim (λ a. f q at a) (λ b. g q at b) (split q at c)
     first-both None (Some k) f (q, at, number, disturbs, least) =
         (q, at, number, disturbs, λ other there c less. ⊎_elim (λ a. f other there a) (λ b. least other there b less) (split other there c))
@@ -87,67 +67,112 @@ module _ (P : Program) (notes : List Note) (p : Point) where
         by_order false e = upper j k (grind (arith, e)) f g
 
   -- one variable more, or one object more
-  pub one-more : (changed : ℕ → Changed) (k : ℕ) (r s t : Option ℕ) → t ≡ least_of r s → IsFirstOf P notes p (ChangesBelow P changed k) r → IsFirstOf P notes p (IsChanger P (changed k)) s → IsFirstOf P notes p (ChangesBelow P changed (k + 1)) t
-  one-more changed k r s t is f g =
-      subst (λ x. IsFirstOf P notes p (ChangesBelow P changed (k + 1)) x) (sym is) (first-both (ChangesBelow P changed k) (IsChanger P (changed k)) (ChangesBelow P changed (k + 1)) split r s f g)
+  pub one-more : (IsSo : ℕ → Point → Type 0) (k : ℕ) (r s t : Option ℕ) → t ≡ least_of r s → IsFirstOf P notes p (IsBelow IsSo k) r →
+      IsFirstOf P notes p (IsSo k) s → IsFirstOf P notes p (IsBelow IsSo (k + 1)) t
+  one-more IsSo k r s t is f g =
+      subst (IsFirstOf P notes p (IsBelow IsSo (k + 1))) (sym is) (first-both (IsBelow IsSo k) (IsSo k) (IsBelow IsSo (k + 1)) split r s f g)
     where
-      split : (q : Point) → IsPoint P q → ChangesBelow P changed (k + 1) q → (ChangesBelow P changed k q ⊎ IsChanger P (changed k) q)
-      split q at (j, l, can) = ⊎_elim (λ less. inl (j, less, can)) (λ more.
+      split : (q : Point) → IsPoint P q → IsBelow IsSo (k + 1) q → (IsBelow IsSo k q ⊎ IsSo k q)
+      split q at (j, l, so) = ⊎_elim (λ less. inl (j, less, so)) (λ more.
           let last : j ≡ k = omega (arith, l, more) in
-          inr (subst (λ i. IsChanger P (changed i) q) last can)) (cases_lt j k)
+          inr (subst (λ i. IsSo i q) last so)) (cases_lt j k)
 
   -- with no variable, or no object, there is none; and more of them than there are do as well
-  pub none-yet : (changed : ℕ → Changed) → IsFirstOf P notes p (ChangesBelow P changed 0) None
-  none-yet changed = λ q at below. let l = below.1 in absurd (omega (arith, l))
+  pub none-yet : (IsSo : ℕ → Point → Type 0) → IsFirstOf P notes p (IsBelow IsSo 0) None
+  none-yet IsSo = λ q at below. let l = below.1 in absurd (omega (arith, l))
 
-  pub enough : (changed : ℕ → Changed) (bound count : ℕ) → count ≤ bound → (r : Option ℕ) → IsFirstOf P notes p (ChangesBelow P changed bound) r → IsFirstOf P notes p (ChangesBelow P changed count) r
-  enough changed bound count le None f = λ q at (k, l, can). f q at (k, omega (arith, l, le), can)
-  enough changed bound count le (Some n) (q, at, number, disturbs, least) =
-      (q, at, number, disturbs, λ other there (k, l, can) less. least other there (k, omega (arith, l, le), can) less)
+  pub enough : (IsSo : ℕ → Point → Type 0) (bound count : ℕ) → count ≤ bound → (r : Option ℕ) → IsFirstOf P notes p (IsBelow IsSo bound) r →
+      IsFirstOf P notes p (IsBelow IsSo count) r
+  enough IsSo bound count le = first-fewer (IsBelow IsSo bound) (IsBelow IsSo count) (λ q at (k, l, so). (k, omega (arith, l, le), so))
 
--- whoever changes something writes a variable, or creates or deletes an object
-same-number : (n : ℕ) → nat_eq n n ≡ true
-same-number n = grind arith
+  -- where each other point is undisturbing, the first of some points is the first of all
+  pub first-of-all : (Among : Point → Type 0) → ((q : Point) → IsPoint P q → (Among q ⊎ Undisturbed P notes p q)) → (r : Option ℕ) →
+      IsFirstOf P notes p Among r → IsSpoiler P notes p r
+  first-of-all Among split None f = λ q at. ⊎_elim (λ among. f q at among) (λ calm. calm) (split q at)
+  first-of-all Among split (Some k) (q, at, number, disturbs, least) =
+      (q, at, number, disturbs, λ other there less. ⊎_elim (λ among. least other there among less) (λ calm. calm) (split other there))
 
-abbrev ChangesOne : Program → Side → Instr → Type 0
-ChangesOne P side i =
-    ((k : ℕ) × (k < length P.variables) × (changes (number_at k) side i ≡ true)) ⊎ ((k : ℕ) × (k < length P.objects) × (changes (life_at k) side i ≡ true))
+-- the object that a step creates or deletes is there
+abbrev HasMade : Program → Effect → Type 0
+HasMade P (Life o) = o.0 < length P.objects
+HasMade P effect = Unit {0}
 
-one-at-end : (P : Program) (o : ObjId) (timing : Timing) (act : Act) → NamesThings P (Calls (On (record { object = o; timing = timing; act = act }))) → changes Anything Inside (Calls (On (record { object = o; timing = timing; act = act }))) ≡ true → ChangesOne P Inside (Calls (On (record { object = o; timing = timing; act = act })))
-one-at-end P o timing (Try (QueueReceive into) e) names can = inl (into.0, names.0 0 into (omega arith), same-number into.0)
-one-at-end P o timing (Move end buffer length (Some x)) names can = inl (x.0, names.0 0 x (omega arith), same-number x.0)
-one-at-end P o timing act names can = cc
+inside-made : (P : Program) (act : Act) (kind : Kind) → HasMade P (effect_inside act kind)
+inside-made P (Try (QueueReceive into) e) (Queue size lo hi) = tt
+inside-made P (Move end buffer length (Some x)) kind = tt
+inside-made P act kind = tt
 
-one-changed : (P : Program) (side : Side) (i : Instr) → NamesThings P i → changes Anything side i ≡ true → ChangesOne P side i
-one-changed P Before (Set x l op r) names can = inl (x.0, names.0 0 x (omega arith), same-number x.0)
-one-changed P Before (Pick x lo hi) names can = inl (x.0, names.0 0 x (omega arith), same-number x.0)
-one-changed P Before (Calls (Create kind o e)) names can = inr (o.0, names.1, same-number o.0)
-one-changed P Before (Calls (Delete kind o)) names can = inr (o.0, names.1, same-number o.0)
-one-changed P Inside (Calls (On call)) names can = one-at-end P call.object call.timing call.act names can
-one-changed P side i names can = cc
+has-made : (P : Program) (side : Side) (i : Instr) → NamesThings P i → HasMade P (effect_of P side i)
+has-made P Before (Set x l op r) names = tt
+has-made P Before (Pick x lo hi) names = tt
+has-made P Before (Calls call) names = by_call call names
+  where
+    by_call : (call : Call) → NamesThings P (Calls call) → HasMade P (effect_of P Before (Calls call))
+    by_call (Create kind o e) names = names.1
+    by_call (Delete kind o) names = names.1
+    by_call call names = tt
+has-made P Inside (Calls (On call)) names = inside-made P call.act (kind_of P call.object.0)
+has-made P Before i names = tt
+has-made P Inside i names = tt
 
-module _ (P : Program) (free : IsFaultless P) (notes : List Note) (p : Point) where
-  -- the first one that changes something is the first of all
-  pub first-of-all : (r : Option ℕ) → IsFirstOf P notes p (IsChanger P Anything) r → IsSpoiler P notes p r
-  first-of-all None f = λ q at. by_change q at (is_changer P Anything q) refl
-    where
-      by_change : (q : Point) → IsPoint P q → (b : Bool) → is_changer P Anything q ≡ b → Undisturbed P notes p q
-      by_change q at true e = f q at e
-      by_change q at false e = still-point P free notes p q at e
-  first-of-all (Some k) (q, at, number, disturbs, least) = (q, at, number, disturbs, λ other there less. by_change other there less (is_changer P Anything other) refl)
-    where
-      by_change : (other : Point) → IsPoint P other → point_number P other < k → (b : Bool) → is_changer P Anything other ≡ b → Undisturbed P notes p other
-      by_change other there less true e = least other there e less
-      by_change other there less false e = still-point P free notes p other there e
+-- the note of each point fits
+pub each-fits : (P : Program) (notes : List Note) → NotesFit P notes → (q : Point) → NoteFits P (note_at P notes q)
+each-fits P notes fit q = ⊎_elim
+    (λ there. fit.1 (point_number P q) [] there)
+    (λ past. subst (λ (n : Note). NoteFits P n) (sym (get_or_past notes (point_number P q) [] past)) (omega arith, λ k d l. absurd (omega (arith, l))))
+    (cases_lt (point_number P q) (length notes))
 
-  -- so is the lesser of the first writer and the first maker
-  pub first-of-two : (r s t : Option ℕ) → t ≡ least_of r s → IsFirstOf P notes p (ChangesBelow P number_at (length P.variables)) r → IsFirstOf P notes p (ChangesBelow P life_at (length P.objects)) s → IsSpoiler P notes p t
-  first-of-two r s t is f g =
-      first-of-all t (subst (λ x. IsFirstOf P notes p (IsChanger P Anything) x) (sym is) (first-both P notes p (ChangesBelow P number_at (length P.variables)) (ChangesBelow P life_at (length P.objects)) (IsChanger P Anything) split r s f g))
-    where
-      back : (changed : Changed) (q : Point) (i : Instr) → instr_of P q ≡ Some i → changes changed q.side i ≡ true → IsChanger P changed q
-      back changed q i is can = subst (λ x. changes_at changed q.side x ≡ true) (sym is) can
+module _ (P : Program) (free : IsFaultless P) (notes : List Note) where
+  abbrev pub Writes : Point → Type 0
+  Writes q = IsBelow (WritesInside P notes) (length P.variables) q
 
-      split : (q : Point) → IsPoint P q → IsChanger P Anything q → (ChangesBelow P number_at (length P.variables) q ⊎ ChangesBelow P life_at (length P.objects) q)
-      split q (i, e, side) can = ⊎_elim (λ a. inl (a.0, a.1, back (number_at a.0) q i e a.2)) (λ b. inr (b.0, b.1, back (life_at b.0) q i e b.2))
-          (one-changed P q.side i (free.names.things q.actor.0 q.pc i e) (changer-instr P Anything q i e can))
+  abbrev pub Makes : Point → Type 0
+  Makes q = IsBelow (MakesOne P) (length P.objects) q
+
+  -- a point changes nothing, or writes within a declared range, or creates or deletes an object
+  module _ (p q : Point) (at : IsPoint P q) (stays : StaysAt P notes q) where
+    target : HasTarget P (effect_at P q)
+    target =
+        let one = has-target P q.side at.0 (free.names.things q.actor.0 q.pc at.0 at.1) in
+        subst (λ x. HasTarget P (effect_by P q.side x)) (sym at.1) one
+
+    made : HasMade P (effect_at P q)
+    made =
+        let one = has-made P q.side at.0 (free.names.things q.actor.0 q.pc at.0 at.1) in
+        subst (λ x. HasMade P (effect_by P q.side x)) (sym at.1) one
+
+    sorted : (e : Effect) → effect_at P q ≡ e → ((Writes q ⊎ Makes q) ⊎ Undisturbed P notes p q)
+    sorted Nothing is = inr (still-undisturbed P free notes p q at is)
+    sorted (Life o) is = inl (inr (o.0, subst (HasMade P) is made, ap made_of is))
+    sorted (Gives x lo hi) is = inl (inl (x.0, subst (HasTarget P) is target, (ap target_of is, stays)))
+    sorted (Sets x l op r) is = inl (inl (x.0, subst (HasTarget P) is target, (ap target_of is, stays)))
+
+    pub sort : (Writes q ⊎ Makes q) ⊎ Undisturbed P notes p q
+    sort = sorted (effect_at P q) refl
+
+  -- where all steps stay in declared ranges, the lesser of the first writer and the first maker is the first of all
+  pub first-of-two : (p : Point) (r s t : Option ℕ) → t ≡ least_of r s → AllStay P notes → IsFirstOf P notes p Writes r → IsFirstOf P notes p Makes s → IsSpoiler P notes p t
+  first-of-two p r s t is stay f g =
+      subst (IsSpoiler P notes p) (sym is)
+      (first-of-all P notes p (λ q. Writes q ⊎ Makes q) (λ q at. sort p q at (stay q at)) (least_of r s)
+      (first-both P notes p Writes Makes (λ q. Writes q ⊎ Makes q) (λ q at c. c) r s f g))
+
+  module _ (numbered : PointsAreNumbered P) (fit : NotesFit P notes) (I : IndexOf) (index : IsIndexOf P I) where
+    -- a point that isn't among the leavers stays in declared ranges
+    pub unlisted-stays : (q : Point) → IsPoint P q → (IsListed P I.leavers q → ⊥) → StaysAt P notes q
+    unlisted-stays q at not =
+        calm-point P free q at notes (each-fits P notes fit q) (λ leaves. not (listed-point P (CanLeave P) I.leavers numbered index.leavers q at leaves))
+
+    -- else the first leaver is looked for too
+    pub first-of-three : (p : Point) (r s t u v : Option ℕ) → t ≡ least_of r s → v ≡ least_of t u → IsFirstOf P notes p Writes r → IsFirstOf P notes p Makes s →
+        IsFirstOf P notes p (IsListed P I.leavers) u → IsSpoiler P notes p v
+    first-of-three p r s t u v is more f g h =
+        subst (IsSpoiler P notes p) (sym more) (first-of-all P notes p (λ q. (Writes q ⊎ Makes q) ⊎ IsListed P I.leavers q) split (least_of t u)
+        (first-both P notes p (λ q. Writes q ⊎ Makes q) (IsListed P I.leavers) (λ q. (Writes q ⊎ Makes q) ⊎ IsListed P I.leavers q) (λ q at c. c) t u two h))
+      where
+        two : IsFirstOf P notes p (λ q. Writes q ⊎ Makes q) t
+        two = subst (IsFirstOf P notes p (λ q. Writes q ⊎ Makes q)) (sym is) (first-both P notes p Writes Makes (λ q. Writes q ⊎ Makes q) (λ q at c. c) r s f g)
+
+        split : (q : Point) → IsPoint P q → (((Writes q ⊎ Makes q) ⊎ IsListed P I.leavers q) ⊎ Undisturbed P notes p q)
+        split q at = ⊎_elim (λ listed. inl (inr listed)) (λ not. ⊎_elim (λ among. inl (inl among)) (λ calm. inr calm) (sort p q at (unlisted-stays q at not)))
+            (in-list I.leavers (point_number P q))

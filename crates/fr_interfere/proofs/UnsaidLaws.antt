@@ -1,10 +1,8 @@
 -- A step disturbs no note that doesn't speak of what it changes, where it leaves each variable in its declared range.
-use Rattle.std.proofs.Common.{◌≡◌, ℕ, Some, true, sym, ◌∙◌, subst, arith}
-use Rattle.std.specs.Prelude.{ℤ, ◌<◌, ◌↔◌, Bool, List, IsTrue, All, length, nat_eq, slice_get}
+use Rattle.std.proofs.Common.{◌≡◌, ℕ, Some, sym, subst, arith}
+use Rattle.std.specs.Prelude.{◌<◌, List, All, length}
 use Rattle.std.proofs.lemmas.Int.{ints}
 use Rattle.std.proofs.lemmas.Option.{same_Some}
-use Rattle.fr_program.specs.declared.ids.ObjId.{ObjId}
-use Rattle.fr_program.specs.declared.ids.VarId.{VarId}
 use Rattle.fr_program.specs.declared.ids.Point.{Point}
 use Rattle.fr_program.specs.declared.ids.Side.{Side}
 use Rattle.fr_program.specs.declared.ids.Side.TheVariants.{Before, Inside}
@@ -17,85 +15,72 @@ use Rattle.fr_program.specs.declared.instr.Act.TheVariants.{Try, Move}
 use Rattle.fr_program.specs.declared.instr.Attempt.TheVariants.{QueueReceive}
 use Rattle.fr_program.specs.declared.parts.Kind.{Kind}
 use Rattle.fr_program.specs.declared.parts.Kind.TheVariants.{Queue}
-use Rattle.fr_program.specs.declared.changers.Changed.{Changed}
-use Rattle.fr_program.specs.declared.changers.Changed.TheVariants.{Anything, Number, Life}
 use Rattle.fr_program.specs.Program.{Program}
-use Rattle.fr_program.specs.Lookup.{IsPoint, instr_of}
-use Rattle.fr_program.specs.Points.{points_of}
-use Rattle.fr_program.specs.Uses.{written_by, act_variables}
-use Rattle.fr_program.specs.Changers.{written, made, is_variable, is_object, changes, changes_at, is_changer}
+use Rattle.fr_program.specs.Lookup.{IsPoint}
+use Rattle.fr_program.specs.Uses.{act_variables}
 use Rattle.fr_program.specs.Fault.{IsFaultless, NamesThings}
 use Rattle.fr_calls.specs.State.{kind_of}
 use Rattle.fr_notes.specs.Note.{Alternative, Note, range_of}
 use Rattle.fr_notes.specs.Noted.{note_at}
 use Rattle.fr_notes.specs.Implication.{IsPart}
 use Rattle.fr_interfere.specs.declared.effects.Effect.{Effect}
-use Rattle.fr_interfere.specs.declared.effects.Effect.TheVariants.{Gives}
-use Rattle.fr_interfere.specs.Effects.{effect_inside, effect_of, Bears, AllBear, HasTarget, Stays, IsUnsaid, declared_of}
-use Rattle.fr_interfere.specs.Staying.{AllStay, StaysAt}
+use Rattle.fr_interfere.specs.declared.effects.Effect.TheVariants.{Nothing, Life, Gives, Sets}
+use Rattle.fr_interfere.specs.Effects.{effect_inside, effect_of, effect_by, effect_at, target_of, made_of, Bears, AllBear, HasTarget, Stays, IsFree, IsUnclaimed, declared_of}
+use Rattle.fr_interfere.specs.Staying.{StaysAt}
 use Rattle.fr_interfere.specs.Undisturbed.{Undisturbed}
 use Rattle.fr_interfere.proofs.BearLaws.{borne-spared}
-use Rattle.fr_interfere.proofs.DisturbanceLaws.{undisturbed-spared, same-point}
+use Rattle.fr_interfere.proofs.DisturbanceLaws.{undisturbed-spared}
 
 -- where each alternative bears what the step can change, nothing is disturbed
-pub borne-undisturbed : (P : Program) → IsFaultless P → (notes : List Note) (p q : Point) → (i : Instr) → instr_of P q ≡ Some i → AllBear (effect_of P q.side i) (note_at P notes q) (note_at P notes p) → Undisturbed P notes p q
-borne-undisturbed P free notes p q i is borne there apart =
-    (undisturbed-spared P notes p q there apart).0 (λ n m one other. borne-spared P free p q (λ e. apart (sym e)) i is (note_at P notes p) (note_at P notes q) borne n m one other) there apart
-
--- what a variable gets from its declared range, an alternative that has the whole range bears
-module _ (P : Program) (m n : Alternative) (x y : VarId) (one : nat_eq y.0 x.0 ≡ true) (unsaid : IsPart (declared_of P x.0) (range_of n x.0)) where
-  same : y.0 ≡ x.0
-  same = grind (arith, one)
-
-  there : IsPart (declared_of P y.0) (range_of n y.0)
-  there = subst (λ k. IsPart (declared_of P k) (range_of n k)) (sym same) unsaid
-
-  given : (lo hi : ℤ) → Stays P (Gives y lo hi) m → Bears (Gives y lo hi) m n
-  given lo hi stays = ((omega (arith, ints, stays.0.0, there.0), omega (arith, ints, stays.0.1, there.1)), (omega (arith, ints, stays.1.0, there.0), omega (arith, ints, stays.1.1, there.1)))
+pub borne-undisturbed : (P : Program) → IsFaultless P → (notes : List Note) (p q : Point) → IsPoint P q →
+    AllBear (effect_at P q) (note_at P notes q) (note_at P notes p) → Undisturbed P notes p q
+borne-undisturbed P free notes p q at borne there apart =
+    let bears = subst (λ i. AllBear (effect_by P q.side i) (note_at P notes q) (note_at P notes p)) at.1 borne in
+    (undisturbed-spared P notes p q there apart).0
+    (λ n m one other. borne-spared P free p q (λ e. apart (sym e)) at.0 at.1 (note_at P notes p) (note_at P notes q) bears n m one other)
+    there apart
 
 module _ (P : Program) (m n : Alternative) where
-  unsaid-end : (x : VarId) → IsPart (declared_of P x.0) (range_of n x.0) → (act : Act) (kind : Kind) → is_variable (written_by act) x ≡ true → Stays P (effect_inside act kind) m → Bears (effect_inside act kind) m n
-  unsaid-end x unsaid (Try (QueueReceive into) e) (Queue size lo hi) one stays = given P m n x into one unsaid lo hi stays
-  unsaid-end x unsaid (Try (QueueReceive into) e) kind one stays = tt
-  unsaid-end x unsaid (Move end buffer length (Some y)) kind one stays = given P m n x y one unsaid _ _ stays
-  unsaid-end x unsaid act kind one stays = cc
+  -- what a variable gets from its declared range, an alternative that has the whole range bears
+  free-bears : (e : Effect) (x : ℕ) → target_of e ≡ Some x → IsFree P x n → Stays P e m → Bears e m n
+  free-bears (Gives y lo hi) x is free stays =
+      let there : IsPart (declared_of P y.0) (range_of n y.0) = subst (λ k. IsFree P k n) (sym (same_Some _ _ is)) free in (
+        (omega (arith, ints, stays.0.0, there.0), omega (arith, ints, stays.0.1, there.1)),
+        (omega (arith, ints, stays.1.0, there.0), omega (arith, ints, stays.1.1, there.1)),
+      )
+  free-bears (Sets y left operator right) x is free stays = λ u v one other.
+      let there : IsPart (declared_of P y.0) (range_of n y.0) = subst (λ k. IsFree P k n) (sym (same_Some _ _ is)) free in
+      let inside = stays u v one other in
+      (omega (arith, ints, inside.0, there.0), omega (arith, ints, inside.1, there.1))
+  free-bears e x is free stays = cc
 
-  unsaid-number : (x : VarId) → IsPart (declared_of P x.0) (range_of n x.0) → (side : Side) (i : Instr) → is_variable (written side i) x ≡ true → Stays P (effect_of P side i) m → Bears (effect_of P side i) m n
-  unsaid-number x unsaid Before (Set y l op r) one stays = λ u v left right.
-      let inside = stays u v left right in
-      let whole = there P m n x y one unsaid in
-      (omega (arith, ints, inside.0, whole.0), omega (arith, ints, inside.1, whole.1))
-  unsaid-number x unsaid Before (Pick y lo hi) one stays = given P m n x y one unsaid lo hi stays
-  unsaid-number x unsaid Inside (Calls (On call)) one stays = unsaid-end x unsaid call.act (kind_of P call.object.0) one stays
-  unsaid-number x unsaid side i one stays = cc
+  -- an alternative that doesn't speak of an object bears that it is created or deleted
+  unclaimed-bears : (e : Effect) (o : ℕ) → made_of e ≡ Some o → IsUnclaimed o n → Bears e m n
+  unclaimed-bears (Life k) o is unclaimed = subst (λ j. IsUnclaimed j n) (sym (same_Some _ _ is)) unclaimed
+  unclaimed-bears e o is unclaimed = cc
 
-  unsaid-life : (o : ObjId) → IsUnsaid P (Life o) n → (side : Side) (i : Instr) → is_object (made side i) o ≡ true → Bears (effect_of P side i) m n
-  unsaid-life o unsaid Before (Calls (Create kind j e)) one = life j one
-    where
-      life : (j : ObjId) → nat_eq j.0 o.0 ≡ true → Bears (effect_of P Before (Calls (Create kind j e))) m n
-      life j one = let is : j.0 ≡ o.0 = grind (arith, one) in rw (is) unsaid
-  unsaid-life o unsaid Before (Calls (Delete kind j)) one =
-      let is : j.0 ≡ o.0 = grind (arith, one) in rw (is) unsaid
-  unsaid-life o unsaid side i one = cc
+module _ (P : Program) (free : IsFaultless P) (notes : List Note) (p q : Point) (at : IsPoint P q) where
+  -- so no such point disturbs a note that doesn't speak of the variable, or of the object
+  pub free-undisturbed : (x : ℕ) → target_of (effect_at P q) ≡ Some x → StaysAt P notes q →
+      All (λ n. IsFree P x n) (note_at P notes p) → Undisturbed P notes p q
+  free-undisturbed x is stays free_of =
+      borne-undisturbed P free notes p q at (λ k m l j n h. free-bears P _ _ (effect_at P q) x is (free_of j n h) (stays k m l))
 
-  unsaid-bears : (changed : Changed) → IsUnsaid P changed n → (side : Side) (i : Instr) → changes changed side i ≡ true → Stays P (effect_of P side i) m → Bears (effect_of P side i) m n
-  unsaid-bears Anything unsaid side i can stays = absurd unsaid
-  unsaid-bears (Number x) unsaid side i can stays = unsaid-number x unsaid side i can stays
-  unsaid-bears (Life o) unsaid side i can stays = unsaid-life o unsaid side i can
+  pub unclaimed-undisturbed : (o : ℕ) → made_of (effect_at P q) ≡ Some o → All (λ n. IsUnclaimed o n) (note_at P notes p) →
+      Undisturbed P notes p q
+  unclaimed-undisturbed o is unclaimed =
+      borne-undisturbed P free notes p q at (λ k m l j n h. unclaimed-bears P _ _ (effect_at P q) o is (unclaimed j n h))
 
--- what the instruction of a changer can change
-pub changer-instr : (P : Program) (changed : Changed) (q : Point) (i : Instr) → instr_of P q ≡ Some i → is_changer P changed q ≡ true → changes changed q.side i ≡ true
-changer-instr P changed q i is can = subst (λ x. changes_at changed q.side x ≡ true) is can
-
--- so where a note doesn't speak of it, no such point disturbs the note
-pub unsaid-undisturbed : (P : Program) → IsFaultless P → (notes : List Note) → AllStay P notes → (p q : Point) → IsPoint P q → (changed : Changed) → is_changer P changed q ≡ true →
-    All (λ n. IsUnsaid P changed n) (note_at P notes p) → Undisturbed P notes p q
-unsaid-undisturbed P free notes stay p q at changed can unsaid =
-    borne-undisturbed P free notes p q at.0 at.1 (λ k m l j n h.
-    unsaid-bears P _ _ changed (unsaid j n h) q.side at.0 (changer-instr P changed q at.0 at.1 can) (stay q at at.0 at.1 k m l))
+  -- a point that changes nothing disturbs nobody
+  pub still-undisturbed : effect_at P q ≡ Nothing → Undisturbed P notes p q
+  still-undisturbed still =
+      let borne : AllBear (effect_at P q) (note_at P notes q) (note_at P notes p)
+            = subst (λ e. AllBear e (note_at P notes q) (note_at P notes p)) (sym still) (λ k m l j n h. tt) in
+      borne-undisturbed P free notes p q at borne
 
 -- the variable that an application's step writes is there
-inside-target : (P : Program) (act : Act) (kind : Kind) → All (λ x. x.0 < length P.variables) (act_variables act) → HasTarget P (effect_inside act kind)
+inside-target : (P : Program) (act : Act) (kind : Kind) → All (λ x. x.0 < length P.variables) (act_variables act) →
+    HasTarget P (effect_inside act kind)
 inside-target P (Try (QueueReceive into) e) (Queue size lo hi) names = names 0 into (omega arith)
 inside-target P (Move end buffer n (Some x)) kind names = names 0 x (omega arith)
 inside-target P act kind names = tt
@@ -112,11 +97,3 @@ has-target P Before (Calls call) names = by_call call
 has-target P Inside (Calls (On call)) names = inside-target P call.act (kind_of P call.object.0) names.0
 has-target P Before i names = tt
 has-target P Inside i names = tt
-
--- what the code tells of the mover's note says whether the steps from its point stay in declared ranges
-pub stays-told : (P : Program) (notes : List Note) (k : ℕ) (r q : Point) → slice_get (points_of P) k ≡ Some r → slice_get (points_of P) k ≡ Some q → (i : Instr) → instr_of P r ≡ Some i → (effect : Effect) → effect ≡ effect_of P r.side i →
-    (others : Note) → others ≡ note_at P notes r → (result : Bool) → (IsTrue result ↔ All (λ m. Stays P effect m) others) → (IsTrue result ↔ StaysAt P notes q)
-stays-told P notes k r q here there i at effect is others are result both = subst (λ x. IsTrue result ↔ StaysAt P notes x) (same-point P k r q here there) (
-  λ t j its. subst (λ y. All (λ m. Stays P (effect_of P r.side y) m) (note_at P notes r)) (same_Some i j (sym at ∙ its)) (subst (λ e. All (λ m. Stays P e m) (note_at P notes r)) is (subst (λ (n : Note). All (λ m. Stays P effect m) n) are (both.0 t))),
-  λ all. both.1 (subst (λ (n : Note). All (λ m. Stays P effect m) n) (sym are) (subst (λ e. All (λ m. Stays P e m) (note_at P notes r)) (sym is) (all i at))),
-)

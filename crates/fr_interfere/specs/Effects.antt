@@ -1,20 +1,22 @@
--- What a step can change of what the notes of other actors say. `AllStay` of `Staying`, which public contracts use, is
--- said by `Stays` and `effect_of`; so these two, and the words that they use (`effect_inside`, `declared_of`), are for
+-- What a step can change of what the notes of other actors say. The public contracts of `Index` are said by `effect_at`,
+-- `target_of`, `made_of` and `declared_of`; so these, and the words that they use (`effect_of`, `effect_inside`), are for
 -- public contracts. The other words are for private clauses.
 --
 -- | word                    | meaning                                                                          |
 -- |-------------------------|----------------------------------------------------------------------------------|
--- | effect_of               | what the steps from a side of an instruction can change                          |
+-- | effect_of, effect_at    | what the steps from a side of an instruction can change; those from a point      |
+-- | target_of, made_of      | the variable that an effect writes, the object that it creates or deletes        |
 -- | IsMade, IsWritten       | the effect is on this object's life; it gives this variable that number          |
 -- | IsSeen                  | all that a note of this actor can say is as it was, but for the effect           |
 -- | IsComputable, HasTarget | a product has a number among its factors; the variable that is written is there  |
 -- | declared_of             | the declared range of a variable                                                 |
 -- | Stays                   | a variable gets numbers of its declared range alone, as the mover's alternative  |
 -- |                         | says                                                                             |
--- | IsUnsaid                | an alternative says of a variable or of an object no more than each one does     |
+-- | IsFree, IsUnclaimed     | an alternative says of a variable, or of an object, no more than each one does   |
 -- | Bears, EachBears,       | an alternative holds after an effect where it held before; each of a note's      |
 -- |   AllBear               | does; each does whichever alternative the mover has                              |
-use Rattle.std.specs.Prelude.{◌≡◌, ◌<◌, ◌≤ℤ◌, ◌⊎◌, ℕ, ℤ, pos, Some, All, length}
+use Rattle.std.specs.Prelude.{◌≡◌, ◌<◌, ◌≤ℤ◌, ◌⊎◌, ℕ, ℤ, pos, Option, None, Some, All, length}
+use Rattle.fr_program.specs.declared.ids.Point.{Point}
 use Rattle.fr_program.specs.declared.ids.Side.{Side}
 use Rattle.fr_program.specs.declared.ids.Side.TheVariants.{Before, Inside}
 use Rattle.fr_program.specs.declared.instr.Instr.{Instr}
@@ -26,10 +28,8 @@ use Rattle.fr_program.specs.declared.instr.Attempt.TheVariants.{QueueReceive}
 use Rattle.fr_program.specs.declared.instr.Operator.TheVariants.{Times}
 use Rattle.fr_program.specs.declared.parts.Kind.{Kind}
 use Rattle.fr_program.specs.declared.parts.Kind.TheVariants.{Queue}
-use Rattle.fr_program.specs.declared.changers.Changed.{Changed}
-use Rattle.fr_program.specs.declared.changers.Changed.TheVariants.{Anything, Number, Life as LifeOf}
 use Rattle.fr_program.specs.Program.{Program}
-use Rattle.fr_program.specs.Lookup.{variable_at}
+use Rattle.fr_program.specs.Lookup.{instr_of, variable_at}
 use Rattle.fr_program.specs.Fault.{IsConstant}
 use Rattle.fr_calls.specs.State.{State, content_of, value_of, depth_of, suspension_of, kind_of}
 use Rattle.fr_calls.specs.Rule.{operand_of, result_of}
@@ -56,6 +56,25 @@ effect_of P Before (Calls (Create kind o e)) = Life o
 effect_of P Before (Calls (Delete kind o)) = Life o
 effect_of P Inside (Calls (On call)) = effect_inside call.act (kind_of P call.object.0)
 effect_of P side i = Nothing
+
+-- the same of an instruction that may be missing, and of a point
+abbrev pub effect_by : Program → Side → Option Instr → Effect
+effect_by P side None = Nothing
+effect_by P side (Some i) = effect_of P side i
+
+abbrev pub effect_at : Program → Point → Effect
+effect_at P q = effect_by P q.side (instr_of P q)
+
+-- the variable that an effect writes
+abbrev pub target_of : Effect → Option ℕ
+target_of (Gives x lo hi) = Some x.0
+target_of (Sets x left operator right) = Some x.0
+target_of effect = None
+
+-- the object that it creates or deletes
+abbrev pub made_of : Effect → Option ℕ
+made_of (Life o) = Some o.0
+made_of effect = None
 
 -- the effect is on the life of this object
 abbrev pub IsMade : Effect → ℕ → Type 0
@@ -113,9 +132,10 @@ Stays P (Gives x lo hi) m = Within (declared_of P x.0) lo × Within (declared_of
 Stays P (Sets x l op r) m = (u v : ℤ) → CanBeIn (range_of m) l u → CanBeIn (range_of m) r v → Within (declared_of P x.0) (result_of op u v)
 Stays P effect m = Unit {0}
 
--- the alternative says of the variable no more than its declared range, of the object no more than that the actor
--- doesn't hold it
-abbrev pub IsUnsaid : Program → Changed → Alternative → Type 0
-IsUnsaid P Anything n = ⊥
-IsUnsaid P (Number x) n = IsPart (declared_of P x.0) (range_of n x.0)
-IsUnsaid P (LifeOf o) n = claim_of n o.0 ≡ NotHeld
+-- the alternative says of the variable no more than its declared range
+abbrev pub IsFree : Program → ℕ → Alternative → Type 0
+IsFree P x n = IsPart (declared_of P x) (range_of n x)
+
+-- it says of the object no more than that the actor doesn't hold it
+abbrev pub IsUnclaimed : ℕ → Alternative → Type 0
+IsUnclaimed o n = claim_of n o ≡ NotHeld

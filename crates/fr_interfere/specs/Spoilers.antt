@@ -4,16 +4,19 @@
 -- |--------------------------|--------------------------------------------------------------------------------|
 -- | IsFirstOf                | the number of a point that disturbs the note, where none of some points with   |
 -- |                          | a lesser one does; or none of them does                                        |
--- | IsChanger, ChangesBelow  | the steps from a point can change this; they can change one of the first ones  |
+-- | IsListed                 | the point's number is in the list                                              |
+-- | WritesInside, MakesOne   | its steps write this variable, and stay in the declared range; they create or  |
+-- |                          | delete this object                                                             |
+-- | IsBelow                  | so it is of one of the first variables or objects                              |
 -- | least_of                 | the lesser number, where there are two                                         |
-use Rattle.std.specs.Prelude.{◌≡◌, ◌<◌, ℕ, List, Option, None, Some, true, nat_le, if◌then◌else◌}
+use Rattle.std.specs.Prelude.{◌≡◌, ◌<◌, ℕ, List, Option, None, Some, Contains, nat_le, if◌then◌else◌}
 use Rattle.fr_program.specs.declared.ids.Point.{Point}
-use Rattle.fr_program.specs.declared.changers.Changed.{Changed}
 use Rattle.fr_program.specs.Program.{Program}
 use Rattle.fr_program.specs.Lookup.{IsPoint}
 use Rattle.fr_program.specs.Points.{point_number}
-use Rattle.fr_program.specs.Changers.{is_changer}
 use Rattle.fr_notes.specs.Note.{Note}
+use Rattle.fr_interfere.specs.Effects.{effect_at, target_of, made_of}
+use Rattle.fr_interfere.specs.Staying.{StaysAt}
 use Rattle.fr_interfere.specs.Undisturbed.{Undisturbed}
 
 -- none of these points disturbs p's note; or the point with this number does, and none of these with a lesser number
@@ -23,13 +26,21 @@ IsFirstOf P notes p Among (Some k) =
     (q : Point) × IsPoint P q × (point_number P q ≡ k) × (Undisturbed P notes p q → ⊥)
     × ((other : Point) → IsPoint P other → Among other → point_number P other < k → Undisturbed P notes p other)
 
--- the steps from the point can change this
-abbrev pub IsChanger : Program → Changed → Point → Type 0
-IsChanger P changed q = is_changer P changed q ≡ true
+-- the point's number is in the list
+abbrev pub IsListed : Program → List ℕ → Point → Type 0
+IsListed P numbers q = Contains numbers (point_number P q)
 
--- they can change the number of one of so many variables, or the life of one of so many objects
-abbrev pub ChangesBelow : Program → (ℕ → Changed) → ℕ → Point → Type 0
-ChangesBelow P changed bound q = (k : ℕ) × (k < bound) × IsChanger P (changed k) q
+-- its steps write this variable, and give it numbers of its declared range alone where the point's note holds
+abbrev pub WritesInside : Program → List Note → ℕ → Point → Type 0
+WritesInside P notes x q = (target_of (effect_at P q) ≡ Some x) × StaysAt P notes q
+
+-- its steps create or delete this object
+abbrev pub MakesOne : Program → ℕ → Point → Type 0
+MakesOne P o q = made_of (effect_at P q) ≡ Some o
+
+-- so it is of one of the first variables or objects
+abbrev pub IsBelow : (ℕ → Point → Type 0) → ℕ → Point → Type 0
+IsBelow IsSo bound q = (k : ℕ) × (k < bound) × IsSo k q
 
 -- the lesser number, where there are two
 abbrev pub least_of : Option ℕ → Option ℕ → Option ℕ

@@ -1,17 +1,18 @@
 // What a step can change of what the notes of other actors say.
-ghost use Rattle.std.specs.Prelude.{◌≡◌, ◌⊎◌, ◌↔◌, ℤ, IsTrue, All};
+ghost use Rattle.std.specs.Prelude.{◌≡◌, ◌<◌, ◌⊎◌, ◌↔◌, ℤ, IsTrue, All, Some, length, slice_get};
+ghost use Rattle.fr_program.specs.declared.ids.Point.{Point as PointOf};
 ghost use Rattle.fr_program.specs.Fault.{IsConstant, NamesThings};
-ghost use Rattle.fr_program.specs.Changers.{IsThere};
+ghost use Rattle.fr_program.specs.Points.{points_of};
 ghost use Rattle.fr_calls.specs.Rule.{result_of};
 ghost use Rattle.fr_notes.specs.Fits.{AlternativeFits, NoteFits};
 ghost use Rattle.fr_notes.specs.Note.{Within, claim_of, range_of};
 ghost use Rattle.fr_notes.specs.Reckoning.{CanBeIn};
 ghost use Rattle.fr_notes.specs.View.{ends_of};
-ghost use Rattle.fr_interfere.specs.Effects.{effect_inside, effect_of, IsComputable, Bears, EachBears, AllBear, HasTarget, Stays, IsUnsaid};
+ghost use Rattle.fr_interfere.specs.Effects.{effect_inside, effect_of, effect_at, target_of, made_of, IsComputable, Bears, EachBears, AllBear, HasTarget, Stays, IsFree, IsUnclaimed};
 
 use fr_notes::{Alternative, Claim, Known, Note};
 use fr_program::{
-    Act, App, Attempt, Call, Changed, Instr, Kind, ObjId, Operand, Operator, Range, Side, VarId,
+    Act, App, Attempt, Call, Instr, Kind, ObjId, Operand, Operator, Range, Side, VarId,
 };
 
 /// What the steps from a side of an instruction can change of what the notes of other actors say.
@@ -34,6 +35,29 @@ pub enum Effect {
         operator: Operator,
         right: Operand,
     },
+}
+
+impl Effect {
+    /// The number of the variable that it writes.
+    pub fn target(self) -> Option<usize>
+        ensures { result ≡ target_of self }
+    {
+        match self {
+            Effect::Gives { into, .. } => Some(into.0),
+            Effect::Sets { target, .. } => Some(target.0),
+            _ => None,
+        }
+    }
+
+    /// The number of the object that it creates or deletes.
+    pub fn made(self) -> Option<usize>
+        ensures { result ≡ made_of self }
+    {
+        match self {
+            Effect::Life(object) => Some(object.0),
+            _ => None,
+        }
+    }
 }
 
 /// What the end of an object call can change: a receive gives its variable a value of the queue, a
@@ -97,6 +121,22 @@ pub fn effect_of(app: &App, side: Side, instr: &Instr) -> Effect
             effect_inside(call.act, app.kind(call.object))
         }
         _ => Effect::Nothing,
+    }
+}
+
+/// What the steps from the point with this number can change.
+pub fn effect_at(app: &App, number: usize) -> Effect
+    requires { number < length (points_of app.now) }
+    ensures is { (q : PointOf) → slice_get (points_of app.now) number ≡ Some q →
+        result ≡ effect_at app.now q }
+    ensures computable { IsComputable result }
+    ensures target { HasTarget app.now result }
+{
+    app.recall_faultless();
+    let point = app.point(number);
+    match app.instr(point) {
+        Some(instr) => effect_of(app, point.side, instr),
+        None => Effect::Nothing,
     }
 }
 
@@ -206,28 +246,29 @@ pub fn stays(app: &App, effect: Effect, mover: &Alternative) -> bool
     }
 }
 
-/// Whether the alternative says no more of the variable or the object than every alternative does: of a
-/// variable its declared range, of an object that the actor doesn't hold it.
-fn is_unsaid(app: &App, alternative: &Alternative, changed: Changed) -> bool
-    requires { IsThere app.now changed }
-    ensures { IsTrue result ↔ IsUnsaid app.now changed alternative.now }
+/// Whether the alternative says no more of the variable than its declared range.
+fn leaves_free(app: &App, alternative: &Alternative, variable: VarId) -> bool
+    requires { variable.0 < length app.now.variables }
+    ensures { IsTrue result ↔ IsFree app.now variable.0 alternative.now }
 {
-    match changed {
-        Changed::Anything => false,
-        Changed::Number(variable) => app.range(variable).within(alternative.range(variable)),
-        Changed::Life(object) => says_nothing(alternative, object),
-    }
+    app.range(variable).within(alternative.range(variable))
 }
 
-/// Whether each alternative of the note says no more of the variable or the object than every
-/// alternative does.
-pub fn is_unsaid_by_each(app: &App, note: &Note, changed: Changed) -> bool
-    requires { IsThere app.now changed }
-    ensures { IsTrue result ↔ All (λ n. IsUnsaid app.now changed n) note.now }
+/// Whether no alternative of the note says more of the variable than its declared range.
+pub fn is_free(app: &App, note: &Note, variable: VarId) -> bool
+    requires { variable.0 < length app.now.variables }
+    ensures { IsTrue result ↔ All (λ n. IsFree app.now variable.0 n) note.now }
 {
     note.alternatives().iter().all(
         |alternative|
-            requires { IsThere app.now changed }
-        { is_unsaid(app, alternative, changed) },
+            requires { variable.0 < length app.now.variables }
+        { leaves_free(app, alternative, variable) },
     )
+}
+
+/// Whether no alternative of the note says more of the object than that the actor doesn't hold it.
+pub fn is_unclaimed(note: &Note, object: ObjId) -> bool
+    ensures { IsTrue result ↔ All (λ n. IsUnclaimed object.0 n) note.now }
+{
+    note.alternatives().iter().all(|alternative| says_nothing(alternative, object))
 }

@@ -1,12 +1,15 @@
 // What a point owes to the steps of other actors: none of them disturbs its note. Steps are looked at by what they can
-// change: most change nothing that another actor's note says.
+// change: most change nothing that another actor's note says. An index lists the points that change something.
 #![tactic(auto)]
 
 mod disturbance;
 mod effects;
+mod index;
+mod interference;
 mod spoilers;
 mod staying;
 
 pub use disturbance::undisturbed;
-pub use spoilers::{spoiler, spoiler_given};
-pub use staying::all_stay;
+pub use index::Index;
+pub use interference::{Interference, spoiler_by};
+pub use spoilers::spoiler;

@@ -1,29 +1,34 @@
 // The first point whose steps disturb a point's note.
-ghost use Rattle.std.specs.Prelude.{◌≡◌, ◌<◌, IsTrue, Some, length, slice_get};
+ghost use Rattle.std.specs.Prelude.{◌≡◌, ◌<◌, All, AllPairs, Some, length, slice_get};
 ghost use Rattle.fr_program.specs.declared.ids.Point.{Point};
-ghost use Rattle.fr_program.specs.Changers.{IsThere, number_at, life_at};
 ghost use Rattle.fr_program.specs.Points.{points_of};
 ghost use Rattle.fr_notes.specs.Fits.{NotesFit};
 ghost use Rattle.fr_interfere.specs.Disturbance.{IsSpoiler};
-ghost use Rattle.fr_interfere.specs.Spoilers.{IsFirstOf, IsChanger, ChangesBelow, least_of};
-ghost use Rattle.fr_interfere.specs.Staying.{AllStay};
+ghost use Rattle.fr_interfere.specs.Index.{IsIndexOf};
+ghost use Rattle.fr_interfere.specs.Spoilers.{IsFirstOf, IsListed, WritesInside, MakesOne, IsBelow, least_of};
 
 use crate::disturbance::undisturbed;
-use crate::effects::is_unsaid_by_each;
-use crate::staying::all_stay;
+use crate::effects::{is_free, is_unclaimed};
+use crate::index::Index;
 use fr_notes::Notes;
-use fr_program::{App, Changed, ObjId, VarId};
+use fr_program::{App, ObjId, VarId};
 
-/// The least number of a point whose steps can change this and disturb the point's note.
-fn first_changer(app: &App, notes: &Notes, number: usize, changed: Changed) -> Option<usize>
+/// The first of these points, whose numbers rise, that disturbs the point's note.
+pub fn first_listed(
+    app: &App,
+    notes: &Notes,
+    number: usize,
+    listed: &[usize],
+) -> Option<usize>
     requires number { number < length (points_of app.now) }
     requires fit { NotesFit app.now notes.now }
-    requires there { IsThere app.now changed }
+    requires rising { AllPairs (λ j k. j < k) listed.now }
+    requires below { All (λ k. k < length (points_of app.now)) listed.now }
     ensures { (p : Point) → slice_get (points_of app.now) number ≡ Some p →
-        IsFirstOf app.now notes.now p (IsChanger app.now changed) result }
+        IsFirstOf app.now notes.now p (IsListed app.now listed.now) result }
 {
     app.recall_numbered();
-    for other in app.changers(changed) {
+    for other in listed {
         if !undisturbed(app, notes, number, *other) {
             return Some(*other);
         }
@@ -31,26 +36,58 @@ fn first_changer(app: &App, notes: &Notes, number: usize, changed: Changed) -> O
     None
 }
 
-/// The least number of a point whose steps can change this and disturb the point's note. Where the note
-/// says nothing of it, no point is looked at.
-fn first_speaker(app: &App, notes: &Notes, number: usize, changed: Changed) -> Option<usize>
+/// The first point that disturbs the point's note by a number that it gives the variable, within its
+/// declared range. Where the note says nothing of the variable, no point is looked at.
+fn first_writer_of(
+    app: &App,
+    notes: &Notes,
+    index: &Index,
+    number: usize,
+    variable: VarId,
+) -> Option<usize>
     requires number { number < length (points_of app.now) }
     requires fit { NotesFit app.now notes.now }
-    requires there { IsThere app.now changed }
-    requires stay { AllStay app.now notes.now }
+    requires index { IsIndexOf app.now index.now }
+    requires variable { variable.0 < length app.now.variables }
     ensures { (p : Point) → slice_get (points_of app.now) number ≡ Some p →
-        IsFirstOf app.now notes.now p (IsChanger app.now changed) result }
+        IsFirstOf app.now notes.now p (WritesInside app.now notes.now variable.0) result }
 {
     app.recall_faultless();
-    if is_unsaid_by_each(app, notes.at(app, number), changed) {
+    app.recall_numbered();
+    if is_free(app, notes.at(app, number), variable) {
         None
     } else {
-        first_changer(app, notes, number, changed)
+        first_listed(app, notes, number, index.writers(variable))
+    }
+}
+
+/// The first point that disturbs the point's note by creating or deleting the object. Where the note says
+/// nothing of the object, no point is looked at.
+fn first_maker_of(
+    app: &App,
+    notes: &Notes,
+    index: &Index,
+    number: usize,
+    object: ObjId,
+) -> Option<usize>
+    requires number { number < length (points_of app.now) }
+    requires fit { NotesFit app.now notes.now }
+    requires index { IsIndexOf app.now index.now }
+    requires object { object.0 < length app.now.objects }
+    ensures { (p : Point) → slice_get (points_of app.now) number ≡ Some p →
+        IsFirstOf app.now notes.now p (MakesOne app.now object.0) result }
+{
+    app.recall_faultless();
+    app.recall_numbered();
+    if is_unclaimed(notes.at(app, number), object) {
+        None
+    } else {
+        first_listed(app, notes, number, index.lives(object))
     }
 }
 
 /// The lesser number, where there are two.
-fn lesser(one: Option<usize>, other: Option<usize>) -> Option<usize>
+pub fn lesser(one: Option<usize>, other: Option<usize>) -> Option<usize>
     ensures { result ≡ least_of one other }
 {
     match (one, other) {
@@ -60,64 +97,53 @@ fn lesser(one: Option<usize>, other: Option<usize>) -> Option<usize>
     }
 }
 
-/// The least number of a point that writes a variable and disturbs the point's note.
-fn first_writer(app: &App, notes: &Notes, number: usize) -> Option<usize>
+/// The first point that disturbs the point's note by a number that it gives a variable, within its
+/// declared range.
+pub fn first_writer(app: &App, notes: &Notes, index: &Index, number: usize) -> Option<usize>
     requires number { number < length (points_of app.now) }
     requires fit { NotesFit app.now notes.now }
-    requires stay { AllStay app.now notes.now }
+    requires index { IsIndexOf app.now index.now }
     ensures { (p : Point) → slice_get (points_of app.now) number ≡ Some p →
-        IsFirstOf app.now notes.now p (ChangesBelow app.now number_at (length app.now.variables)) result }
+        IsFirstOf app.now notes.now p (IsBelow (WritesInside app.now notes.now) (length app.now.variables)) result }
 {
     let mut least = None;
     for variable in 0..app.variables().len() {
-        let changed = Changed::Number(VarId(variable));
-        least = lesser(least, first_speaker(app, notes, number, changed));
+        let writer = first_writer_of(app, notes, index, number, VarId(variable));
+        least = lesser(least, writer);
     }
     least
 }
 
-/// The least number of a point that creates or deletes an object and disturbs the point's note.
-fn first_maker(app: &App, notes: &Notes, number: usize) -> Option<usize>
+/// The first point that disturbs the point's note by creating or deleting an object.
+pub fn first_maker(app: &App, notes: &Notes, index: &Index, number: usize) -> Option<usize>
     requires number { number < length (points_of app.now) }
     requires fit { NotesFit app.now notes.now }
-    requires stay { AllStay app.now notes.now }
+    requires index { IsIndexOf app.now index.now }
     ensures { (p : Point) → slice_get (points_of app.now) number ≡ Some p →
-        IsFirstOf app.now notes.now p (ChangesBelow app.now life_at (length app.now.objects)) result }
+        IsFirstOf app.now notes.now p (IsBelow (MakesOne app.now) (length app.now.objects)) result }
 {
     let mut least = None;
     for object in 0..app.objects().len() {
-        let changed = Changed::Life(ObjId(object));
-        least = lesser(least, first_speaker(app, notes, number, changed));
+        let maker = first_maker_of(app, notes, index, number, ObjId(object));
+        least = lesser(least, maker);
     }
     least
 }
 
-/// The same as `spoiler`, for many points of one application and its notes. `stay` is the answer of
-/// `all_stay`, which the caller asks once for all points. Where it is false, every point whose steps
-/// can change something is looked at. Takes no memory.
-pub fn spoiler_given(app: &App, notes: &Notes, stay: bool, number: usize) -> Option<usize>
-    requires number { number < length (points_of app.now) }
-    requires fit { NotesFit app.now notes.now }
-    requires stay { IsTrue stay → AllStay app.now notes.now }
-    ensures { (p : Point) → slice_get (points_of app.now) number ≡ Some p →
-        IsSpoiler app.now notes.now p result }
-{
-    app.recall_faultless();
-    if stay {
-        let writer = first_writer(app, notes, number);
-        lesser(writer, first_maker(app, notes, number))
-    } else {
-        first_changer(app, notes, number, Changed::Anything)
-    }
-}
-
 /// The least number of a point whose steps disturb the note of the point with this number; None
-/// where no step of another actor does. The notes fit the application. Takes no memory.
+/// where no step of another actor does. The notes fit the application. Every point is looked at. Takes
+/// no memory.
 pub fn spoiler(app: &App, notes: &Notes, number: usize) -> Option<usize>
     requires number { number < length (points_of app.now) }
     requires fit { NotesFit app.now notes.now }
     ensures { (p : Point) → slice_get (points_of app.now) number ≡ Some p →
         IsSpoiler app.now notes.now p result }
 {
-    spoiler_given(app, notes, all_stay(app, notes), number)
+    app.recall_numbered();
+    for other in 0..app.points() {
+        if !undisturbed(app, notes, number, other) {
+            return Some(other);
+        }
+    }
+    None
 }

@@ -4,9 +4,11 @@ ghost use Rattle.fr_program.specs.declared.ids.Point.{Point};
 ghost use Rattle.fr_program.specs.Points.{points_of};
 ghost use Rattle.fr_notes.specs.Fits.{AlternativeFits, NoteFits, NotesFit};
 ghost use Rattle.fr_interfere.specs.Effects.{HasTarget, IsComputable, Stays};
+ghost use Rattle.fr_interfere.specs.Index.{IsIndexOf};
 ghost use Rattle.fr_interfere.specs.Staying.{StaysAt, AllStay};
 
-use crate::effects::{Effect, effect_of, stays};
+use crate::effects::{Effect, effect_at, stays};
+use crate::index::Index;
 use fr_notes::{Note, Notes};
 use fr_program::App;
 
@@ -35,29 +37,22 @@ fn stays_at(app: &App, notes: &Notes, number: usize) -> bool
     ensures { (q : Point) → slice_get (points_of app.now) number ≡ Some q →
         (IsTrue result ↔ StaysAt app.now notes.now q) }
 {
-    app.recall_faultless();
-    app.recall_numbered();
-    let mover = app.point(number);
-    match app.instr(mover) {
-        None => true,
-        Some(instr) => stays_by_each(
-            app,
-            effect_of(app, mover.side, instr),
-            notes.at(app, number),
-        ),
-    }
+    let _point = app.point(number);
+    stays_by_each(app, effect_at(app, number), notes.at(app, number))
 }
 
 /// Whether the steps from every point, where its note holds, write only values in the declared range of
 /// the variable. Where that is so, a step can disturb a note only if it changes something that the note
-/// says. The notes fit the application. Takes no memory.
-pub fn all_stay(app: &App, notes: &Notes) -> bool
-    requires { NotesFit app.now notes.now }
-    ensures { IsTrue result ↔ AllStay app.now notes.now }
+/// says. Only the `set`s that can leave a range by the index are asked. Takes no memory.
+pub fn all_stay(app: &App, notes: &Notes, index: &Index) -> bool
+    requires fit { NotesFit app.now notes.now }
+    requires index { IsIndexOf app.now index.now }
+    ensures { IsTrue result → AllStay app.now notes.now }
 {
+    app.recall_faultless();
     app.recall_numbered();
-    for number in 0..app.points() {
-        if !stays_at(app, notes, number) {
+    for number in index.leavers() {
+        if !stays_at(app, notes, *number) {
             return false;
         }
     }

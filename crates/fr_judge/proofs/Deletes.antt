@@ -1,6 +1,6 @@
 -- A point whose steps don't delete the object of the call that another point is inside is no danger to that.
-use Rattle.std.proofs.Common.{◌≡◌, ℕ, ◌<◌, Option, Some, None, true, false, List, length, get_or, refl, subst, arith}
-use Rattle.std.specs.Prelude.{Bool}
+use Rattle.std.proofs.Common.{◌≡◌, ℕ, ◌<◌, Option, Some, None, true, false, List, length, get_or, refl, ap, subst, arith, ⊎_elim}
+use Rattle.std.specs.Prelude.{Bool, nat_eq}
 use Rattle.std.proofs.lemmas.Option.{same_Some}
 use Rattle.fr_program.specs.declared.instr.Instr.{Instr}
 use Rattle.fr_program.specs.declared.instr.Instr.TheVariants.{Call as Calls}
@@ -12,11 +12,11 @@ use Rattle.fr_program.specs.declared.ids.Side.TheVariants.{Before, Inside}
 use Rattle.fr_program.specs.Program.{Program}
 use Rattle.fr_program.specs.Fault.{IsFaultless}
 use Rattle.fr_program.specs.Lookup.{IsPoint, instr_of}
-use Rattle.fr_program.specs.Points.{point_number}
+use Rattle.fr_program.specs.Points.{points_of, point_number}
 use Rattle.fr_program.proofs.PointLaws.{points_are_numbered}
-use Rattle.fr_program.specs.declared.changers.Changed.TheVariants.{Life}
-use Rattle.fr_program.specs.Changers.{changes_at, is_changer, changers_of}
-use Rattle.fr_program.proofs.ChangerLists.{AreChecked, checked-point}
+use Rattle.fr_interfere.specs.Effects.{effect_at, effect_by, made_of}
+use Rattle.fr_interfere.specs.Index.{Lists}
+use Rattle.fr_interfere.proofs.IndexLaws.{AreChecked, checked-point, in-list, listed-point}
 use Rattle.fr_notes.specs.Note.{Note}
 use Rattle.fr_ends.specs.Guarded.{deleted_before, Near}
 use Rattle.fr_ends.specs.Nearness.{used_inside, are_same}
@@ -27,21 +27,25 @@ module _ (P : Program) (notes : List Note) (p q : Point) where
   outside-near out = near-unused P p q notes (rw out refl)
 
   -- a point that neither creates nor deletes the object is no danger
-  pub undeleted-near : (o : ObjId) → used_inside p.side (instr_of P p) ≡ Some o → is_changer P (Life o) q ≡ false → Near P notes p q
+  pub undeleted-near : (o : ObjId) → used_inside p.side (instr_of P p) ≡ Some o → (made_of (effect_at P q) ≡ Some o.0 → ⊥) → Near P notes p q
   undeleted-near o used still = near-unused P p q notes (rw used (apart q.side (instr_of P q) still))
     where
-      apart : (s : Side) (instr : Option Instr) → changes_at (Life o) s instr ≡ false → are_same (Some o) (deleted_before s instr) ≡ false
-      apart Before (Some (Calls (Delete kind n))) e = grind (arith, e)
-      apart s instr e = refl
+      apart : (s : Side) (instr : Option Instr) → (made_of (effect_by P s instr) ≡ Some o.0 → ⊥) → are_same (Some o) (deleted_before s instr) ≡ false
+      apart Before (Some (Calls (Delete kind n))) still = by_test (nat_eq o.0 n.0) refl
+        where
+          by_test : (b : Bool) → nat_eq o.0 n.0 ≡ b → are_same (Some o) (Some n) ≡ false
+          by_test true e = let same : n.0 ≡ o.0 = grind (arith, e) in absurd (still (ap (λ k. Some k) same))
+          by_test false e = e
+      apart s instr still = refl
 
 -- where those of the object's creates and deletes whose places come before are none, no delete with such a place is
-pub checked-near : (P : Program) (notes : List Note) (p : Point) (o : ObjId) → used_inside p.side (instr_of P p) ≡ Some o → (items : List ℕ) → items ≡ changers_of P (Life o) →
-    (bound : ℕ) → AreChecked P (λ q. Near P notes p q) items bound → (q : Point) → IsPoint P q → ((j : ℕ) → j < length items → get_or items j 0 ≡ point_number P q → j < bound) → Near P notes p q
-checked-near P notes p o used items same bound checked q at place = by_change (is_changer P (Life o) q) refl
-  where
-    by_change : (b : Bool) → is_changer P (Life o) q ≡ b → Near P notes p q
-    by_change true e = checked-point P (Life o) items same (λ r. Near P notes p r) (points_are_numbered P) bound checked q at e place
-    by_change false e = undeleted-near P notes p q o used e
+pub checked-near : (P : Program) (notes : List Note) (p : Point) (o : ObjId) → used_inside p.side (instr_of P p) ≡ Some o → (items : List ℕ) →
+    Lists P (λ e. made_of e ≡ Some o.0) (length (points_of P)) items → (bound : ℕ) → AreChecked P (λ q. Near P notes p q) items bound →
+    (q : Point) → IsPoint P q → ((j : ℕ) → j < length items → get_or items j 0 ≡ point_number P q → j < bound) → Near P notes p q
+checked-near P notes p o used items lists bound checked q at place = ⊎_elim
+    (λ listed. checked-point P (λ r. Near P notes p r) items (points_are_numbered P) bound checked q at listed place)
+    (λ not. undeleted-near P notes p q o used (λ made. not (listed-point P (λ e. made_of e ≡ Some o.0) items (points_are_numbered P) lists q at made)))
+    (in-list items (point_number P q))
 
 -- the object of a call is one of the application's
 pub used-there : (P : Program) → IsFaultless P → (p : Point) (o : ObjId) → used_inside p.side (instr_of P p) ≡ Some o → o.0 < length P.objects

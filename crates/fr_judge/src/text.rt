@@ -8,9 +8,10 @@ ghost use Rattle.fr_judge.specs.Told.{Speaks};
 ghost use Rattle.fr_judge.specs.Texts.{IsJudged, IsFaultOfTexts};
 
 use crate::part::Verdict;
-use crate::verdict::judge;
+use crate::verdict::judge_by;
 use fr_cert::{CertFault, read_cert};
 use fr_ends::Certificate;
+use fr_interfere::Index;
 use fr_program::App;
 use fr_reader::{ReadFault, read_app};
 use std::alloc::Global;
@@ -25,8 +26,8 @@ pub struct Judged {
 /// Why there is no verdict.
 #[derive(Debug, Drop)]
 pub enum TextFault {
-    /// An allocation was refused. No call gives it today: a refused allocation comes inside `App` or
-    /// `Cert`, and their `is_memory` tells it.
+    /// An allocation was refused after both were read. One that is refused while they are read comes
+    /// inside `App` or `Cert`, and their `is_memory` tells it.
     Memory,
     /// The application's bytes are refused.
     App(ReadFault),
@@ -65,8 +66,8 @@ pub fn read_both(
 /// Ok is the application that the first bytes mean, and the verdict on it and on the certificate
 /// that the second ones mean: one function of the bytes. Where the verdict is
 /// `Yes`, no state of any run of the application breaches any of the twelve rules. A refusal names
-/// a fault that is present in the bytes, the application's before the certificate's; `is_memory` of
-/// both tells the refusal of an allocation.
+/// a fault that is present in the bytes, the application's before the certificate's; `Memory`, and
+/// `is_memory` of both, tell the refusal of an allocation.
 pub fn judge_text(alloc: Global, app: &[u8], certificate: &[u8]) -> Result<Judged, TextFault>
     ensures judged { IfOk result (λ judged. IsJudged app.now certificate.now judged.app judged.verdict) }
     ensures safe { IfOk result (λ judged. judged.verdict ≡ Verdict.Yes → IsSafe judged.app) }
@@ -74,6 +75,9 @@ pub fn judge_text(alloc: Global, app: &[u8], certificate: &[u8]) -> Result<Judge
     ensures stands { IfErr result (IsFaultOfTexts app.now certificate.now) }
 {
     let (app, certificate) = read_both(alloc, app, certificate)?;
-    let verdict = judge(&app, &certificate);
+    let Ok(index) = Index::build(alloc, &app) else {
+        return Err(TextFault::Memory);
+    };
+    let verdict = judge_by(&app, &certificate, &index);
     Ok(Judged { app, verdict })
 }

@@ -2,12 +2,15 @@
 use Rattle.std.specs.Prelude.{ℕ}
 use Rattle.fr_board.specs.Values.{PassValue}
 use Rattle.fr_ends.specs.Fits.{CertificateFits}
+use Rattle.fr_interfere.specs.Index.{IsIndexOf}
 use Rattle.fr_parallel.specs.declared.worker.Assignment.{Assignment}
 use Rattle.fr_parallel.specs.Kept.{IsFor, IsNewFor, IsWorkedBy, KeepsAt}
 
--- the board has a job for each point, and the certificate fits
-abbrev pub IsReady : Assignment → Type 0
-IsReady t = IsFor t.app.now t.board.now × CertificateFits t.app.now t.certificate.now
+-- the board has a job for each point, the certificate fits, and the index is the application's
+pub record IsReady (t : Assignment) : Type 0 where
+  pub jobs : IsFor t.app.now t.board.now
+  pub fits : CertificateFits t.app.now t.certificate.now
+  pub index : IsIndexOf t.app.now t.index.now
 
 -- a pass of the assignment's board that has done nothing
 abbrev pub IsNewOf : Assignment → PassValue → Type 0

@@ -11,7 +11,7 @@ ghost use Rattle.fr_parallel.specs.Kept.{IsNoCrew};
 
 use crate::fault::ParFault;
 use crate::gate::Gate;
-use crate::verdict::{is_crew, judge_by};
+use crate::verdict::{is_crew, judge_by_crew};
 use fr_cert::CertFault;
 use fr_judge::{Judged, TextFault, read_both};
 use fr_reader::ReadFault;
@@ -79,7 +79,7 @@ pub fn judge_bytes<R: Threads + Wait + Sync, G: Gate>(
         return Err(BytesFault::Par(ParFault::Workers));
     }
     let (app, certificate) = read_both(alloc, app, certificate)?;
-    match judge_by(rt, alloc, &app, &certificate, workers, gate) {
+    match judge_by_crew(rt, alloc, &app, &certificate, workers, gate) {
         Ok(verdict) => Ok(Judged { app, verdict }),
         Err(fault) => Err(BytesFault::Par(fault)),
     }

@@ -2,6 +2,7 @@
 ghost use Rattle.std.specs.Prelude.{◌≡◌, ◌≢◌, ◌<◌, length, All, IfOk, IfErr};
 ghost use Rattle.fr_parallel.specs.declared.fault.ParFault.TheVariants.{Workers};
 ghost use Rattle.fr_ends.specs.Fits.{CertificateFits};
+ghost use Rattle.fr_interfere.specs.Index.{IsIndexOf};
 ghost use Rattle.fr_parallel.specs.Kept.{IsFor, IsNewFor, IsWorked, IsWorkedBy};
 ghost use Rattle.fr_parallel.specs.Assignments.{IsDoneBy, IsNewOf, IsReady};
 
@@ -10,6 +11,7 @@ use crate::gate::Gate;
 use crate::worker::{Assignment, work};
 use fr_board::{Board, Pass};
 use fr_ends::Certificate;
+use fr_interfere::Index;
 use fr_program::App;
 use std::alloc::Global;
 use std::sync::Wait;
@@ -22,7 +24,6 @@ impl<'s> Promise<Pass> for Assignment<'s> {
     ghost kept_by = { λ t p. IsDoneBy t 1 p };
 }
 
-// Waits for the threads that were started.
 /// Joins the threads and lets their passes go.
 fn join_all<'s, R: Threads>(rt: &R, mut handles: Vec<PromisedHandle<Pass, Assignment<'s>>>) {
     while let Some(handle) = handles.pop() {
@@ -30,7 +31,6 @@ fn join_all<'s, R: Threads>(rt: &R, mut handles: Vec<PromisedHandle<Pass, Assign
     }
 }
 
-// One thread for each pass. Where one can't be started, those that were are joined.
 /// Starts a thread for each pass.
 fn start_all<'s, E, R: Threads, G: Gate>(
     rt: &R,
@@ -49,6 +49,7 @@ fn start_all<'s, E, R: Threads, G: Gate>(
     let Assignment {
         app,
         certificate,
+        index,
         board,
     } = assignment;
     let mut handles = Vec::new(alloc);
@@ -59,10 +60,11 @@ fn start_all<'s, E, R: Threads, G: Gate>(
             move || -> Pass
                 requires jobs { IsFor app.now board.now }
                 requires fits { CertificateFits app.now certificate.now }
+                requires index { IsIndexOf app.now index.now }
                 requires new { IsNewFor board.now pass }
                 ensures { IsWorked board.entry.now app.entry.now
                     certificate.entry.now result }
-            { work(app, certificate, board, pass, worker, gate) },
+            { work(app, certificate, index, board, pass, worker, gate) },
         ) else {
             join_all(rt, handles);
             return Err(ParFault::Threads);
@@ -79,7 +81,6 @@ fn start_all<'s, E, R: Threads, G: Gate>(
     Ok(handles)
 }
 
-// Joins all threads, and their passes into one.
 /// Joins the threads, and their passes into one.
 fn gather<'s, R: Threads>(
     rt: &R,
@@ -106,6 +107,7 @@ pub(crate) fn worked_by_all<R: Threads + Wait + Sync, G: Gate>(
     alloc: Global,
     app: &App,
     certificate: &Certificate,
+    index: &Index,
     board: &Board,
     passes: Vec<Pass>,
     gate: &G,
@@ -114,6 +116,7 @@ pub(crate) fn worked_by_all<R: Threads + Wait + Sync, G: Gate>(
     requires new { All (λ p. IsNewFor board.now p) passes.items }
     requires jobs { IsFor app.now board.now }
     requires fits { CertificateFits app.now certificate.now }
+    requires index { IsIndexOf app.now index.now }
     ensures all { IfOk result (λ p. IsWorkedBy board.now app.now
         certificate.now (length passes.items) p) }
     ensures fault { IfErr result (λ e. e ≢ Workers) }
@@ -126,6 +129,7 @@ pub(crate) fn worked_by_all<R: Threads + Wait + Sync, G: Gate>(
             requires new { All (λ p. IsNewFor board.now p) passes.items }
             requires jobs { IsFor app.now board.now }
             requires fits { CertificateFits app.now certificate.now }
+            requires index { IsIndexOf app.now index.now }
             ensures all { IfOk result (λ p. IsWorkedBy board.entry.now app.entry.now
                 certificate.entry.now (length passes.items) p) }
             ensures fault { IfErr result (λ e. e ≢ Workers) }
@@ -133,6 +137,7 @@ pub(crate) fn worked_by_all<R: Threads + Wait + Sync, G: Gate>(
             let assignment = Assignment {
                 app,
                 certificate,
+                index,
                 board,
             };
             let handles = start_all(rt, scope, alloc, assignment, passes, gate)?;

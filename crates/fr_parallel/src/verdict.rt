@@ -4,6 +4,7 @@ ghost use Rattle.fr_board.specs.Tally.{IsNewBoard, IsSeatCount};
 ghost use Rattle.fr_program.specs.Points.{points_of};
 ghost use Rattle.fr_calls.specs.Run.{IsSafe};
 ghost use Rattle.fr_ends.specs.Fits.{CertificateFits};
+ghost use Rattle.fr_interfere.specs.Index.{IsIndexOf};
 ghost use Rattle.fr_judge.specs.declared.part.Verdict.TheVariants.{Yes};
 ghost use Rattle.fr_judge.specs.Told.{TellsVerdict, Speaks};
 ghost use Rattle.fr_parallel.specs.declared.fault.ParFault.TheVariants.{Workers};
@@ -14,13 +15,13 @@ use crate::fault::ParFault;
 use crate::gate::Gate;
 use fr_board::{Board, BoardFault, Pass};
 use fr_ends::Certificate;
-use fr_judge::{Verdict, job};
+use fr_interfere::Index;
+use fr_judge::{Verdict, job_by};
 use fr_program::App;
 use std::alloc::Global;
 use std::sync::Wait;
 use std::thread::Threads;
 
-// Whether there can be so many workers.
 /// Whether there can be so many workers: 1 to 64.
 pub(crate) fn is_crew(workers: usize) -> bool
     ensures { IsTrue result ↔ IsSeatCount workers }
@@ -28,7 +29,6 @@ pub(crate) fn is_crew(workers: usize) -> bool
     0 < workers && workers <= 64
 }
 
-// A board with a job for each point, and a pass for each worker.
 /// A board with a job for each point and a pass for each worker.
 fn board_for(alloc: Global, app: &App, workers: usize) -> Result<(Board, Vec<Pass>), ParFault>
     requires { IsSeatCount workers }
@@ -44,15 +44,15 @@ fn board_for(alloc: Global, app: &App, workers: usize) -> Result<(Board, Vec<Pas
     }
 }
 
-// The verdict No, where the least point that fails has this number.
 /// The verdict No at the point with this number, the least that failed.
-fn refused_at(app: &App, certificate: &Certificate, number: usize) -> Verdict
+fn refused_at(app: &App, certificate: &Certificate, index: &Index, number: usize) -> Verdict
     requires fits { CertificateFits app.now certificate.now }
+    requires index { IsIndexOf app.now index.now }
     requires least { IsLeastFailing app.now certificate.now (Some number) }
     ensures verdict { TellsVerdict app.now certificate.now result }
     ensures speaks { Speaks app.now result }
 {
-    match job(app, certificate, number) {
+    match job_by(app, certificate, index, number) {
         Some(part) => Verdict::No {
             point: app.point(number),
             part,
@@ -61,22 +61,27 @@ fn refused_at(app: &App, certificate: &Certificate, number: usize) -> Verdict
     }
 }
 
-// The verdict, where the least point that fails has this number, or none does.
 /// The verdict where this number is the least that failed, if one did.
-fn verdict_at(app: &App, certificate: &Certificate, least: Option<u64>) -> Verdict
+fn verdict_at(
+    app: &App,
+    certificate: &Certificate,
+    index: &Index,
+    least: Option<u64>,
+) -> Verdict
     requires fits { CertificateFits app.now certificate.now }
+    requires index { IsIndexOf app.now index.now }
     requires least { IsLeastFailing app.now certificate.now least }
     ensures verdict { TellsVerdict app.now certificate.now result }
     ensures speaks { Speaks app.now result }
 {
     match least {
         None => Verdict::Yes,
-        Some(number) => refused_at(app, certificate, number as usize),
+        Some(number) => refused_at(app, certificate, index, number as usize),
     }
 }
 
 /// The same as `judge_with`, by 1 to 64 workers.
-pub(crate) fn judge_by<R: Threads + Wait + Sync, G: Gate>(
+pub(crate) fn judge_by_crew<R: Threads + Wait + Sync, G: Gate>(
     rt: &R,
     alloc: Global,
     app: &App,
@@ -91,11 +96,14 @@ pub(crate) fn judge_by<R: Threads + Wait + Sync, G: Gate>(
     ensures speaks { IfOk result (λ v. Speaks app.now v) }
     ensures fault { IfErr result (λ e. e ≢ Workers) }
 {
+    let Ok(index) = Index::build(alloc, app) else {
+        return Err(ParFault::Memory);
+    };
     let (board, passes) = board_for(alloc, app, workers)?;
-    let all = worked_by_all(rt, alloc, app, certificate, &board, passes, gate)?;
+    let all = worked_by_all(rt, alloc, app, certificate, &index, &board, passes, gate)?;
     app.recall_faultless();
     match board.finish(all) {
-        Ok(tally) => Ok(verdict_at(app, certificate, tally.least)),
+        Ok(tally) => Ok(verdict_at(app, certificate, &index, tally.least)),
         Err(_) => unreachable!(),
     }
 }
@@ -126,5 +134,5 @@ pub fn judge_with<R: Threads + Wait + Sync, G: Gate>(
     if !is_crew(workers) {
         return Err(ParFault::Workers);
     }
-    judge_by(rt, alloc, app, certificate, workers, gate)
+    judge_by_crew(rt, alloc, app, certificate, workers, gate)
 }

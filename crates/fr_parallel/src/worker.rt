@@ -1,11 +1,11 @@
 // One worker's turn.
-ghost use Rattle.std.specs.Prelude.{◌≡◌, ◌<◌, IsTrue, Some};
+ghost use Rattle.std.specs.Prelude.{◌≡◌, ◌<◌, Some};
 ghost use Rattle.fr_board.specs.declared.progress.Outcome.TheVariants.{Open};
 ghost use Rattle.fr_board.specs.Drawn.{outcome_of};
 ghost use Rattle.fr_board.specs.Progress.{new_progress};
 ghost use Rattle.fr_board.specs.Values.{IsOf};
 ghost use Rattle.fr_ends.specs.Fits.{CertificateFits};
-ghost use Rattle.fr_interfere.specs.Staying.{AllStay};
+ghost use Rattle.fr_interfere.specs.Index.{IsIndexOf};
 ghost use Rattle.fr_parallel.specs.Kept.{IsFor, IsWorked};
 ghost use Rattle.fr_parallel.specs.Assignments.{IsReady, KeepsIn};
 ghost use Rattle.fr_parallel.specs.Worked.{Settles};
@@ -13,31 +13,32 @@ ghost use Rattle.fr_parallel.specs.Worked.{Settles};
 use crate::gate::Gate;
 use fr_board::{Board, Claim, Pass};
 use fr_ends::Certificate;
-use fr_interfere::all_stay;
-use fr_judge::job_given;
+use fr_interfere::{Index, Interference};
+use fr_judge::job_beside;
 use fr_program::App;
 
-/// What workers work on: the points of an application, by a certificate that fits it, and the board that hands them out.
+/// What workers work on: the points of an application, by a certificate that fits it and its index, and the board that hands
+/// them out.
 #[derive(Clone, Copy)]
 pub(crate) struct Assignment<'s> {
     pub app: &'s App,
     pub certificate: &'s Certificate,
+    pub index: &'s Index,
     pub board: &'s Board,
 }
 
-// What a worker does with one claim: it leaves it where a lower number has failed, and judges it otherwise, with what
-// `all_stay` says of the notes.
-/// Looks, and then skips the claim or judges its point and marks it.
+/// Looks, and then skips the claim where a lower number has failed, or judges its point and marks it.
 fn settle<G: Gate>(
     assignment: Assignment,
-    stay: bool,
+    others: &Interference,
     pass: &mut Pass,
     claim: Claim,
     worker: usize,
     gate: &G,
 )
     requires ready { IsReady assignment }
-    requires stay { IsTrue stay → AllStay assignment.app.now assignment.certificate.now.notes }
+    requires app { others.now.app ≡ assignment.app.now }
+    requires notes { others.now.notes ≡ assignment.certificate.now.notes }
     requires own { IsOf assignment.board.now pass.old }
     requires number { claim < assignment.board.now.jobs }
     requires claim { outcome_of claim pass.old.progress.drawn ≡ Some Open }
@@ -51,13 +52,14 @@ fn settle<G: Gate>(
     }
     gate.arrive(worker, number);
     let (app, certificate) = (assignment.app, assignment.certificate);
-    match job_given(app, certificate, stay, number as usize) {
+    match job_beside(app, certificate, others, number as usize) {
         None => assignment.board.passed(pass, claim),
         Some(_) => assignment.board.failed(pass, claim),
     }
 }
 
-/// A worker's whole turn: it draws numbers of points until none is left, and says of each what it is.
+/// A worker's whole turn: it draws numbers of points until none is left, and says of each what it is, by the index of the
+/// application.
 ///
 /// After each draw it looks. Where a lower number has failed it leaves the point, and otherwise it arrives at the
 /// gate and judges the point. It takes no memory, and no lock is held while it judges.
@@ -68,6 +70,7 @@ fn settle<G: Gate>(
 pub fn work<G: Gate>(
     app: &App,
     certificate: &Certificate,
+    index: &Index,
     board: &Board,
     mut pass: Pass,
     worker: usize,
@@ -77,16 +80,18 @@ pub fn work<G: Gate>(
     requires new { pass.progress ≡ new_progress board.now.jobs 1 }
     requires jobs { IsFor app.now board.now }
     requires fits { CertificateFits app.now certificate.now }
+    requires index { IsIndexOf app.now index.now }
     ensures { IsWorked board.now app.now certificate.now result }
 {
     let assignment = Assignment {
         app,
         certificate,
+        index,
         board,
     };
-    let stay = all_stay(app, &certificate.notes);
+    let others = Interference::of(app, &certificate.notes, index);
     while let Some(claim) = board.draw(&mut pass) {
-        settle(assignment, stay, &mut pass, claim, worker, gate);
+        settle(assignment, &others, &mut pass, claim, worker, gate);
     }
     pass
 }

@@ -6,6 +6,4 @@ pub mod PairLemmas
 pub mod FaultLemmas
 pub mod PointLaws
 pub mod StartLemmas
-pub mod ChangerLemmas
-pub mod ChangerLists
 pub mod SpanLemmas

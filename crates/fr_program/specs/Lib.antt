@@ -10,7 +10,6 @@ pub mod Fault
 pub mod InstrFault
 pub mod ListFault
 pub mod PointNumbers
-pub mod Changers
 pub mod Built
 pub mod Spans
 pub mod WorkedPoints

@@ -3,12 +3,9 @@ ghost use Rattle.std.specs.Prelude.{◌≡◌, ◌≢◌, ◌<◌, ◌+◌, ◌^
 ghost use Rattle.fr_program.specs.Lookup.{HasSide, IsPoint};
 ghost use Rattle.fr_program.specs.Points.{points_of, point_number, side_number};
 ghost use Rattle.fr_program.specs.PointNumbers.{starts_from, PointsAreNumbered};
-ghost use Rattle.fr_program.specs.Changers.{IsThere, changers_of};
-ghost use Rattle.fr_program.specs.Built.{ListsChangers};
 ghost use Rattle.fr_program.specs.Fault.{IsFreeOf, IsFaultless};
 ghost use Rattle.fr_program.specs.View.{actor_of, program_of};
 
-use crate::changers::{Changed, Changers, instr_of};
 use crate::check::check_parts;
 use crate::fault::BuildFault;
 use crate::ids::{ActorId, ObjId, Point, Side, VarId};
@@ -27,8 +24,6 @@ pub struct App {
     points: Vec<Point>,
     /// By actor and instruction, the number of the point before it.
     starts: Vec<Vec<usize>>,
-    /// The points whose steps can change what the notes of other actors say.
-    changers: Changers,
 }
 
 impl Model for App {
@@ -51,8 +46,8 @@ impl App {
     ghost use Rattle.fr_program.specs.View.{variable_of, object_of};
 
     /// The application that the parts say: Ok exactly where no build fault is present and no
-    /// allocation was refused. The tables of points, the lists of changers and the list of names take
-    /// memory. Names are compared pair by pair, which is cheap since more than 160 are refused before.
+    /// allocation was refused. The tables of points and the list of names take memory. Names are
+    /// compared pair by pair, which is cheap since more than 160 are refused before.
     ///
     /// On a refusal the parts come back unchanged, with a fault that is present at the line or the
     /// actor that it names. Where several are present, which one is named is open. `Memory` says that
@@ -65,11 +60,10 @@ impl App {
         ensures returned { IfErr result (λ e. e.1 ≡ parts) }
     {
         match checked_table(alloc, &parts) {
-            Ok((Table { points, starts }, changers)) => Ok(App {
+            Ok(Table { points, starts }) => Ok(App {
                 parts,
                 points,
                 starts,
-                changers,
             }),
             Err(fault) => Err((fault, parts)),
         }
@@ -124,21 +118,7 @@ impl App {
     pub fn instr(&self, point: Point) -> Option<&Instr>
         ensures { option_copied result ≡ instr_of self.now point }
     {
-        instr_of(&self.parts, point)
-    }
-
-    /// The numbers, rising, of the points whose steps can change this part of what other actors' notes
-    /// say: the value of a variable, whether an object is live, or anything. The variable or the object
-    /// is one of the application's. Most points aren't among them.
-    pub fn changers(&self, changed: Changed) -> &[usize]
-        requires { IsThere self.now changed }
-        ensures { result.now ≡ changers_of self.now changed }
-    {
-        match changed {
-            Changed::Anything => &self.changers.anything,
-            Changed::Number(variable) => &self.changers.numbers[variable.0],
-            Changed::Life(object) => &self.changers.lives[object.0],
-        }
+        self.parts.actors.get(point.actor.0)?.code.get(point.pc)
     }
 
     /// What the object is, which is one of the application's.
@@ -217,20 +197,16 @@ fn number_from(start: usize, instr: Instr, side: Side) -> Option<usize>
     }
 }
 
-/// The tables of the points and the changers of these parts; else a fault that is present in them, or
-/// `Memory` where an allocation was refused.
-fn checked_table(alloc: Global, parts: &Parts) -> Result<(Table, Changers), BuildFault>
-    ensures points { IfOk result (λ t. t.0.points.items ≡ points_of (program_of parts.now)) }
+/// The table of the points of these parts; else a fault that is present in them, or `Memory` where an
+/// allocation was refused.
+fn checked_table(alloc: Global, parts: &Parts) -> Result<Table, BuildFault>
+    ensures points { IfOk result (λ t. t.points.items ≡ points_of (program_of parts.now)) }
     ensures starts { IfOk result
-        (λ t. map (λ v. v.items) t.0.starts.items ≡ starts_from 0 (program_of parts.now).actors) }
-    ensures changers { IfOk result
-        (λ t. ListsChangers (program_of parts.now) (points_of (program_of parts.now)) t.1) }
+        (λ t. map (λ v. v.items) t.starts.items ≡ starts_from 0 (program_of parts.now).actors) }
     ensures faultless { OnOk result (IsFaultless (program_of parts.now)) }
     ensures present { IfErr result
         (λ f. f ≢ BuildFault.Memory → IsFreeOf (program_of parts.now) f → ⊥) }
 {
     check_parts(alloc, parts)?;
-    let table = table_of(alloc, &parts.actors)?;
-    let changers = Changers::of(alloc, parts, &table.points)?;
-    Ok((table, changers))
+    table_of(alloc, &parts.actors)
 }

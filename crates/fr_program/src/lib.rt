@@ -4,7 +4,6 @@
 #![tactic(auto)]
 
 mod app;
-mod changers;
 mod check;
 mod fault;
 mod ids;
@@ -15,7 +14,6 @@ mod table;
 mod worked;
 
 pub use app::App;
-pub use changers::Changed;
 pub use check::{MOST_SIZE, MOST_TICKS, is_name};
 pub use fault::{BuildFault, CodeLine};
 pub use ids::{ActorId, ObjId, Point, Side, VarId};

@@ -20,6 +20,8 @@ mod files;
 mod filling;
 #[cfg(test)]
 mod guesses;
+mod index_lists;
+mod judged_alike;
 mod judged_files;
 #[cfg(test)]
 mod passing;
@@ -41,6 +43,7 @@ mod workers;
 use answer::{Answer, Call};
 use files::names_in;
 use fr_answer::MACHINE;
+use judged_alike::is_judged_alike;
 use row::{Cut, Row};
 use std::env;
 use std::io::{self, ErrorKind};
@@ -103,6 +106,18 @@ fn is_second_kept<R: Threads + Wait + Sync>(
     Ok(false)
 }
 
+/// Whether the row's files, where it has both, are judged alike by all pairs of points and by the index; and if not, prints it.
+fn is_alike(rt: &HostRuntime, row: &Row, cut: Option<Cut>) -> io::Result<bool> {
+    let (Some(app), Some(certificate)) = (row.app(cut), row.certificate(cut)) else {
+        return Ok(true);
+    };
+    if is_judged_alike(rt.alloc(), app, certificate)? {
+        return Ok(true);
+    }
+    println!(rt; "{}: judged otherwise by its index", row.name)?;
+    Ok(false)
+}
+
 /// Whether the row is answered as its files say, and if not, prints it with both answers.
 fn is_kept<R: Threads + Wait + Sync>(
     rt: &HostRuntime,
@@ -113,7 +128,7 @@ fn is_kept<R: Threads + Wait + Sync>(
     let (app, certificate) = (row.app(cut), row.certificate(cut));
     let call = Call::on_files(threads, rt.alloc(), app, certificate, &row.asked);
     if row.is_kept_by(&call) {
-        return is_second_kept(rt, threads, row, &call);
+        return Ok(is_alike(rt, row, cut)? && is_second_kept(rt, threads, row, &call)?);
     }
     tell_difference(rt, row, cut, &row.expected, &call)?;
     Ok(false)

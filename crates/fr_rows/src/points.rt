@@ -10,7 +10,7 @@ use crate::judged_files::Files;
 use crate::row::number;
 use fr_edge::{Own, own};
 use fr_ends::{guarded, near};
-use fr_interfere::{spoiler, undisturbed};
+use fr_interfere::{Index, spoiler, spoiler_by};
 use fr_judge::{Part, Verdict};
 use fr_notes::{implies, together};
 use fr_program::{App, Point};
@@ -112,32 +112,19 @@ fn near_part(files: &Files, one: usize, other: usize) -> Option<Part>
     }
 }
 
-/// The first point that disturbs the note, as `undisturbed` tells.
-fn first_disturbing(files: &Files, number: usize) -> Option<usize>
+/// The first point that disturbs the note, as `spoiler` tells. An error says that `spoiler_by` tells another one.
+fn spoiled_part(alloc: Global, files: &Files, number: usize) -> io::Result<Option<Part>>
     requires number { number < length (points_of files.now.app) }
     requires fit { NotesFit files.now.app files.now.certificate.notes }
 {
-    for other in 0..files.app.points() {
-        if !undisturbed(&files.app, &files.certificate.notes, number, other) {
-            return Some(other);
-        }
-    }
-    None
-}
-
-/// The first point that disturbs the note, as `spoiler` tells. An error says that `undisturbed` tells another one.
-fn spoiled_part(files: &Files, number: usize) -> io::Result<Option<Part>>
-    requires number { number < length (points_of files.now.app) }
-    requires fit { NotesFit files.now.app files.now.certificate.notes }
-{
-    let first = spoiler(&files.app, &files.certificate.notes, number);
-    if first != first_disturbing(files, number) {
-        return Err(wrong("undisturbed tells another point than spoiler"));
+    let (app, notes) = (&files.app, &files.certificate.notes);
+    let first = spoiler(app, notes, number);
+    let index = Index::build(alloc, app)?;
+    if first != spoiler_by(app, notes, &index, number) {
+        return Err(wrong("spoiler_by tells another point than spoiler"));
     }
     match first {
-        Some(other) if other < files.app.points() => {
-            Ok(Some(Part::Spoiled(files.app.point(other))))
-        }
+        Some(other) if other < app.points() => Ok(Some(Part::Spoiled(app.point(other)))),
         Some(_) => Err(wrong("spoiler tells no point")),
         None => Ok(None),
     }
@@ -177,7 +164,7 @@ pub fn answer_at(alloc: Global, asked: Asked, files: &Files, numbers: &str) -> i
             told(alloc, app, one, end.map(Part::Guard))
         }
         Asked::Near => told(alloc, app, one, near_part(files, one, other)),
-        Asked::Spoiler => told(alloc, app, one, spoiled_part(files, one)?),
+        Asked::Spoiler => told(alloc, app, one, spoiled_part(alloc, files, one)?),
         Asked::Implies => {
             let (note, implied) = (
                 certificate.notes.at(app, one),

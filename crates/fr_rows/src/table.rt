@@ -2,15 +2,16 @@
 //
 // about     what the table shows (for a reader)
 // args      what is asked of each case, a word: `own`, `guarded`, `near`, `spoiler`, `implies` and `together` ask of one point
-//           or two; `certificate` what is written for a certificate or why it is refused; `line` the same for a line of
-//           code; `words` the words of a run that a text gives
+//           or two; `index` asks for a list of the application's index; `certificate` what is written for a certificate or
+//           why it is refused; `line` the same for a line of code; `words` the words of a run that a text gives
 // app.toml  the application, with a `?` in the place of each text that a case gives
 // cert.json the certificate, likewise
-// cases     the cases, one a line: the numbers of the points, where points are asked about, then the texts that are put into
+// cases     the cases, one a line: the numbers of the points, where points are asked about, or the list; then the texts that are put into
 //           app.toml and cert.json, in their order, and last the answer, with ` | ` between them. An empty line, and one
 //           that begins with #, is for the reader
 use crate::files::{names_in, text_of, wrong};
 use crate::filling::filled;
+use crate::index_lists::list_answer;
 use crate::judged_files::Files;
 use crate::points::{Asked, answer_at};
 use crate::texts::{certificate_answer, line_answer, words_answer};
@@ -23,6 +24,7 @@ const BETWEEN: &str = " | ";
 #[derive(Clone, Copy)]
 enum Subject {
     Points(Asked),
+    Index,
     Certificate,
     Line,
     Words,
@@ -53,6 +55,7 @@ fn subject_named(word: &str) -> io::Result<Subject> {
         "spoiler" => Ok(Subject::Points(Asked::Spoiler)),
         "implies" => Ok(Subject::Points(Asked::Implies)),
         "together" => Ok(Subject::Points(Asked::Together)),
+        "index" => Ok(Subject::Index),
         "certificate" => Ok(Subject::Certificate),
         "line" => Ok(Subject::Line),
         "words" => Ok(Subject::Words),
@@ -129,6 +132,7 @@ impl Table {
         match self.subject {
             Subject::Words => words_answer(alloc, question),
             Subject::Line => line_answer(alloc, self.app.as_str(), question),
+            Subject::Index => list_answer(alloc, self.app.as_str(), question),
             Subject::Certificate => {
                 let (app, certificate) = self.files(alloc, Some(question))?;
                 certificate_answer(alloc, app.as_str(), certificate.as_str())

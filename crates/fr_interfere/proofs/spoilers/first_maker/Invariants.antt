@@ -1,10 +1,9 @@
 use Rattle.std.specs.Prelude.{◌≡◌, Some, slice_get}
 use Rattle.fr_program.specs.declared.ids.Point.{Point}
-use Rattle.fr_program.specs.Changers.{life_at}
 use Rattle.fr_program.specs.Points.{points_of}
-use Rattle.fr_interfere.specs.Spoilers.{IsFirstOf, ChangesBelow}
+use Rattle.fr_interfere.specs.Spoilers.{IsFirstOf, MakesOne, IsBelow}
 use Rattle.fr_interfere.proofs.spoilers.first_maker.Given as goal
 
 -- the first one so far
 abbrev pub invariant-loop-object : goal.invariant-loop-object
-invariant-loop-object l = (p : Point) → slice_get (points_of l.app) l.number ≡ Some p → IsFirstOf l.app l.notes p (ChangesBelow l.app life_at l.object) l.least
+invariant-loop-object l = (p : Point) → slice_get (points_of l.app) l.number ≡ Some p → IsFirstOf l.app l.notes p (IsBelow (MakesOne l.app) l.object) l.least

@@ -1,10 +1,9 @@
 use Rattle.std.specs.Prelude.{◌≡◌, Some, slice_get}
 use Rattle.fr_program.specs.declared.ids.Point.{Point}
-use Rattle.fr_program.specs.Changers.{number_at}
 use Rattle.fr_program.specs.Points.{points_of}
-use Rattle.fr_interfere.specs.Spoilers.{IsFirstOf, ChangesBelow}
+use Rattle.fr_interfere.specs.Spoilers.{IsFirstOf, WritesInside, IsBelow}
 use Rattle.fr_interfere.proofs.spoilers.first_writer.Given as goal
 
 -- the first one so far
 abbrev pub invariant-loop-variable : goal.invariant-loop-variable
-invariant-loop-variable l = (p : Point) → slice_get (points_of l.app) l.number ≡ Some p → IsFirstOf l.app l.notes p (ChangesBelow l.app number_at l.variable) l.least
+invariant-loop-variable l = (p : Point) → slice_get (points_of l.app) l.number ≡ Some p → IsFirstOf l.app l.notes p (IsBelow (WritesInside l.app l.notes) l.variable) l.least

@@ -1,36 +1,36 @@
-use Rattle.std.proofs.Common.{◌≡◌, ◌<◌, Some, refl, subst, arith, ⊎_elim}
-use Rattle.std.specs.Prelude.{slice_get}
-use Rattle.std.proofs.lemmas.Bool.{cases_lt}
+-- A leaver was asked, and each other point stays whatever its note says.
+use Rattle.std.proofs.Common.{length, sym, subst, arith, ⊎_elim}
+use Rattle.std.specs.Prelude.{Contains}
 use Rattle.fr_program.specs.Points.{points_of, point_number}
-use Rattle.fr_interfere.proofs.Lists.{get-below, get-there}
+use Rattle.fr_interfere.specs.Index.{CanLeave, Lists}
+use Rattle.fr_interfere.specs.Staying.{StaysAt}
+use Rattle.fr_interfere.proofs.IndexLaws.{checked-more, checked-point, in-list, numbers-below}
+use Rattle.fr_interfere.proofs.SpoilerLaws.{unlisted-stays}
 use Rattle.fr_interfere.proofs.staying.all_stay.Goals as goal
 
 pub loop-number-init : goal.loop-number-init
-loop-number-init c = λ k l q e. absurd (omega (arith, l))
+loop-number-init c = λ j l q e. absurd (omega (arith, l))
+
+pub stays_at-requires-clause-number : goal.stays_at-requires-clause-number
+stays_at-requires-clause-number c =
+    let P = c.args.app.now in
+    let items = c.leavers-number-items.result.now in
+    let lists = subst (Lists P (CanLeave P) (length (points_of P))) (sym c.leavers-number-items.ensures) c.requires.index.leavers in
+    numbers-below P (CanLeave P) items lists c.loop-number.number-index 0 c.loop-number-test.true
 
 pub loop-number-preserved : goal.loop-number-preserved
-loop-number-preserved c = λ k l q e.
-    let P = c.args.app.now in
-    ⊎_elim (λ less. c.loop-number.invariant k less q e) (λ more.
-    let last : k ≡ c.loop-number.number = omega (arith, l, more) in
-    (c.stays_at.ensures q (subst (λ j. slice_get (points_of P) j ≡ Some q) last e)).0 c.if-not-stays_at.false) (cases_lt k c.loop-number.number)
-
-pub returns-then-not-stays_at : goal.returns-then-not-stays_at
-returns-then-not-stays_at c = (
-  λ t. cc,
-  λ all.
-      let P = c.args.app.now in
-      let there = get-there (points_of P) c.loop-number.number (subst (λ n. c.loop-number.number < n) c.points-number-end.ensures c.loop-number-test.true) in
-      let listed = c.recall_numbered.ensures.listed c.loop-number.number there.0 there.1 in
-      let t = (c.stays_at.ensures there.0 there.1).1 (all there.0 listed.0) in
-      let f = c.if-not-stays_at.true in cc,
-)
+loop-number-preserved c =
+    checked-more c.args.app.now (λ q. StaysAt c.args.app.now c.args.notes.now q) c.leavers-number-items.result.now c.loop-number.number-index c.loop-number.invariant
+    (λ q e. (c.stays_at.ensures q e).0 c.if-not-stays_at.false)
 
 pub returns : goal.returns
-returns c = (
-  λ t q at.
-      let e = c.recall_numbered.ensures.at q at in
-      let below = get-below (points_of c.args.app.now) (point_number c.args.app.now q) q e in
-      c.loop-number.invariant (point_number c.args.app.now q) (omega (arith, below, c.points-number-end.ensures, c.loop-number-test.false)) q e,
-  λ all. refl,
-)
+returns c = λ t q at.
+    let P = c.args.app.now in
+    let items = c.leavers-number-items.result.now in
+    let same = c.leavers-number-items.ensures in
+    let numbered = c.recall_numbered.ensures in
+    ⊎_elim
+    (λ listed. checked-point P (λ r. StaysAt P c.args.notes.now r) items numbered c.loop-number.number-index c.loop-number.invariant q at
+    (subst (λ xs. Contains xs (point_number P q)) (sym same) listed) (λ j long is. omega (arith, long, c.loop-number-test.false)))
+    (λ not. unlisted-stays P c.recall_faultless.ensures c.args.notes.now numbered c.requires.fit c.args.index.now c.requires.index q at not)
+    (in-list c.args.index.now.leavers (point_number P q))

@@ -1,20 +1,35 @@
--- Where the point isn't inside a call, no delete is a danger to it.
-use Rattle.std.proofs.Common.{◌≡◌, Some, None, sym, ◌∙◌, subst}
-use Rattle.std.proofs.lemmas.Option.{same_Some}
-use Rattle.fr_program.specs.Lookup.{instr_of}
-use Rattle.fr_ends.specs.Nearness.{used_inside}
-use Rattle.fr_judge.proofs.Deletes.{outside-near, used-there}
+use Rattle.std.proofs.Common.{◌≡◌, ◌<◌, length, Some, subst, arith, ⊎_elim}
+use Rattle.std.specs.Prelude.{slice_get}
+use Rattle.std.proofs.lemmas.Bool.{cases_lt}
+use Rattle.fr_program.specs.Points.{points_of, point_number}
+use Rattle.fr_interfere.proofs.Lists.{get-below}
 use Rattle.fr_judge.proofs.deletion.deleter.Goals as goal
 
-pub first_delete-requires-clause-object : goal.first_delete-requires-clause-object
-first_delete-requires-clause-object c = used-there c.args.app.now c.recall_faultless.ensures c.point.result c.in-Some.object (sym c.used_inside.ensures ∙ c.in-Some.is)
+pub loop-other-init : goal.loop-other-init
+loop-other-init c = λ p here k l q e. absurd (omega (arith, l))
 
-pub returns-in-Some : goal.returns-in-Some
-returns-in-Some c = λ p e.
-    let same = same_Some _ _ (sym c.point.ensures ∙ e) in
-    c.first_delete.ensures p e (subst (λ r. used_inside r.side (instr_of c.args.app.now r) ≡ Some c.in-Some.object) same (sym c.used_inside.ensures ∙ c.in-Some.is))
+pub loop-other-preserved : goal.loop-other-preserved
+loop-other-preserved c = λ p here k l q e.
+    ⊎_elim (λ less. c.loop-other.invariant p here k less q e) (λ more.
+    let last : k ≡ c.loop-other.other = omega (arith, l, more) in
+    (c.near.ensures p q here (subst (λ j. slice_get (points_of c.args.app.now) j ≡ Some q) last e)).0 c.if-not-near.false) (cases_lt k c.loop-other.other)
 
-pub returns-in-None : goal.returns-in-None
-returns-in-None c = λ p e q.
-    let same = same_Some _ _ (sym c.point.ensures ∙ e) in
-    outside-near c.args.app.now c.args.notes.now p q (subst (λ r. used_inside r.side (instr_of c.args.app.now r) ≡ None) same (sym c.used_inside.ensures ∙ c.in-None.is))
+pub returns-then-not-near : goal.returns-then-not-near
+returns-then-not-near c = λ p here.
+    let P = c.args.app.now in
+    let numbered = c.recall_numbered.ensures in
+    let q = c.point.result in
+    let at = numbered.listed _ q c.point.ensures in (
+      at.0,
+      λ near.
+          let t = (c.near.ensures p q here c.point.ensures).1 near in
+          let f = c.if-not-near.true in cc,
+      λ other there less. c.loop-other.invariant p here (point_number P other) (omega (arith, at.1, less)) other (numbered.at other there),
+    )
+
+pub returns : goal.returns
+returns c = λ p here q is.
+    let P = c.args.app.now in
+    let e = c.recall_numbered.ensures.at q is in
+    let below = get-below (points_of P) (point_number P q) q e in
+    c.loop-other.invariant p here (point_number P q) (omega (arith, below, c.points-other-end.ensures, c.loop-other-test.false)) q e is

@@ -1,7 +1,7 @@
 use Rattle.std.specs.Prelude.{◌≡◌, Some, slice_get}
 use Rattle.fr_program.specs.declared.ids.Point.{Point}
 use Rattle.fr_program.specs.Points.{points_of}
-use Rattle.fr_program.proofs.ChangerLists.{AreChecked}
+use Rattle.fr_interfere.proofs.IndexLaws.{AreChecked}
 use Rattle.fr_ends.specs.Guarded.{Near}
 use Rattle.fr_judge.proofs.deletion.first_delete.Given as goal
 

@@ -1,0 +1,40 @@
+-- Where the note doesn't speak of the variable, no such step disturbs it; else each such step's point is in the list.
+use Rattle.std.proofs.Common.{◌≡◌, Some, length, sym, subst}
+use Rattle.std.specs.Prelude.{All}
+use Rattle.fr_program.specs.Points.{points_of}
+use Rattle.fr_interfere.specs.Effects.{target_of, IsFree}
+use Rattle.fr_interfere.specs.Index.{Lists}
+use Rattle.fr_interfere.specs.Spoilers.{IsListed, WritesInside}
+use Rattle.fr_interfere.proofs.IndexLaws.{listed-point, numbers-below}
+use Rattle.fr_interfere.proofs.SpoilerLaws.{first-fewer}
+use Rattle.fr_interfere.proofs.UnsaidLaws.{free-undisturbed}
+use Rattle.fr_interfere.proofs.spoilers.first_writer_of.Goals as goal
+
+pub returns-then-is_free : goal.returns-then-is_free
+returns-then-is_free c = λ p here q there writes.
+    let P = c.args.app.now in
+    let free = subst (λ note. All (λ n. IsFree P c.args.variable.0 n) note) (c.at.ensures.is p here) (c.is_free.ensures.0 c.if-is_free.true) in
+    free-undisturbed P c.recall_faultless.ensures c.args.notes.now p q there c.args.variable.0 writes.0 writes.1 free
+
+pub first_listed-requires-clause-rising : goal.first_listed-requires-clause-rising
+first_listed-requires-clause-rising c =
+    let P = c.args.app.now in
+    let k = c.args.variable.0 in
+    let lists = subst (Lists P (λ e. target_of e ≡ Some k) (length (points_of P))) (sym c.writers.ensures) (c.requires.index.writers k c.requires.variable) in
+    lists.rising
+
+pub first_listed-requires-clause-below : goal.first_listed-requires-clause-below
+first_listed-requires-clause-below c =
+    let P = c.args.app.now in
+    let k = c.args.variable.0 in
+    let lists = subst (Lists P (λ e. target_of e ≡ Some k) (length (points_of P))) (sym c.writers.ensures) (c.requires.index.writers k c.requires.variable) in
+    numbers-below P (λ e. target_of e ≡ Some k) c.writers.result.now lists
+
+pub returns-else-is_free : goal.returns-else-is_free
+returns-else-is_free c = λ p here.
+    let P = c.args.app.now in
+    let k = c.args.variable.0 in
+    let lists = subst (Lists P (λ e. target_of e ≡ Some k) (length (points_of P))) (sym c.writers.ensures) (c.requires.index.writers k c.requires.variable) in
+    first-fewer P c.args.notes.now p (IsListed P c.writers.result.now) (WritesInside P c.args.notes.now k)
+    (λ q at has. listed-point P (λ e. target_of e ≡ Some k) c.writers.result.now c.recall_numbered.ensures lists q at has.0)
+    c.first_listed.result (c.first_listed.ensures p here)
