@@ -125,14 +125,17 @@ fn rewritten(alloc: Global, app: &[u8], notes: &str) -> Option<String> {
 
 /// Whether the text is these lines, one right after the other.
 fn is_of_lines(text: &str, lines: &str) -> bool {
-    let mut rest = text;
-    for line in lines.lines() {
-        match rest.strip_prefix(line) {
-            Some(after) => rest = after,
-            None => return false,
+    let text = text.as_bytes();
+    let mut count: usize = 0;
+    for byte in lines.as_bytes() {
+        if *byte != b'\n' {
+            if text.get(count) != Some(byte) {
+                return false;
+            }
+            count = count.saturating_add(1);
         }
     }
-    rest.is_empty()
+    count == text.len()
 }
 
 #[test]
