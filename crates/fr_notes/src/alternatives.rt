@@ -10,22 +10,18 @@ use crate::notes::Notes;
 use fr_program::App;
 use std::alloc::Global;
 use std::marker::Model;
-use thiserror::Error;
 
 /// The most alternatives that a note has (this project's profile).
 pub const MOST_ALTERNATIVES: usize = 4;
 
 /// Why plain notes are not the alternatives of one note.
-#[derive(Clone, Copy, Debug, PartialEq, Eq, Error)]
+#[derive(Clone, Copy, Debug, PartialEq, Eq)]
 pub enum AltsFault {
     /// An allocation was refused.
-    #[error("0 Memory")]
     Memory,
     /// There are more than four.
-    #[error("1 TooMany")]
     TooMany,
     /// One of them is the note `Never`.
-    #[error("2 HasNever")]
     HasNever,
 }
 
@@ -44,7 +40,6 @@ impl Model for Alts {
     ghost view = { λ a. a.note };
 }
 
-// Whether the notes have at most four alternatives in all.
 /// Whether the notes have at most four alternatives together.
 fn are_few(notes: &[Note]) -> bool
     ensures { IsTrue result ↔ (length (joined notes.now) ≤ most_alternatives) }
@@ -60,15 +55,13 @@ fn are_few(notes: &[Note]) -> bool
     true
 }
 
-// Whether one of the notes has no alternative.
-/// Whether one of the notes is "never".
+/// Whether one of the notes has no alternative.
 fn has_never(notes: &[Note]) -> bool
     ensures { IsTrue result ↔ Any (λ note. note ≡ []) notes.now }
 {
     notes.iter().any(|note| note.alternatives().is_empty())
 }
 
-// Moves the alternatives of all notes behind the others, for which there is room.
 /// Appends the alternatives of all notes, for which there is room.
 fn join(alternatives: &mut Vec<Alternative>, notes: Vec<Note>)
     requires { vec_len alternatives.old + length (joined notes.items) ≤ vec_capacity alternatives.old }
@@ -86,6 +79,7 @@ fn join(alternatives: &mut Vec<Alternative>, notes: Vec<Note>)
 impl Alts {
     ghost use Rattle.fr_program.specs.Program.{Program};
     ghost use Rattle.fr_notes.specs.Fits.{NoteFits};
+    ghost use Rattle.fr_notes.specs.declared.alternatives.AltsFault.{AltsFault as AltsFaultOf};
 
     /// The note `Never`, with no alternative. Takes no memory.
     pub fn never(alloc: Global) -> Alts
@@ -105,13 +99,16 @@ impl Alts {
 
     /// The alternatives that plain notes are: Ok exactly where neither fault is present and no
     /// allocation was refused. `TooMany`: there are more than four. `HasNever`: one of them is the note
-    /// `Never`. On a refusal the notes come back.
+    /// `Never`. Of both faults, which one is named is open; `Memory` is named only where neither is
+    /// present. On a refusal the notes come back.
     pub fn build(alloc: Global, notes: Vec<Note>) -> Result<Alts, (AltsFault, Vec<Note>)>
         ensures same { IfOk result (λ alts. alts ≡ joined notes.items) }
         ensures few { OnOk result (length (joined notes.items) ≤ most_alternatives) }
         ensures some { OnOk result (All (λ note. note ≢ []) notes.items) }
         ensures fits { (P : Program) → All (NoteFits P) notes.items → IfOk result (NoteFits P) }
         ensures refused { IfErr result (λ e. e.0 ≢ AltsFault.Memory → IsPresent notes.items e.0) }
+        ensures memory { IfErr result
+            (λ e. e.0 ≡ AltsFault.Memory → (fault : AltsFaultOf) → IsPresent notes.items fault → ⊥) }
         ensures returned { IfErr result (λ e. e.1 ≡ notes) }
     {
         if has_never(&notes) {
@@ -132,7 +129,6 @@ impl Alts {
     }
 }
 
-// Moves the notes behind the others, for which there is room.
 /// Appends the note of each list of alternatives, for which there is room.
 fn take(notes: &mut Vec<Note>, alts: Vec<Alts>)
     requires { vec_len notes.old + length alts.items ≤ vec_capacity notes.old }

@@ -1,5 +1,5 @@
 // Alternatives that are made of their parts, and copies of them.
-ghost use Rattle.std.specs.Prelude.{◌≡◌, ◌≢◌, IfOk, IfErr, OnOk, IfSome, map};
+ghost use Rattle.std.specs.Prelude.{◌≡◌, ◌≢◌, IfOk, IfErr, OnOk, IfSome, IfNone, map};
 
 use crate::checks::check_note;
 use crate::claim::Claim;
@@ -38,8 +38,8 @@ impl Alternative {
     }
 
     /// The alternative with these depths in the critical section and of suspension, a claim for each
-    /// object and a range for each variable, by their numbers. None where it can't be built for the
-    /// application. Takes no memory.
+    /// object and a range for each variable, by their numbers. None exactly where it can't be built for
+    /// the application. Takes no memory.
     pub fn fitting(
         app: &App,
         crit: u8,
@@ -51,6 +51,12 @@ impl Alternative {
         ensures depths { IfSome result (λ n. (n.critical ≡ crit) × (n.suspended ≡ susp)) }
         ensures claims { IfSome result (λ n. n.claims ≡ claims.items) }
         ensures ranges { IfSome result (λ n. n.ranges ≡ map ends_of ranges.items) }
+        ensures none { IfNone result (AlternativeFits app.now (record {
+          critical = crit;
+          suspended = susp;
+          claims = claims.items;
+          ranges = map ends_of ranges.items;
+        }) → ⊥) }
     {
         let alternative = Alternative {
             crit,

@@ -3,35 +3,28 @@ ghost use Rattle.std.specs.Prelude.{◌≡◌};
 ghost use Rattle.fr_notes.specs.declared.fault.NoteFault.TheVariants.{Memory};
 
 use std::alloc::{AllocError, AllocFailed};
-use thiserror::Error;
 
-/// Why parts are no note. The numbers are those that a refused certificate shows.
-#[derive(Clone, Copy, Debug, PartialEq, Eq, Error)]
+/// Why parts are no note.
+#[derive(Clone, Copy, Debug, PartialEq, Eq)]
 pub enum NoteFault {
     /// An allocation was refused.
-    #[error("0 Memory")]
     Memory,
     /// A held count that is not 1 to 255, is not 1 on a plain mutex, is of no mutex, or is of an object
     /// that the application doesn't have.
-    #[error("1 Count")]
     Count,
     /// An object that is both live and dead, or both held and dead.
-    #[error("2 Lives")]
     Lives,
     /// A range that isn't inside the variable's declared one, or is of a variable that the application
     /// doesn't have.
-    #[error("3 Span")]
     Span,
 }
 
 /// Why notes are not the notes of an application.
-#[derive(Clone, Copy, Debug, PartialEq, Eq, Error)]
+#[derive(Clone, Copy, Debug, PartialEq, Eq)]
 pub enum NotesFault {
     /// An allocation was refused.
-    #[error("0 Memory")]
     Memory,
     /// There isn't one note for each point.
-    #[error("1 PointCount")]
     PointCount,
 }
 

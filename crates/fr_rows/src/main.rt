@@ -39,6 +39,8 @@ mod texts;
 mod want_of_memory;
 #[cfg(test)]
 mod workers;
+#[cfg(test)]
+mod workers_without_memory;
 
 use answer::{Answer, Call};
 use files::names_in;

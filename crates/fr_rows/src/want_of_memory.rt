@@ -46,6 +46,32 @@ actor = [{name="t", kind="task", code=["goto 0"]}]
 const TURNS_WRITTEN: &str =
     r#"{"ends":[{"buffer":"sb","end":"writer","guard":{"turn":"turn","values":{"t":1}}}],"notes":[[{"dead":["sb"],"live":["m"]},{"held":{"m":1},"range":{"turn":[1,1]}}]],"version":2}"#;
 
+/// A task that sends while a variable says that the buffer is there, and one that clears the variable and deletes the buffer,
+/// both under a mutex.
+const LIFE: &[u8] = br#"variable = [{name="up", lo=0, hi=1, init=1}]
+object = [{name="sb", kind="stream", size=64, live=true}, {name="m", kind="mutex", live=true}]
+actor = [
+ {name="u", kind="task", code=["xSemaphoreTake(m, portMAX_DELAY)", "if up == 0 goto 3", "xStreamBufferSend(sb, 8, 0)", "xSemaphoreGive(m)", "goto 0"]},
+ {name="k", kind="task", code=["xSemaphoreTake(m, portMAX_DELAY)", "if up == 0 goto 4", "set up = 0", "vStreamBufferDelete(sb)", "xSemaphoreGive(m)", "goto 0"]},
+]
+"#;
+
+/// Its certificate, whose notes have alternatives, on several lines.
+const LIFE_WRITTEN: &str =
+    r#"{"ends":[{"buffer":"sb","end":"writer","guard":{"sole":"u"}}],"notes":[
+[{"live":["sb","m"],"range":{"up":[1,1]}},{"live":["m"],"range":{"up":[0,0]}}],
+[{"live":["sb","m"],"range":{"up":[1,1]}},{"live":["m"],"range":{"up":[0,0]}}],
+[{"held":{"m":1},"live":["sb"],"range":{"up":[1,1]}},{"held":{"m":1},"range":{"up":[0,0]}}],
+{"held":{"m":1},"live":["sb"],"range":{"up":[1,1]}},{"held":{"m":1},"live":["sb"],"range":{"up":[1,1]}},
+[{"held":{"m":1},"live":["sb"],"range":{"up":[1,1]}},{"held":{"m":1},"range":{"up":[0,0]}}],
+[{"held":{"m":1},"live":["sb"],"range":{"up":[1,1]}},{"held":{"m":1},"range":{"up":[0,0]}}],
+[{"live":["sb","m"],"range":{"up":[1,1]}},{"live":["m"],"range":{"up":[0,0]}}],
+[{"live":["sb","m"],"range":{"up":[1,1]}},{"live":["m"],"range":{"up":[0,0]}}],
+[{"live":["sb","m"],"range":{"up":[1,1]}},{"live":["m"],"range":{"up":[0,0]}}],
+[{"held":{"m":1},"live":["sb"],"range":{"up":[1,1]}},{"held":{"m":1},"range":{"up":[0,0]}}],
+{"held":{"m":1},"live":["sb"],"range":{"up":[1,1]}},{"held":{"m":1},"live":["sb"],"range":{"up":[0,0]}},
+{"held":{"m":1},"range":{"up":[0,0]}},{"held":{"m":1},"range":{"up":[0,0]}},{"live":["m"],"range":{"up":[0,0]}}],"version":2}"#;
+
 /// Whether an allocation was refused.
 fn is_memory(fault: &TextFault) -> bool {
     match fault {
@@ -80,6 +106,7 @@ fn verdicts_and_refusals(rt: HostRuntime) {
     let (alloc, first) = (rt.alloc(), FIRST.as_bytes());
     assert!(rt; answers(alloc, first, FIRST_NOTES, "yes\n"));
     assert!(rt; answers(alloc, DELETED, DELETED_NOTES, "yes\n"));
+    assert!(rt; answers(alloc, LIFE, LIFE_WRITTEN.as_bytes(), "yes\n"));
     let no = "no: point 2 (t 2 before): rule 4: call not allowed in a critical section\n";
     assert!(rt; answers(alloc, DELAYED_INSIDE, DELAYED_NOTES, no));
     assert!(rt; answers(alloc, b"alarm = 1", FIRST_NOTES, "app 5 UnknownKey"));
@@ -96,15 +123,31 @@ fn rewritten(alloc: Global, app: &[u8], notes: &str) -> Option<String> {
     }
 }
 
+/// Whether the text is these lines, one right after the other.
+fn is_of_lines(text: &str, lines: &str) -> bool {
+    let text = text.as_bytes();
+    let mut count: usize = 0;
+    for byte in lines.as_bytes() {
+        if *byte != b'\n' {
+            if text.get(count) != Some(byte) {
+                return false;
+            }
+            count = count.saturating_add(1);
+        }
+    }
+    count == text.len()
+}
+
 #[test]
 fn certificates_that_are_written(rt: HostRuntime) {
-    for (app, notes) in [(FIRST.as_bytes(), FIRST_WRITTEN), (TURNS, TURNS_WRITTEN)] {
+    let first = (FIRST.as_bytes(), FIRST_WRITTEN);
+    for (app, notes) in [first, (TURNS, TURNS_WRITTEN), (LIFE, LIFE_WRITTEN)] {
         let text = match rewritten(rt.alloc(), app, notes) {
             None => rewritten(rt.alloc(), app, notes),
             text => text,
         };
         assert!(rt;
-            matches!(&text, Some(text) if text.as_str() == notes),
+            matches!(&text, Some(text) if is_of_lines(text.as_str(), notes)),
             "{notes}"
         );
     }

@@ -3,25 +3,19 @@ ghost use Rattle.std.specs.Prelude.{◌≡◌};
 ghost use Rattle.fr_runner.specs.declared.fault.RunFault.TheVariants.{Memory};
 
 use std::alloc::{AllocError, AllocFailed};
-use thiserror::Error;
 
 /// Why there is no machine, no entry or no trace.
-#[derive(Clone, Copy, Debug, PartialEq, Eq, Error)]
+#[derive(Clone, Copy, Debug, PartialEq, Eq)]
 pub enum RunFault {
     /// Memory was refused.
-    #[error("0 Memory")]
     Memory,
     /// More than 1,000,000 polls are asked for.
-    #[error("1 Polls")]
     Polls,
     /// A thread couldn't be started; those that were started have ended.
-    #[error("2 Threads")]
     Threads,
     /// No poll is left.
-    #[error("3 Spent")]
     Spent,
     /// The application has no such actor.
-    #[error("4 NoActor")]
     NoActor,
 }
 

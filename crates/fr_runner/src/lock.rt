@@ -1,5 +1,5 @@
 // The machine under the lock of a run, tied to the run that it is of.
-ghost use Rattle.std.specs.Prelude.{◌≡◌, ◌≢◌, ◌+◌, ℕ, List, [], length, IfOk, IfErr};
+ghost use Rattle.std.specs.Prelude.{◌≡◌, ◌≢◌, ℕ, List, [], IfOk, IfErr};
 ghost use Rattle.std.specs.Option.{ForSome};
 ghost use Rattle.fr_program.specs.Program.{Program};
 ghost use Rattle.fr_runner.specs.declared.fault.RunFault.TheVariants.{Polls, Spent, NoActor};
@@ -34,7 +34,7 @@ pub(crate) struct Locked<'a, K: Course> {
     of: PhantomData<K>,
     ghost of_app: { machine.approved.app ≡ K.app },
     ghost of_words: { machine.words ≡ K.words },
-    ghost of_polls: { length machine.entries + machine.left ≡ K.polls },
+    ghost of_polls: { machine.polls ≡ K.polls },
     ghost stops: { ForSome stop (λ f. (f ≢ Polls) × (f ≢ Spent) × (f ≢ NoActor)) },
 }
 
@@ -43,7 +43,7 @@ impl<'a, K: Course> Locked<'a, K> {
     pub(crate) fn new(machine: Machine<'a>) -> Locked<'a, K>
         requires app { machine.approved.app ≡ K.app }
         requires words { machine.words ≡ K.words }
-        requires polls { length machine.entries + machine.left ≡ K.polls }
+        requires polls { machine.polls ≡ K.polls }
     {
         Locked {
             machine,
@@ -76,7 +76,7 @@ impl<'a, K: Course> Locked<'a, K> {
     pub(crate) fn into_machine(self) -> Result<Machine<'a>, RunFault>
         ensures app { IfOk result (λ m. m.approved.app ≡ K.app) }
         ensures words { IfOk result (λ m. m.words ≡ K.words) }
-        ensures polls { IfOk result (λ m. length m.entries + m.left ≡ K.polls) }
+        ensures polls { IfOk result (λ m. m.polls ≡ K.polls) }
         ensures fault { IfErr result (λ f. (f ≢ Polls) × (f ≢ Spent) × (f ≢ NoActor)) }
     {
         let Locked {

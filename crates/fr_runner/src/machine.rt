@@ -1,5 +1,5 @@
 // A machine that runs an application that has passed, one poll at a time.
-ghost use Rattle.std.specs.Prelude.{◌≡◌, ◌≢◌, ◌<◌, ◌≤◌, ◌+◌, ◌↔◌, ℕ, [], ◌∷◌, ◌++◌, length, IsTrue, IsErrOf, IfOk, IfErr, OnOk, OnErr, Err};
+ghost use Rattle.std.specs.Prelude.{◌≡◌, ◌≢◌, ◌<◌, ◌≤◌, ◌+◌, ◌↔◌, ℕ, [], ◌∷◌, ◌++◌, length, IsTrue, IsErrOf, IfOk, IfErr, OnOk, OnErr};
 ghost use Rattle.fr_calls.specs.State.{Done, place_of, start};
 ghost use Rattle.fr_calls.specs.declared.rules.Rule.{Rule as RuleOf};
 ghost use Rattle.fr_calls.specs.Rule.{Breach};
@@ -20,14 +20,15 @@ use std::marker::Model;
 pub const MOST_POLLS: u64 = 1_000_000;
 
 /// An application that has passed, and where it is in a run of it: the entries so far replay from
-/// the start to the state, in which the note of each actor that isn't done holds.
+/// the start to the state, in which the note of each actor that isn't done holds, and each poll that
+/// it began with has given an entry or is left.
 #[derive(Drop)]
 pub struct Machine<'a> {
     passed: &'a Passed,
     words: Vec<u64>,
     entries: Vec<Entry>,
     state: State,
-    left: u64,
+    polls: u64,
 }
 
 impl<'a> Model for Machine<'a> {
@@ -58,7 +59,7 @@ impl<'a> Machine<'a> {
     ) -> Result<Machine<'a>, RunFault>
         ensures of { IfOk result (λ m. (m.approved ≡ passed.now) × (m.words ≡ words.now)) }
         ensures begins { IfOk result
-            (λ m. (m.entries ≡ []) × (m.state ≡ start passed.now.app) × (m.left ≡ polls)) }
+            (λ m. (m.entries ≡ []) × (m.state ≡ start passed.now.app) × (m.polls ≡ polls) × (m.left ≡ polls)) }
         ensures polls { IsErrOf result Polls ↔ (1000000 < polls) }
         ensures fault { IfErr result (λ f. (f ≢ Threads) × (f ≢ Spent) × (f ≢ NoActor)) }
     {
@@ -74,7 +75,7 @@ impl<'a> Machine<'a> {
             words,
             entries: Vec::new(alloc),
             state,
-            left: polls,
+            polls,
         })
     }
 
@@ -83,21 +84,24 @@ impl<'a> Machine<'a> {
     ///
     /// # Errors
     ///
-    /// `Spent` where no poll is left, `NoActor` where the application has no such actor, `Memory` where
-    /// memory is refused. After any of them the machine is as it was.
+    /// `Spent` exactly where no poll is left, `NoActor` exactly where one is left and the application has
+    /// no such actor, `Memory` where memory is refused. After any of them the machine is as it was.
     pub fn poll(&mut self, actor: ActorId) -> Result<Entry, RunFault>
         ensures entry { IfOk result (λ e. self.new.entries ≡ self.old.entries ++ e ∷ []) }
         ensures is { IfOk result (λ e. IsEntry self.old.approved.app
             (word_at self.old.words (length self.old.entries)) self.old.state e self.new.state) }
         ensures whose { IfOk result (λ e. actor_of e ≡ actor) }
         ensures spends { OnOk result (self.new.left + 1 ≡ self.old.left) }
-        ensures same { (self.new.approved ≡ self.old.approved) × (self.new.words ≡ self.old.words) }
+        ensures count { length self.new.entries + self.new.left ≡ self.new.polls }
+        ensures same { (self.new.approved ≡ self.old.approved) × (self.new.words ≡ self.old.words)
+            × (self.new.polls ≡ self.old.polls) }
         ensures err { OnErr result (self.new ≡ self.old) }
-        ensures spent { result ≡ Err Spent → self.old.left ≡ 0 }
-        ensures no_actor { result ≡ Err NoActor → length self.old.approved.app.actors ≤ actor.0 }
+        ensures spent { IsErrOf result Spent ↔ (self.old.left ≡ 0) }
+        ensures no_actor { IsErrOf result NoActor
+            ↔ ((0 < self.old.left) × (length self.old.approved.app.actors ≤ actor.0)) }
         ensures fault { IfErr result (λ f. (f ≢ Threads) × (f ≢ Polls)) }
     {
-        if self.left == 0 {
+        if self.left() == 0 {
             return Err(RunFault::Spent);
         }
         if actor.0 >= self.actors() {
@@ -107,7 +111,6 @@ impl<'a> Machine<'a> {
         let word = word_at(&self.words, self.entries.len());
         let entry = turn(self.passed, &mut self.state, actor, word)?;
         self.entries.push_reserved(entry);
-        self.left -= 1;
         Ok(entry)
     }
 
@@ -134,9 +137,10 @@ impl<'a> Machine<'a> {
 
     /// How many polls are left.
     pub fn left(&self) -> u64
-        ensures { result ≡ self.now.left }
+        ensures left { result ≡ self.now.left }
+        ensures count { length self.now.entries + result ≡ self.now.polls }
     {
-        self.left
+        self.polls - self.entries.len() as u64
     }
 
     /// The state after the entries so far: they replay to it from the start, the note of each actor
@@ -158,6 +162,7 @@ impl<'a> Machine<'a> {
     pub fn into_trace(self) -> Trace
         ensures entries { result.entries.items ≡ self.entry.entries }
         ensures words { result.words.items ≡ self.entry.words }
+        ensures count { length result.entries.items + self.entry.left ≡ self.entry.polls }
         ensures replays { Replays self.entry.approved.app result.words.items 0
             (start self.entry.approved.app) result.entries.items self.entry.state }
     {
@@ -166,7 +171,7 @@ impl<'a> Machine<'a> {
             words,
             entries,
             state: _,
-            left: _,
+            polls: _,
         } = self;
         Trace { entries, words }
     }

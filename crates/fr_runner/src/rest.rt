@@ -38,8 +38,7 @@ fn next_waiting(machine: &Machine, from: usize) -> Option<ActorId>
 /// Polls in actor order, while a poll is left and some actor isn't done.
 pub(crate) fn finish(machine: &mut Machine) -> Result<(), RunFault>
     ensures of { (machine.new.approved ≡ machine.old.approved) × (machine.new.words ≡ machine.old.words) }
-    ensures polls { OnOk result (length machine.new.entries + machine.new.left
-        ≡ length machine.old.entries + machine.old.left) }
+    ensures polls { machine.new.polls ≡ machine.old.polls }
     ensures done { OnOk result (0 < machine.new.left → AllDone machine.new.approved.app machine.new.state) }
     ensures fault { IfErr result (λ f. (f ≢ Polls) × (f ≢ Threads) × (f ≢ Spent) × (f ≢ NoActor)) }
 {

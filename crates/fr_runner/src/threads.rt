@@ -1,5 +1,5 @@
 // A run with a thread for each actor.
-ghost use Rattle.std.specs.Prelude.{◌≡◌, ◌≢◌, ◌<◌, ◌+◌, ◌↔◌, length, IfOk, IfErr, IsErrOf};
+ghost use Rattle.std.specs.Prelude.{◌≡◌, ◌≢◌, ◌<◌, ◌↔◌, IfOk, IfErr, IsErrOf};
 ghost use Rattle.fr_runner.specs.declared.fault.RunFault.TheVariants.{Polls, Spent, NoActor};
 ghost use Rattle.fr_runner.specs.Trace.{IsRunOf};
 
@@ -63,7 +63,7 @@ fn run_locked<'a, K: Course + Send, R: Threads + Wait + Sync, G: Gate>(
 ) -> Result<Trace, RunFault>
     requires app { machine.approved.app ≡ K.app }
     requires words { machine.words ≡ K.words }
-    requires polls { length machine.entries + machine.left ≡ K.polls }
+    requires polls { machine.polls ≡ K.polls }
     ensures run { IfOk result (λ t. IsRunOf K.app K.words K.polls t.entries.items) }
     ensures words { IfOk result (λ t. t.words.items ≡ K.words) }
     ensures fault { IfErr result (λ f. (f ≢ Polls) × (f ≢ Spent) × (f ≢ NoActor)) }

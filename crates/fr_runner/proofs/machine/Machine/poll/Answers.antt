@@ -1,8 +1,10 @@
--- The new entry is true from the state before it, so that with it the entries replay to the state after it.
-use Rattle.std.proofs.Common.{◌≡◌, ◌+◌, ◌++◌, ◌∷◌, [], length, sym, ◌∙◌, ap, subst, arith}
+-- The new entry is true from the state before it, so that with it the entries replay to the state after it; and it takes a
+-- poll that was left.
+use Rattle.std.proofs.Common.{◌≡◌, ◌<◌, ◌+◌, ◌-◌, ◌++◌, ◌∷◌, [], length, sym, ◌∙◌, ap, subst, arith}
 use Rattle.fr_calls.specs.State.{start}
+use Rattle.fr_runner.specs.Machine.{MachineOf}
 use Rattle.fr_runner.specs.Trace.{IsEntry, Replays, word_at}
-use Rattle.fr_runner.proofs.Replaying.{replays-push}
+use Rattle.fr_runner.proofs.Replaying.{replays-push, polls-add-up}
 use Rattle.fr_runner.proofs.machine.Machine.poll.Goals as goal
 
 pub invariant_of-self-2 : goal.invariant_of-self-2
@@ -19,7 +21,10 @@ invariant_of-self-2 c =
     let is = subst (λ w. IsEntry P w old.state e T) word c.in_ok-entry.ensures.entry in
     let more = replays-push P words 0 (start P) entries old.state e T c.self.invariant.replays is in
     let items = c.push_reserved.ensures.items ∙ ap (λ es. es ++ e ∷ []) kept in
+    let seen : c.left.result ≡ old.polls - length entries = c.left.ensures.left ∙ ap (λ (m : MachineOf). m.left) (sym c.self.view_is) in
+    let left : length entries < old.polls = omega (arith, seen, c.if-left-eq0.false) in
     record {
       replays = subst (λ es. Replays P words 0 (start P) es T) (sym items) more;
       notes = c.in_ok-entry.ensures.notes;
+      count = polls-add-up entries _ e old.polls items left;
     }
