@@ -47,13 +47,13 @@ module _ (P : Program) (IsSuch : Effect → Type 0) where
       rising = rises;
       exact = λ k. (
         λ c. ⊎_elim
-          (λ old. let at = (so_far.exact k).0 old in let l = at.0 in (omega (arith, l), at.1))
-          (λ new. (omega (arith, new), (q, subst (λ j. slice_get (points_of P) j ≡ Some q) new here, such)))
-          (Contains-push_cases xs n k c),
+            (λ old. let at = (so_far.exact k).0 old in let l = at.0 in (omega (arith, l), at.1))
+            (λ new. (omega (arith, new), (q, subst (λ j. slice_get (points_of P) j ≡ Some q) new here, such)))
+            (Contains-push_cases xs n k c),
         λ at. ⊎_elim
-          (λ less. Contains-append_left xs (n ∷ []) k ((so_far.exact k).1 (less, at.1)))
-          (λ more. let l = at.0 in let last : n ≡ k = omega (arith, l, more) in subst (Contains (xs ++ n ∷ [])) last (Contains-push xs n))
-          (cases_lt k n),
+            (λ less. Contains-append_left xs (n ∷ []) k ((so_far.exact k).1 (less, at.1)))
+            (λ more. let l = at.0 in let last : n ≡ k = omega (arith, l, more) in subst (Contains (xs ++ n ∷ [])) last (Contains-push xs n))
+            (cases_lt k n),
       );
     }
       where
@@ -82,13 +82,13 @@ module _ (P : Program) (IsSuch : Effect → Type 0) where
       exact = λ k. (
         λ c. let at = (so_far.exact k).0 c in let l = at.0 in (omega (arith, l), at.1),
         λ at. ⊎_elim
-          (λ less. (so_far.exact k).1 (less, at.1))
-          (λ more.
-          let l = at.0 in
-          let last : k ≡ n = omega (arith, l, more) in
-          let same = same_Some _ _ (sym here ∙ subst (λ j. slice_get (points_of P) j ≡ Some at.1.0) last at.1.1) in
-          absurd (other (subst (λ r. IsSuch (effect_at P r)) (sym same) at.1.2)))
-          (cases_lt k n),
+            (λ less. (so_far.exact k).1 (less, at.1))
+            (λ more.
+            let l = at.0 in
+            let last : k ≡ n = omega (arith, l, more) in
+            let same = same_Some _ _ (sym here ∙ subst (λ j. slice_get (points_of P) j ≡ Some at.1.0) last at.1.1) in
+            absurd (other (subst (λ r. IsSuch (effect_at P r)) (sym same) at.1.2)))
+            (cases_lt k n),
       );
     }
 
@@ -164,13 +164,25 @@ module _ (P : Program) (anywhere : Alternative) (declared : (x : ℕ) → range_
       Leaving = (u : ℤ) × (v : ℤ) × CanBeIn (declared_of P) l u × CanBeIn (declared_of P) r v × (Within target (result_of op u v) → ⊥)
 
       below : span.lo <ℤ target.0 → Leaving
-      below low = (s.lo.0, s.lo.1, as-declared l _ s.lo.2, as-declared r _ s.lo.3, λ inside.
-          let at = subst (λ z. target.0 ≤ℤ z) s.lo.4 inside.0 in omega (arith, ints, at, low))
+      below low = (
+        s.lo.0,
+        s.lo.1,
+        as-declared l _ s.lo.2,
+        as-declared r _ s.lo.3,
+        λ inside.
+            let at = subst (λ z. target.0 ≤ℤ z) s.lo.4 inside.0 in omega (arith, ints, at, low),
+      )
 
       above : target.0 ≤ℤ span.lo → Leaving
       above from = by_lt_z target.1 span.hi
-          (λ high. (s.hi.0, s.hi.1, as-declared l _ s.hi.2, as-declared r _ s.hi.3, λ inside.
-          let at = subst (λ z. z ≤ℤ target.1) s.hi.4 inside.1 in omega (arith, ints, at, high)))
+          (λ high. (
+            s.hi.0,
+            s.hi.1,
+            as-declared l _ s.hi.2,
+            as-declared r _ s.hi.3,
+            λ inside.
+                let at = subst (λ z. z ≤ℤ target.1) s.hi.4 inside.1 in omega (arith, ints, at, high),
+          ))
           (λ to. absurd (not (λ z inside. (omega (arith, ints, from, inside.0), omega (arith, ints, inside.1, to)))))
 
   pub span-stays : (l : Operand) (op : Operator) (r : Operand) (span : Range) → IsSpanIn (range_of anywhere) op l r span → (target : ℤ × ℤ) →

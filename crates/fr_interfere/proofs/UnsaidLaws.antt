@@ -75,7 +75,7 @@ module _ (P : Program) (free : IsFaultless P) (notes : List Note) (p q : Point) 
   pub still-undisturbed : effect_at P q ≡ Nothing → Undisturbed P notes p q
   still-undisturbed still =
       let borne : AllBear (effect_at P q) (note_at P notes q) (note_at P notes p)
-            = subst (λ e. AllBear e (note_at P notes q) (note_at P notes p)) (sym still) (λ k m l j n h. tt) in
+      = subst (λ e. AllBear e (note_at P notes q) (note_at P notes p)) (sym still) (λ k m l j n h. tt) in
       borne-undisturbed P free notes p q at borne
 
 -- the variable that an application's step writes is there

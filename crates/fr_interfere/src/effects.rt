@@ -270,5 +270,7 @@ pub fn is_free(app: &App, note: &Note, variable: VarId) -> bool
 pub fn is_unclaimed(note: &Note, object: ObjId) -> bool
     ensures { IsTrue result ↔ All (λ n. IsUnclaimed object.0 n) note.now }
 {
-    note.alternatives().iter().all(|alternative| says_nothing(alternative, object))
+    note.alternatives()
+        .iter()
+        .all(|alternative| says_nothing(alternative, object))
 }

@@ -138,12 +138,7 @@ impl Index {
     }
 
     /// Puts the point with this number into the lists that it belongs to.
-    fn enlist(
-        &mut self,
-        app: &App,
-        anywhere: &Alternative,
-        number: usize,
-    ) -> Result<(), AllocError>
+    fn enlist(&mut self, app: &App, anywhere: &Alternative, number: usize) -> Result<(), AllocError>
         requires number { number < length (points_of app.now) }
         requires anywhere { AlternativeFits app.now anywhere.now }
         requires declared { (x : ℕ) → range_of anywhere.now x ≡ declared_of app.now x }

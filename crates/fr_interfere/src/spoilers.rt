@@ -14,12 +14,7 @@ use fr_notes::Notes;
 use fr_program::{App, ObjId, VarId};
 
 /// The first of these points, whose numbers rise, that disturbs the point's note.
-pub fn first_listed(
-    app: &App,
-    notes: &Notes,
-    number: usize,
-    listed: &[usize],
-) -> Option<usize>
+pub fn first_listed(app: &App, notes: &Notes, number: usize, listed: &[usize]) -> Option<usize>
     requires number { number < length (points_of app.now) }
     requires fit { NotesFit app.now notes.now }
     requires rising { AllPairs (λ j k. j < k) listed.now }

@@ -1,5 +1,5 @@
 -- When one alternative says at least as much as another, part by part. `ClaimImplies` is for the public contract of
--- `Claim::implies`, and `IsPart` for `AllStay` of fr_interfere; the other words are for private clauses.
+-- `Claim::implies`; the other words, `IsPart` among them, are for private clauses.
 use Rattle.std.specs.Prelude.{◌≡◌, ◌≤ℤ◌, ℕ, ℤ, pos, List, length, slice_index_or, Any}
 use Rattle.fr_notes.specs.Note.{Alternative, Note, Claim, NotHeld, Alive, Gone, HeldTimes}
 
