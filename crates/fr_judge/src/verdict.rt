@@ -119,12 +119,7 @@ pub fn job(app: &App, certificate: &Certificate, number: usize) -> Option<Part>
 
 /// The same as `job`, by the index of that application: only points that can change something are looked
 /// at. Takes no memory.
-pub fn job_by(
-    app: &App,
-    certificate: &Certificate,
-    index: &Index,
-    number: usize,
-) -> Option<Part>
+pub fn job_by(app: &App, certificate: &Certificate, index: &Index, number: usize) -> Option<Part>
     requires number { number < length (points_of app.now) }
     requires fits { CertificateFits app.now certificate.now }
     requires index { IsIndexOf app.now index.now }

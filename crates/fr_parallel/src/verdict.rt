@@ -62,12 +62,7 @@ fn refused_at(app: &App, certificate: &Certificate, index: &Index, number: usize
 }
 
 /// The verdict where this number is the least that failed, if one did.
-fn verdict_at(
-    app: &App,
-    certificate: &Certificate,
-    index: &Index,
-    least: Option<u64>,
-) -> Verdict
+fn verdict_at(app: &App, certificate: &Certificate, index: &Index, least: Option<u64>) -> Verdict
     requires fits { CertificateFits app.now certificate.now }
     requires index { IsIndexOf app.now index.now }
     requires least { IsLeastFailing app.now certificate.now least }
