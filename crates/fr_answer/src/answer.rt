@@ -20,7 +20,6 @@ use std::io::Write;
 use std::sync::Wait;
 use std::thread::Threads;
 
-// The fault's line with its newline.
 /// The line of a fault with its newline.
 fn whole_line(alloc: Global, fault: &CheckFault) -> Result<String, AllocError>
     ensures { IfOk result (λ line. string_bytes line ≡ whole_line fault.now) }

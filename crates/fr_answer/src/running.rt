@@ -82,7 +82,10 @@ fn output<R: Threads + Wait + Sync, G: Gate>(
         return Err(CheckFault::Memory);
     };
     match Passed::check_by(app, certificate, &index) {
-        Ok(passed) => Ok((DONE, run_text(rt, alloc, &passed, polls, words, gate)?)),
+        Ok(passed) => match run_text(rt, alloc, &passed, polls, words, gate) {
+            Ok(text) => Ok((DONE, text)),
+            Err(fault) => Err(fault),
+        },
         Err((app, _, verdict)) => match report(alloc, &app, &verdict) {
             Ok(text) => Ok((NO, text)),
             Err(_) => Err(CheckFault::Memory),

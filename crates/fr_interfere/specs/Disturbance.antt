@@ -1,5 +1,5 @@
--- Which steps of another actor leave a point's note holding. `IsSpoiler` is for the public contracts of `spoiler` and
--- `spoiler_by`; the other words are for private clauses.
+-- Which steps of another actor leave a point's note holding. `IsSpoiler` is for the public contracts of `spoiler`,
+-- `spoiler_by` and `Interference::spoiler`; the other words are for private clauses.
 --
 -- | word            | meaning                                                                            |
 -- |-----------------|------------------------------------------------------------------------------------|

@@ -1,6 +1,6 @@
 -- What a step can change of what the notes of other actors say. The public contracts of `Index` are said by `effect_at`,
--- `target_of`, `made_of` and `declared_of`; so these, and the words that they use (`effect_of`, `effect_inside`), are for
--- public contracts. The other words are for private clauses.
+-- `target_of`, `made_of` and `declared_of`; so these, and the words that they use (`effect_by`, `effect_of`, `effect_inside`),
+-- are for public contracts. The other words are for private clauses.
 --
 -- | word                    | meaning                                                                          |
 -- |-------------------------|----------------------------------------------------------------------------------|

@@ -1,4 +1,4 @@
--- For private clauses: whether steps leave each variable in its declared range.
+-- For private clauses, and for the invariant of `Interference`: whether steps keep each variable in its declared range.
 --
 -- | word      | meaning                                                                                              |
 -- |-----------|------------------------------------------------------------------------------------------------------|

@@ -14,7 +14,7 @@ use fr_program::App;
 use std::marker::Model;
 
 /// An application with notes that fit it and its index, and what was found once for all its points:
-/// whether all steps leave each variable in its declared range, where the notes hold.
+/// whether all steps keep each variable in its declared range, where the notes hold.
 #[derive(Drop)]
 pub struct Interference<'a> {
     app: &'a App,
@@ -65,8 +65,9 @@ impl<'a> Interference<'a> {
     }
 
     /// The least number of a point whose steps disturb the note of the point with this number; None
-    /// where no step of another actor does. It looks at the points that change what the note says, and,
-    /// where some step can leave a declared range, at those that can. Takes no memory.
+    /// where no step of another actor does. It looks at the points that change what the note says, and at
+    /// the index's leavers, where one of them leaves a declared range though its own note holds. Takes no
+    /// memory.
     pub fn spoiler(&self, number: usize) -> Option<usize>
         requires { number < length (points_of self.now.app) }
         ensures { (p : Point) → slice_get (points_of self.now.app) number ≡ Some p →
@@ -84,8 +85,8 @@ impl<'a> Interference<'a> {
     }
 }
 
-/// The same as `spoiler`, by the index of that application: only the `set`s that can leave a declared
-/// range are looked at, and the points that change what the point's note says. Takes no memory.
+/// The same as `spoiler`, by the index of that application: only its leavers are looked at, and the
+/// points that change what the point's note says. Takes no memory.
 pub fn spoiler_by(app: &App, notes: &Notes, index: &Index, number: usize) -> Option<usize>
     requires number { number < length (points_of app.now) }
     requires fit { NotesFit app.now notes.now }

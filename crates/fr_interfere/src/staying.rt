@@ -1,4 +1,4 @@
-// Whether steps leave each variable in its declared range.
+// Whether steps keep each variable in its declared range.
 ghost use Rattle.std.specs.Prelude.{◌≡◌, ◌<◌, ◌↔◌, IsTrue, All, Some, length, slice_get};
 ghost use Rattle.fr_program.specs.declared.ids.Point.{Point};
 ghost use Rattle.fr_program.specs.Points.{points_of};
@@ -43,7 +43,7 @@ fn stays_at(app: &App, notes: &Notes, number: usize) -> bool
 
 /// Whether the steps from every point, where its note holds, write only values in the declared range of
 /// the variable. Where that is so, a step can disturb a note only if it changes something that the note
-/// says. Only the `set`s that can leave a range by the index are asked. Takes no memory.
+/// says. Only the index's leavers are asked. Takes no memory.
 pub fn all_stay(app: &App, notes: &Notes, index: &Index) -> bool
     requires fit { NotesFit app.now notes.now }
     requires index { IsIndexOf app.now index.now }

@@ -117,8 +117,8 @@ pub fn job(app: &App, certificate: &Certificate, number: usize) -> Option<Part>
     job_among(app, certificate, None, number)
 }
 
-/// The same as `job`, by the index of that application: only points that can change something are looked
-/// at. Takes no memory.
+/// The same as `job`, by the index of that application: of other actors' points only those are looked at
+/// that can change what the point's note says, and the index's leavers. Takes no memory.
 pub fn job_by(app: &App, certificate: &Certificate, index: &Index, number: usize) -> Option<Part>
     requires number { number < length (points_of app.now) }
     requires fits { CertificateFits app.now certificate.now }

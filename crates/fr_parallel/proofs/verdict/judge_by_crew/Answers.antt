@@ -12,10 +12,10 @@ verdict_at-requires-clause-least g c =
     let made = c.in_ok-board.ensures.new in
     let all = c.in_ok-all.ensures.all in
     let heavy = all.weight ∙ made.count ∙ sym made.seats_are in
-    let tally = (c.in-Ok.ensures.whole heavy).1 in
+    let tally = (c.in-Ok-finish.ensures.whole heavy).1 in
     let Keeps : ℕ → Type 0 = KeepsAt c.args.app.now c.args.certificate.now in
-    tally-least Keeps _ c.in-Ok.tally.least c.in_ok-all.all.progress all.right
-    (subst (λ (n : ℕ). IsTallyOf n c.in-Ok.tally.least c.in_ok-all.all.progress) made.jobs_are tally)
+    tally-least Keeps _ c.in-Ok-finish.tally.least c.in_ok-all.all.progress all.right
+    (subst (λ (n : ℕ). IsTallyOf n c.in-Ok-finish.tally.least c.in_ok-all.all.progress) made.jobs_are tally)
 
 pub unreachable-requires : goal.unreachable-requires
 unreachable-requires g c =
