@@ -6,3 +6,5 @@ pub mod IndexLaws
 pub mod StayLaws
 pub mod UnsaidLaws
 pub mod SpoilerLaws
+pub mod HullLaws
+pub mod RowLaws

@@ -7,3 +7,5 @@ pub mod IndexView
 pub mod Listing
 pub mod Spoilers
 pub mod Interference
+pub mod Hull
+pub mod Rows

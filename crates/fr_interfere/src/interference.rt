@@ -5,8 +5,10 @@ ghost use Rattle.fr_program.specs.Points.{points_of};
 ghost use Rattle.fr_notes.specs.Fits.{NotesFit};
 ghost use Rattle.fr_interfere.specs.Disturbance.{IsSpoiler};
 ghost use Rattle.fr_interfere.specs.Index.{IsIndexOf};
+ghost use Rattle.fr_interfere.specs.Rows.{AreHullsOf};
 
 use crate::index::Index;
+use crate::rows::Hulls;
 use crate::spoilers::{first_listed, first_maker, first_writer, lesser};
 use crate::staying::all_stay;
 use fr_notes::Notes;
@@ -20,6 +22,7 @@ pub struct Interference<'a> {
     app: &'a App,
     notes: &'a Notes,
     index: &'a Index,
+    hulls: Option<&'a Hulls>,
     stay: bool,
 }
 
@@ -34,7 +37,8 @@ impl<'a> Model for Interference<'a> {
 }
 
 impl<'a> Interference<'a> {
-    /// The application, with notes that fit it and its index. Takes no memory.
+    /// The application, with notes that fit it and its index. Each point that the index lists for what a
+    /// note says is looked at by itself. Takes no memory.
     pub fn of(app: &'a App, notes: &'a Notes, index: &'a Index) -> Interference<'a>
         requires fit { NotesFit app.now notes.now }
         requires index { IsIndexOf app.now index.now }
@@ -46,6 +50,31 @@ impl<'a> Interference<'a> {
             app,
             notes,
             index,
+            hulls: None,
+            stay,
+        }
+    }
+
+    /// The same, for many points, with the hulls of the points that the index lists: points that by their
+    /// hull can't disturb a note are not looked at one by one. The answers are those of `of`. Takes no memory.
+    pub fn with(
+        app: &'a App,
+        notes: &'a Notes,
+        index: &'a Index,
+        hulls: &'a Hulls,
+    ) -> Interference<'a>
+        requires fit { NotesFit app.now notes.now }
+        requires index { IsIndexOf app.now index.now }
+        requires hulls { AreHullsOf app.now notes.now index.now hulls.now }
+        ensures app { result.app ≡ app.now }
+        ensures notes { result.notes ≡ notes.now }
+    {
+        let stay = all_stay(app, notes, index);
+        Interference {
+            app,
+            notes,
+            index,
+            hulls: Some(hulls),
             stay,
         }
     }
@@ -73,11 +102,11 @@ impl<'a> Interference<'a> {
         ensures { (p : Point) → slice_get (points_of self.now.app) number ≡ Some p →
             IsSpoiler self.now.app self.now.notes p result }
     {
-        let (app, notes, index) = (self.app, self.notes, self.index);
+        let (app, notes, index, hulls) = (self.app, self.notes, self.index, self.hulls);
         app.recall_faultless();
         app.recall_numbered();
-        let writer = first_writer(app, notes, index, number);
-        let changer = lesser(writer, first_maker(app, notes, index, number));
+        let writer = first_writer(app, notes, index, hulls, number);
+        let changer = lesser(writer, first_maker(app, notes, index, hulls, number));
         if self.stay {
             return changer;
         }

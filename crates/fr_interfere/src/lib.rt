@@ -4,12 +4,15 @@
 
 mod disturbance;
 mod effects;
+mod hull;
 mod index;
 mod interference;
+mod rows;
 mod spoilers;
 mod staying;
 
 pub use disturbance::undisturbed;
 pub use index::Index;
 pub use interference::{Interference, spoiler_by};
+pub use rows::Hulls;
 pub use spoilers::spoiler;

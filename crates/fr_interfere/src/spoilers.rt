@@ -1,15 +1,18 @@
 // The first point whose steps disturb a point's note.
 ghost use Rattle.std.specs.Prelude.{◌≡◌, ◌<◌, All, AllPairs, Some, length, slice_get};
+ghost use Rattle.std.specs.Option.{ForSome};
 ghost use Rattle.fr_program.specs.declared.ids.Point.{Point};
 ghost use Rattle.fr_program.specs.Points.{points_of};
 ghost use Rattle.fr_notes.specs.Fits.{NotesFit};
 ghost use Rattle.fr_interfere.specs.Disturbance.{IsSpoiler};
 ghost use Rattle.fr_interfere.specs.Index.{IsIndexOf};
+ghost use Rattle.fr_interfere.specs.Rows.{AreHullsOf};
 ghost use Rattle.fr_interfere.specs.Spoilers.{IsFirstOf, IsListed, WritesInside, MakesOne, IsBelow, least_of};
 
 use crate::disturbance::undisturbed;
 use crate::effects::{is_free, is_unclaimed};
 use crate::index::Index;
+use crate::rows::{Hulls, first_among, maker_row, writer_row};
 use fr_notes::Notes;
 use fr_program::{App, ObjId, VarId};
 
@@ -37,12 +40,14 @@ fn first_writer_of(
     app: &App,
     notes: &Notes,
     index: &Index,
+    hulls: Option<&Hulls>,
     number: usize,
     variable: VarId,
 ) -> Option<usize>
     requires number { number < length (points_of app.now) }
     requires fit { NotesFit app.now notes.now }
     requires index { IsIndexOf app.now index.now }
+    requires hulls { ForSome hulls (λ h. AreHullsOf app.now notes.now index.now h.now) }
     requires variable { variable.0 < length app.now.variables }
     ensures { (p : Point) → slice_get (points_of app.now) number ≡ Some p →
         IsFirstOf app.now notes.now p (WritesInside app.now notes.now variable.0) result }
@@ -52,7 +57,13 @@ fn first_writer_of(
     if is_free(app, notes.at(app, number), variable) {
         None
     } else {
-        first_listed(app, notes, number, index.writers(variable))
+        first_among(
+            app,
+            notes,
+            number,
+            index.writers(variable),
+            writer_row(hulls, variable),
+        )
     }
 }
 
@@ -62,12 +73,14 @@ fn first_maker_of(
     app: &App,
     notes: &Notes,
     index: &Index,
+    hulls: Option<&Hulls>,
     number: usize,
     object: ObjId,
 ) -> Option<usize>
     requires number { number < length (points_of app.now) }
     requires fit { NotesFit app.now notes.now }
     requires index { IsIndexOf app.now index.now }
+    requires hulls { ForSome hulls (λ h. AreHullsOf app.now notes.now index.now h.now) }
     requires object { object.0 < length app.now.objects }
     ensures { (p : Point) → slice_get (points_of app.now) number ≡ Some p →
         IsFirstOf app.now notes.now p (MakesOne app.now object.0) result }
@@ -77,7 +90,13 @@ fn first_maker_of(
     if is_unclaimed(notes.at(app, number), object) {
         None
     } else {
-        first_listed(app, notes, number, index.lives(object))
+        first_among(
+            app,
+            notes,
+            number,
+            index.lives(object),
+            maker_row(hulls, object),
+        )
     }
 }
 
@@ -94,32 +113,46 @@ pub fn lesser(one: Option<usize>, other: Option<usize>) -> Option<usize>
 
 /// The first point that disturbs the point's note by a number that it gives a variable, within its
 /// declared range.
-pub fn first_writer(app: &App, notes: &Notes, index: &Index, number: usize) -> Option<usize>
+pub fn first_writer(
+    app: &App,
+    notes: &Notes,
+    index: &Index,
+    hulls: Option<&Hulls>,
+    number: usize,
+) -> Option<usize>
     requires number { number < length (points_of app.now) }
     requires fit { NotesFit app.now notes.now }
     requires index { IsIndexOf app.now index.now }
+    requires hulls { ForSome hulls (λ h. AreHullsOf app.now notes.now index.now h.now) }
     ensures { (p : Point) → slice_get (points_of app.now) number ≡ Some p →
         IsFirstOf app.now notes.now p (IsBelow (WritesInside app.now notes.now) (length app.now.variables)) result }
 {
     let mut least = None;
     for variable in 0..app.variables().len() {
-        let writer = first_writer_of(app, notes, index, number, VarId(variable));
+        let writer = first_writer_of(app, notes, index, hulls, number, VarId(variable));
         least = lesser(least, writer);
     }
     least
 }
 
 /// The first point that disturbs the point's note by creating or deleting an object.
-pub fn first_maker(app: &App, notes: &Notes, index: &Index, number: usize) -> Option<usize>
+pub fn first_maker(
+    app: &App,
+    notes: &Notes,
+    index: &Index,
+    hulls: Option<&Hulls>,
+    number: usize,
+) -> Option<usize>
     requires number { number < length (points_of app.now) }
     requires fit { NotesFit app.now notes.now }
     requires index { IsIndexOf app.now index.now }
+    requires hulls { ForSome hulls (λ h. AreHullsOf app.now notes.now index.now h.now) }
     ensures { (p : Point) → slice_get (points_of app.now) number ≡ Some p →
         IsFirstOf app.now notes.now p (IsBelow (MakesOne app.now) (length app.now.objects)) result }
 {
     let mut least = None;
     for object in 0..app.objects().len() {
-        let maker = first_maker_of(app, notes, index, number, ObjId(object));
+        let maker = first_maker_of(app, notes, index, hulls, number, ObjId(object));
         least = lesser(least, maker);
     }
     least

@@ -47,7 +47,7 @@ fn stays_at(app: &App, notes: &Notes, number: usize) -> bool
 pub fn all_stay(app: &App, notes: &Notes, index: &Index) -> bool
     requires fit { NotesFit app.now notes.now }
     requires index { IsIndexOf app.now index.now }
-    ensures { IsTrue result → AllStay app.now notes.now }
+    ensures { IsTrue result ↔ AllStay app.now notes.now }
 {
     app.recall_faultless();
     app.recall_numbered();

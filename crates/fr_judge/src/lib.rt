@@ -19,5 +19,5 @@ pub use laws::{
 };
 pub use part::{Part, Verdict};
 pub use text::{Judged, TextFault, judge_text, read_both};
-pub use verdict::{job, job_beside, job_by, judge, judge_by};
+pub use verdict::{job, job_beside, job_by, judge, judge_beside, judge_by};
 pub use worked::verdicts_as_worked;

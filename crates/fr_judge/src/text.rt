@@ -4,17 +4,17 @@ ghost use Rattle.fr_calls.specs.Run.{IsSafe};
 ghost use Rattle.fr_reader.specs.Meaning.{Means as AppMeans};
 ghost use Rattle.fr_cert.specs.Meaning.{Means as CertMeans};
 ghost use Rattle.fr_ends.specs.Fits.{CertificateFits};
-ghost use Rattle.fr_judge.specs.Told.{Speaks};
+ghost use Rattle.fr_judge.specs.Told.{TellsVerdict, Speaks};
 ghost use Rattle.fr_judge.specs.Texts.{IsJudged, IsFaultOfTexts};
 
 use crate::part::Verdict;
-use crate::verdict::judge_by;
+use crate::verdict::judge_beside;
 use fr_cert::{CertFault, read_cert};
 use fr_ends::Certificate;
-use fr_interfere::Index;
+use fr_interfere::{Hulls, Index, Interference};
 use fr_program::App;
 use fr_reader::{ReadFault, read_app};
-use std::alloc::Global;
+use std::alloc::{AllocError, Global};
 
 /// An application that was read, and the verdict on it.
 #[derive(Drop)]
@@ -61,6 +61,19 @@ pub fn read_both(
     }
 }
 
+/// The verdict, by an index and by what the notes of its points have in common.
+fn judge_at_once(alloc: Global, app: &App, certificate: &Certificate) -> Result<Verdict, AllocError>
+    requires fits { CertificateFits app.now certificate.now }
+    ensures verdict { IfOk result (λ v. TellsVerdict app.now certificate.now v) }
+    ensures safe { IfOk result (λ v. v ≡ Verdict.Yes → IsSafe app.now) }
+    ensures speaks { IfOk result (λ v. Speaks app.now v) }
+{
+    let index = Index::build(alloc, app)?;
+    let hulls = Hulls::build(alloc, app, &certificate.notes, &index)?;
+    let others = Interference::with(app, &certificate.notes, &index, &hulls);
+    Ok(judge_beside(app, certificate, &others))
+}
+
 /// Reads the application, then the certificate for it, and judges it.
 ///
 /// Ok is the application that the first bytes mean, and the verdict on it and on the certificate
@@ -75,9 +88,8 @@ pub fn judge_text(alloc: Global, app: &[u8], certificate: &[u8]) -> Result<Judge
     ensures stands { IfErr result (IsFaultOfTexts app.now certificate.now) }
 {
     let (app, certificate) = read_both(alloc, app, certificate)?;
-    let Ok(index) = Index::build(alloc, &app) else {
-        return Err(TextFault::Memory);
-    };
-    let verdict = judge_by(&app, &certificate, &index);
-    Ok(Judged { app, verdict })
+    match judge_at_once(alloc, &app, &certificate) {
+        Ok(verdict) => Ok(Judged { app, verdict }),
+        Err(_) => Err(TextFault::Memory),
+    }
 }

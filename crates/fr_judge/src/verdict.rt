@@ -195,3 +195,16 @@ pub fn judge_by(app: &App, certificate: &Certificate, index: &Index) -> Verdict
     let others = Interference::of(app, &certificate.notes, index);
     judge_among(app, certificate, Some(&others))
 }
+
+/// The same as `judge_by`, where `others` is the application's interference with the certificate's notes.
+/// Takes no memory.
+pub fn judge_beside(app: &App, certificate: &Certificate, others: &Interference) -> Verdict
+    requires fits { CertificateFits app.now certificate.now }
+    requires app { others.now.app ≡ app.now }
+    requires notes { others.now.notes ≡ certificate.now.notes }
+    ensures verdict { TellsVerdict app.now certificate.now result }
+    ensures safe { result ≡ Verdict.Yes → IsSafe app.now }
+    ensures speaks { Speaks app.now result }
+{
+    judge_among(app, certificate, Some(others))
+}

@@ -3,15 +3,16 @@ ghost use Rattle.std.specs.Prelude.{◌≡◌, ◌≢◌, ◌<◌, length, All, 
 ghost use Rattle.fr_parallel.specs.declared.fault.ParFault.TheVariants.{Workers};
 ghost use Rattle.fr_ends.specs.Fits.{CertificateFits};
 ghost use Rattle.fr_interfere.specs.Index.{IsIndexOf};
+ghost use Rattle.fr_interfere.specs.Rows.{AreHullsOf};
 ghost use Rattle.fr_parallel.specs.Kept.{IsFor, IsNewFor, IsWorked, IsWorkedBy};
 ghost use Rattle.fr_parallel.specs.Assignments.{IsDoneBy, IsNewOf, IsReady};
 
 use crate::fault::ParFault;
 use crate::gate::Gate;
-use crate::worker::{Assignment, work};
+use crate::worker::{Assignment, work_beside};
 use fr_board::{Board, Pass};
 use fr_ends::Certificate;
-use fr_interfere::Index;
+use fr_interfere::{Hulls, Index, Interference};
 use fr_program::App;
 use std::alloc::Global;
 use std::sync::Wait;
@@ -50,6 +51,7 @@ fn start_all<'s, E, R: Threads, G: Gate>(
         app,
         certificate,
         index,
+        hulls,
         board,
     } = assignment;
     let mut handles = Vec::new(alloc);
@@ -61,10 +63,14 @@ fn start_all<'s, E, R: Threads, G: Gate>(
                 requires jobs { IsFor app.now board.now }
                 requires fits { CertificateFits app.now certificate.now }
                 requires index { IsIndexOf app.now index.now }
+                requires hulls { AreHullsOf app.now certificate.now.notes index.now hulls.now }
                 requires new { IsNewFor board.now pass }
                 ensures { IsWorked board.entry.now app.entry.now
                     certificate.entry.now result }
-            { work(app, certificate, index, board, pass, worker, gate) },
+            {
+                let others = Interference::with(app, &certificate.notes, index, hulls);
+                work_beside(app, certificate, &others, board, pass, worker, gate)
+            },
         ) else {
             join_all(rt, handles);
             return Err(ParFault::Threads);
@@ -108,6 +114,7 @@ pub(crate) fn worked_by_all<R: Threads + Wait + Sync, G: Gate>(
     app: &App,
     certificate: &Certificate,
     index: &Index,
+    hulls: &Hulls,
     board: &Board,
     passes: Vec<Pass>,
     gate: &G,
@@ -117,6 +124,7 @@ pub(crate) fn worked_by_all<R: Threads + Wait + Sync, G: Gate>(
     requires jobs { IsFor app.now board.now }
     requires fits { CertificateFits app.now certificate.now }
     requires index { IsIndexOf app.now index.now }
+    requires hulls { AreHullsOf app.now certificate.now.notes index.now hulls.now }
     ensures all { IfOk result (λ p. IsWorkedBy board.now app.now
         certificate.now (length passes.items) p) }
     ensures fault { IfErr result (λ e. e ≢ Workers) }
@@ -130,6 +138,7 @@ pub(crate) fn worked_by_all<R: Threads + Wait + Sync, G: Gate>(
             requires jobs { IsFor app.now board.now }
             requires fits { CertificateFits app.now certificate.now }
             requires index { IsIndexOf app.now index.now }
+            requires hulls { AreHullsOf app.now certificate.now.notes index.now hulls.now }
             ensures all { IfOk result (λ p. IsWorkedBy board.entry.now app.entry.now
                 certificate.entry.now (length passes.items) p) }
             ensures fault { IfErr result (λ e. e ≢ Workers) }
@@ -138,6 +147,7 @@ pub(crate) fn worked_by_all<R: Threads + Wait + Sync, G: Gate>(
                 app,
                 certificate,
                 index,
+                hulls,
                 board,
             };
             let handles = start_all(rt, scope, alloc, assignment, passes, gate)?;

@@ -17,4 +17,4 @@ pub use bytes::{BytesFault, judge_bytes};
 pub use fault::ParFault;
 pub use gate::{Gate, Open};
 pub use verdict::judge_with;
-pub use worker::work;
+pub use worker::{work, work_beside};

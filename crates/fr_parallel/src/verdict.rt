@@ -4,7 +4,6 @@ ghost use Rattle.fr_board.specs.Tally.{IsNewBoard, IsSeatCount};
 ghost use Rattle.fr_program.specs.Points.{points_of};
 ghost use Rattle.fr_calls.specs.Run.{IsSafe};
 ghost use Rattle.fr_ends.specs.Fits.{CertificateFits};
-ghost use Rattle.fr_interfere.specs.Index.{IsIndexOf};
 ghost use Rattle.fr_judge.specs.declared.part.Verdict.TheVariants.{Yes};
 ghost use Rattle.fr_judge.specs.Told.{TellsVerdict, Speaks};
 ghost use Rattle.fr_parallel.specs.declared.fault.ParFault.TheVariants.{Workers};
@@ -15,8 +14,8 @@ use crate::fault::ParFault;
 use crate::gate::Gate;
 use fr_board::{Board, BoardFault, Pass};
 use fr_ends::Certificate;
-use fr_interfere::Index;
-use fr_judge::{Verdict, job_by};
+use fr_interfere::{Hulls, Index, Interference};
+use fr_judge::{Verdict, job_beside};
 use fr_program::App;
 use std::alloc::Global;
 use std::sync::Wait;
@@ -45,14 +44,15 @@ fn board_for(alloc: Global, app: &App, workers: usize) -> Result<(Board, Vec<Pas
 }
 
 /// The verdict No at the point with this number, the least that failed.
-fn refused_at(app: &App, certificate: &Certificate, index: &Index, number: usize) -> Verdict
+fn refused_at(app: &App, certificate: &Certificate, others: &Interference, number: usize) -> Verdict
     requires fits { CertificateFits app.now certificate.now }
-    requires index { IsIndexOf app.now index.now }
+    requires app { others.now.app ≡ app.now }
+    requires notes { others.now.notes ≡ certificate.now.notes }
     requires least { IsLeastFailing app.now certificate.now (Some number) }
     ensures verdict { TellsVerdict app.now certificate.now result }
     ensures speaks { Speaks app.now result }
 {
-    match job_by(app, certificate, index, number) {
+    match job_beside(app, certificate, others, number) {
         Some(part) => Verdict::No {
             point: app.point(number),
             part,
@@ -62,16 +62,22 @@ fn refused_at(app: &App, certificate: &Certificate, index: &Index, number: usize
 }
 
 /// The verdict where this number is the least that failed, if one did.
-fn verdict_at(app: &App, certificate: &Certificate, index: &Index, least: Option<u64>) -> Verdict
+fn verdict_at(
+    app: &App,
+    certificate: &Certificate,
+    others: &Interference,
+    least: Option<u64>,
+) -> Verdict
     requires fits { CertificateFits app.now certificate.now }
-    requires index { IsIndexOf app.now index.now }
+    requires app { others.now.app ≡ app.now }
+    requires notes { others.now.notes ≡ certificate.now.notes }
     requires least { IsLeastFailing app.now certificate.now least }
     ensures verdict { TellsVerdict app.now certificate.now result }
     ensures speaks { Speaks app.now result }
 {
     match least {
         None => Verdict::Yes,
-        Some(number) => refused_at(app, certificate, index, number as usize),
+        Some(number) => refused_at(app, certificate, others, number as usize),
     }
 }
 
@@ -94,11 +100,25 @@ pub(crate) fn judge_by_crew<R: Threads + Wait + Sync, G: Gate>(
     let Ok(index) = Index::build(alloc, app) else {
         return Err(ParFault::Memory);
     };
+    let Ok(hulls) = Hulls::build(alloc, app, &certificate.notes, &index) else {
+        return Err(ParFault::Memory);
+    };
     let (board, passes) = board_for(alloc, app, workers)?;
-    let all = worked_by_all(rt, alloc, app, certificate, &index, &board, passes, gate)?;
+    let all = worked_by_all(
+        rt,
+        alloc,
+        app,
+        certificate,
+        &index,
+        &hulls,
+        &board,
+        passes,
+        gate,
+    )?;
+    let others = Interference::with(app, &certificate.notes, &index, &hulls);
     app.recall_faultless();
     match board.finish(all) {
-        Ok(tally) => Ok(verdict_at(app, certificate, &index, tally.least)),
+        Ok(tally) => Ok(verdict_at(app, certificate, &others, tally.least)),
         Err(_) => unreachable!(),
     }
 }

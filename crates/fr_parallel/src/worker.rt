@@ -6,55 +6,57 @@ ghost use Rattle.fr_board.specs.Progress.{new_progress};
 ghost use Rattle.fr_board.specs.Values.{IsOf};
 ghost use Rattle.fr_ends.specs.Fits.{CertificateFits};
 ghost use Rattle.fr_interfere.specs.Index.{IsIndexOf};
-ghost use Rattle.fr_parallel.specs.Kept.{IsFor, IsWorked};
-ghost use Rattle.fr_parallel.specs.Assignments.{IsReady, KeepsIn};
+ghost use Rattle.fr_parallel.specs.Kept.{IsFor, IsWorked, KeepsAt};
 ghost use Rattle.fr_parallel.specs.Worked.{Settles};
 
 use crate::gate::Gate;
 use fr_board::{Board, Claim, Pass};
 use fr_ends::Certificate;
-use fr_interfere::{Index, Interference};
+use fr_interfere::{Hulls, Index, Interference};
 use fr_judge::job_beside;
 use fr_program::App;
 
-/// What workers work on: the points of an application, by a certificate that fits it and its index, and the board that hands
-/// them out.
+/// What workers work on: the points of an application, by a certificate that fits it, by its index and the hulls of the points
+/// in that, and the board that hands them out.
 #[derive(Clone, Copy)]
 pub(crate) struct Assignment<'s> {
     pub app: &'s App,
     pub certificate: &'s Certificate,
     pub index: &'s Index,
+    pub hulls: &'s Hulls,
     pub board: &'s Board,
 }
 
 /// Looks, and then skips the claim where a lower number has failed, or judges its point and marks it.
 fn settle<G: Gate>(
-    assignment: Assignment,
+    app: &App,
+    certificate: &Certificate,
     others: &Interference,
+    board: &Board,
     pass: &mut Pass,
     claim: Claim,
     worker: usize,
     gate: &G,
 )
-    requires ready { IsReady assignment }
-    requires app { others.now.app ≡ assignment.app.now }
-    requires notes { others.now.notes ≡ assignment.certificate.now.notes }
-    requires own { IsOf assignment.board.now pass.old }
-    requires number { claim < assignment.board.now.jobs }
+    requires jobs { IsFor app.now board.now }
+    requires fits { CertificateFits app.now certificate.now }
+    requires app { others.now.app ≡ app.now }
+    requires notes { others.now.notes ≡ certificate.now.notes }
+    requires own { IsOf board.now pass.old }
+    requires number { claim < board.now.jobs }
     requires claim { outcome_of claim pass.old.progress.drawn ≡ Some Open }
-    ensures own { IsOf assignment.entry.board.now pass.new }
-    ensures settled { Settles (KeepsIn assignment.entry) pass.old.progress claim pass.new.progress }
+    ensures own { IsOf board.now pass.new }
+    ensures settled { Settles (KeepsAt app.now certificate.now) pass.old.progress claim pass.new.progress }
 {
     let number = claim.number();
-    if assignment.board.look(pass) < number {
-        assignment.board.skip(pass, claim);
+    if board.look(pass) < number {
+        board.skip(pass, claim);
         return;
     }
     gate.arrive(worker, number);
-    let (app, certificate) = (assignment.app, assignment.certificate);
     match job_beside(app, certificate, others, number as usize) {
-        None => assignment.board.passed(pass, claim),
-        Some(_) => assignment.board.failed(pass, claim),
+        None => board.passed(pass, claim),
+        Some(_) => board.failed(pass, claim),
     }
 }
 
@@ -72,7 +74,7 @@ pub fn work<G: Gate>(
     certificate: &Certificate,
     index: &Index,
     board: &Board,
-    mut pass: Pass,
+    pass: Pass,
     worker: usize,
     gate: &G,
 ) -> Pass
@@ -83,15 +85,39 @@ pub fn work<G: Gate>(
     requires index { IsIndexOf app.now index.now }
     ensures { IsWorked board.now app.now certificate.now result }
 {
-    let assignment = Assignment {
-        app,
-        certificate,
-        index,
-        board,
-    };
     let others = Interference::of(app, &certificate.notes, index);
+    work_beside(app, certificate, &others, board, pass, worker, gate)
+}
+
+/// The same as `work`, where `others` is the application's interference with the certificate's notes.
+pub fn work_beside<G: Gate>(
+    app: &App,
+    certificate: &Certificate,
+    others: &Interference,
+    board: &Board,
+    mut pass: Pass,
+    worker: usize,
+    gate: &G,
+) -> Pass
+    requires own { IsOf board.now pass }
+    requires new { pass.progress ≡ new_progress board.now.jobs 1 }
+    requires jobs { IsFor app.now board.now }
+    requires fits { CertificateFits app.now certificate.now }
+    requires app { others.now.app ≡ app.now }
+    requires notes { others.now.notes ≡ certificate.now.notes }
+    ensures { IsWorked board.now app.now certificate.now result }
+{
     while let Some(claim) = board.draw(&mut pass) {
-        settle(assignment, &others, &mut pass, claim, worker, gate);
+        settle(
+            app,
+            certificate,
+            others,
+            board,
+            &mut pass,
+            claim,
+            worker,
+            gate,
+        );
     }
     pass
 }

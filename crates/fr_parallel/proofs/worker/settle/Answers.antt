@@ -2,17 +2,16 @@ use Rattle.std.proofs.Common.{rules, ℕ, ap, ◌∙◌, subst}
 use Rattle.fr_board.specs.declared.progress.Outcome.TheVariants.{Failed}
 use Rattle.fr_board.specs.declared.progress.Progress.{Progress}
 use Rattle.fr_board.specs.Progress.{after_outcome}
-use Rattle.fr_parallel.specs.Assignments.{KeepsIn}
+use Rattle.fr_parallel.specs.Kept.{KeepsAt}
 use Rattle.fr_parallel.proofs.Verdicts.{told-fails}
 use Rattle.fr_parallel.proofs.worker.settle.Goals as goal
 
 pub returns-in-Some-clause-settled : goal.returns-in-Some-clause-settled
 returns-in-Some-clause-settled g c =
-    let t = c.args.assignment in
     let number = c.number-number in
-    let fails = told-fails t.app.now t.certificate.now number.result c.in-Some.field-0 (search rules) c.in-Some.ensures.first in (
+    let fails = told-fails c.args.app.now c.args.certificate.now number.result c.in-Some.field-0 (search rules) c.in-Some.ensures.first in (
       Failed,
       c.look.result,
-      subst (λ (n : ℕ). KeepsIn t n → ⊥) number.ensures fails,
+      subst (λ (n : ℕ). KeepsAt c.args.app.now c.args.certificate.now n → ⊥) number.ensures fails,
       c.failed.ensures.failed ∙ ap (λ (z : Progress). after_outcome z c.args.claim Failed) c.look.ensures.looked,
     )

@@ -16,7 +16,7 @@ returns-then-self c =
     let notes = c.self.inside.notes.now in
     subst (λ m. (p : Point) → slice_get (points_of m.app) c.args.number ≡ Some p → IsSpoiler m.app m.notes p c.lesser-changer.result) c.self.view_is (λ p here.
     first-of-two P c.recall_faultless.ensures notes p c.first_writer-writer.result c.first_maker.result c.lesser-changer.result c.lesser-changer.ensures
-    (c.self.invariant.stay c.if-self.true) (c.first_writer-writer.ensures p here) (c.first_maker.ensures p here))
+    (c.self.invariant.stay.0 c.if-self.true) (c.first_writer-writer.ensures p here) (c.first_maker.ensures p here))
 
 pub first_listed-requires-clause-below : goal.first_listed-requires-clause-below
 first_listed-requires-clause-below c =

@@ -3,7 +3,7 @@ use Rattle.fr_board.specs.Values.{IsOf}
 use Rattle.fr_parallel.specs.Kept.{KeepsAt}
 use Rattle.fr_parallel.specs.Worked.{AreRight}
 use Rattle.fr_parallel.proofs.Workers.{end_of}
-use Rattle.fr_parallel.proofs.worker.work.Given as goal
+use Rattle.fr_parallel.proofs.worker.work_beside.Given as goal
 
 abbrev pub invariant-loop-claim : goal.invariant-loop-claim
 invariant-loop-claim g l = record {

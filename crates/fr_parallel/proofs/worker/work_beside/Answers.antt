@@ -1,7 +1,7 @@
 use Rattle.std.proofs.Common.{ℕ, ◌∙◌}
 use Rattle.fr_parallel.specs.Kept.{KeepsAt}
 use Rattle.fr_parallel.proofs.Workers.{onward}
-use Rattle.fr_parallel.proofs.worker.work.Goals as goal
+use Rattle.fr_parallel.proofs.worker.work_beside.Goals as goal
 
 pub loop-claim-smaller : goal.loop-claim-smaller
 loop-claim-smaller g c =

@@ -1,0 +1,8 @@
+-- Each point of the block is under its hull.
+use Rattle.fr_interfere.proofs.RowLaws.{spared-points}
+use Rattle.fr_interfere.proofs.rows.first_in_block.Goals as goal
+
+pub returns-then-spares : goal.returns-then-spares
+returns-then-spares c = λ p here.
+    spared-points c.args.app.now c.recall_faultless.ensures c.args.notes.now c.requires.fit c.args.number p here c.point.result c.point.ensures c.at.result.now (c.at.ensures.is p here)
+    c.args.block.now.hull c.args.block.now.numbers.items c.requires.block.under (c.spares.ensures.0 c.if-spares.true)

@@ -1,0 +1,53 @@
+-- The lists of an index with the hulls of their points. `AreHullsOf` is for the public contracts of `Hulls` and
+-- `Interference`; the other words are for private clauses and for what it says.
+--
+-- | word              | meaning                                                                                     |
+-- |-------------------|---------------------------------------------------------------------------------------------|
+-- | AreListed         | rising numbers of points                                                                    |
+-- | IsBlock           | such numbers, whose points are all under the block's hull                                   |
+-- | IsInSome          | the point's number is in one of the blocks                                                  |
+-- | IsRow             | a hull of the points of a list, and blocks that have each of them                           |
+-- | AreRows,          | so is each row that there is for one of the lists; the hulls of an index's points           |
+-- |   AreHullsOf      |                                                                                             |
+use Rattle.std.specs.Prelude.{◌≡◌, ◌<◌, ℕ, List, Option, Some, All, AllPairs, Any, length, slice_get}
+use Rattle.fr_program.specs.declared.ids.Point.{Point}
+use Rattle.fr_program.specs.Program.{Program}
+use Rattle.fr_program.specs.Lookup.{IsPoint}
+use Rattle.fr_program.specs.Points.{points_of}
+use Rattle.fr_notes.specs.Note.{Note}
+use Rattle.fr_interfere.specs.declared.rows.Block.{Block}
+use Rattle.fr_interfere.specs.declared.rows.Row.{Row}
+use Rattle.fr_interfere.specs.declared.rows.Hulls.{Hulls}
+use Rattle.fr_interfere.specs.Hull.{AreUnder}
+use Rattle.fr_interfere.specs.Index.{IndexOf, list_at}
+use Rattle.fr_interfere.specs.Spoilers.{IsListed}
+
+-- rising numbers of points
+pub record AreListed (P : Program) (numbers : List ℕ) : Type 0 where
+  pub rising : AllPairs (λ j k. j < k) numbers
+  pub below : All (λ k. k < length (points_of P)) numbers
+
+-- such numbers, whose points are all under the hull
+pub record IsBlock (P : Program) (notes : List Note) (b : Block) : Type 0 where
+  pub listed : AreListed P b.numbers.items
+  pub under : AreUnder P notes b.hull b.numbers.items
+
+-- the point's number is in one of the blocks
+abbrev pub IsInSome : Program → List Block → Point → Type 0
+IsInSome P blocks q = Any (λ b. IsListed P b.numbers.items q) blocks
+
+-- a hull of the points of a list, and blocks that have each of them
+pub record IsRow (P : Program) (notes : List Note) (numbers : List ℕ) (row : Row) : Type 0 where
+  pub whole : IsBlock P notes row.whole
+  pub all : row.whole.numbers.items ≡ numbers
+  pub each : All (λ b. IsBlock P notes b) row.blocks.items
+  pub found : (q : Point) → IsPoint P q → IsListed P numbers q → IsInSome P row.blocks.items q
+
+-- so it is of each row that there is for one of the lists
+abbrev pub AreRows : Program → List Note → List (List ℕ) → List (Option Row) → Type 0
+AreRows P notes lists rows = (k : ℕ) (row : Row) → slice_get rows k ≡ Some (Some row) → IsRow P notes (list_at lists k) row
+
+-- the hulls of an index's points: the rows of its lists
+pub record AreHullsOf (P : Program) (notes : List Note) (I : IndexOf) (hulls : Hulls) : Type 0 where
+  pub writers : AreRows P notes I.writers hulls.writers.items
+  pub lives : AreRows P notes I.lives hulls.lives.items

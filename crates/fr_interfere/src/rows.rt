@@ -1,0 +1,305 @@
+// The lists of the index with the hulls of their points, so that many points are passed over at once.
+ghost use Rattle.std.specs.Prelude.{◌≡◌, ◌<◌, ◌≤◌, List, All, Some, IfOk, IfSome, length, slice_get};
+ghost use Rattle.std.specs.Option.{ForSome};
+ghost use Rattle.fr_program.specs.declared.ids.Point.{Point};
+ghost use Rattle.fr_program.specs.Lookup.{IsPoint};
+ghost use Rattle.fr_program.specs.Points.{points_of};
+ghost use Rattle.fr_program.specs.Program.{Program};
+ghost use Rattle.fr_notes.specs.Fits.{NotesFit};
+ghost use Rattle.fr_notes.specs.Note.{Note};
+ghost use Rattle.fr_interfere.specs.Index.{IndexOf, IsIndexOf, list_at};
+ghost use Rattle.fr_interfere.specs.Rows.{AreListed, IsBlock, IsInSome, IsRow, AreRows, AreHullsOf};
+ghost use Rattle.fr_interfere.specs.Spoilers.{IsFirstOf, IsListed};
+
+use crate::hull::Hull;
+use crate::index::Index;
+use crate::spoilers::{first_listed, lesser};
+use fr_notes::Notes;
+use fr_program::{App, ObjId, VarId};
+use std::alloc::{AllocError, Global};
+
+/// Points of a list of the index, with their hull.
+#[derive(Drop)]
+pub struct Block {
+    hull: Hull,
+    numbers: Vec<usize>,
+}
+
+/// All points of a list of the index, and the same points actor by actor.
+#[derive(Drop)]
+pub struct Row {
+    whole: Block,
+    blocks: Vec<Block>,
+}
+
+impl Block {
+    /// The block of the points with these numbers.
+    fn of(alloc: Global, app: &App, notes: &Notes, numbers: &[usize]) -> Result<Block, AllocError>
+        requires listed { AreListed app.now numbers.now }
+        requires some { 0 < length numbers.now }
+        requires fit { NotesFit app.now notes.now }
+        ensures block { IfOk result (λ b. IsBlock app.now notes.now b) }
+        ensures numbers { IfOk result (λ b. b.numbers.items ≡ numbers.now) }
+    {
+        let hull = Hull::of(alloc, app, notes, numbers)?;
+        let numbers = Vec::from_slice(alloc, numbers)?;
+        Ok(Block { hull, numbers })
+    }
+}
+
+/// The place behind the first points from this place on that are one actor's.
+fn behind_actor(app: &App, numbers: &[usize], from: usize) -> usize
+    requires below { All (λ k. k < length (points_of app.now)) numbers.now }
+    requires there { from < length numbers.now }
+    ensures above { from < result }
+    ensures most { result ≤ length numbers.now }
+{
+    let actor = app.point(numbers[from]).actor;
+    for place in from + 1..numbers.len() {
+        if app.point(numbers[place]).actor != actor {
+            return place;
+        }
+    }
+    numbers.len()
+}
+
+/// The points with these numbers, actor by actor.
+fn blocks_of(
+    alloc: Global,
+    app: &App,
+    notes: &Notes,
+    numbers: &[usize],
+) -> Result<Vec<Block>, AllocError>
+    requires listed { AreListed app.now numbers.now }
+    requires fit { NotesFit app.now notes.now }
+    ensures each { IfOk result (λ blocks. All (λ b. IsBlock app.now notes.now b) blocks.items) }
+    ensures found { IfOk result (λ blocks. (q : Point) → IsPoint app.now q → IsListed app.now numbers.now q →
+        IsInSome app.now blocks.items q) }
+{
+    let mut blocks = Vec::new(alloc);
+    let mut from = 0;
+    while from < numbers.len() {
+        let behind = behind_actor(app, numbers, from);
+        blocks.push(Block::of(alloc, app, notes, &numbers[from..behind])?)?;
+        from = behind;
+    }
+    Ok(blocks)
+}
+
+impl Row {
+    /// The row of the points with these numbers.
+    pub fn of(alloc: Global, app: &App, notes: &Notes, numbers: &[usize]) -> Result<Row, AllocError>
+        requires listed { AreListed app.now numbers.now }
+        requires some { 0 < length numbers.now }
+        requires fit { NotesFit app.now notes.now }
+        ensures { IfOk result (λ row. IsRow app.now notes.now numbers.now row) }
+    {
+        let whole = Block::of(alloc, app, notes, numbers)?;
+        let blocks = blocks_of(alloc, app, notes, numbers)?;
+        Ok(Row { whole, blocks })
+    }
+}
+
+/// The row of the points with these numbers, where there is one.
+fn row_of(
+    alloc: Global,
+    app: &App,
+    notes: &Notes,
+    numbers: &[usize],
+) -> Result<Option<Row>, AllocError>
+    requires listed { AreListed app.now numbers.now }
+    requires fit { NotesFit app.now notes.now }
+    ensures { IfOk result (λ row. IfSome row (λ r. IsRow app.now notes.now numbers.now r)) }
+{
+    if numbers.is_empty() {
+        Ok(None)
+    } else {
+        Ok(Some(Row::of(alloc, app, notes, numbers)?))
+    }
+}
+
+/// What the points that an index lists have in common, by an application's notes: for each variable that is
+/// written and each object that is created or deleted, of all these points and actor by actor.
+#[derive(Drop)]
+pub struct Hulls {
+    writers: Vec<Option<Row>>,
+    lives: Vec<Option<Row>>,
+}
+
+/// The rows of the variables, by their numbers.
+fn writer_rows(
+    alloc: Global,
+    app: &App,
+    notes: &Notes,
+    index: &Index,
+) -> Result<Vec<Option<Row>>, AllocError>
+    requires fit { NotesFit app.now notes.now }
+    requires index { IsIndexOf app.now index.now }
+    ensures { IfOk result (λ rows. AreRows app.now notes.now index.now.writers rows.items) }
+{
+    let mut rows = Vec::new(alloc);
+    for variable in 0..app.variables().len() {
+        rows.push(row_of(alloc, app, notes, index.writers(VarId(variable)))?)?;
+    }
+    Ok(rows)
+}
+
+/// The rows of the objects, by their numbers.
+fn maker_rows(
+    alloc: Global,
+    app: &App,
+    notes: &Notes,
+    index: &Index,
+) -> Result<Vec<Option<Row>>, AllocError>
+    requires fit { NotesFit app.now notes.now }
+    requires index { IsIndexOf app.now index.now }
+    ensures { IfOk result (λ rows. AreRows app.now notes.now index.now.lives rows.items) }
+{
+    let mut rows = Vec::new(alloc);
+    for object in 0..app.objects().len() {
+        rows.push(row_of(alloc, app, notes, index.lives(ObjId(object)))?)?;
+    }
+    Ok(rows)
+}
+
+/// The row at this place, where there is one.
+fn row_at(rows: &[Option<Row>], place: usize) -> Option<&Row>
+    ensures { ForSome result (λ row. slice_get rows.now place ≡ Some (Some row.now)) }
+{
+    match rows.get(place) {
+        Some(Some(row)) => Some(row),
+        _ => None,
+    }
+}
+
+impl Hulls {
+    /// The hulls of the points that the index lists, with these notes, which fit the application.
+    ///
+    /// # Errors
+    ///
+    /// An allocation was refused.
+    pub fn build(
+        alloc: Global,
+        app: &App,
+        notes: &Notes,
+        index: &Index,
+    ) -> Result<Hulls, AllocError>
+        requires fit { NotesFit app.now notes.now }
+        requires index { IsIndexOf app.now index.now }
+        ensures { IfOk result (AreHullsOf app.now notes.now index.now) }
+    {
+        let writers = writer_rows(alloc, app, notes, index)?;
+        let lives = maker_rows(alloc, app, notes, index)?;
+        Ok(Hulls { writers, lives })
+    }
+
+    /// The row of the variable, where some point writes it.
+    fn writers(&self, variable: VarId) -> Option<&Row>
+        ensures { ForSome result (λ row. slice_get self.now.writers.items variable.0 ≡ Some (Some row.now)) }
+    {
+        row_at(&self.writers, variable.0)
+    }
+
+    /// The row of the object, where some point creates or deletes it.
+    fn lives(&self, object: ObjId) -> Option<&Row>
+        ensures { ForSome result (λ row. slice_get self.now.lives.items object.0 ≡ Some (Some row.now)) }
+    {
+        row_at(&self.lives, object.0)
+    }
+}
+
+/// The first point of the block that disturbs the point's note. Where the hull spares the note, no point
+/// is looked at.
+fn first_in_block(app: &App, notes: &Notes, number: usize, block: &Block) -> Option<usize>
+    requires number { number < length (points_of app.now) }
+    requires fit { NotesFit app.now notes.now }
+    requires block { IsBlock app.now notes.now block.now }
+    ensures { (p : Point) → slice_get (points_of app.now) number ≡ Some p →
+        IsFirstOf app.now notes.now p (IsListed app.now block.now.numbers.items) result }
+{
+    app.recall_faultless();
+    app.recall_numbered();
+    let actor = app.point(number).actor;
+    if block.hull.spares(actor, notes.at(app, number)) {
+        return None;
+    }
+    first_listed(app, notes, number, &block.numbers)
+}
+
+/// The first point of one of the blocks that disturbs the point's note.
+fn first_in_blocks(app: &App, notes: &Notes, number: usize, blocks: &[Block]) -> Option<usize>
+    requires number { number < length (points_of app.now) }
+    requires fit { NotesFit app.now notes.now }
+    requires blocks { All (λ b. IsBlock app.now notes.now b) blocks.now }
+    ensures { (p : Point) → slice_get (points_of app.now) number ≡ Some p →
+        IsFirstOf app.now notes.now p (IsInSome app.now blocks.now) result }
+{
+    let mut least = None;
+    for block in blocks {
+        least = lesser(least, first_in_block(app, notes, number, block));
+    }
+    least
+}
+
+impl Row {
+    /// The first point of the row that disturbs the point's note.
+    pub fn first(&self, app: &App, notes: &Notes, number: usize, numbers: &[usize]) -> Option<usize>
+        requires number { number < length (points_of app.now) }
+        requires fit { NotesFit app.now notes.now }
+        requires row { IsRow app.now notes.now numbers.now self.now }
+        ensures { (p : Point) → slice_get (points_of app.now) number ≡ Some p →
+            IsFirstOf app.now notes.now p (IsListed app.now numbers.now) result }
+    {
+        app.recall_faultless();
+        app.recall_numbered();
+        let actor = app.point(number).actor;
+        if self.whole.hull.spares(actor, notes.at(app, number)) {
+            return None;
+        }
+        first_in_blocks(app, notes, number, &self.blocks)
+    }
+}
+
+/// The variable's row, where there are rows and some point writes it.
+pub fn writer_row(hulls: Option<&Hulls>, variable: VarId) -> Option<&Row>
+    ensures { (P : Program) (ns : List Note) (I : IndexOf) → ForSome hulls.entry (λ h. AreHullsOf P ns I h.now) →
+        ForSome result (λ row. IsRow P ns (list_at I.writers variable.0) row.now) }
+{
+    match hulls {
+        Some(hulls) => hulls.writers(variable),
+        None => None,
+    }
+}
+
+/// The object's row, where there are rows and some point creates or deletes it.
+pub fn maker_row(hulls: Option<&Hulls>, object: ObjId) -> Option<&Row>
+    ensures { (P : Program) (ns : List Note) (I : IndexOf) → ForSome hulls.entry (λ h. AreHullsOf P ns I h.now) →
+        ForSome result (λ row. IsRow P ns (list_at I.lives object.0) row.now) }
+{
+    match hulls {
+        Some(hulls) => hulls.lives(object),
+        None => None,
+    }
+}
+
+/// The first of the points with these numbers that disturbs the point's note: by their row, where there
+/// is one, else one by one.
+pub fn first_among(
+    app: &App,
+    notes: &Notes,
+    number: usize,
+    numbers: &[usize],
+    row: Option<&Row>,
+) -> Option<usize>
+    requires number { number < length (points_of app.now) }
+    requires fit { NotesFit app.now notes.now }
+    requires listed { AreListed app.now numbers.now }
+    requires row { ForSome row (λ r. IsRow app.now notes.now numbers.now r.now) }
+    ensures { (p : Point) → slice_get (points_of app.now) number ≡ Some p →
+        IsFirstOf app.now notes.now p (IsListed app.now numbers.now) result }
+{
+    match row {
+        Some(row) => row.first(app, notes, number, numbers),
+        None => first_listed(app, notes, number, numbers),
+    }
+}
