@@ -38,8 +38,7 @@ IsInSome P blocks q = Any (λ b. IsListed P b.numbers.items q) blocks
 
 -- a hull of the points of a list, and blocks that have each of them
 pub record IsRow (P : Program) (notes : List Note) (numbers : List ℕ) (row : Row) : Type 0 where
-  pub whole : IsBlock P notes row.whole
-  pub all : row.whole.numbers.items ≡ numbers
+  pub whole : AreUnder P notes row.hull numbers
   pub each : All (λ b. IsBlock P notes b) row.blocks.items
   pub found : (q : Point) → IsPoint P q → IsListed P numbers q → IsInSome P row.blocks.items q
 

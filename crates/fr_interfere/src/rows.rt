@@ -25,10 +25,10 @@ pub struct Block {
     numbers: Vec<usize>,
 }
 
-/// All points of a list of the index, and the same points actor by actor.
+/// The hull of all points of a list of the index, and the same points actor by actor.
 #[derive(Drop)]
 pub struct Row {
-    whole: Block,
+    hull: Hull,
     blocks: Vec<Block>,
 }
 
@@ -94,9 +94,9 @@ impl Row {
         requires fit { NotesFit app.now notes.now }
         ensures { IfOk result (λ row. IsRow app.now notes.now numbers.now row) }
     {
-        let whole = Block::of(alloc, app, notes, numbers)?;
+        let hull = Hull::of(alloc, app, notes, numbers)?;
         let blocks = blocks_of(alloc, app, notes, numbers)?;
-        Ok(Row { whole, blocks })
+        Ok(Row { hull, blocks })
     }
 }
 
@@ -253,7 +253,7 @@ impl Row {
         app.recall_faultless();
         app.recall_numbered();
         let actor = app.point(number).actor;
-        if self.whole.hull.spares(actor, notes.at(app, number)) {
+        if self.hull.spares(actor, notes.at(app, number)) {
             return None;
         }
         first_in_blocks(app, notes, number, &self.blocks)

@@ -1,4 +1,4 @@
-use Rattle.std.proofs.Common.{get_or, sym, ◌∙◌, subst, arith, ⊎_elim}
+use Rattle.std.proofs.Common.{◌≡◌, [], ◌∷◌, ◌++◌, get_or, sym, ◌∙◌, subst, arith, ⊎_elim}
 use Rattle.std.specs.Prelude.{◌<◌, All, Any, Contains}
 use Rattle.std.proofs.lemmas.Bool.{cases_lt}
 use Rattle.std.proofs.lemmas.List.{get_or_default}
@@ -27,7 +27,7 @@ loop-from-preserved c =
     let b = c.behind_actor-behind in
     let old = c.loop-from.blocks.items in
     let new = c.in_ok-of.field-0 in
-    let more = sym c.in_ok-push.ensures.items in
+    let more : old ++ new ∷ [] ≡ c.push.new.self.items = sym c.in_ok-push.ensures.items in
     record {
       within = b.ensures.most;
       each = subst (λ bs. All (λ k. IsBlock P c.args.notes.now k) bs) more

@@ -1,7 +1,6 @@
 -- Each point of the row is under its hull, and in one of its blocks.
 use Rattle.std.proofs.Common.{sym, subst}
 use Rattle.std.specs.Prelude.{All}
-use Rattle.fr_interfere.specs.Hull.{AreUnder}
 use Rattle.fr_interfere.specs.Rows.{IsBlock, IsInSome}
 use Rattle.fr_interfere.specs.Spoilers.{IsListed}
 use Rattle.fr_interfere.proofs.RowLaws.{spared-points}
@@ -10,10 +9,8 @@ use Rattle.fr_interfere.proofs.rows.Row.first.Goals as goal
 
 pub returns-then-spares : goal.returns-then-spares
 returns-then-spares c = λ p here.
-    let row = c.args.self.now in
-    let under = subst (AreUnder c.args.app.now c.args.notes.now row.whole.hull) c.requires.row.all c.requires.row.whole.under in
     spared-points c.args.app.now c.recall_faultless.ensures c.args.notes.now c.requires.fit c.args.number p here c.point.result c.point.ensures c.at.result.now (c.at.ensures.is p here)
-    row.whole.hull c.args.numbers.now under (c.spares.ensures.0 c.if-spares.true)
+    c.args.self.now.hull c.args.numbers.now c.requires.row.whole (c.spares.ensures.0 c.if-spares.true)
 
 pub first_in_blocks-requires-clause-blocks : goal.first_in_blocks-requires-clause-blocks
 first_in_blocks-requires-clause-blocks c =
