@@ -39,7 +39,7 @@ use Rattle.fr_judge.specs.declared.part.Verdict.{Verdict}
 use Rattle.fr_judge.specs.declared.part.Verdict.TheVariants.{Yes, No}
 use Rattle.fr_report.specs.Report.{report_text}
 use Rattle.fr_answer.specs.declared.fault.CheckFault.{CheckFault}
-use Rattle.fr_answer.specs.declared.fault.CheckFault.TheVariants.{App, Cert, Workers, Rounds, Polls, Memory, Thread, Read, Write}
+use Rattle.fr_answer.specs.declared.fault.CheckFault.TheVariants.{App, Cert, Workers, Rounds, Polls, Out, Memory, Thread, Read, Write}
 use Rattle.fr_answer.specs.declared.file.LoadFault.{LoadFault}
 use Rattle.fr_answer.specs.declared.file.LoadFault.TheVariants.{Memory as NotHeld, Device}
 
@@ -55,6 +55,7 @@ fault_status (Cert f) = 2
 fault_status Workers = 2
 fault_status Rounds = 2
 fault_status Polls = 2
+fault_status Out = 2
 fault_status Memory = 3
 fault_status Thread = 3
 fault_status Read = 3
@@ -67,6 +68,7 @@ line_of (Cert f) = codes "refused: cert " ++ text_of f
 line_of Workers = codes "refused: workers"
 line_of Rounds = codes "refused: rounds"
 line_of Polls = codes "refused: polls"
+line_of Out = codes "refused: out"
 line_of Memory = codes "machine: memory"
 line_of Thread = codes "machine: thread"
 line_of Read = codes "machine: file"

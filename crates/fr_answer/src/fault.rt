@@ -23,6 +23,8 @@ pub enum CheckFault {
     Rounds,
     /// There are over 1,000,000 polls.
     Polls,
+    /// The file for the certificate has something else, which isn't overwritten.
+    Out,
     /// An allocation was refused.
     Memory,
     /// A thread couldn't be started.
@@ -109,7 +111,8 @@ pub fn status(fault: &CheckFault) -> u8
         | CheckFault::Cert(_)
         | CheckFault::Workers
         | CheckFault::Rounds
-        | CheckFault::Polls => REFUSED,
+        | CheckFault::Polls
+        | CheckFault::Out => REFUSED,
         CheckFault::Memory | CheckFault::Thread | CheckFault::Read | CheckFault::Write => MACHINE,
     }
 }
@@ -124,6 +127,7 @@ pub fn fault_line(alloc: Global, fault: &CheckFault) -> Result<String, AllocErro
         CheckFault::Workers => String::from_str(alloc, "refused: workers"),
         CheckFault::Rounds => String::from_str(alloc, "refused: rounds"),
         CheckFault::Polls => String::from_str(alloc, "refused: polls"),
+        CheckFault::Out => String::from_str(alloc, "refused: out"),
         CheckFault::Memory => String::from_str(alloc, "machine: memory"),
         CheckFault::Thread => String::from_str(alloc, "machine: thread"),
         CheckFault::Read | CheckFault::Write => String::from_str(alloc, "machine: file"),

@@ -1,8 +1,8 @@
 // What answers a command, from the bytes of the files to the report, the exit status and a refusal's line. `load` reads a
 // file, `check_with` judges and writes the report, and `answer_check` is the whole of it: the program and the worked
 // rows both call it, and its contract says what an exit status means. `answer_run` is the same of a run, whose words
-// `words_of` reads. `find_bytes` finds a certificate and `tell_found` says so. `answer_points` lists the points of an
-// application.
+// `words_of` reads. `find_bytes` finds a certificate and `tell_found` says so. `prove_bytes` works one out and judges it, and
+// `tell_proved` says what the verdict is; `warn` tells what a verdict may hide. `answer_points` lists the points of an application.
 #![tactic(auto)]
 
 mod answer;
@@ -11,8 +11,11 @@ mod exit;
 mod fault;
 mod file;
 mod found;
+mod layout;
 mod points;
+mod proving;
 mod running;
+mod warning;
 mod words;
 
 pub use answer::{answer_check, answer_fault};
@@ -24,5 +27,7 @@ pub use found::{Found, find_bytes, tell_found};
 pub use fr_cert::MOST_BYTES as MOST_CERTIFICATE_BYTES;
 pub use fr_reader::MOST_BYTES as MOST_APP_BYTES;
 pub use points::{answer_points, points_to};
+pub use proving::{Proved, is_replaceable, prove_bytes, tell_proved};
 pub use running::{answer_run, run_to};
+pub use warning::warn;
 pub use words::{WordsFault, answer_words, words_of};

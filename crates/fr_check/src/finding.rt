@@ -2,15 +2,15 @@
 use crate::words::{NAME, file_arg};
 use crate::{file_bytes, is_memory};
 use clap::{Arg, ArgMatches, Command, value_parser};
-use fr_answer::{CheckFault, Found, MOST_APP_BYTES, find_bytes, tell_found};
+use fr_answer::{CheckFault, Found, MOST_APP_BYTES, find_bytes, load, tell_found};
 use std::alloc::{AllocError, Global};
-use std::fs;
+use std::fs::{self, File};
 use std::thread::Threads;
 
 const STATUSES: &str = "Exit status:
   0  A certificate was found and written
   1  None was found, and no file was written
-  2  The words or the application are refused
+  2  The words or the application are refused, or the file for the certificate is the application's
   3  The machine failed: no memory, or a file that can't be read or written";
 
 /// A certificate that the command line asks for.
@@ -54,11 +54,24 @@ pub fn asked_find<'a>(words: &ArgMatches<'a>) -> Option<FindRequest<'a>> {
 }
 
 /// Writes the file, in place of what it held before.
-fn write_file(rt: &HostRuntime, path: &str, text: &str) -> Result<(), CheckFault> {
+pub fn write_file(rt: &HostRuntime, path: &str, text: &str) -> Result<(), CheckFault> {
     match fs::write(rt, path, text.as_bytes()) {
         Ok(()) => Ok(()),
         Err(error) if is_memory(&error) => Err(CheckFault::Memory),
         Err(_) => Err(CheckFault::Write),
+    }
+}
+
+/// Refuses a file for the certificate that has the application: the one that was read, by whatever name.
+fn check_out(rt: &HostRuntime, path: &str, app: &[u8]) -> Result<(), CheckFault> {
+    let Ok(mut file) = File::open(rt, path) else {
+        return Ok(());
+    };
+    let held = load(rt.alloc(), &mut file, MOST_APP_BYTES)?;
+    if !app.is_empty() && held.as_slice() == app {
+        Err(CheckFault::Out)
+    } else {
+        Ok(())
     }
 }
 
@@ -70,6 +83,7 @@ pub fn find<R: Threads + Sync>(
     asked: FindRequest,
 ) -> Result<u8, CheckFault> {
     let app = file_bytes(rt, asked.app, MOST_APP_BYTES)?;
+    check_out(rt, asked.out, &app)?;
     let found = find_bytes(threads, rt.alloc(), &app, usize::from(asked.rounds))?;
     if let Found::Text(text) = &found {
         write_file(rt, asked.out, text.as_str())?;

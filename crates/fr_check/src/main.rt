@@ -6,6 +6,7 @@ ghost use Rattle.fr_answer.specs.Checked.{most_bytes};
 
 mod finding;
 mod listing;
+mod proving;
 mod running;
 #[cfg(test)]
 mod tests;
@@ -14,10 +15,12 @@ mod words;
 use clap::error::ErrorKind;
 use finding::find;
 use fr_answer::{
-    CheckFault, MOST_APP_BYTES, MOST_CERTIFICATE_BYTES, REFUSED, answer_check, answer_fault, load,
+    CheckFault, MOST_APP_BYTES, MOST_CERTIFICATE_BYTES, NO, REFUSED, answer_check, answer_fault,
+    load, warn,
 };
 use fr_parallel::Open;
 use listing::list_points;
+use proving::prove;
 use running::run;
 use std::fs::File;
 use std::process::ExitCode;
@@ -44,17 +47,18 @@ fn file_bytes(rt: &HostRuntime, path: &str, limit: usize) -> Result<Vec<u8>, Che
 }
 
 /// Prints the verdict on the application and the certificate in these files, or why there is none, and
-/// gives the exit status.
+/// gives the exit status. Where `warns` says so, lines of code that are never reached are told too.
 fn check<R: Threads + Wait + Sync>(
     rt: &HostRuntime,
     threads: &R,
     app: &str,
     certificate: &str,
     workers: u16,
+    warns: bool,
 ) -> Result<u8, CheckFault> {
     let app = file_bytes(rt, app, MOST_APP_BYTES)?;
     let certificate = file_bytes(rt, certificate, MOST_CERTIFICATE_BYTES)?;
-    Ok(answer_check(
+    let status = answer_check(
         threads,
         rt.alloc(),
         &app,
@@ -63,7 +67,11 @@ fn check<R: Threads + Wait + Sync>(
         &Open,
         &mut rt.stdout(),
         &mut rt.stderr(),
-    ))
+    );
+    if warns && status <= NO {
+        warn(rt.alloc(), &app, &certificate, &mut rt.stderr())?;
+    }
+    Ok(status)
 }
 
 /// Refuses words that the usage message can't be printed for.
@@ -100,9 +108,11 @@ fn answer<R: Threads + Wait + Sync>(rt: &HostRuntime, threads: &R) -> Result<u8,
                     app,
                     certificate,
                     workers,
+                    warns,
                 },
-            ) => check(rt, threads, app, certificate, workers),
+            ) => check(rt, threads, app, certificate, workers, warns),
             Some(Request::Find(asked)) => find(rt, threads, asked),
+            Some(Request::Prove(asked)) => prove(rt, threads, asked),
             Some(Request::Points { app }) => list_points(rt, app),
             Some(Request::Run(asked)) => run(rt, threads, asked),
             None => refuse_words(rt),

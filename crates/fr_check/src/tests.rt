@@ -4,9 +4,9 @@ use crate::words::{Request, asked, matched};
 use fr_answer::CheckFault;
 use std::alloc::{AllocError, Global};
 
-// What the words of this line ask for: of `check` the files and the workers, of `find` the files and the rounds, of
-// `points` the file, of `run` the files, the polls and the words. Where the words don't match, the exit status and the
-// usage message.
+// What the words of this line ask for: of `check` the files, the workers and whether it warns, of `find` the files and the
+// rounds, of `prove` the file, the certificate's file, the workers and whether it warns, of `points` the file, of `run` the
+// files, the polls and the words. Where the words don't match, the exit status and the usage message.
 /// What the command line makes of these words.
 fn answer_to(alloc: Global, line: &str) -> Result<String, AllocError> {
     let mut words = Vec::new(alloc);
@@ -20,11 +20,16 @@ fn answer_to(alloc: Global, line: &str) -> Result<String, AllocError> {
                     app,
                     certificate,
                     workers,
+                    warns,
                 },
-            ) => format!(in alloc; "{app} {certificate} {workers}"),
+            ) => format!(in alloc; "{app} {certificate} {workers} {warns}"),
             Some(Request::Find(find)) => {
                 let (app, out, rounds) = (find.app, find.out, find.rounds);
                 format!(in alloc; "{app} {out} {rounds}")
+            }
+            Some(Request::Prove(prove)) => {
+                let (app, out, workers) = (prove.app, prove.out, prove.workers);
+                format!(in alloc; "{app} {out:?} {workers} {}", prove.warns)
             }
             Some(Request::Points { app }) => format!(in alloc; "the points of {app}"),
             Some(Request::Run(run)) => {
@@ -40,8 +45,9 @@ fn answer_to(alloc: Global, line: &str) -> Result<String, AllocError> {
 #[test]
 fn words_and_what_is_said_to_them(rt: HostRuntime) {
     let cases = [
-        ("fr_check check A C --workers 64", "A C 64"),
-        ("fr_check check A C", "A C 4"),
+        ("fr_check check A C --workers 64", "A C 64 false"),
+        ("fr_check check A C", "A C 4 false"),
+        ("fr_check check A C --warn", "A C 4 true"),
         ("fr_check find A O --rounds 64", "A O 64"),
         ("fr_check find A O", "A O 64"),
         ("fr_check find A O --rounds 0", "2 error: invalid value '0'"),
@@ -75,6 +81,12 @@ fn words_and_what_is_said_to_them(rt: HostRuntime) {
             "fr_check run A C",
             "2 error: the following required arguments",
         ),
+        ("fr_check prove A", "A None 4 false"),
+        (
+            "fr_check prove A --certificate C --workers 64",
+            "A Some(\"C\") 64 false",
+        ),
+        ("fr_check prove A C", "2 error: unexpected argument"),
         ("fr_check points A", "the points of A"),
         (
             "fr_check points",

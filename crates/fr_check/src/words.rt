@@ -1,6 +1,7 @@
 // The words of the command line.
 use crate::finding::{FindRequest, asked_find, find_command};
 use crate::listing::points_command;
+use crate::proving::{ProveRequest, asked_prove, prove_command};
 use crate::running::{RunRequest, asked_run, run_command};
 use clap::{Arg, ArgAction, ArgMatches, Command, Error, value_parser};
 use std::alloc::{AllocError, Global};
@@ -22,9 +23,13 @@ pub enum Request<'a> {
         app: &'a str,
         certificate: &'a str,
         workers: u16,
+        /// Whether points that are never reached are told.
+        warns: bool,
     },
     /// A certificate for an application.
     Find(FindRequest<'a>),
+    /// The verdict by a certificate that is worked out.
+    Prove(ProveRequest<'a>),
     /// The points of the application in this file.
     Points {
         app: &'a str,
@@ -43,13 +48,21 @@ pub fn file_arg<'a>(alloc: Global, id: &'a str, help: &'a str) -> Arg<'a> {
 }
 
 /// The word `--workers` with its number.
-fn workers_arg<'a>(alloc: Global) -> Arg<'a> {
+pub fn workers_arg<'a>(alloc: Global) -> Arg<'a> {
     Arg::new(alloc, "workers")
         .long("workers")
         .value_name("N")
         .value_parser(value_parser!(u16).range(1..=64))
         .default_value("4")
         .help("Threads that judge, 1 to 64")
+}
+
+/// The word `--warn`.
+pub fn warn_arg<'a>(alloc: Global) -> Arg<'a> {
+    Arg::new(alloc, "warn")
+        .long("warn")
+        .action(ArgAction::SetTrue)
+        .help("Tell lines of code that are never reached, on standard error")
 }
 
 /// The command `check`: its words, its help and its exit statuses.
@@ -60,10 +73,11 @@ fn check_command<'a>(alloc: Global) -> Result<Command<'a>, AllocError> {
         .after_help(STATUSES)
         .arg(file_arg(alloc, "APP", "The application, in TOML"))?
         .arg(file_arg(alloc, "CERT", "The certificate, in JSON"))?
-        .arg(workers_arg(alloc))
+        .arg(workers_arg(alloc))?
+        .arg(warn_arg(alloc))
 }
 
-/// The whole command line, with its four commands.
+/// The whole command line, with its five commands.
 fn command<'a>(alloc: Global) -> Result<Command<'a>, AllocError> {
     Command::new(alloc, NAME)
         .version("0.1.0")
@@ -72,6 +86,7 @@ fn command<'a>(alloc: Global) -> Result<Command<'a>, AllocError> {
         .after_help(STATUSES)
         .subcommand_required(true)
         .arg_required_else_help(true)
+        .subcommand(prove_command(alloc)?)?
         .subcommand(check_command(alloc)?)?
         .subcommand(find_command(alloc)?)?
         .subcommand(points_command(alloc)?)?
@@ -93,9 +108,11 @@ pub fn asked<'a>(matches: &ArgMatches<'a>) -> Option<Request<'a>> {
                 app: words.get_str("APP")?,
                 certificate: words.get_str("CERT")?,
                 workers: words.get_one::<u16>("workers")?,
+                warns: words.get_flag("warn"),
             })
         }
         "find" => Some(Request::Find(asked_find(&words)?)),
+        "prove" => Some(Request::Prove(asked_prove(&words)?)),
         "points" => Some(Request::Points {
             app: words.get_str("APP")?,
         }),

@@ -18,17 +18,19 @@ struct Insider<'a> {
     note: &'a Note,
 }
 
-/// Whether some actor can be at the point, inside this end.
-fn is_inside(spot: &Spot, end: EndName) -> bool {
-    if spot.note.alternatives().is_empty() {
-        return false;
-    }
+/// Whether the point is inside a call at this end.
+fn is_call_at(spot: &Spot, end: EndName) -> bool {
     match (spot.point.side, spot.instr) {
         (Side::Inside, Instr::Call(Call::On(call))) => {
             call.object.0 == end.buffer.0 && is_at_end(end.end, call.act)
         }
         _ => false,
     }
+}
+
+/// Whether some actor can be at the point, inside this end.
+fn is_inside(spot: &Spot, end: EndName) -> bool {
+    !spot.note.alternatives().is_empty() && is_call_at(spot, end)
 }
 
 /// All actors that can be inside this end, with their notes there.
@@ -188,6 +190,31 @@ fn guard_at(
     Ok(fitting(app, end, sole))
 }
 
+/// Which ends get a guard.
+#[derive(Clone, Copy, PartialEq, Eq)]
+enum Wanted {
+    /// Those inside which somebody can be.
+    Reached,
+    /// Those at which some line has a call.
+    Called,
+}
+
+/// The actor whose call at this end has the least number, whether or not it is reached, as the end's
+/// guard.
+fn first_caller(app: &App, notes: &Notes, end: EndName) -> Option<EndGuard>
+    requires { NotesFit app.now notes.now }
+    ensures { IfSome result (λ g. EndFits app.now (end_of g)) }
+{
+    for number in 0..app.points() {
+        if let Some(spot) = spot_at(app, notes, number) {
+            if is_call_at(&spot, end) {
+                return fitting(app, end, Guard::Sole(spot.point.actor));
+            }
+        }
+    }
+    None
+}
+
 /// Adds a guard, unless the end has one.
 fn add(app: &App, ends: &mut Vec<EndGuard>, guard: EndGuard) -> Result<(), AllocError>
     requires ends { EndsFit app.now (map end_of ends.old.items) }
@@ -201,11 +228,12 @@ fn add(app: &App, ends: &mut Vec<EndGuard>, guard: EndGuard) -> Result<(), Alloc
     Ok(())
 }
 
-/// Adds the guard of an end, where somebody can be inside.
+/// Adds the guard of an end, where one is wanted.
 fn add_end(
     alloc: Global,
     app: &App,
     notes: &Notes,
+    wanted: Wanted,
     end: EndName,
     ends: &mut Vec<EndGuard>,
 ) -> Result<(), AllocError>
@@ -213,7 +241,11 @@ fn add_end(
     requires ends { EndsFit app.now (map end_of ends.old.items) }
     ensures { EndsFit app.now (map end_of ends.new.items) }
 {
-    match guard_at(alloc, app, notes, end)? {
+    let guard = match (guard_at(alloc, app, notes, end)?, wanted) {
+        (None, Wanted::Called) => first_caller(app, notes, end),
+        (guard, _) => guard,
+    };
+    match guard {
         Some(guard) => add(app, ends, guard),
         None => Ok(()),
     }
@@ -224,6 +256,7 @@ fn add_both(
     alloc: Global,
     app: &App,
     notes: &Notes,
+    wanted: Wanted,
     buffer: ObjId,
     ends: &mut Vec<EndGuard>,
 ) -> Result<(), AllocError>
@@ -231,27 +264,31 @@ fn add_both(
     requires ends { EndsFit app.now (map end_of ends.old.items) }
     ensures { EndsFit app.now (map end_of ends.new.items) }
 {
-    let (writer, reader) = (End::Writer, End::Reader);
-    add_end(
-        alloc,
-        app,
-        notes,
-        EndName {
-            buffer,
-            end: writer,
-        },
-        ends,
-    )?;
-    add_end(
-        alloc,
-        app,
-        notes,
-        EndName {
-            buffer,
-            end: reader,
-        },
-        ends,
-    )
+    let writer = EndName {
+        buffer,
+        end: End::Writer,
+    };
+    let reader = EndName {
+        buffer,
+        end: End::Reader,
+    };
+    add_end(alloc, app, notes, wanted, writer, ends)?;
+    add_end(alloc, app, notes, wanted, reader, ends)
+}
+
+/// The guards of all ends that are wanted.
+fn ends_wanted(alloc: Global, app: &App, notes: &Notes, wanted: Wanted) -> Result<Ends, AllocError>
+    requires { NotesFit app.now notes.now }
+    ensures { IfOk result (λ ends. EndsFit app.now ends) }
+{
+    let mut ends = Vec::new(alloc);
+    for buffer in 0..app.objects().len() {
+        add_both(alloc, app, notes, wanted, ObjId(buffer), &mut ends)?;
+    }
+    match Ends::build(alloc, app, ends) {
+        Ok(ends) => Ok(ends),
+        Err(_) => unreachable!(),
+    }
 }
 
 /// The guards of all ends of buffers inside which somebody can be.
@@ -259,12 +296,13 @@ pub fn ends(alloc: Global, app: &App, notes: &Notes) -> Result<Ends, AllocError>
     requires { NotesFit app.now notes.now }
     ensures { IfOk result (λ ends. EndsFit app.now ends) }
 {
-    let mut ends = Vec::new(alloc);
-    for buffer in 0..app.objects().len() {
-        add_both(alloc, app, notes, ObjId(buffer), &mut ends)?;
-    }
-    match Ends::build(alloc, app, ends) {
-        Ok(ends) => Ok(ends),
-        Err(_) => unreachable!(),
-    }
+    ends_wanted(alloc, app, notes, Wanted::Reached)
+}
+
+/// The same, and for each other end at which some line has a call the first actor with one.
+pub fn all_ends(alloc: Global, app: &App, notes: &Notes) -> Result<Ends, AllocError>
+    requires { NotesFit app.now notes.now }
+    ensures { IfOk result (λ ends. EndsFit app.now ends) }
+{
+    ends_wanted(alloc, app, notes, Wanted::Called)
 }

@@ -1,4 +1,5 @@
-// What a step leaves, as an alternative of a note.
+// What a step leaves, as an alternative of a note. Where only some variables are to be spoken of, the others get their
+// declared ranges.
 ghost use Rattle.std.specs.Prelude.{IfOk, IfSome};
 ghost use Rattle.fr_notes.specs.Fits.{AlternativeFits};
 ghost use Rattle.fr_notes.specs.Known.{IsPossible};
@@ -7,6 +8,14 @@ use fr_notes::{Alternative, Change, Claim, Known, claim_after, new_range, other_
 use fr_program::{App, Range, VarId};
 use std::alloc::{AllocError, Global};
 
+/// Whether the variable is to be spoken of: each is where no list is given.
+fn is_said(said: Option<&[bool]>, variable: usize) -> bool {
+    match said {
+        Some(said) => said.get(variable).copied() == Some(true),
+        None => true,
+    }
+}
+
 /// Each variable's range after a change, without what is out of its declared range; None where
 /// nothing is left of one.
 fn ranges_left(
@@ -14,15 +23,18 @@ fn ranges_left(
     app: &App,
     known: &Known,
     change: &Change,
+    said: Option<&[bool]>,
 ) -> Result<Option<Vec<Range>>, AllocError>
     requires { IsPossible known.now }
 {
     let variables = app.variables().len();
     let mut ranges = Vec::with_capacity(alloc, variables)?;
     for variable in 0..variables {
+        let declared = app.range(VarId(variable));
         let range = new_range(change, variable, known.range(variable));
-        match range.meet(app.range(VarId(variable))) {
-            Some(range) => ranges.push(range)?,
+        match range.meet(declared) {
+            Some(range) if is_said(said, variable) => ranges.push(range)?,
+            Some(_) => ranges.push(declared)?,
             None => return Ok(None),
         }
     }
@@ -60,12 +72,14 @@ fn claims_spared(
 }
 
 /// What a change leaves of what is known, for the mover. None where a value of its would be out of
-/// the declared range, and where a depth or a count is more than a note can say.
+/// the declared range, and where a depth or a count is more than a note can say. With a list, only
+/// the variables that are marked in it are spoken of.
 pub fn left_to_mover(
     alloc: Global,
     app: &App,
     known: &Known,
     change: &Change,
+    said: Option<&[bool]>,
 ) -> Result<Option<Alternative>, AllocError>
     requires { IsPossible known.now }
     ensures { IfOk result (λ left. IfSome left (λ n. AlternativeFits app.now n)) }
@@ -73,7 +87,7 @@ pub fn left_to_mover(
     let (Ok(crit), Ok(susp)) = (u8::try_from(change.crit), u8::try_from(change.susp)) else {
         return Ok(None);
     };
-    let Some(ranges) = ranges_left(alloc, app, known, change)? else {
+    let Some(ranges) = ranges_left(alloc, app, known, change, said)? else {
         return Ok(None);
     };
     let claims = claims_left(alloc, app, known, change)?;
@@ -88,11 +102,12 @@ pub fn left_to_other(
     known: &Known,
     other: &Alternative,
     change: &Change,
+    said: Option<&[bool]>,
 ) -> Result<Option<Alternative>, AllocError>
     requires { IsPossible known.now }
     ensures { IfOk result (λ left. IfSome left (λ n. AlternativeFits app.now n)) }
 {
-    let Some(ranges) = ranges_left(alloc, app, known, change)? else {
+    let Some(ranges) = ranges_left(alloc, app, known, change, said)? else {
         return Ok(None);
     };
     let claims = claims_spared(alloc, app, known, change)?;

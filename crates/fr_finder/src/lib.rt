@@ -13,5 +13,8 @@ mod rounds;
 mod spot;
 mod start;
 
+pub use arrivals::target;
 pub use fault::FindFault;
 pub use finding::{find, is_rounds};
+pub use guards::all_ends;
+pub use landing::{left_to_mover, left_to_other};

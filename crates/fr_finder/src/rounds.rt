@@ -81,7 +81,7 @@ fn land(
     if is_kept(&known, &change, note) {
         return Ok(());
     }
-    match left_to_mover(alloc, before.app, &known, &change)? {
+    match left_to_mover(alloc, before.app, &known, &change, None)? {
         Some(landing) => merge(alloc, before.app, note, landing, before.growth),
         None => Ok(()),
     }
@@ -173,7 +173,7 @@ fn spread(
     if is_spared(known, other, &change, note) {
         return Ok(());
     }
-    match left_to_other(alloc, before.app, known, other, &change)? {
+    match left_to_other(alloc, before.app, known, other, &change, None)? {
         Some(landing) => merge(alloc, before.app, note, landing, before.growth),
         None => Ok(()),
     }

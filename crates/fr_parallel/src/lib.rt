@@ -16,5 +16,5 @@ mod worker;
 pub use bytes::{BytesFault, judge_bytes};
 pub use fault::ParFault;
 pub use gate::{Gate, Open};
-pub use verdict::judge_with;
+pub use verdict::{is_crew, judge_with};
 pub use worker::{work, work_beside};

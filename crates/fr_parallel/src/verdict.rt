@@ -22,7 +22,7 @@ use std::sync::Wait;
 use std::thread::Threads;
 
 /// Whether there can be so many workers: 1 to 64.
-pub(crate) fn is_crew(workers: usize) -> bool
+pub fn is_crew(workers: usize) -> bool
     ensures { IsTrue result ↔ IsSeatCount workers }
 {
     0 < workers && workers <= 64

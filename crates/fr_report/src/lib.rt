@@ -1,14 +1,16 @@
-// The texts that a person reads: the report of a verdict (`report`), the lines of a trace (`trace_text`), and the
-// listing of an application's points (`points_text`). Below it are verdicts (fr_judge), traces (fr_runner) and the
-// writing of a line (fr_instr). The crate above, fr_answer, prints what these three give; their contracts say the
-// text to the letter.
+// The texts that a person reads: the report of a verdict (`report`), the lines of a trace (`trace_text`), the listing
+// of an application's points (`points_text`), and warnings (`warnings_text`). Below it are verdicts (fr_judge), traces
+// (fr_runner) and the writing of a line (fr_instr). The crate above, fr_answer, prints what these four give; the
+// contracts of the first three say the text to the letter.
 #![tactic(auto)]
 
 mod listing;
 mod shown;
 mod text;
 mod trace;
+mod warnings;
 
 pub use listing::points_text;
 pub use text::report;
 pub use trace::trace_text;
+pub use warnings::warnings_text;

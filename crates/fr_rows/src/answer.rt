@@ -4,8 +4,9 @@ ghost use Rattle.fr_answer.specs.Checked.{most_bytes};
 
 use crate::row::Asked;
 use fr_answer::{
-    CheckFault, Found, MOST_APP_BYTES, MOST_CERTIFICATE_BYTES, WordsFault, answer_check,
-    answer_fault, answer_points, answer_run, answer_words, find_bytes, load, tell_found, words_of,
+    CheckFault, DONE, Found, MOST_APP_BYTES, MOST_CERTIFICATE_BYTES, NO, Proved, WordsFault,
+    answer_check, answer_fault, answer_points, answer_run, answer_words, find_bytes, load,
+    prove_bytes, tell_found, tell_proved, warn, words_of,
 };
 use fr_parallel::Open;
 use std::alloc::{AllocError, Global};
@@ -47,26 +48,47 @@ fn both(
     Ok((app, file_bytes(alloc, certificate, MOST_CERTIFICATE_BYTES)?))
 }
 
+/// The status of a command that warns where it `warns` and has a verdict.
+fn warned(
+    alloc: Global,
+    files: (&[u8], &[u8]),
+    warns: bool,
+    status: u8,
+    stderr: &mut Vec<u8>,
+) -> u8 {
+    if !warns || status > NO {
+        return status;
+    }
+    match warn(alloc, files.0, files.1, stderr) {
+        Ok(()) => status,
+        Err(fault) => answer_fault(alloc, &fault, stderr),
+    }
+}
+
 /// What `check` writes and answers to these files.
 fn check<R: Threads + Wait + Sync>(
     threads: &R,
     alloc: Global,
     files: (Option<&[u8]>, Option<&[u8]>),
     workers: usize,
+    warns: bool,
     stdout: &mut Vec<u8>,
     stderr: &mut Vec<u8>,
 ) -> u8 {
     match &both(alloc, files.0, files.1) {
-        Ok((app, certificate)) => answer_check(
-            threads,
-            alloc,
-            app,
-            certificate,
-            workers,
-            &Open,
-            stdout,
-            stderr,
-        ),
+        Ok((app, certificate)) => {
+            let status = answer_check(
+                threads,
+                alloc,
+                app,
+                certificate,
+                workers,
+                &Open,
+                stdout,
+                stderr,
+            );
+            warned(alloc, (app, certificate), warns, status, stderr)
+        }
         Err(fault) => answer_fault(alloc, fault, stderr),
     }
 }
@@ -143,6 +165,45 @@ fn find<R: Threads + Sync>(
     }
 }
 
+/// The verdict by a certificate that is worked out for the application in this file.
+fn proved_for<R: Threads + Wait + Sync>(
+    threads: &R,
+    alloc: Global,
+    app: Option<&[u8]>,
+    workers: usize,
+) -> Result<(Vec<u8>, Proved), CheckFault> {
+    let app = file_bytes(alloc, app, MOST_APP_BYTES)?;
+    let proved = prove_bytes(threads, alloc, &app, workers, &Open)?;
+    Ok((app, proved))
+}
+
+/// What `prove` writes and answers to this file, with the text of the certificate that passed.
+fn prove<R: Threads + Wait + Sync>(
+    threads: &R,
+    alloc: Global,
+    app: Option<&[u8]>,
+    workers: usize,
+    warns: bool,
+    stdout: &mut Vec<u8>,
+    stderr: &mut Vec<u8>,
+) -> (u8, Option<String>) {
+    let (app, proved) = match proved_for(threads, alloc, app, workers) {
+        Ok(proved) => proved,
+        Err(fault) => return (answer_fault(alloc, &fault, stderr), None),
+    };
+    let status = match tell_proved(&proved, stdout) {
+        Ok(status) => status,
+        Err(fault) => answer_fault(alloc, &fault, stderr),
+    };
+    let files = (app.as_slice(), proved.certificate.as_bytes());
+    let status = warned(alloc, files, warns, status, stderr);
+    if proved.status == DONE {
+        (status, Some(proved.certificate))
+    } else {
+        (status, None)
+    }
+}
+
 /// What `points` writes and answers to this file.
 fn points(alloc: Global, app: Option<&[u8]>, stdout: &mut Vec<u8>, stderr: &mut Vec<u8>) -> u8 {
     match &file_bytes(alloc, app, MOST_APP_BYTES) {
@@ -163,11 +224,22 @@ impl Call {
         let (mut out, mut err) = (Vec::new(alloc), Vec::new(alloc));
         let files = (app, certificate);
         let (status, written) = match asked {
-            Asked::Check { workers } => {
+            Asked::Check { workers, warns } => {
+                let (workers, warns) = (*workers, *warns);
                 (
-                    check(threads, alloc, files, *workers, &mut out, &mut err),
+                    check(threads, alloc, files, workers, warns, &mut out, &mut err),
                     None,
                 )
+            }
+            Asked::Prove {
+                workers,
+                kept,
+                warns,
+            } => {
+                let (status, text) = prove(
+                    threads, alloc, app, *workers, *warns, &mut out, &mut err,
+                );
+                (status, text.filter(|_| *kept))
             }
             Asked::Run { polls, words } => {
                 let words = words.as_deref();

@@ -4,7 +4,8 @@
 // app.toml     the application; the file may be missing, as any that the program reads
 // cert.json    the certificate
 // args         the words, one a line: a check of both files, by so many workers; a run of so many polls with these words; a
-//              search, in so many rounds, for a certificate that goes to out.json; or the points of the application
+//              search, in so many rounds, for a certificate that goes to out.json; a proof, by so many workers, whose
+//              certificate goes to out.json where that is named; or the points of the application
 // stdout       what has to be written to standard output
 // stderr       what has to be written to standard error
 // status       the exit status
@@ -47,12 +48,26 @@ pub struct Cut {
 /// What a row asks of its files.
 #[derive(Drop)]
 pub enum Asked {
-    /// The verdict, by so many workers.
-    Check { workers: usize },
+    /// The verdict, by so many workers, and warnings if it `warns`.
+    Check {
+        workers: usize,
+        warns: bool,
+    },
     /// A run of so many polls, with the words of this text, where there is one.
-    Run { polls: u64, words: Option<String> },
+    Run {
+        polls: u64,
+        words: Option<String>,
+    },
     /// A certificate, in at most so many rounds.
-    Find { rounds: usize },
+    Find {
+        rounds: usize,
+    },
+    /// The verdict by a certificate that is worked out, which is written if it is `kept`.
+    Prove {
+        workers: usize,
+        kept: bool,
+        warns: bool,
+    },
     /// The points of the application.
     Points,
 }
@@ -151,15 +166,46 @@ fn check_end(word: Option<&str>) -> io::Result<()> {
     }
 }
 
-/// The rest of a check's words: the number of workers.
-fn check_asked(words: &mut Lines) -> io::Result<Asked> {
-    let workers = match words.next() {
-        None => DEFAULT_WORKERS,
-        Some("--workers") => number(words.next())?,
-        Some(_) => return Err(wrong("the words are not those of a check")),
+/// The number of workers and whether it warns, in words `--workers N` and `--warn`, which end the command. The first of them
+/// was taken.
+fn workers_asked(first: Option<&str>, words: &mut Lines) -> io::Result<(usize, bool)> {
+    let (workers, next) = match first {
+        Some("--workers") => (number(words.next())?, words.next()),
+        _ => (DEFAULT_WORKERS, first),
+    };
+    let warns = match next {
+        None => false,
+        Some("--warn") => true,
+        Some(_) => return Err(wrong("the words are not those of a check or a proof")),
     };
     check_end(words.next())?;
-    Ok(Asked::Check { workers })
+    Ok((workers, warns))
+}
+
+/// The rest of a check's words: the number of workers, and whether it warns.
+fn check_asked(words: &mut Lines) -> io::Result<Asked> {
+    let (workers, warns) = workers_asked(words.next(), words)?;
+    Ok(Asked::Check { workers, warns })
+}
+
+/// The rest of a proof's words: where the certificate goes, the number of workers, and whether it warns. The first of them was
+/// taken.
+fn prove_asked(first: Option<&str>, words: &mut Lines) -> io::Result<Asked> {
+    let kept = first == Some("--certificate");
+    let next = if kept {
+        if words.next() != Some(OUT) {
+            return Err(wrong("a proof's certificate goes to another file than out.json"));
+        }
+        words.next()
+    } else {
+        first
+    };
+    let (workers, warns) = workers_asked(next, words)?;
+    Ok(Asked::Prove {
+        workers,
+        kept,
+        warns,
+    })
 }
 
 /// The rest of a run's words: the number of polls, and the text of its words.
@@ -198,6 +244,7 @@ fn asked_in(alloc: Global, words: &str, certificate: &str) -> io::Result<Asked> 
     let second = words.next();
     match command {
         Some("points") if second.is_none() => Ok(Asked::Points),
+        Some("prove") => prove_asked(second, &mut words),
         Some("find") if second == Some(OUT) => find_asked(&mut words),
         Some("check") if second == Some(certificate) => check_asked(&mut words),
         Some("run") if second == Some(certificate) => run_asked(alloc, &mut words),

@@ -1,0 +1,34 @@
+-- What a proof answers: a certificate that was worked out, and the verdict by it.
+--
+-- | word             | meaning                                                                             |
+-- |------------------|-------------------------------------------------------------------------------------|
+-- | IsProved         | the status and the report are those of the verdict on the bytes by the certificate  |
+-- | CanRefuseApp     | this fault can be the answer where the application alone is read                    |
+-- | CanRefuseProof   | this fault can be the answer to the bytes and the number of workers                 |
+use Rattle.std.specs.Prelude.{◌≡◌, ℕ, List, [], Some, string_bytes}
+use Rattle.fr_parallel.specs.Kept.{IsNoCrew}
+use Rattle.fr_answer.specs.declared.fault.CheckFault.{CheckFault}
+use Rattle.fr_answer.specs.declared.fault.CheckFault.TheVariants.{App, Cert, Workers, Memory, Thread}
+use Rattle.fr_answer.specs.declared.proving.Proved.{Proved}
+use Rattle.fr_answer.specs.Checked.{IsAnswer, IsAppRefused, IsCertRefused}
+
+-- the bytes mean an application, and the text a certificate for it; the status and the report are those of the verdict on
+-- both
+abbrev pub IsProved : List ℕ → Proved → Type 0
+IsProved app p = IsAnswer app (string_bytes p.certificate) p.status (Some []) (Some p.report.items)
+
+-- the fault is present in the application's bytes, or the machine had no memory
+abbrev pub CanRefuseApp : List ℕ → CheckFault → Type 0
+CanRefuseApp app (App f) = IsAppRefused app f
+CanRefuseApp app Memory = Unit {0}
+CanRefuseApp app fault = ⊥
+
+-- the fault is present in the application's bytes, in a certificate for it, or in the number of workers; or the machine
+-- had no memory or no thread
+abbrev pub CanRefuseProof : List ℕ → ℕ → CheckFault → Type 0
+CanRefuseProof app workers (App f) = IsAppRefused app f
+CanRefuseProof app workers (Cert f) = (certificate : List ℕ) × IsCertRefused app certificate f
+CanRefuseProof app workers Workers = IsNoCrew workers
+CanRefuseProof app workers Memory = Unit {0}
+CanRefuseProof app workers Thread = Unit {0}
+CanRefuseProof app workers fault = ⊥

@@ -1,0 +1,28 @@
+// Warning of what a verdict may hide.
+
+use crate::fault::CheckFault;
+use fr_judge::read_both;
+use fr_report::warnings_text;
+use std::alloc::Global;
+use std::io::Write;
+
+/// Writes the warnings for the application and its certificate, as `warnings_text` gives them: the lines of
+/// code that the certificate says are never reached, and that there are no actors.
+///
+/// # Errors
+///
+/// A fault that is present in the bytes; `Memory` where an allocation was refused. Nothing is written then.
+/// `Write` where the writer failed; what was written then is open.
+pub fn warn<W: Write>(
+    alloc: Global,
+    app: &[u8],
+    certificate: &[u8],
+    writer: &mut W,
+) -> Result<(), CheckFault> {
+    let (app, certificate) = read_both(alloc, app, certificate)?;
+    let text = warnings_text(alloc, &app, &certificate.notes)?;
+    match writer.write_all(text.as_bytes()) {
+        Ok(()) => Ok(()),
+        Err(_) => Err(CheckFault::Write),
+    }
+}

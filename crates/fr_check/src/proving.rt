@@ -1,0 +1,114 @@
+// The command `prove`: its words, and what the program does for it.
+use crate::finding::write_file;
+use crate::words::{NAME, file_arg, warn_arg, workers_arg};
+use crate::{file_bytes, is_memory};
+use clap::{Arg, ArgAction, ArgMatches, Command};
+use fr_answer::{
+    CheckFault, DONE, MOST_APP_BYTES, MOST_CERTIFICATE_BYTES, Proved, is_replaceable, load,
+    prove_bytes, tell_proved, warn,
+};
+use fr_parallel::Open;
+use std::alloc::{AllocError, Global};
+use std::fs::File;
+use std::io::ErrorKind;
+use std::sync::Wait;
+use std::thread::Threads;
+
+const STATUSES: &str = "Exit status:
+  0  The verdict is yes
+  1  The verdict by the best certificate that was found is no
+  2  The words or the application are refused, or the file for the certificate has something else
+  3  The machine failed: no memory, no thread, or a file that can't be read or written";
+
+/// A proof that the command line asks for.
+#[derive(Clone, Copy)]
+pub struct ProveRequest<'a> {
+    pub app: &'a str,
+    /// The file for the certificate, where one is wanted.
+    pub out: Option<&'a str>,
+    pub workers: u16,
+    /// Whether points that are never reached are told.
+    pub warns: bool,
+}
+
+/// The word `--certificate` with its file.
+fn certificate_arg<'a>(alloc: Global) -> Arg<'a> {
+    Arg::new(alloc, "certificate")
+        .long("certificate")
+        .value_name("OUT")
+        .action(ArgAction::Set)
+        .help("The file for the certificate, which is written where the verdict is yes")
+}
+
+/// The command `prove`: its words, its help and its exit statuses.
+pub fn prove_command<'a>(alloc: Global) -> Result<Command<'a>, AllocError> {
+    Command::new(alloc, "prove")
+        .display_name(NAME)?
+        .about("Works out a certificate for an application, and prints the verdict by it")
+        .after_help(STATUSES)
+        .arg(file_arg(alloc, "APP", "The application, in TOML"))?
+        .arg(certificate_arg(alloc))?
+        .arg(workers_arg(alloc))?
+        .arg(warn_arg(alloc))
+}
+
+/// The proof that the matched words ask for. Words that were matched always ask for something, so it is
+/// never None.
+pub fn asked_prove<'a>(words: &ArgMatches<'a>) -> Option<ProveRequest<'a>> {
+    Some(ProveRequest {
+        app: words.get_str("APP")?,
+        out: words.get_str("certificate"),
+        workers: words.get_one::<u16>("workers")?,
+        warns: words.get_flag("warn"),
+    })
+}
+
+/// Refuses a file for the certificate that has something else than a certificate.
+fn check_out(rt: &HostRuntime, path: &str) -> Result<(), CheckFault> {
+    let mut file = match File::open(rt, path) {
+        Ok(file) => file,
+        Err(error) if is_memory(&error) => return Err(CheckFault::Memory),
+        Err(error) if matches!(error.kind(), ErrorKind::NotFound) => return Ok(()),
+        Err(_) => return Err(CheckFault::Out),
+    };
+    let bytes = load(rt.alloc(), &mut file, MOST_CERTIFICATE_BYTES)?;
+    if is_replaceable(rt.alloc(), &bytes)? {
+        Ok(())
+    } else {
+        Err(CheckFault::Out)
+    }
+}
+
+/// Writes the certificate, where the verdict by it is yes and a file is given for it.
+fn write_certificate(
+    rt: &HostRuntime,
+    out: Option<&str>,
+    proved: &Proved,
+) -> Result<(), CheckFault> {
+    match out {
+        Some(path) if proved.status == DONE => write_file(rt, path, proved.certificate.as_str()),
+        _ => Ok(()),
+    }
+}
+
+/// Works out a certificate for the application in the file, and prints the verdict by it. The file for the
+/// certificate is looked at before the search, and written before anything is printed.
+pub fn prove<R: Threads + Wait + Sync>(
+    rt: &HostRuntime,
+    threads: &R,
+    asked: ProveRequest,
+) -> Result<u8, CheckFault> {
+    let app = file_bytes(rt, asked.app, MOST_APP_BYTES)?;
+    if let Some(path) = asked.out {
+        check_out(rt, path)?;
+    }
+    let workers = usize::from(asked.workers);
+    let proved = prove_bytes(threads, rt.alloc(), &app, workers, &Open)?;
+    write_certificate(rt, asked.out, &proved)?;
+    let status = tell_proved(&proved, &mut rt.stdout())?;
+    if asked.warns {
+        let certificate = proved.certificate.as_bytes();
+        warn(rt.alloc(), &app, certificate, &mut rt.stderr())?;
+    }
+    Ok(status)
+}

@@ -1,0 +1,331 @@
+// Divisions that are worth a try, by the points at which a certificate fails.
+use crate::division::{Division, Split, actors_of};
+use crate::measure::Failure;
+use crate::place::{changed_life, place_at};
+use crate::plan::{Plan, Tested};
+use fr_judge::Part;
+use fr_notes::MOST_ALTERNATIVES;
+use fr_program::{App, Call, Instr, Point};
+use std::alloc::{AllocError, Global};
+use std::collections::BTreeSet;
+
+/// A variable's range is cut at most so often.
+const MOST_CUTS: usize = 15;
+
+/// So many of the failures are looked at.
+const LOOKED_AT: usize = 3;
+
+/// So many single numbers are tried where a variable is tested with many.
+const SINGLE_NUMBERS: usize = 6;
+
+/// The actors and objects that some failures have to do with.
+#[derive(Drop)]
+struct Concern {
+    /// In the order in which they were heard of.
+    actors: Vec<usize>,
+    objects: BTreeSet<usize>,
+}
+
+/// The object of the call at a point, if there is one.
+fn object_at(app: &App, point: Point) -> Option<usize> {
+    match app.instr(point)? {
+        Instr::Call(call) => Some(call.object()?.0),
+        _ => None,
+    }
+}
+
+/// The object that the instruction of a point creates or deletes, if it does.
+fn life_at(app: &App, point: Point) -> Option<usize> {
+    changed_life(app.instr(point)?)
+}
+
+/// Whether the part is that a handle isn't live, or that an object is deleted in use or created while live.
+fn is_of_life(part: Part) -> bool {
+    match part {
+        Part::Rule(rule) => rule.number() == 7 || rule.number() == 8,
+        _ => false,
+    }
+}
+
+impl Concern {
+    /// Adds an actor.
+    fn hear(&mut self, actor: usize) -> Result<(), AllocError> {
+        if !self.actors.contains(&actor) {
+            self.actors.push(actor)?;
+        }
+        Ok(())
+    }
+
+    /// Adds an object, if there is one.
+    fn add_object(&mut self, object: Option<usize>) -> Result<(), AllocError> {
+        if let Some(object) = object {
+            self.objects.insert(object)?;
+        }
+        Ok(())
+    }
+
+    /// Adds what a failure has to do with.
+    fn add(&mut self, app: &App, failure: Failure) -> Result<(), AllocError> {
+        let Some(place) = place_at(app, failure.number) else {
+            return Ok(());
+        };
+        self.hear(place.point.actor.0)?;
+        if is_of_life(failure.part) {
+            self.add_object(object_at(app, place.point))?;
+        }
+        if let Part::Spoiled(other) | Part::Near(other) = failure.part {
+            self.hear(other.actor.0)?;
+            self.add_object(life_at(app, other))?;
+        }
+        Ok(())
+    }
+
+    /// Adds the actors that create or delete one of the objects.
+    fn add_makers(&mut self, app: &App) -> Result<(), AllocError> {
+        for number in 0..app.points() {
+            if let Some(place) = place_at(app, number) {
+                if changed_life(place.instr).is_some_and(|object| self.objects.contains(&object)) {
+                    self.hear(place.point.actor.0)?;
+                }
+            }
+        }
+        Ok(())
+    }
+}
+
+/// What the first failures have to do with.
+fn concern_of(alloc: Global, app: &App, failures: &[Failure]) -> Result<Concern, AllocError> {
+    let mut concern = Concern {
+        actors: Vec::new(alloc),
+        objects: BTreeSet::new(alloc),
+    };
+    for failure in failures.iter().take(LOOKED_AT) {
+        concern.add(app, *failure)?;
+    }
+    concern.add_makers(app)?;
+    Ok(concern)
+}
+
+/// The numbers from the second one of a range to its last; none where they are too many.
+fn each_number(alloc: Global, lo: i128, hi: i128) -> Result<Vec<i128>, AllocError> {
+    let mut cuts = Vec::new(alloc);
+    let mut cut = lo;
+    for _ in 0..MOST_CUTS {
+        cut = cut.saturating_add(1);
+        if cut <= hi {
+            cuts.push(cut)?;
+        }
+    }
+    if cut < hi {
+        cuts.clear();
+    }
+    Ok(cuts)
+}
+
+/// Adds a cut, if it divides the range.
+fn add_cut(cuts: &mut BTreeSet<i128>, lo: i128, hi: i128, cut: i128) -> Result<(), AllocError> {
+    if lo < cut && cut <= hi {
+        cuts.insert(cut)?;
+    }
+    Ok(())
+}
+
+/// The cuts around these numbers.
+fn cuts_around(
+    alloc: Global,
+    lo: i128,
+    hi: i128,
+    numbers: &[i128],
+) -> Result<Vec<i128>, AllocError> {
+    let mut cuts = BTreeSet::new(alloc);
+    for number in numbers {
+        add_cut(&mut cuts, lo, hi, *number)?;
+        add_cut(&mut cuts, lo, hi, number.saturating_add(1))?;
+    }
+    Ok(cuts.iter().copied().collect(alloc)?)
+}
+
+/// Divisions in the order in which they are tried.
+#[derive(Drop)]
+struct Candidates<'a> {
+    plan: &'a Plan<'a>,
+    list: Vec<Division>,
+}
+
+impl<'a> Candidates<'a> {
+    /// Adds a division, unless it is there.
+    fn add(&mut self, division: Division) -> Result<(), AllocError> {
+        if !self.list.iter().any(|other| *other == division) {
+            self.list.push(division)?;
+        }
+        Ok(())
+    }
+
+    /// Adds a variable's cuts for all actors that name it.
+    fn add_cuts(
+        &mut self,
+        alloc: Global,
+        variable: usize,
+        cuts: Vec<i128>,
+    ) -> Result<(), AllocError> {
+        if cuts.is_empty() {
+            return Ok(());
+        }
+        self.add(Division {
+            split: Split::Cuts(variable, cuts),
+            actors: actors_of(alloc, &self.plan.users, variable)?,
+        })
+    }
+
+    /// The numbers of its declared range that the variable is tested with, rising.
+    fn tested(
+        &self,
+        alloc: Global,
+        variable: usize,
+        lo: i128,
+        hi: i128,
+    ) -> Result<Vec<i128>, AllocError> {
+        let mut numbers = BTreeSet::new(alloc);
+        for tests in &self.plan.tests {
+            if let Some(tested) = tests.iter().find(|tested| tested.variable == variable) {
+                for number in tested.numbers.iter() {
+                    if lo <= *number && *number <= hi {
+                        numbers.insert(*number)?;
+                    }
+                }
+            }
+        }
+        Ok(numbers.iter().copied().collect(alloc)?)
+    }
+
+    /// Adds cuts around single numbers.
+    fn add_singles(
+        &mut self,
+        alloc: Global,
+        variable: usize,
+        lo: i128,
+        hi: i128,
+        numbers: &[i128],
+    ) -> Result<(), AllocError> {
+        for number in numbers.iter().take(SINGLE_NUMBERS) {
+            let cuts = cuts_around(alloc, lo, hi, &[*number])?;
+            self.add_cuts(alloc, variable, cuts)?;
+        }
+        Ok(())
+    }
+
+    /// Adds the ways to cut a variable's numbers, the finest first.
+    fn add_variable(&mut self, alloc: Global, variable: usize) -> Result<(), AllocError> {
+        let Some(declared) = self.plan.app.variables().get(variable) else {
+            return Ok(());
+        };
+        let (lo, hi) = (i128::from(declared.lo), i128::from(declared.hi));
+        let numbers = self.tested(alloc, variable, lo, hi)?;
+        let each = each_number(alloc, lo, hi)?;
+        let mut around = cuts_around(alloc, lo, hi, &numbers)?;
+        if around.len() > MOST_CUTS {
+            around.clear();
+        }
+        let finest = if each.is_empty() {
+            around.len()
+        } else {
+            each.len()
+        };
+        self.add_cuts(alloc, variable, each)?;
+        self.add_cuts(alloc, variable, around)?;
+        if finest == 0 || finest >= MOST_ALTERNATIVES {
+            self.add_singles(alloc, variable, lo, hi, &numbers)?;
+        }
+        Ok(())
+    }
+
+    /// Adds the variables of the list that several actors name, or those that one alone names.
+    fn add_tested(
+        &mut self,
+        alloc: Global,
+        tests: &[Tested],
+        shared: bool,
+    ) -> Result<(), AllocError> {
+        for tested in tests {
+            if (self.plan.users.count(tested.variable) != 1) == shared {
+                self.add_variable(alloc, tested.variable)?;
+            }
+        }
+        Ok(())
+    }
+
+    /// Adds the variables that the actors test, shared ones first.
+    fn add_all_tested(&mut self, alloc: Global, actors: &[usize]) -> Result<(), AllocError> {
+        let plan = self.plan;
+        for actor in actors {
+            if let Some(tests) = plan.tests.get(*actor) {
+                self.add_tested(alloc, tests, true)?;
+                self.add_tested(alloc, tests, false)?;
+            }
+        }
+        Ok(())
+    }
+
+    /// Adds a division by the object's life, for the actors that the failures have to do with.
+    fn add_object(
+        &mut self,
+        alloc: Global,
+        object: usize,
+        actors: &[usize],
+    ) -> Result<(), AllocError> {
+        let mut marks = vec![in alloc; false; self.plan.app.actors().len()]?;
+        for actor in actors {
+            if let Some(mark) = marks.get_mut(*actor) {
+                *mark = true;
+            }
+        }
+        self.add(Division {
+            split: Split::Life(object),
+            actors: marks,
+        })
+    }
+
+    /// Adds divisions by the lives of the objects.
+    fn add_objects(&mut self, alloc: Global, concern: &Concern) -> Result<(), AllocError> {
+        for object in concern.objects.iter() {
+            self.add_object(alloc, *object, &concern.actors)?;
+        }
+        Ok(())
+    }
+
+    /// Adds the variables that the actor names.
+    fn add_named(&mut self, alloc: Global, actor: usize) -> Result<(), AllocError> {
+        for variable in 0..self.plan.app.variables().len() {
+            if self.plan.users.has(variable, actor) {
+                self.add_variable(alloc, variable)?;
+            }
+        }
+        Ok(())
+    }
+
+    /// Adds the variables that the actors name.
+    fn add_all_named(&mut self, alloc: Global, actors: &[usize]) -> Result<(), AllocError> {
+        for actor in actors {
+            self.add_named(alloc, *actor)?;
+        }
+        Ok(())
+    }
+}
+
+/// Divisions that are worth a try, in their order: by the variables that the actors test which the first
+/// failures have to do with, by the lives of objects, and by all variables that these actors name.
+pub fn worth_trying(
+    alloc: Global,
+    plan: &Plan,
+    failures: &[Failure],
+) -> Result<Vec<Division>, AllocError> {
+    let concern = concern_of(alloc, plan.app, failures)?;
+    let mut candidates = Candidates {
+        plan,
+        list: Vec::new(alloc),
+    };
+    candidates.add_all_tested(alloc, &concern.actors)?;
+    candidates.add_objects(alloc, &concern)?;
+    candidates.add_all_named(alloc, &concern.actors)?;
+    Ok(candidates.list)
+}

@@ -1,0 +1,190 @@
+// Divisions: what keeps a note's alternatives apart.
+use crate::table::Table;
+use fr_notes::{Alternative, Claim};
+use fr_program::{ObjId, Range, VarId};
+use std::alloc::{AllocError, Global};
+use std::hash::{FoldHasher, Hash, Hasher};
+
+/// What alternatives are kept apart by.
+#[derive(Drop, PartialEq, Eq)]
+pub enum Split {
+    /// By the numbers that a variable can have: each cut is the first number of another part.
+    Cuts(usize, Vec<i128>),
+    /// By whether an object is known to be live or dead.
+    Life(usize),
+}
+
+/// A split with the actors whose notes it divides.
+#[derive(Drop, PartialEq, Eq)]
+pub struct Division {
+    pub split: Split,
+    pub actors: Vec<bool>,
+}
+
+/// How often the actor holds the object, by this claim.
+pub fn count_of(claim: Claim) -> u32 {
+    match claim {
+        Claim::HeldTimes(count) => count,
+        Claim::NotHeld | Claim::Alive | Claim::Gone => 0,
+    }
+}
+
+/// How many of the cuts are at most this number.
+fn part_of(cuts: &[i128], number: i128) -> usize {
+    cuts.iter().filter(|cut| **cut <= number).count()
+}
+
+/// The first and the last part that a range touches.
+fn parts_of(cuts: &[i128], range: Range) -> (usize, usize) {
+    (part_of(cuts, range.lo), part_of(cuts, range.hi))
+}
+
+/// Whether an object is known to be live, known to be dead, or neither.
+fn life_of(claim: Claim) -> u32 {
+    match claim {
+        Claim::Alive | Claim::HeldTimes(_) => 1,
+        Claim::Gone => 2,
+        Claim::NotHeld => 0,
+    }
+}
+
+impl Split {
+    /// Where the split puts an alternative.
+    fn parts(&self, facts: &Alternative) -> (usize, usize) {
+        match self {
+            Split::Cuts(variable, cuts) => parts_of(cuts, facts.range(VarId(*variable))),
+            Split::Life(object) => (life_of(facts.claim(ObjId(*object))) as usize, 0),
+        }
+    }
+
+    /// The same split once more.
+    fn copied(&self, alloc: Global) -> Result<Split, AllocError> {
+        match self {
+            Split::Cuts(variable, cuts) => Ok(Split::Cuts(
+                *variable,
+                Vec::from_slice(alloc, cuts)?,
+            )),
+            Split::Life(object) => Ok(Split::Life(*object)),
+        }
+    }
+}
+
+impl Division {
+    /// Whether it divides the notes of this actor.
+    pub fn is_of(&self, actor: usize) -> bool {
+        self.actors.get(actor).copied() == Some(true)
+    }
+
+    /// The same division once more.
+    pub fn copied(&self, alloc: Global) -> Result<Division, AllocError> {
+        Ok(Division {
+            split: self.split.copied(alloc)?,
+            actors: Vec::from_slice(alloc, &self.actors)?,
+        })
+    }
+
+    /// Whether it cuts the variable's numbers for this actor.
+    pub fn cuts_variable(&self, actor: usize, variable: usize) -> bool {
+        match &self.split {
+            Split::Cuts(cut, _) => *cut == variable && self.is_of(actor),
+            Split::Life(_) => false,
+        }
+    }
+}
+
+/// The divisions once more.
+pub fn copied_all(alloc: Global, divisions: &[Division]) -> Result<Vec<Division>, AllocError> {
+    let mut copies = Vec::with_capacity(alloc, divisions.len())?;
+    for division in divisions {
+        copies.push(division.copied(alloc)?)?;
+    }
+    Ok(copies)
+}
+
+/// Whether both alternatives have the same held mutexes.
+fn hold_the_same(claims: &[Claim], others: &[Claim]) -> bool {
+    claims
+        .iter()
+        .zip(others)
+        .all(|(claim, other)| count_of(*claim) == count_of(*other))
+}
+
+/// Whether both alternatives have the same depths and held mutexes: only then they can be one.
+pub fn can_be_one(one: &Alternative, other: &Alternative) -> bool {
+    one.critical() == other.critical()
+        && one.suspended() == other.suspended()
+        && hold_the_same(one.claims(), other.claims())
+}
+
+/// Whether the divisions keep the two alternatives of the actor together.
+pub fn are_alike(
+    divisions: &[Division],
+    actor: usize,
+    one: &Alternative,
+    other: &Alternative,
+) -> bool {
+    can_be_one(one, other)
+        && divisions.iter().all(|division| {
+            !division.is_of(actor) || division.split.parts(one) == division.split.parts(other)
+        })
+}
+
+/// Feeds what the actor holds to a hash.
+fn feed_held(claims: &[Claim], hasher: &mut FoldHasher) {
+    for claim in claims {
+        count_of(*claim).hash(hasher);
+    }
+}
+
+/// Feeds where the divisions put an alternative of the actor to a hash.
+fn feed_parts(divisions: &[Division], actor: usize, facts: &Alternative, hasher: &mut FoldHasher) {
+    for division in divisions {
+        if division.is_of(actor) {
+            let (first, last) = division.split.parts(facts);
+            first.hash(hasher);
+            last.hash(hasher);
+        }
+    }
+}
+
+/// A number that the alternatives of a point have in common which the divisions keep together.
+pub fn part_print(divisions: &[Division], actor: usize, number: usize, facts: &Alternative) -> u64 {
+    let mut hasher = FoldHasher::default();
+    number.hash(&mut hasher);
+    facts.critical().hash(&mut hasher);
+    facts.suspended().hash(&mut hasher);
+    feed_held(facts.claims(), &mut hasher);
+    feed_parts(divisions, actor, facts, &mut hasher);
+    hasher.finish()
+}
+
+/// What a division asks of thresholds: each cut, and the number before it, of the variable.
+pub fn add_cuts(thresholds: &mut Vec<Vec<i128>>, divisions: &[Division]) -> Result<(), AllocError> {
+    for division in divisions {
+        if let Split::Cuts(variable, cuts) = &division.split {
+            if let Some(numbers) = thresholds.get_mut(*variable) {
+                add_each(numbers, cuts)?;
+            }
+        }
+    }
+    Ok(())
+}
+
+/// Adds each cut and the number before it.
+fn add_each(numbers: &mut Vec<i128>, cuts: &[i128]) -> Result<(), AllocError> {
+    for cut in cuts {
+        numbers.push(cut.saturating_sub(1))?;
+        numbers.push(*cut)?;
+    }
+    Ok(())
+}
+
+/// Whether the two divisions divide the same notes in the same way.
+pub fn has_division(divisions: &[Division], wanted: &Division) -> bool {
+    divisions.iter().any(|division| division == wanted)
+}
+
+/// The actors that are marked in the row.
+pub fn actors_of(alloc: Global, table: &Table, row: usize) -> Result<Vec<bool>, AllocError> {
+    Vec::from_slice(alloc, table.row(row))
+}

@@ -1,0 +1,132 @@
+// How good a try is: the points at which its certificate fails.
+ghost use Rattle.std.specs.Prelude.{◌≡◌, ◌<◌, All, IfOk, length};
+ghost use Rattle.fr_program.specs.Points.{points_of};
+ghost use Rattle.fr_notes.specs.Fits.{AlternativeFits, NoteFits, NotesFit};
+ghost use Rattle.fr_ends.specs.Fits.{CertificateFits};
+
+use crate::pool::Pool;
+use crate::trial::Trial;
+use fr_ends::{Certificate, Ends};
+use fr_finder::all_ends;
+use fr_interfere::{Hulls, Index, Interference};
+use fr_judge::{Part, job_beside};
+use fr_notes::{Alternative, MOST_ALTERNATIVES, Note, Notes};
+use fr_program::App;
+use std::alloc::{AllocError, Global};
+
+/// A point at which a certificate fails, by its number, with the first part that fails there.
+#[derive(Clone, Copy)]
+pub struct Failure {
+    pub number: usize,
+    pub part: Part,
+}
+
+/// A certificate that was tried, with the points at which it fails.
+#[derive(Drop)]
+pub struct Measured {
+    pub certificate: Certificate,
+    pub failures: Vec<Failure>,
+}
+
+/// Adds an alternative, if there is room.
+fn add(app: &App, note: &mut Vec<Alternative>, other: Alternative) -> Result<(), AllocError>
+    requires note { NoteFits app.now note.old.items }
+    requires other { AlternativeFits app.now other }
+    ensures { NoteFits app.now note.new.items }
+{
+    let _ = app;
+    if note.len() < MOST_ALTERNATIVES {
+        note.push(other)?;
+    }
+    Ok(())
+}
+
+/// Adds a copy of the alternative with this number.
+fn add_copy(
+    alloc: Global,
+    pool: &Pool,
+    note: &mut Vec<Alternative>,
+    facts: usize,
+) -> Result<(), AllocError>
+    requires { NoteFits pool.now.app.now note.old.items }
+    ensures { NoteFits pool.now.app.now note.new.items }
+{
+    match pool.get(facts) {
+        Some(facts) => {
+            let copy = facts.copied(alloc)?;
+            add(pool.app(), note, copy)
+        }
+        None => Ok(()),
+    }
+}
+
+/// The note with these alternatives.
+fn note_of(alloc: Global, pool: &Pool, list: &[usize]) -> Result<Note, AllocError>
+    ensures { IfOk result (λ note. NoteFits pool.now.app.now note) }
+{
+    let mut note = Vec::new(alloc);
+    for facts in list {
+        add_copy(alloc, pool, &mut note, *facts)?;
+    }
+    Ok(Note::of(note))
+}
+
+/// The list of the point; an empty one where there is none.
+fn list_at(lists: &[Vec<usize>], number: usize) -> &[usize] {
+    match lists.get(number) {
+        Some(list) => list,
+        None => &[],
+    }
+}
+
+/// The notes of all points, with the alternatives of these lists.
+fn notes_of(alloc: Global, pool: &Pool, lists: &[Vec<usize>]) -> Result<Notes, AllocError>
+    ensures { IfOk result (λ notes. NotesFit pool.now.app.now notes) }
+{
+    let app = pool.app();
+    let mut notes = Vec::with_capacity(alloc, app.points())?;
+    for number in 0..app.points() {
+        notes.push(note_of(alloc, pool, list_at(lists, number))?)?;
+    }
+    Ok(Notes::of(app, notes))
+}
+
+/// The certificate by which no actor is ever at any point.
+pub fn blank(alloc: Global, app: &App) -> Result<Certificate, AllocError>
+    ensures { IfOk result (λ c. CertificateFits app.now c) }
+{
+    let notes = notes_of(alloc, &Pool::new(alloc, app), &[])?;
+    let ends = Ends::none(alloc);
+    Ok(Certificate { notes, ends })
+}
+
+/// The points at which the certificate fails.
+fn failures(alloc: Global, app: &App, certificate: &Certificate) -> Result<Vec<Failure>, AllocError>
+    requires { CertificateFits app.now certificate.now }
+{
+    let index = Index::build(alloc, app)?;
+    let hulls = Hulls::build(alloc, app, &certificate.notes, &index)?;
+    let others = Interference::with(app, &certificate.notes, &index, &hulls);
+    let mut failures = Vec::new(alloc);
+    for number in 0..app.points() {
+        if let Some(part) = job_beside(app, certificate, &others, number) {
+            failures.push(Failure { number, part })?;
+        }
+    }
+    Ok(failures)
+}
+
+/// The certificate of a try, with guards for all ends of buffers, and the points at which it fails.
+pub fn measure(alloc: Global, trial: &Trial) -> Result<Measured, AllocError>
+    ensures { IfOk result (λ m. CertificateFits trial.now.pool.app.now m.certificate) }
+{
+    let app = trial.pool.app();
+    let notes = notes_of(alloc, &trial.pool, &trial.notes)?;
+    let ends = all_ends(alloc, app, &notes)?;
+    let certificate = Certificate { notes, ends };
+    let failures = failures(alloc, app, &certificate)?;
+    Ok(Measured {
+        certificate,
+        failures,
+    })
+}

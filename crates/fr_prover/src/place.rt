@@ -1,0 +1,76 @@
+// A point of an application with its instruction.
+ghost use Rattle.std.specs.Prelude.{IfSome};
+ghost use Rattle.fr_finder.specs.Spots.{IsPlaced};
+
+use fr_program::{Act, App, Attempt, Call, Instr, Operand, Point, VarId};
+
+/// A point with its instruction.
+#[derive(Clone, Copy)]
+pub struct Place<'a> {
+    pub point: Point,
+    pub instr: &'a Instr,
+}
+
+/// The point with this number; None where the application has no such point.
+pub fn place_at<'a>(app: &'a App, number: usize) -> Option<Place<'a>>
+    ensures { IfSome result (λ p. IsPlaced app.now p.point p.instr.now) }
+{
+    app.recall_numbered();
+    if number >= app.points() {
+        return None;
+    }
+    let point = app.point(number);
+    let instr = app.instr(point)?;
+    Some(Place { point, instr })
+}
+
+/// The variable that an operand is, if it is one.
+pub fn variable_of(operand: Operand) -> Option<VarId> {
+    match operand {
+        Operand::Number(_) => None,
+        Operand::Variable(variable) => Some(variable),
+    }
+}
+
+/// The number that an operand is, if it is one.
+pub fn number_of(operand: Operand) -> Option<i128> {
+    match operand {
+        Operand::Number(number) => Some(i128::from(number)),
+        Operand::Variable(_) => None,
+    }
+}
+
+/// The variable whose value a call sends to a queue, if it sends one.
+fn sent_by(act: Act) -> Option<VarId> {
+    match act {
+        Act::Try {
+            attempt: Attempt::QueueSend(operand),
+            ..
+        } => variable_of(operand),
+        _ => None,
+    }
+}
+
+/// The variables that an instruction names.
+pub fn named(instr: &Instr) -> [Option<VarId>; 3] {
+    match instr {
+        Instr::Set {
+            target,
+            left,
+            right,
+            ..
+        } => [Some(*target), variable_of(*left), variable_of(*right)],
+        Instr::If { left, right, .. } => [variable_of(*left), variable_of(*right), None],
+        Instr::Pick { target, .. } => [Some(*target), None, None],
+        Instr::Call(Call::On(call)) => [sent_by(call.act), call.act.written(), None],
+        _ => [None, None, None],
+    }
+}
+
+/// The object that an instruction creates or deletes, if it does.
+pub fn changed_life(instr: &Instr) -> Option<usize> {
+    match instr {
+        Instr::Call(Call::Create { object, .. } | Call::Delete { object, .. }) => Some(object.0),
+        _ => None,
+    }
+}

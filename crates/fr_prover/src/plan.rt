@@ -1,0 +1,171 @@
+// What is looked up of an application once, before the search.
+use crate::order::{heads, places_in_order};
+use crate::place::{Place, named, number_of, place_at, variable_of};
+use crate::table::Table;
+use crate::thresholds::{Kin, kin_of};
+use fr_program::{App, Instr, Operand};
+use std::alloc::{AllocError, Global};
+use std::collections::BTreeSet;
+
+/// A variable that an actor's code tests, with the numbers that it is compared with.
+#[derive(Drop)]
+pub struct Tested {
+    pub variable: usize,
+    pub numbers: BTreeSet<i128>,
+}
+
+/// The points of an actor: from `first` up to `end`, without it.
+#[derive(Clone, Copy)]
+pub struct Span {
+    pub first: usize,
+    pub end: usize,
+}
+
+/// What the search looks up of an application over and over.
+#[derive(Drop)]
+pub struct Plan<'a> {
+    pub app: &'a App,
+    /// By variable and actor: whether the actor's code names the variable.
+    pub users: Table,
+    /// By actor: the variables that its code tests.
+    pub tests: Vec<Vec<Tested>>,
+    /// Which variables are copied, computed or compared with one another.
+    pub kin: Kin,
+    /// By point: whether a backward step of its own actor leads to it.
+    pub heads: Vec<bool>,
+    /// By point: its place in an order in which steps mostly lead forward.
+    pub order: Vec<usize>,
+    /// By actor: its points.
+    pub spans: Vec<Span>,
+}
+
+/// Marks the variables that the point's instruction names as used by its actor.
+fn mark_named(users: &mut Table, place: Place) {
+    for variable in named(place.instr) {
+        if let Some(variable) = variable {
+            users.mark(variable.0, place.point.actor.0);
+        }
+    }
+}
+
+/// Which actor's code names which variable.
+fn users(alloc: Global, app: &App) -> Result<Table, AllocError> {
+    let mut users = Table::new(alloc, app.variables().len(), app.actors().len(), false)?;
+    for number in 0..app.points() {
+        if let Some(place) = place_at(app, number) {
+            mark_named(&mut users, place);
+        }
+    }
+    Ok(users)
+}
+
+/// The place of the variable in the list, where it is added if it isn't there.
+fn place_of(alloc: Global, tests: &mut Vec<Tested>, variable: usize) -> Result<usize, AllocError> {
+    if let Some(place) = tests.iter().position(|tested| tested.variable == variable) {
+        return Ok(place);
+    }
+    let place = tests.len();
+    tests.push(Tested {
+        variable,
+        numbers: BTreeSet::new(alloc),
+    })?;
+    Ok(place)
+}
+
+/// Adds that the operand, if it is a variable, is compared with the other one.
+fn add_test(
+    alloc: Global,
+    tests: &mut Vec<Tested>,
+    operand: Operand,
+    other: Operand,
+) -> Result<(), AllocError> {
+    let Some(variable) = variable_of(operand) else {
+        return Ok(());
+    };
+    let place = place_of(alloc, tests, variable.0)?;
+    if let (Some(tested), Some(number)) = (tests.get_mut(place), number_of(other)) {
+        tested.numbers.insert(number)?;
+    }
+    Ok(())
+}
+
+/// The variables that this code tests.
+fn tests_in(alloc: Global, code: &[Instr]) -> Result<Vec<Tested>, AllocError> {
+    let mut tests = Vec::new(alloc);
+    for instr in code {
+        if let Instr::If { left, right, .. } = instr {
+            add_test(alloc, &mut tests, *left, *right)?;
+            add_test(alloc, &mut tests, *right, *left)?;
+        }
+    }
+    Ok(tests)
+}
+
+/// By actor: the variables that its code tests.
+fn tests(alloc: Global, app: &App) -> Result<Vec<Vec<Tested>>, AllocError> {
+    let mut tests = Vec::with_capacity(alloc, app.actors().len())?;
+    for actor in app.actors() {
+        tests.push(tests_in(alloc, &actor.code)?)?;
+    }
+    Ok(tests)
+}
+
+/// By actor: its points.
+fn spans(alloc: Global, app: &App) -> Result<Vec<Span>, AllocError> {
+    let nowhere = Span {
+        first: app.points(),
+        end: 0,
+    };
+    let mut spans = vec![in alloc; nowhere; app.actors().len()]?;
+    for number in 0..app.points() {
+        if let Some(span) = spans.get_mut(app.point(number).actor.0) {
+            span.first = span.first.min(number);
+            span.end = number + 1;
+        }
+    }
+    Ok(spans)
+}
+
+impl<'a> Plan<'a> {
+    /// What the search looks up of the application.
+    pub fn new(alloc: Global, app: &'a App) -> Result<Plan<'a>, AllocError> {
+        Ok(Plan {
+            app,
+            users: users(alloc, app)?,
+            tests: tests(alloc, app)?,
+            kin: kin_of(alloc, app)?,
+            heads: heads(alloc, app)?,
+            order: places_in_order(alloc, app)?,
+            spans: spans(alloc, app)?,
+        })
+    }
+
+    /// The points of the actor; none where the application has no such actor.
+    pub fn span(&self, actor: usize) -> Span {
+        match self.spans.get(actor) {
+            Some(span) => *span,
+            None => Span { first: 0, end: 0 },
+        }
+    }
+
+    /// Which variables an actor's notes speak of: all but those that one other actor alone names, or,
+    /// where `everything` is wanted, all.
+    pub fn kept(&self, alloc: Global, everything: bool) -> Result<Table, AllocError> {
+        let (actors, variables) = (self.app.actors().len(), self.app.variables().len());
+        let mut kept = Table::new(alloc, actors, variables, everything)?;
+        for variable in 0..variables {
+            self.keep_for_all(&mut kept, variable);
+        }
+        Ok(kept)
+    }
+
+    /// Marks the variable as kept for each actor that names it, and for all where not one alone does.
+    fn keep_for_all(&self, kept: &mut Table, variable: usize) {
+        let shared = self.users.count(variable) != 1;
+        for actor in 0..self.app.actors().len() {
+            if shared || self.users.has(variable, actor) {
+                kept.mark(actor, variable);
+            }
+        }
+    }
+}

@@ -1,0 +1,172 @@
+// Working through all actors in turn until the notes of all are stable.
+use crate::effect::Effects;
+use crate::settling::settle;
+use crate::trial::Trial;
+use fr_notes::{Alternative, Claim};
+use fr_program::{ActorId, App, Object, Point, Range, Side, VarId};
+use std::alloc::{AllocError, Global};
+use std::collections::VecDeque;
+
+/// So often an actor is worked through at most, for each actor that there is.
+const MOST_TURNS: usize = 60;
+
+/// What is known of an object at the start.
+fn claim_at_start(object: &Object) -> Claim {
+    if object.live {
+        Claim::Alive
+    } else {
+        Claim::Gone
+    }
+}
+
+/// What is known of each object at the start.
+fn claims_at_start(alloc: Global, app: &App) -> Result<Vec<Claim>, AllocError> {
+    let mut claims = Vec::with_capacity(alloc, app.objects().len())?;
+    for object in app.objects() {
+        claims.push(claim_at_start(object))?;
+    }
+    Ok(claims)
+}
+
+/// The range of each variable at the start, as far as notes speak of it.
+fn ranges_at_start(alloc: Global, app: &App, said: &[bool]) -> Result<Vec<Range>, AllocError> {
+    let variables = app.variables().len();
+    let mut ranges = Vec::with_capacity(alloc, variables)?;
+    for variable in 0..variables {
+        let name = VarId(variable);
+        if said.get(variable).copied() == Some(true) {
+            ranges.push(Range::only(app.variable(name).init))?;
+        } else {
+            ranges.push(app.range(name))?;
+        }
+    }
+    Ok(ranges)
+}
+
+impl<'a> Trial<'a> {
+    /// Gives the actor's first point the note of the start.
+    fn begin_actor(&mut self, alloc: Global, actor: usize) -> Result<(), AllocError> {
+        let app = self.pool.app();
+        let claims = claims_at_start(alloc, app)?;
+        let ranges = ranges_at_start(alloc, app, self.kept.row(actor))?;
+        let Some(start) = Alternative::fitting(app, 0, 0, claims, ranges) else {
+            return Ok(());
+        };
+        let facts = self.pool.number(start)?;
+        let point = Point {
+            actor: ActorId(actor),
+            pc: 0,
+            side: Side::Before,
+        };
+        if let Some(number) = self.plan.app.number(point) {
+            self.set_note(number, vec![in alloc; facts]?);
+        }
+        Ok(())
+    }
+
+    /// Gives each actor's first point the note of the start.
+    fn begin(&mut self, alloc: Global) -> Result<(), AllocError> {
+        for actor in 0..self.plan.app.actors().len() {
+            self.begin_actor(alloc, actor)?;
+        }
+        Ok(())
+    }
+}
+
+/// The actors that have to be worked through, each once, the first one first.
+#[derive(Drop)]
+struct Queue {
+    actors: VecDeque<usize>,
+    waits: Vec<bool>,
+}
+
+impl Queue {
+    /// Has the actor wait, unless it does already.
+    fn add(&mut self, actor: usize) -> Result<(), AllocError> {
+        if let Some(waits) = self.waits.get_mut(actor) {
+            if !*waits {
+                *waits = true;
+                self.actors.push_back(actor)?;
+            }
+        }
+        Ok(())
+    }
+
+    /// Has all actors wait but this one.
+    fn add_others(&mut self, actor: usize) -> Result<(), AllocError> {
+        for other in 0..self.waits.len() {
+            if other != actor {
+                self.add(other)?;
+            }
+        }
+        Ok(())
+    }
+
+    /// The actor that waits longest, which waits no more.
+    fn next(&mut self) -> Option<usize> {
+        let actor = self.actors.pop_front()?;
+        if let Some(waits) = self.waits.get_mut(actor) {
+            *waits = false;
+        }
+        Some(actor)
+    }
+}
+
+/// All actors, waiting in their order.
+fn everyone(alloc: Global, actors: usize) -> Result<Queue, AllocError> {
+    let mut queue = Queue {
+        actors: VecDeque::new(alloc),
+        waits: vec![in alloc; false; actors]?,
+    };
+    queue.add_others(usize::MAX)?;
+    Ok(queue)
+}
+
+/// For each actor that its steps do nothing yet.
+fn no_effects(alloc: Global, app: &App) -> Result<Vec<Effects>, AllocError> {
+    let mut effects = Vec::with_capacity(alloc, app.actors().len())?;
+    for _ in 0..app.actors().len() {
+        effects.push(Effects::none(alloc, app)?)?;
+    }
+    Ok(effects)
+}
+
+/// Works through one actor. Whether its steps do something else to others than before.
+fn turn(
+    alloc: Global,
+    trial: &mut Trial,
+    effects: &mut Vec<Effects>,
+    actor: usize,
+) -> Result<bool, AllocError> {
+    settle(alloc, trial, actor, effects)?;
+    let new = Effects::of(alloc, trial, actor)?;
+    match effects.get_mut(actor) {
+        Some(old) => {
+            let differs = old.print() != new.print();
+            *old = new;
+            Ok(differs)
+        }
+        None => Ok(false),
+    }
+}
+
+/// Works through all actors, from their starts, until no note changes. Whether that point was reached
+/// before no more steps may be looked at.
+pub fn rise(alloc: Global, trial: &mut Trial) -> Result<bool, AllocError> {
+    let app = trial.plan.app;
+    trial.begin(alloc)?;
+    let mut effects = no_effects(alloc, app)?;
+    let mut queue = everyone(alloc, app.actors().len())?;
+    for _ in 0..app.actors().len().saturating_mul(MOST_TURNS) {
+        let Some(actor) = queue.next() else {
+            return Ok(true);
+        };
+        if turn(alloc, trial, &mut effects, actor)? {
+            queue.add_others(actor)?;
+        }
+        if trial.left == 0 {
+            return Ok(false);
+        }
+    }
+    Ok(queue.actors.is_empty())
+}

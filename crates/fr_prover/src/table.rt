@@ -1,0 +1,51 @@
+// Tables of truth values.
+use std::alloc::{AllocError, Global};
+
+/// Truth values in rows and columns, by their numbers from 0.
+#[derive(Drop)]
+pub struct Table {
+    rows: Vec<Vec<bool>>,
+}
+
+impl Table {
+    /// A table of so many rows and columns with this value everywhere.
+    pub fn new(
+        alloc: Global,
+        rows: usize,
+        columns: usize,
+        value: bool,
+    ) -> Result<Table, AllocError> {
+        let mut lists = Vec::with_capacity(alloc, rows)?;
+        for _ in 0..rows {
+            lists.push(vec![in alloc; value; columns]?)?;
+        }
+        Ok(Table { rows: lists })
+    }
+
+    /// The row; an empty one where the table has none with this number.
+    pub fn row(&self, row: usize) -> &[bool] {
+        match self.rows.get(row) {
+            Some(row) => row,
+            None => &[],
+        }
+    }
+
+    /// Whether it is true there. Outside the table nothing is.
+    pub fn has(&self, row: usize, column: usize) -> bool {
+        self.row(row).get(column).copied() == Some(true)
+    }
+
+    /// Makes it true there. Outside the table nothing changes.
+    pub fn mark(&mut self, row: usize, column: usize) {
+        if let Some(cells) = self.rows.get_mut(row) {
+            if let Some(cell) = cells.get_mut(column) {
+                *cell = true;
+            }
+        }
+    }
+
+    /// How many of the row are true.
+    pub fn count(&self, row: usize) -> usize {
+        self.row(row).iter().filter(|cell| **cell).count()
+    }
+}

@@ -1,0 +1,212 @@
+// One try: what is known so far of each point, with certain divisions.
+ghost use Rattle.std.specs.Prelude.{IfOk, IfSome};
+ghost use Rattle.fr_notes.specs.Fits.{AlternativeFits};
+
+use crate::division::{Division, add_cuts, are_alike};
+use crate::growth::{Growth, grown};
+use crate::plan::Plan;
+use crate::pool::Pool;
+use crate::table::Table;
+use fr_notes::{Alternative, Claim, Known, keeps};
+use fr_program::{App, Range, VarId};
+use std::alloc::{AllocError, Global};
+use std::collections::{BTreeSet, HashMap};
+
+/// An alternative of a point's note, by the numbers of both.
+#[derive(Clone, Copy)]
+pub struct Item {
+    pub number: usize,
+    pub facts: usize,
+}
+
+/// One try at notes for all points of an application.
+#[derive(Drop)]
+pub struct Trial<'a> {
+    pub plan: &'a Plan<'a>,
+    /// What keeps alternatives apart.
+    pub divisions: &'a [Division],
+    /// By actor and variable: whether the actor's notes speak of the variable.
+    pub kept: &'a Table,
+    /// By variable: the numbers at which a range that grows may rest.
+    pub thresholds: Vec<Vec<i128>>,
+    pub pool: Pool<'a>,
+    /// By point: the numbers of the alternatives of its note so far.
+    pub notes: Vec<Vec<usize>>,
+    /// How often an alternative of a point has grown, by a print of point and parts.
+    pub growths: HashMap<u64, u32>,
+    /// How many steps may still be looked at.
+    pub left: u64,
+}
+
+/// By variable: these thresholds, and those that the divisions ask for.
+fn thresholds_for(
+    alloc: Global,
+    sets: &[BTreeSet<i128>],
+    divisions: &[Division],
+) -> Result<Vec<Vec<i128>>, AllocError> {
+    let mut thresholds = Vec::with_capacity(alloc, sets.len())?;
+    for numbers in sets {
+        let numbers: Vec<i128> = numbers.iter().copied().collect(alloc)?;
+        thresholds.push(numbers)?;
+    }
+    add_cuts(&mut thresholds, divisions)?;
+    Ok(thresholds)
+}
+
+/// For each point no alternative.
+fn no_notes(alloc: Global, app: &App) -> Result<Vec<Vec<usize>>, AllocError> {
+    let mut notes = Vec::with_capacity(alloc, app.points())?;
+    for _ in 0..app.points() {
+        notes.push(Vec::new(alloc))?;
+    }
+    Ok(notes)
+}
+
+/// What both claims say.
+fn common_claim(claim: Claim, other: Claim) -> Claim {
+    if claim == other {
+        claim
+    } else {
+        Claim::NotHeld
+    }
+}
+
+/// What both alternatives say of the objects.
+fn common_claims(
+    alloc: Global,
+    claims: &[Claim],
+    others: &[Claim],
+) -> Result<Vec<Claim>, AllocError> {
+    let mut claims_of_both = Vec::with_capacity(alloc, claims.len())?;
+    for (claim, other) in claims.iter().zip(others) {
+        claims_of_both.push(common_claim(*claim, *other))?;
+    }
+    Ok(claims_of_both)
+}
+
+impl<'a> Trial<'a> {
+    /// A try in which nothing is known of any point yet.
+    pub fn new(
+        alloc: Global,
+        plan: &'a Plan<'a>,
+        thresholds: &[BTreeSet<i128>],
+        divisions: &'a [Division],
+        kept: &'a Table,
+        left: u64,
+    ) -> Result<Trial<'a>, AllocError> {
+        Ok(Trial {
+            plan,
+            divisions,
+            kept,
+            thresholds: thresholds_for(alloc, thresholds, divisions)?,
+            pool: Pool::new(alloc, plan.app),
+            notes: no_notes(alloc, plan.app)?,
+            growths: HashMap::new(alloc),
+            left,
+        })
+    }
+
+    /// The numbers of the alternatives of a point's note so far.
+    pub fn note(&self, number: usize) -> &[usize] {
+        match self.notes.get(number) {
+            Some(note) => note,
+            None => &[],
+        }
+    }
+
+    /// Takes one of the steps that may still be looked at. Whether there was one.
+    pub fn spend(&mut self) -> bool {
+        self.left = self.left.saturating_sub(1);
+        self.left > 0
+    }
+
+    /// The numbers at which a range of the variable that grows may rest.
+    fn rests(&self, variable: usize) -> &[i128] {
+        match self.thresholds.get(variable) {
+            Some(rests) => rests,
+            None => &[],
+        }
+    }
+
+    /// Whether the first alternative implies the second one, by their numbers.
+    pub fn implies(&self, facts: usize, other: usize) -> bool {
+        match (self.pool.get(facts), self.pool.get(other)) {
+            (Some(facts), Some(other)) => {
+                let known = Known::alone(facts);
+                keeps(&known, &known.unchanged(), other)
+            }
+            _ => false,
+        }
+    }
+
+    /// Whether the divisions keep the two alternatives of the actor together, by their numbers.
+    pub fn are_alike(&self, actor: usize, one: usize, other: usize) -> bool {
+        match (self.pool.get(one), self.pool.get(other)) {
+            (Some(one), Some(other)) => are_alike(self.divisions, actor, one, other),
+            _ => false,
+        }
+    }
+
+    /// The ranges of an alternative, grown by those of another one.
+    fn grown_ranges(
+        &self,
+        alloc: Global,
+        one: &Alternative,
+        other: &Alternative,
+        growth: Growth,
+    ) -> Result<Vec<Range>, AllocError> {
+        let app = self.plan.app;
+        let variables = app.variables().len();
+        let mut ranges = Vec::with_capacity(alloc, variables)?;
+        for variable in 0..variables {
+            let (name, rests) = (VarId(variable), self.rests(variable));
+            let (range, more, declared) = (one.range(name), other.range(name), app.range(name));
+            ranges.push(grown(range, more, declared, rests, growth))?;
+        }
+        Ok(ranges)
+    }
+
+    /// What two alternatives with the same depths and held mutexes have in common; None where there is
+    /// none with these numbers.
+    fn common(
+        &self,
+        alloc: Global,
+        one: usize,
+        other: usize,
+        growth: Growth,
+    ) -> Result<Option<Alternative>, AllocError>
+        ensures { IfOk result (λ both. IfSome both (λ n. AlternativeFits self.now.pool.app.now n)) }
+    {
+        let (Some(one), Some(other)) = (self.pool.get(one), self.pool.get(other)) else {
+            return Ok(None);
+        };
+        let claims = common_claims(alloc, one.claims(), other.claims())?;
+        let ranges = self.grown_ranges(alloc, one, other, growth)?;
+        let (app, crit, susp) = (self.pool.app(), one.critical(), one.suspended());
+        Ok(Alternative::fitting(app, crit, susp, claims, ranges))
+    }
+
+    /// The number of what two alternatives with the same depths and held mutexes have in common.
+    pub fn joined(
+        &mut self,
+        alloc: Global,
+        one: usize,
+        other: usize,
+        growth: Growth,
+    ) -> Result<Option<usize>, AllocError> {
+        match self.common(alloc, one, other, growth)? {
+            Some(both) => Ok(Some(self.pool.number(both)?)),
+            None => Ok(None),
+        }
+    }
+
+    /// How often this alternative of the point has grown, one more with this time.
+    pub fn count_growth(&mut self, print: u64) -> Result<u32, AllocError> {
+        let count = match self.growths.get(&print) {
+            Some(count) => count.saturating_add(1),
+            None => 1,
+        };
+        self.growths.insert(print, count)?;
+        Ok(count)
+    }
+}
