@@ -87,7 +87,7 @@ IsApart e n = RangesMeet (ends_of e.1) (range_of n e.0.0) → ⊥
 
 -- nothing that the hull covers can meet the alternative
 pub record Excludes (h : Hull) (n : Alternative) : Type 0 where
-  pub why : IsShut h n ⊎ (Any (λ e. IsDenied e n) h.claims.items ⊎ Any (λ e. IsApart e n) h.ranges.items)
+  pub why : IsShut h n ⊎ (Any (λ e. IsApart e n) h.ranges.items ⊎ Any (λ e. IsDenied e n) h.claims.items)
 
 -- the alternative's range of the variable has each number that is written
 abbrev pub IsBorne : Hull → ℕ → Alternative → Type 0

@@ -36,18 +36,6 @@ pub struct Hull {
     written: Option<Range>,
 }
 
-/// Whether both claims, of two actors, can be true of one object.
-fn claims_meet(claim: Claim, other: Claim) -> bool
-    ensures { IsTrue result ↔ ClaimsMeet claim other }
-{
-    match (claim, other) {
-        (Claim::HeldTimes(_), Claim::HeldTimes(_) | Claim::Gone)
-        | (Claim::Gone, Claim::HeldTimes(_) | Claim::Alive)
-        | (Claim::Alive, Claim::Gone) => false,
-        (_, _) => true,
-    }
-}
-
 /// Whether no number is in the range and in the alternative's range of the same variable.
 fn is_apart(entry: &(VarId, Range), alternative: &Alternative) -> bool
     ensures { IsTrue result ↔ IsApart entry.now alternative.now }
@@ -62,7 +50,7 @@ fn is_denied(entry: &(ObjId, Claim), alternative: &Alternative) -> bool
     ensures { IsTrue result ↔ IsDenied entry.now alternative.now }
 {
     let (object, claim) = *entry;
-    !claims_meet(claim, alternative.claim(object))
+    !claim.meets(alternative.claim(object))
 }
 
 /// A claim that can meet all that one of the two can meet.
@@ -323,10 +311,10 @@ impl Hull {
         if self.excludes_entry(alternative) {
             return true;
         }
-        if excludes_claim(&self.claims, alternative) {
+        if excludes_range(&self.ranges, alternative) {
             return true;
         }
-        excludes_range(&self.ranges, alternative)
+        excludes_claim(&self.claims, alternative)
     }
 
     /// Whether the alternative's range of the variable has each number that is written.
