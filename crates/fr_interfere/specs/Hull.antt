@@ -13,7 +13,8 @@
 -- | IsBorne           | this alternative has each number that is written                                            |
 -- | IsBorneByEach     | one variable is written, and each alternative of a note has each number that is written     |
 -- | Spares            | so no point under the hull can disturb the note of this actor                               |
-use Rattle.std.specs.Prelude.{◌≡◌, ◌≢◌, ◌⊎◌, ℕ, ℤ, List, Option, None, Some, true, All, Any, IfSome, Contains}
+-- | IsClosedBy        | the hull's points are one actor's that is closed, and write one variable                    |
+use Rattle.std.specs.Prelude.{◌≡◌, ◌≢◌, ◌⊎◌, ℕ, ℤ, List, Option, None, Some, Bool, true, false, All, Any, IfSome, Contains, slice_index_or}
 use Rattle.fr_program.specs.declared.ids.ActorId.{ActorId}
 use Rattle.fr_program.specs.declared.ids.ObjId.{ObjId}
 use Rattle.fr_program.specs.declared.ids.Point.{Point}
@@ -100,3 +101,7 @@ IsBorneByEach h note = (x : ℕ) × (h.variable ≡ Some x) × All (λ n. IsBorn
 -- the hull's points are the actor's own, or write what the note bears, or can't meet it
 abbrev pub Spares : Hull → ActorId → Note → Type 0
 Spares h actor note = (h.actor ≡ Some actor) ⊎ (IsBorneByEach h note ⊎ All (λ n. Excludes h n) note)
+
+-- the points are one actor's that is closed, and write one variable
+abbrev pub IsClosedBy : Hull → List Bool → Type 0
+IsClosedBy h closed = (a : ActorId) × (x : ℕ) × (h.actor ≡ Some a) × (h.variable ≡ Some x) × (slice_index_or closed a.0 false ≡ true)

@@ -1,5 +1,5 @@
 // What some points have in common: where that keeps them from disturbing a note, none of them is looked at alone.
-ghost use Rattle.std.specs.Prelude.{◌≡◌, ◌≢◌, ◌<◌, ◌↔◌, ℤ, true, IsTrue, List, All, Any, Some, IfOk, length, slice_get};
+ghost use Rattle.std.specs.Prelude.{◌≡◌, ◌≢◌, ◌<◌, ◌↔◌, ℤ, true, false, IsTrue, List, All, Any, Some, IfOk, length, slice_get, slice_index_or};
 ghost use Rattle.std.specs.Int.{int_min, int_max};
 ghost use Rattle.fr_program.specs.declared.ids.Point.{Point};
 ghost use Rattle.fr_program.specs.Points.{points_of};
@@ -12,7 +12,7 @@ ghost use Rattle.fr_notes.specs.Pairs.{RangesMeet};
 ghost use Rattle.fr_notes.specs.View.{ends_of};
 ghost use Rattle.fr_interfere.specs.declared.effects.Effect.{Effect as EffectOf};
 ghost use Rattle.fr_interfere.specs.Effects.{IsComputable};
-ghost use Rattle.fr_interfere.specs.Hull.{Has, GivesIn, CoversClaims, CoversRanges, Covers, IsUnder, AreUnder, IsShut, IsDenied, IsApart, Excludes, IsBorne, IsBorneByEach, Spares};
+ghost use Rattle.fr_interfere.specs.Hull.{Has, GivesIn, CoversClaims, CoversRanges, Covers, IsUnder, AreUnder, IsShut, IsDenied, IsApart, Excludes, IsBorne, IsBorneByEach, Spares, IsClosedBy};
 
 use crate::effects::{Effect, effect_at};
 use fr_notes::{Alternative, Claim, Known, Note, Notes};
@@ -196,6 +196,16 @@ fn excludes_range(ranges: &[(VarId, Range)], alternative: &Alternative) -> bool
     false
 }
 
+/// Whether this one is set; past the last, it isn't.
+fn is_set(flags: &[bool], place: usize) -> bool
+    ensures { result ≡ slice_index_or flags.now place false }
+{
+    match flags.get(place) {
+        Some(flag) => *flag,
+        None => false,
+    }
+}
+
 impl Hull {
     /// The hull of no point, which can say of a point what its first alternative says.
     fn before(alloc: Global, app: &App, notes: &Notes, number: usize) -> Result<Hull, AllocError>
@@ -358,6 +368,23 @@ impl Hull {
         ensures { IsTrue result ↔ self.now.actor ≡ Some actor }
     {
         self.actor == Some(actor)
+    }
+
+    /// The hull's one actor, where it has one.
+    pub fn only_actor(&self) -> Option<ActorId>
+        ensures { result ≡ self.now.actor }
+    {
+        self.actor
+    }
+
+    /// Whether the points are one actor's that is closed, and write one variable.
+    pub fn is_closed(&self, closed: &[bool]) -> bool
+        ensures { IsTrue result → IsClosedBy self.now closed.now }
+    {
+        match (self.actor, self.variable) {
+            (Some(actor), Some(_variable)) => is_set(closed, actor.0),
+            _ => false,
+        }
     }
 
     /// Whether no point under the hull can disturb the actor's note, as far as the hull shows: the points
