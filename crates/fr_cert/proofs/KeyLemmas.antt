@@ -54,3 +54,7 @@ known_push P (y ∷ xs) x h p = (h.0, known_push P xs x h.1 p)
 pub map_get : (r : Option (Bor Value)) (k : List ℕ) (es : List Entry) → option_map (λ x. x.now) r ≡ lookup (is_at (λ x. slice_cmp nat_cmp k (string_bytes x))) es
     → option_map (λ x. view x.now) r ≡ get_member k (members_view es)
 map_get r k es found = view_of_ref r ∙ ap (option_map view) found ∙ view-lookup k es
+
+-- so it is with what is taken out of the map
+pub map_taken : (r : Option Value) (k : List ℕ) (es : List Entry) → r ≡ lookup (is_at (λ x. slice_cmp nat_cmp k (string_bytes x))) es → option_map view r ≡ get_member k (members_view es)
+map_taken r k es found = ap (option_map view) found ∙ view-lookup k es

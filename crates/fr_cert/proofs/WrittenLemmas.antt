@@ -1,6 +1,7 @@
 -- What is written so far, beside what is left to write.
-use Rattle.std.proofs.Common.{◌≡◌, ◌<◌, ◌≤◌, ◌+◌, ◌∙◌, ℕ, zero, suc, ℤ, List, [], ◌∷◌, ◌++◌, Bool, true, false, Greater, nat_cmp, length, get_or, drop, map, refl, sym, ap, arith, add-one, drop-cons}
+use Rattle.std.proofs.Common.{◌≡◌, ◌<◌, ◌≤◌, ◌+◌, ◌∙◌, ℕ, zero, suc, ℤ, List, [], ◌∷◌, ◌++◌, Bool, true, false, ◌&&◌, Greater, nat_cmp, length, get_or, drop, map, refl, sym, ap, arith, add-one, drop-cons}
 use Rattle.std.specs.Cmp.Lexicographic.{slice_cmp}
+use Rattle.std.specs.List.{list_all}
 use Rattle.std.proofs.lemmas.List.{drop_all}
 use Rattle.serde_json.specs.Data.{Data, number, unsigned, string, array, object, Items, no_items, item, Members, no_members, member, put}
 use Rattle.serde_json.specs.Find.{of_integer}
@@ -43,6 +44,21 @@ unfolding with_each
 each_seen f g k [] ys ms = refl
 each_seen f g k (x ∷ xs) [] ms = refl
 each_seen f g k (x ∷ xs) (y ∷ ys) ms = each_seen f g k xs ys (f (g x) (k y) ms)
+
+-- ---- a test of each thing of a list
+
+pub all_more : {A : Type 0} (test : A → Bool) (xs : List A) (i : ℕ) (x : A) → i < length xs → x ≡ get_or xs i x → test x ≡ true → list_all test (drop i xs) ≡ list_all test xs → list_all test (drop (i + 1) xs) ≡ list_all test xs
+all_more test xs i x within is passes h =
+    let here : list_all test (drop i xs) ≡ list_all test (drop (i + 1) xs) = ap (list_all test) (drop_here xs i x within is) ∙ ap (λ b. b && list_all test (drop (i + 1) xs)) passes in
+    sym here ∙ h
+
+pub all_less : {A : Type 0} (test : A → Bool) (xs : List A) (i : ℕ) (x : A) → i < length xs → x ≡ get_or xs i x → test x ≡ false → list_all test (drop i xs) ≡ list_all test xs → false ≡ list_all test xs
+all_less test xs i x within is fails h =
+    let here : list_all test (drop i xs) ≡ false = ap (list_all test) (drop_here xs i x within is) ∙ ap (λ b. b && list_all test (drop (i + 1) xs)) fails in
+    sym here ∙ h
+
+pub all_end : {A : Type 0} (test : A → Bool) (xs : List A) (i : ℕ) → length xs ≤ i → list_all test (drop i xs) ≡ list_all test xs → true ≡ list_all test xs
+all_end test xs i past h = sym (ap (list_all test) (drop_all i xs past)) ∙ h
 
 -- ---- lists
 

@@ -8,3 +8,4 @@ pub mod Written
 pub mod FaultText
 pub mod Named
 pub mod Views
+pub mod NotesRead

@@ -153,38 +153,14 @@ fn other_note(scope: &Scope, version: u8, value: &Value) -> Result<Note, CertFau
     }
 }
 
-/// The note of a point, in a version.
-#[derive(Drop)]
-pub(crate) struct PointNote {
-    pub(crate) version: u8,
-}
-
-impl Entry for PointNote {
-    ghost use Rattle.fr_notes.specs.Note.{Note as NoteOf};
-    ghost use Rattle.fr_cert.specs.declared.fault.CertFault.TheVariants.{Memory};
-
-    type Item = Note;
-
-    ghost Seen = { NoteOf };
-
-    ghost seen = { λ note. note };
-
-    ghost Means = { λ r P d note. IsNote P r.version d note × NoteFits P note };
-
-    ghost Faults = { λ r P. InNote P r.version };
-
-    ghost AreAlike = { λ _ _. ⊥ };
-
-    ghost twice = { Memory };
-
-    fn read(&self, scope: &Scope, value: &Value) -> Result<Note, CertFault> {
-        match value.as_object() {
-            Some(object) => Ok(Note::plain(scope.alloc, alternative_of(scope, object)?)?),
-            None => other_note(scope, self.version, value),
-        }
-    }
-
-    fn again(_: Global, _: &[Note], _: &Note) -> Option<CertFault> {
-        None
+/// The note of a point that the value means, in a version.
+pub(crate) fn point_note(scope: &Scope, version: u8, value: &Value) -> Result<Note, CertFault>
+    ensures ok { IfOk result (IsNote scope.now version (view value.now)) }
+    ensures fits { IfOk result (NoteFits scope.now) }
+    ensures err { IfErr result (Standing (InNote scope.now version (view value.now))) }
+{
+    match value.as_object() {
+        Some(object) => Ok(Note::plain(scope.alloc, alternative_of(scope, object)?)?),
+        None => other_note(scope, version, value),
     }
 }

@@ -1,23 +1,23 @@
 // Reading a certificate's bytes.
-ghost use Rattle.std.specs.Prelude.{◌≡◌, ℕ, List, Some, IfOk, IfErr, OnOk, length};
-ghost use Rattle.serde_json.specs.Events.{items_len};
-ghost use Rattle.serde_json.specs.View.{view, items_view, members_view};
+ghost use Rattle.std.specs.Prelude.{◌≡◌, ℕ, List, IfOk, IfErr};
+ghost use Rattle.serde_json.specs.View.{view, members_view};
 ghost use Rattle.fr_program.specs.Program.{Program};
-ghost use Rattle.fr_program.specs.Points.{points_of};
+ghost use Rattle.fr_notes.specs.Fits.{NotesFit};
 ghost use Rattle.fr_ends.specs.Certificate.{Certificate as CertificateOf};
 ghost use Rattle.fr_ends.specs.Fits.{CertificateFits};
-ghost use Rattle.fr_cert.specs.Meaning.{IsVersion, IsCertificate, IsTree, IsTreeText, Means};
-ghost use Rattle.fr_cert.specs.Faults.{Standing};
+ghost use Rattle.fr_cert.specs.Shapes.{At, IsList};
+ghost use Rattle.fr_cert.specs.Meaning.{IsVersion, AreNotes, IsCertificate, IsTree, IsTreeText, Means};
+ghost use Rattle.fr_cert.specs.Faults.{Standing, InNeeded, InList};
 ghost use Rattle.fr_cert.specs.Present.{InVersion, InNotes, InCertificate, InTree, InBytes, IsPresent};
 ghost use Rattle.fr_cert.specs.declared.fault.CertFault.{CertFault as Refusal};
 
 use crate::end::FitEnds;
 use crate::fault::CertFault;
 use crate::key::{Key, Place};
-use crate::note::PointNote;
-use crate::reader::{Reader, each_entry, needed};
+use crate::notes::notes_in;
+use crate::reader::{Reader, needed};
 use crate::scope::Scope;
-use crate::tree::{integer_in, known_keys, list_in, object_in};
+use crate::tree::{departs_at, integer_in, known_keys, object_of, taken_at, within_key};
 use fr_ends::Certificate;
 use fr_instr::names_of;
 use fr_notes::Notes;
@@ -51,70 +51,46 @@ impl Reader for Version {
     }
 }
 
-/// The list has one entry for each point.
-fn check_count(app: &App, list: &Vec<Value>) -> Result<(), CertFault>
-    ensures ok { OnOk result (items_len (items_view list.now.items) ≡ length (points_of app.now)) }
-    ensures err { IfErr result
-        (λ f. (items_len (items_view list.now.items) ≡ length (points_of app.now) → ⊥) × (f ≡ CertFault.PointCount)) }
-{
-    if list.len() == app.points() {
-        Ok(())
-    } else {
-        Err(CertFault::PointCount)
-    }
-}
-
-/// The notes of all points, in a version.
-#[derive(Drop)]
-struct PointNotes {
+/// The notes that the object has to hold, in a version, taken out of it.
+fn needed_notes(
+    scope: &Scope,
+    mut object: Map<String, Value>,
     version: u8,
-}
-
-impl Reader for PointNotes {
-    ghost use Rattle.fr_notes.specs.Note.{Note};
-    ghost use Rattle.fr_notes.specs.Fits.{NotesFit};
-    ghost use Rattle.fr_cert.specs.Shapes.{IsList};
-    ghost use Rattle.fr_cert.specs.Meaning.{AreNotes};
-    ghost use Rattle.fr_cert.specs.Faults.{InList};
-
-    type Item = Notes;
-
-    ghost Seen = { List Note };
-
-    ghost seen = { λ notes. notes };
-
-    ghost Means = { λ r P d notes. IsList (AreNotes P r.version) d notes × NotesFit P notes };
-
-    ghost Faults = { λ r P. InList (InNotes P r.version) };
-
-    fn read(&self, scope: &Scope, value: &Value) -> Result<Notes, CertFault> {
-        let list = list_in(scope.alloc, value)?;
-        check_count(scope.app, list)?;
-        let version = self.version;
-        let notes = each_entry(scope, list, &PointNote { version })?;
-        Ok(Notes::of(scope.app, notes))
+) -> Result<Notes, CertFault>
+    ensures ok { IfOk result
+        (At Key.Notes (IsList (AreNotes scope.now version)) (members_view object.entries)) }
+    ensures fits { IfOk result (λ notes. NotesFit scope.now notes) }
+    ensures err { IfErr result
+        (Standing (InNeeded Key.Notes (InList (InNotes scope.now version)) (members_view object.entries))) }
+{
+    let Some(value) = taken_at(&mut object, Key::Notes) else {
+        return Err(departs_at(scope.alloc, Key::Notes.text()));
+    };
+    match notes_in(scope, version, value) {
+        Ok(notes) => Ok(notes),
+        Err(fault) => Err(within_key(scope.alloc, Key::Notes.text(), fault)),
     }
 }
 
 /// The certificate that the object means, key by key.
-fn certificate_of(scope: &Scope, object: &Map<String, Value>) -> Result<Certificate, CertFault>
-    ensures ok { IfOk result (IsCertificate scope.now (members_view object.now.entries)) }
+fn certificate_of(scope: &Scope, object: Map<String, Value>) -> Result<Certificate, CertFault>
+    ensures ok { IfOk result (IsCertificate scope.now (members_view object.entries)) }
     ensures fits { IfOk result (CertificateFits scope.now) }
     ensures err { IfErr result
-        (Standing (InCertificate scope.now (members_view object.now.entries))) }
+        (Standing (InCertificate scope.now (members_view object.entries))) }
 {
-    known_keys(scope.alloc, object, Place::Certificate)?;
-    let version = needed(scope, object, Key::Version, &Version)?;
-    let ends = needed(scope, object, Key::Ends, &FitEnds)?;
-    let notes = needed(scope, object, Key::Notes, &PointNotes { version })?;
+    known_keys(scope.alloc, &object, Place::Certificate)?;
+    let version = needed(scope, &object, Key::Version, &Version)?;
+    let ends = needed(scope, &object, Key::Ends, &FitEnds)?;
+    let notes = needed_notes(scope, object, version)?;
     Ok(Certificate { notes, ends })
 }
 
 /// The certificate that the value of the whole text means.
-fn certificate_in(alloc: Global, app: &App, value: &Value) -> Result<Certificate, CertFault>
-    ensures ok { IfOk result (IsTree app.now (view value.now)) }
+fn certificate_in(alloc: Global, app: &App, value: Value) -> Result<Certificate, CertFault>
+    ensures ok { IfOk result (IsTree app.now (view value)) }
     ensures fits { IfOk result (CertificateFits app.now) }
-    ensures err { IfErr result (Standing (InTree app.now (view value.now))) }
+    ensures err { IfErr result (Standing (InTree app.now (view value))) }
 {
     let names = names_of(alloc, app)?;
     let scope = Scope {
@@ -122,7 +98,7 @@ fn certificate_in(alloc: Global, app: &App, value: &Value) -> Result<Certificate
         app,
         names: &names,
     };
-    certificate_of(&scope, object_in(alloc, value)?)
+    certificate_of(&scope, object_of(alloc, value)?)
 }
 
 /// The value that the bytes are the text of.
@@ -157,7 +133,7 @@ pub fn read_cert(alloc: Global, app: &App, bytes: &[u8]) -> Result<Certificate, 
     ensures err { IfErr result (Standing (IsPresent app.now bytes.now)) }
 {
     let tree = tree_of(alloc, bytes)?;
-    certificate_in(alloc, app, &tree)
+    certificate_in(alloc, app, tree)
 }
 
 /// Bytes mean, for an application, one certificate at the most.

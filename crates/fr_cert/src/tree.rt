@@ -78,6 +78,13 @@ pub(crate) fn found_at(map: &Map<String, Value>, key: Key) -> Option<&Value>
     map.get(key.text())
 }
 
+/// What the object holds at the key, taken out of it.
+pub(crate) fn taken_at(map: &mut Map<String, Value>, key: Key) -> Option<Value>
+    ensures { option_map view result ≡ field key (members_view map.old.entries) }
+{
+    map.remove(key.text())
+}
+
 /// The whole number that a value is: one for which the crate's `as_i64` or `as_u64` answers.
 pub(crate) fn integer_of(value: &Value) -> Option<i128>
     ensures { result ≡ integer_of (view value.now) }
@@ -110,6 +117,17 @@ pub(crate) fn list_in(alloc: Global, value: &Value) -> Result<&Vec<Value>, CertF
     }
 }
 
+/// The list that the value has to be, taken out of it.
+pub(crate) fn list_of(alloc: Global, value: Value) -> Result<Vec<Value>, CertFault>
+    ensures ok { IfOk result (λ list. as_array (view value) ≡ Some (items_view list.items)) }
+    ensures err { IfErr result (λ f. (as_array (view value) ≡ None) × Departs [] f) }
+{
+    match value {
+        Value::Array(list) => Ok(list),
+        _ => Err(departs(alloc)),
+    }
+}
+
 /// The text that the value has to be.
 pub(crate) fn text_in(alloc: Global, value: &Value) -> Result<&str, CertFault>
     ensures ok { IfOk result (λ s. as_str (view value.now) ≡ Some s.now) }
@@ -130,6 +148,17 @@ pub(crate) fn object_in(alloc: Global, value: &Value) -> Result<&Map<String, Val
     match value.as_object() {
         Some(object) => Ok(object),
         None => Err(departs(alloc)),
+    }
+}
+
+/// The object that the value has to be, taken out of it.
+pub(crate) fn object_of(alloc: Global, value: Value) -> Result<Map<String, Value>, CertFault>
+    ensures ok { IfOk result (λ map. as_object (view value) ≡ Some (members_view map.entries)) }
+    ensures err { IfErr result (λ f. (as_object (view value) ≡ None) × Departs [] f) }
+{
+    match value {
+        Value::Object(object) => Ok(object),
+        _ => Err(departs(alloc)),
     }
 }
 

@@ -10,23 +10,28 @@ use crate::key::Key;
 use crate::written_ends::ends_value;
 use crate::written_notes::notes_value;
 use fr_ends::Certificate;
-use fr_notes::{Note, Notes};
+use fr_notes::Notes;
 use fr_program::App;
 use serde_json::{Map, Value, put};
 use std::alloc::{AllocError, Global};
 
 /// Whether each note has one alternative at the most.
-fn are_short(notes: &[Note]) -> bool
+fn are_short(notes: &Notes) -> bool
     ensures { result ≡ list_all (λ note. nat_le (length note) 1) notes.now }
 {
-    notes.iter().all(|note| note.alternatives().len() <= 1)
+    for number in 0..notes.len() {
+        if notes.note(number).alternatives().len() > 1 {
+            return false;
+        }
+    }
+    true
 }
 
 /// The version in which the notes can be written: 1 where each has one alternative at the most.
 fn version_of(notes: &Notes) -> u8
     ensures { result ≡ version_of notes.now }
 {
-    if are_short(notes.listed()) { 1 } else { 2 }
+    if are_short(notes) { 1 } else { 2 }
 }
 
 /// The object of the whole certificate.

@@ -293,9 +293,8 @@ pub(crate) fn notes_value(alloc: Global, app: &App, notes: &Notes) -> Result<Vec
     ensures { IfOk result (λ v. items_view v.items ≡ each_tree (note_tree app.now) notes.now) }
 {
     let mut list = Vec::new(alloc);
-    let listed = notes.listed();
-    for note in listed {
-        list.push(note_value(alloc, app, note)?)?;
+    for number in 0..notes.len() {
+        list.push(note_value(alloc, app, notes.note(number))?)?;
     }
     Ok(list)
 }

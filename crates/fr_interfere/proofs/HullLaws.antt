@@ -117,13 +117,13 @@ third-decides a b c one two three not_one not_two = (
       some,
 )
 
-pub excludes-told : (h : Hull) (n : Alternative) (claims : List (ObjId × Claim)) (ranges : List (VarId × Range)) → claims ≡ h.claims.items → ranges ≡ h.ranges.items →
-    (shut denied apart : Bool) → (IsTrue shut ↔ IsShut h n) → (IsTrue denied ↔ Any (λ e. IsDenied e n) claims) → (IsTrue apart ↔ Any (λ e. IsApart e n) ranges) →
-    shut ≡ false → denied ≡ false → (IsTrue apart ↔ Excludes h n)
-excludes-told h n claims ranges of_claims of_ranges shut denied apart one two three not_one not_two =
-    let second = subst (λ es. IsTrue denied ↔ Any (λ e. IsDenied e n) es) of_claims two in
-    let last = subst (λ es. IsTrue apart ↔ Any (λ e. IsApart e n) es) of_ranges three in
-    let both = third-decides shut denied apart one second last not_one not_two in
+pub excludes-told : (h : Hull) (n : Alternative) (ranges : List (VarId × Range)) (claims : List (ObjId × Claim)) → ranges ≡ h.ranges.items → claims ≡ h.claims.items →
+    (shut apart denied : Bool) → (IsTrue shut ↔ IsShut h n) → (IsTrue apart ↔ Any (λ e. IsApart e n) ranges) → (IsTrue denied ↔ Any (λ e. IsDenied e n) claims) →
+    shut ≡ false → apart ≡ false → (IsTrue denied ↔ Excludes h n)
+excludes-told h n ranges claims of_ranges of_claims shut apart denied one two three not_one not_two =
+    let second = subst (λ es. IsTrue apart ↔ Any (λ e. IsApart e n) es) of_ranges two in
+    let last = subst (λ es. IsTrue denied ↔ Any (λ e. IsDenied e n) es) of_claims three in
+    let both = third-decides shut apart denied one second last not_one not_two in
     (λ t. record { why = both.0 t }, λ excludes. both.1 excludes.why)
 
 -- ---- what a hull covers it covers still when it gets wider
@@ -141,12 +141,12 @@ module _ (h : Hull) (n : Alternative) (m : Alternative) (effect : Effect) (cover
   excluded excludes meet = ⊎_elim
       (λ shut. ⊎_elim (λ out. covers.critical shut.0 out) (λ out. shut.1 out) meet.critical)
       (λ others. ⊎_elim
-      (λ (k, e, l, is, denied).
-      let can = subst (λ x. HasClaim m x) is (covers.claims k e l) in
-      denied (can (claim_of n e.0.0) (meet.claims.1 e.0.0)))
       (λ (k, e, l, is, apart).
       let wide = subst (λ x. HasRange m x) is (covers.ranges k e l) in
       apart (meeting (range_of m e.0.0) (range_of n e.0.0) (ends_of e.1) wide (meet.ranges.1 e.0.0)))
+      (λ (k, e, l, is, denied).
+      let can = subst (λ x. HasClaim m x) is (covers.claims k e l) in
+      denied (can (claim_of n e.0.0) (meet.claims.1 e.0.0)))
       others)
       excludes.why
     where

@@ -8,3 +8,4 @@ pub mod UnsaidLaws
 pub mod SpoilerLaws
 pub mod HullLaws
 pub mod RowLaws
+pub mod ClosedLaws

@@ -13,7 +13,8 @@
 -- | IsBorne           | this alternative has each number that is written                                            |
 -- | IsBorneByEach     | one variable is written, and each alternative of a note has each number that is written     |
 -- | Spares            | so no point under the hull can disturb the note of this actor                               |
-use Rattle.std.specs.Prelude.{◌≡◌, ◌≢◌, ◌⊎◌, ℕ, ℤ, List, Option, None, Some, true, All, Any, IfSome, Contains}
+-- | IsClosedBy        | the hull's points are one actor's that is closed, and write one variable                    |
+use Rattle.std.specs.Prelude.{◌≡◌, ◌≢◌, ◌⊎◌, ℕ, ℤ, List, Option, None, Some, Bool, true, false, All, Any, IfSome, Contains, slice_index_or}
 use Rattle.fr_program.specs.declared.ids.ActorId.{ActorId}
 use Rattle.fr_program.specs.declared.ids.ObjId.{ObjId}
 use Rattle.fr_program.specs.declared.ids.Point.{Point}
@@ -87,7 +88,7 @@ IsApart e n = RangesMeet (ends_of e.1) (range_of n e.0.0) → ⊥
 
 -- nothing that the hull covers can meet the alternative
 pub record Excludes (h : Hull) (n : Alternative) : Type 0 where
-  pub why : IsShut h n ⊎ (Any (λ e. IsDenied e n) h.claims.items ⊎ Any (λ e. IsApart e n) h.ranges.items)
+  pub why : IsShut h n ⊎ (Any (λ e. IsApart e n) h.ranges.items ⊎ Any (λ e. IsDenied e n) h.claims.items)
 
 -- the alternative's range of the variable has each number that is written
 abbrev pub IsBorne : Hull → ℕ → Alternative → Type 0
@@ -100,3 +101,7 @@ IsBorneByEach h note = (x : ℕ) × (h.variable ≡ Some x) × All (λ n. IsBorn
 -- the hull's points are the actor's own, or write what the note bears, or can't meet it
 abbrev pub Spares : Hull → ActorId → Note → Type 0
 Spares h actor note = (h.actor ≡ Some actor) ⊎ (IsBorneByEach h note ⊎ All (λ n. Excludes h n) note)
+
+-- the points are one actor's that is closed, and write one variable
+abbrev pub IsClosedBy : Hull → List Bool → Type 0
+IsClosedBy h closed = (a : ActorId) × (x : ℕ) × (h.actor ≡ Some a) × (h.variable ≡ Some x) × (slice_index_or closed a.0 false ≡ true)

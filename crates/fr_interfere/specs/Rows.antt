@@ -9,7 +9,11 @@
 -- | IsRow             | a hull of the points of a list, and blocks that have each of them                           |
 -- | AreRows,          | so is each row that there is for one of the lists; the hulls of an index's points           |
 -- |   AreHullsOf      |                                                                                             |
-use Rattle.std.specs.Prelude.{◌≡◌, ◌<◌, ℕ, List, Option, Some, All, AllPairs, Any, length, slice_get}
+-- | WritesOne,        | an effect writes a variable; each point with such an effect is in one of the blocks         |
+-- |   HaveWriters     |                                                                                             |
+-- | AreClosed, IsTold | actors whose writing points disturb no note; what is known of a block's actor               |
+use Rattle.std.specs.Prelude.{◌≡◌, ◌<◌, ◌⊎◌, ℕ, List, Option, Some, Bool, true, false, All, AllPairs, Any, length, slice_get, slice_index_or}
+use Rattle.fr_program.specs.declared.ids.ActorId.{ActorId}
 use Rattle.fr_program.specs.declared.ids.Point.{Point}
 use Rattle.fr_program.specs.Program.{Program}
 use Rattle.fr_program.specs.Lookup.{IsPoint}
@@ -18,9 +22,12 @@ use Rattle.fr_notes.specs.Note.{Note}
 use Rattle.fr_interfere.specs.declared.rows.Block.{Block}
 use Rattle.fr_interfere.specs.declared.rows.Row.{Row}
 use Rattle.fr_interfere.specs.declared.rows.Hulls.{Hulls}
+use Rattle.fr_interfere.specs.declared.effects.Effect.{Effect}
+use Rattle.fr_interfere.specs.Effects.{effect_at, target_of}
 use Rattle.fr_interfere.specs.Hull.{AreUnder}
 use Rattle.fr_interfere.specs.Index.{IndexOf, list_at}
 use Rattle.fr_interfere.specs.Spoilers.{IsListed}
+use Rattle.fr_interfere.specs.Undisturbed.{Undisturbed}
 
 -- rising numbers of points
 pub record AreListed (P : Program) (numbers : List ℕ) : Type 0 where
@@ -46,7 +53,28 @@ pub record IsRow (P : Program) (notes : List Note) (numbers : List ℕ) (row : R
 abbrev pub AreRows : Program → List Note → List (List ℕ) → List (Option Row) → Type 0
 AreRows P notes lists rows = (k : ℕ) (row : Row) → slice_get rows k ≡ Some (Some row) → IsRow P notes (list_at lists k) row
 
--- the hulls of an index's points: the rows of its lists
+-- the effect writes a variable
+abbrev pub WritesOne : Effect → Type 0
+WritesOne effect = (x : ℕ) × (target_of effect ≡ Some x)
+
+-- each point that writes a variable is in one of the blocks
+abbrev pub HaveWriters : Program → List Block → Type 0
+HaveWriters P blocks = (q : Point) → IsPoint P q → WritesOne (effect_at P q) → IsInSome P blocks q
+
+-- the hulls of an index's points: the rows of its lists, and by actor those of all points that write
 pub record AreHullsOf (P : Program) (notes : List Note) (I : IndexOf) (hulls : Hulls) : Type 0 where
   pub writers : AreRows P notes I.writers hulls.writers.items
   pub lives : AreRows P notes I.lives hulls.lives.items
+  pub each : All (λ b. IsBlock P notes b) hulls.actors.items
+  pub found : HaveWriters P hulls.actors.items
+
+-- no point of a closed actor that writes a variable disturbs p's note
+abbrev pub AreClosed : Program → List Note → Point → List Bool → Type 0
+AreClosed P notes p closed =
+    (q : Point) → IsPoint P q → WritesOne (effect_at P q) → slice_index_or closed q.actor.0 false ≡ true → Undisturbed P notes p q
+
+-- no point of the block disturbs p's note, or the block's actor isn't closed
+abbrev pub IsTold : Program → List Note → Point → List Bool → Block → Type 0
+IsTold P notes p closed b =
+    ((q : Point) → IsPoint P q → IsListed P b.numbers.items q → Undisturbed P notes p q)
+    ⊎ ((a : ActorId) × (b.hull.actor ≡ Some a) × (slice_index_or closed a.0 false ≡ false))

@@ -1,5 +1,5 @@
 // What some points have in common: where that keeps them from disturbing a note, none of them is looked at alone.
-ghost use Rattle.std.specs.Prelude.{◌≡◌, ◌≢◌, ◌<◌, ◌↔◌, ℤ, true, IsTrue, List, All, Any, Some, IfOk, length, slice_get};
+ghost use Rattle.std.specs.Prelude.{◌≡◌, ◌≢◌, ◌<◌, ◌↔◌, ℤ, true, false, IsTrue, List, All, Any, Some, IfOk, length, slice_get, slice_index_or};
 ghost use Rattle.std.specs.Int.{int_min, int_max};
 ghost use Rattle.fr_program.specs.declared.ids.Point.{Point};
 ghost use Rattle.fr_program.specs.Points.{points_of};
@@ -12,7 +12,7 @@ ghost use Rattle.fr_notes.specs.Pairs.{RangesMeet};
 ghost use Rattle.fr_notes.specs.View.{ends_of};
 ghost use Rattle.fr_interfere.specs.declared.effects.Effect.{Effect as EffectOf};
 ghost use Rattle.fr_interfere.specs.Effects.{IsComputable};
-ghost use Rattle.fr_interfere.specs.Hull.{Has, GivesIn, CoversClaims, CoversRanges, Covers, IsUnder, AreUnder, IsShut, IsDenied, IsApart, Excludes, IsBorne, IsBorneByEach, Spares};
+ghost use Rattle.fr_interfere.specs.Hull.{Has, GivesIn, CoversClaims, CoversRanges, Covers, IsUnder, AreUnder, IsShut, IsDenied, IsApart, Excludes, IsBorne, IsBorneByEach, Spares, IsClosedBy};
 
 use crate::effects::{Effect, effect_at};
 use fr_notes::{Alternative, Claim, Known, Note, Notes};
@@ -36,18 +36,6 @@ pub struct Hull {
     written: Option<Range>,
 }
 
-/// Whether both claims, of two actors, can be true of one object.
-fn claims_meet(claim: Claim, other: Claim) -> bool
-    ensures { IsTrue result ↔ ClaimsMeet claim other }
-{
-    match (claim, other) {
-        (Claim::HeldTimes(_), Claim::HeldTimes(_) | Claim::Gone)
-        | (Claim::Gone, Claim::HeldTimes(_) | Claim::Alive)
-        | (Claim::Alive, Claim::Gone) => false,
-        (_, _) => true,
-    }
-}
-
 /// Whether no number is in the range and in the alternative's range of the same variable.
 fn is_apart(entry: &(VarId, Range), alternative: &Alternative) -> bool
     ensures { IsTrue result ↔ IsApart entry.now alternative.now }
@@ -62,7 +50,7 @@ fn is_denied(entry: &(ObjId, Claim), alternative: &Alternative) -> bool
     ensures { IsTrue result ↔ IsDenied entry.now alternative.now }
 {
     let (object, claim) = *entry;
-    !claims_meet(claim, alternative.claim(object))
+    !claim.meets(alternative.claim(object))
 }
 
 /// A claim that can meet all that one of the two can meet.
@@ -208,6 +196,16 @@ fn excludes_range(ranges: &[(VarId, Range)], alternative: &Alternative) -> bool
     false
 }
 
+/// Whether this one is set; past the last, it isn't.
+fn is_set(flags: &[bool], place: usize) -> bool
+    ensures { result ≡ slice_index_or flags.now place false }
+{
+    match flags.get(place) {
+        Some(flag) => *flag,
+        None => false,
+    }
+}
+
 impl Hull {
     /// The hull of no point, which can say of a point what its first alternative says.
     fn before(alloc: Global, app: &App, notes: &Notes, number: usize) -> Result<Hull, AllocError>
@@ -323,10 +321,10 @@ impl Hull {
         if self.excludes_entry(alternative) {
             return true;
         }
-        if excludes_claim(&self.claims, alternative) {
+        if excludes_range(&self.ranges, alternative) {
             return true;
         }
-        excludes_range(&self.ranges, alternative)
+        excludes_claim(&self.claims, alternative)
     }
 
     /// Whether the alternative's range of the variable has each number that is written.
@@ -370,6 +368,23 @@ impl Hull {
         ensures { IsTrue result ↔ self.now.actor ≡ Some actor }
     {
         self.actor == Some(actor)
+    }
+
+    /// The hull's one actor, where it has one.
+    pub fn only_actor(&self) -> Option<ActorId>
+        ensures { result ≡ self.now.actor }
+    {
+        self.actor
+    }
+
+    /// Whether the points are one actor's that is closed, and write one variable.
+    pub fn is_closed(&self, closed: &[bool]) -> bool
+        ensures { IsTrue result → IsClosedBy self.now closed.now }
+    {
+        match (self.actor, self.variable) {
+            (Some(actor), Some(_variable)) => is_set(closed, actor.0),
+            _ => false,
+        }
     }
 
     /// Whether no point under the hull can disturb the actor's note, as far as the hull shows: the points

@@ -1,21 +1,22 @@
 // The lists of the index with the hulls of their points, so that many points are passed over at once.
-ghost use Rattle.std.specs.Prelude.{◌≡◌, ◌<◌, ◌≤◌, List, All, Some, IfOk, IfSome, length, slice_get};
+ghost use Rattle.std.specs.Prelude.{◌≡◌, ◌<◌, ◌≤◌, ◌+◌, ℕ, List, All, IsTrue, false, Some, IfOk, OnOk, IfSome, length, slice_get, slice_index_or};
 ghost use Rattle.std.specs.Option.{ForSome};
 ghost use Rattle.fr_program.specs.declared.ids.Point.{Point};
 ghost use Rattle.fr_program.specs.Lookup.{IsPoint};
 ghost use Rattle.fr_program.specs.Points.{points_of};
 ghost use Rattle.fr_program.specs.Program.{Program};
 ghost use Rattle.fr_notes.specs.Fits.{NotesFit};
-ghost use Rattle.fr_notes.specs.Note.{Note};
-ghost use Rattle.fr_interfere.specs.Index.{IndexOf, IsIndexOf, list_at};
-ghost use Rattle.fr_interfere.specs.Rows.{AreListed, IsBlock, IsInSome, IsRow, AreRows, AreHullsOf};
+ghost use Rattle.fr_notes.specs.Note.{Note as NoteOf};
+ghost use Rattle.fr_interfere.specs.Index.{IndexOf, IsIndexOf, Lists, list_at};
+ghost use Rattle.fr_interfere.specs.Rows.{AreListed, IsBlock, IsInSome, IsRow, AreRows, WritesOne, HaveWriters, AreHullsOf, AreClosed, IsTold};
 ghost use Rattle.fr_interfere.specs.Spoilers.{IsFirstOf, IsListed};
 
+use crate::effects::{effect_at, is_free};
 use crate::hull::Hull;
 use crate::index::Index;
 use crate::spoilers::{first_listed, lesser};
-use fr_notes::Notes;
-use fr_program::{App, ObjId, VarId};
+use fr_notes::{Note, Notes};
+use fr_program::{ActorId, App, ObjId, VarId};
 use std::alloc::{AllocError, Global};
 
 /// Points of a list of the index, with their hull.
@@ -124,6 +125,36 @@ fn row_of(
 pub struct Hulls {
     writers: Vec<Option<Row>>,
     lives: Vec<Option<Row>>,
+    /// All points that write a variable, actor by actor.
+    actors: Vec<Block>,
+}
+
+/// How many actors can be told to be closed to a note.
+pub const MOST_CLOSED: usize = 32;
+
+/// Puts the point with this number behind the others, if it writes a variable.
+fn enlist_writer(app: &App, numbers: &mut Vec<usize>, number: usize) -> Result<(), AllocError>
+    requires number { number < length (points_of app.now) }
+    requires so_far { Lists app.now WritesOne number numbers.old.items }
+    ensures { OnOk result (Lists app.now WritesOne (number + 1) numbers.new.items) }
+{
+    let _point = app.point(number);
+    if effect_at(app, number).target().is_some() {
+        numbers.push(number)?;
+    }
+    Ok(())
+}
+
+/// The numbers of the points that write a variable.
+fn writing_points(alloc: Global, app: &App) -> Result<Vec<usize>, AllocError>
+    ensures { IfOk result
+        (λ numbers. Lists app.now WritesOne (length (points_of app.now)) numbers.items) }
+{
+    let mut numbers = Vec::new(alloc);
+    for number in 0..app.points() {
+        enlist_writer(app, &mut numbers, number)?;
+    }
+    Ok(numbers)
 }
 
 /// The rows of the variables, by their numbers.
@@ -188,9 +219,16 @@ impl Hulls {
         requires index { IsIndexOf app.now index.now }
         ensures { IfOk result (AreHullsOf app.now notes.now index.now) }
     {
+        app.recall_numbered();
         let writers = writer_rows(alloc, app, notes, index)?;
         let lives = maker_rows(alloc, app, notes, index)?;
-        Ok(Hulls { writers, lives })
+        let writing = writing_points(alloc, app)?;
+        let actors = blocks_of(alloc, app, notes, &writing)?;
+        Ok(Hulls {
+            writers,
+            lives,
+            actors,
+        })
     }
 
     /// The row of the variable, where some point writes it.
@@ -208,17 +246,124 @@ impl Hulls {
     }
 }
 
-/// The first point of the block that disturbs the point's note. Where the hull spares the note, no point
-/// is looked at.
-fn first_in_block(app: &App, notes: &Notes, number: usize, block: &Block) -> Option<usize>
+/// Whether the hull of the block spares the note, or its actor is told and no longer closed.
+fn is_told(app: &App, notes: &Notes, number: usize, block: &Block, closed: &mut [bool]) -> bool
     requires number { number < length (points_of app.now) }
     requires fit { NotesFit app.now notes.now }
     requires block { IsBlock app.now notes.now block.now }
+    ensures told { (p : Point) → slice_get (points_of app.now) number ≡ Some p → IsTrue result →
+        IsTold app.now notes.now p closed.new block.now }
+    ensures less { (k : ℕ) → slice_index_or closed.old k false ≡ false →
+        slice_index_or closed.new k false ≡ false }
+{
+    app.recall_faultless();
+    app.recall_numbered();
+    let own = app.point(number).actor;
+    if block.hull.spares(own, notes.at(app, number)) {
+        return true;
+    }
+    match block.hull.only_actor() {
+        None => false,
+        Some(actor) => {
+            if actor.0 < closed.len() {
+                closed[actor.0] = false;
+            }
+            true
+        }
+    }
+}
+
+/// Of each of the first actors, whether no point of it that writes a variable can disturb the point's
+/// note, as far as the hull of all these points shows.
+fn closed_actors(app: &App, notes: &Notes, number: usize, blocks: &[Block]) -> [bool; MOST_CLOSED]
+    requires number { number < length (points_of app.now) }
+    requires fit { NotesFit app.now notes.now }
+    requires each { All (λ b. IsBlock app.now notes.now b) blocks.now }
+    requires found { HaveWriters app.now blocks.now }
+    ensures { (p : Point) → slice_get (points_of app.now) number ≡ Some p →
+        AreClosed app.now notes.now p result }
+{
+    let mut closed = [true; MOST_CLOSED];
+    for block in blocks {
+        if !is_told(app, notes, number, block, &mut closed) {
+            return [false; MOST_CLOSED];
+        }
+    }
+    closed
+}
+
+/// Whether the row's hull doesn't spare the actor's note.
+fn is_open(row: Option<&Row>, actor: ActorId, note: &Note) -> bool {
+    match row {
+        Some(row) => !row.hull.spares(actor, note),
+        None => false,
+    }
+}
+
+/// Whether blocks are asked: for some variable of which the point's note says something, the hull of all
+/// points that write it doesn't spare the note.
+fn asks_blocks(app: &App, notes: &Notes, hulls: &Hulls, number: usize) -> bool
+    requires number { number < length (points_of app.now) }
+    requires fit { NotesFit app.now notes.now }
+{
+    app.recall_faultless();
+    let actor = app.point(number).actor;
+    let note = notes.at(app, number);
+    for variable in 0..app.variables().len() {
+        let variable = VarId(variable);
+        if is_open(hulls.writers(variable), actor, note) && !is_free(app, note, variable) {
+            return true;
+        }
+    }
+    false
+}
+
+/// The actors that are closed to the point's note, where there are hulls and blocks are asked.
+pub fn closed_to(
+    app: &App,
+    notes: &Notes,
+    index: &Index,
+    hulls: Option<&Hulls>,
+    number: usize,
+) -> [bool; MOST_CLOSED]
+    requires number { number < length (points_of app.now) }
+    requires fit { NotesFit app.now notes.now }
+    requires hulls { ForSome hulls (λ h. AreHullsOf app.now notes.now index.now h.now) }
+    ensures { (p : Point) → slice_get (points_of app.now) number ≡ Some p →
+        AreClosed app.now notes.now p result }
+{
+    let _index = index;
+    let Some(hulls) = hulls else {
+        return [false; MOST_CLOSED];
+    };
+    if !asks_blocks(app, notes, hulls, number) {
+        return [false; MOST_CLOSED];
+    }
+    closed_actors(app, notes, number, &hulls.actors)
+}
+
+/// The first point of the block that disturbs the point's note. Where the block's actor is closed, or the
+/// hull spares the note, no point is looked at.
+fn first_in_block(
+    app: &App,
+    notes: &Notes,
+    number: usize,
+    block: &Block,
+    closed: &[bool],
+) -> Option<usize>
+    requires number { number < length (points_of app.now) }
+    requires fit { NotesFit app.now notes.now }
+    requires block { IsBlock app.now notes.now block.now }
+    requires closed { (p : Point) → slice_get (points_of app.now) number ≡ Some p →
+        AreClosed app.now notes.now p closed.now }
     ensures { (p : Point) → slice_get (points_of app.now) number ≡ Some p →
         IsFirstOf app.now notes.now p (IsListed app.now block.now.numbers.items) result }
 {
     app.recall_faultless();
     app.recall_numbered();
+    if block.hull.is_closed(closed) {
+        return None;
+    }
     let actor = app.point(number).actor;
     if block.hull.spares(actor, notes.at(app, number)) {
         return None;
@@ -227,26 +372,43 @@ fn first_in_block(app: &App, notes: &Notes, number: usize, block: &Block) -> Opt
 }
 
 /// The first point of one of the blocks that disturbs the point's note.
-fn first_in_blocks(app: &App, notes: &Notes, number: usize, blocks: &[Block]) -> Option<usize>
+fn first_in_blocks(
+    app: &App,
+    notes: &Notes,
+    number: usize,
+    blocks: &[Block],
+    closed: &[bool],
+) -> Option<usize>
     requires number { number < length (points_of app.now) }
     requires fit { NotesFit app.now notes.now }
     requires blocks { All (λ b. IsBlock app.now notes.now b) blocks.now }
+    requires closed { (p : Point) → slice_get (points_of app.now) number ≡ Some p →
+        AreClosed app.now notes.now p closed.now }
     ensures { (p : Point) → slice_get (points_of app.now) number ≡ Some p →
         IsFirstOf app.now notes.now p (IsInSome app.now blocks.now) result }
 {
     let mut least = None;
     for block in blocks {
-        least = lesser(least, first_in_block(app, notes, number, block));
+        least = lesser(least, first_in_block(app, notes, number, block, closed));
     }
     least
 }
 
 impl Row {
     /// The first point of the row that disturbs the point's note.
-    pub fn first(&self, app: &App, notes: &Notes, number: usize, numbers: &[usize]) -> Option<usize>
+    pub fn first(
+        &self,
+        app: &App,
+        notes: &Notes,
+        number: usize,
+        numbers: &[usize],
+        closed: &[bool],
+    ) -> Option<usize>
         requires number { number < length (points_of app.now) }
         requires fit { NotesFit app.now notes.now }
         requires row { IsRow app.now notes.now numbers.now self.now }
+        requires closed { (p : Point) → slice_get (points_of app.now) number ≡ Some p →
+            AreClosed app.now notes.now p closed.now }
         ensures { (p : Point) → slice_get (points_of app.now) number ≡ Some p →
             IsFirstOf app.now notes.now p (IsListed app.now numbers.now) result }
     {
@@ -256,13 +418,13 @@ impl Row {
         if self.hull.spares(actor, notes.at(app, number)) {
             return None;
         }
-        first_in_blocks(app, notes, number, &self.blocks)
+        first_in_blocks(app, notes, number, &self.blocks, closed)
     }
 }
 
 /// The variable's row, where there are rows and some point writes it.
 pub fn writer_row(hulls: Option<&Hulls>, variable: VarId) -> Option<&Row>
-    ensures { (P : Program) (ns : List Note) (I : IndexOf) → ForSome hulls.entry (λ h. AreHullsOf P ns I h.now) →
+    ensures { (P : Program) (ns : List NoteOf) (I : IndexOf) → ForSome hulls.entry (λ h. AreHullsOf P ns I h.now) →
         ForSome result (λ row. IsRow P ns (list_at I.writers variable.0) row.now) }
 {
     match hulls {
@@ -273,7 +435,7 @@ pub fn writer_row(hulls: Option<&Hulls>, variable: VarId) -> Option<&Row>
 
 /// The object's row, where there are rows and some point creates or deletes it.
 pub fn maker_row(hulls: Option<&Hulls>, object: ObjId) -> Option<&Row>
-    ensures { (P : Program) (ns : List Note) (I : IndexOf) → ForSome hulls.entry (λ h. AreHullsOf P ns I h.now) →
+    ensures { (P : Program) (ns : List NoteOf) (I : IndexOf) → ForSome hulls.entry (λ h. AreHullsOf P ns I h.now) →
         ForSome result (λ row. IsRow P ns (list_at I.lives object.0) row.now) }
 {
     match hulls {
@@ -290,16 +452,19 @@ pub fn first_among(
     number: usize,
     numbers: &[usize],
     row: Option<&Row>,
+    closed: &[bool],
 ) -> Option<usize>
     requires number { number < length (points_of app.now) }
     requires fit { NotesFit app.now notes.now }
     requires listed { AreListed app.now numbers.now }
     requires row { ForSome row (λ r. IsRow app.now notes.now numbers.now r.now) }
+    requires closed { (p : Point) → slice_get (points_of app.now) number ≡ Some p →
+        AreClosed app.now notes.now p closed.now }
     ensures { (p : Point) → slice_get (points_of app.now) number ≡ Some p →
         IsFirstOf app.now notes.now p (IsListed app.now numbers.now) result }
 {
     match row {
-        Some(row) => row.first(app, notes, number, numbers),
+        Some(row) => row.first(app, notes, number, numbers, closed),
         None => first_listed(app, notes, number, numbers),
     }
 }

@@ -6,13 +6,13 @@ ghost use Rattle.fr_program.specs.Points.{points_of};
 ghost use Rattle.fr_notes.specs.Fits.{NotesFit};
 ghost use Rattle.fr_interfere.specs.Disturbance.{IsSpoiler};
 ghost use Rattle.fr_interfere.specs.Index.{IsIndexOf};
-ghost use Rattle.fr_interfere.specs.Rows.{AreHullsOf};
+ghost use Rattle.fr_interfere.specs.Rows.{AreHullsOf, AreClosed};
 ghost use Rattle.fr_interfere.specs.Spoilers.{IsFirstOf, IsListed, WritesInside, MakesOne, IsBelow, least_of};
 
 use crate::disturbance::undisturbed;
 use crate::effects::{is_free, is_unclaimed};
 use crate::index::Index;
-use crate::rows::{Hulls, first_among, maker_row, writer_row};
+use crate::rows::{Hulls, closed_to, first_among, maker_row, writer_row};
 use fr_notes::Notes;
 use fr_program::{App, ObjId, VarId};
 
@@ -43,12 +43,15 @@ fn first_writer_of(
     hulls: Option<&Hulls>,
     number: usize,
     variable: VarId,
+    closed: &[bool],
 ) -> Option<usize>
     requires number { number < length (points_of app.now) }
     requires fit { NotesFit app.now notes.now }
     requires index { IsIndexOf app.now index.now }
     requires hulls { ForSome hulls (λ h. AreHullsOf app.now notes.now index.now h.now) }
     requires variable { variable.0 < length app.now.variables }
+    requires closed { (p : Point) → slice_get (points_of app.now) number ≡ Some p →
+        AreClosed app.now notes.now p closed.now }
     ensures { (p : Point) → slice_get (points_of app.now) number ≡ Some p →
         IsFirstOf app.now notes.now p (WritesInside app.now notes.now variable.0) result }
 {
@@ -63,6 +66,7 @@ fn first_writer_of(
             number,
             index.writers(variable),
             writer_row(hulls, variable),
+            closed,
         )
     }
 }
@@ -96,6 +100,7 @@ fn first_maker_of(
             number,
             index.lives(object),
             maker_row(hulls, object),
+            &[],
         )
     }
 }
@@ -127,9 +132,10 @@ pub fn first_writer(
     ensures { (p : Point) → slice_get (points_of app.now) number ≡ Some p →
         IsFirstOf app.now notes.now p (IsBelow (WritesInside app.now notes.now) (length app.now.variables)) result }
 {
+    let closed = closed_to(app, notes, index, hulls, number);
     let mut least = None;
     for variable in 0..app.variables().len() {
-        let writer = first_writer_of(app, notes, index, hulls, number, VarId(variable));
+        let writer = first_writer_of(app, notes, index, hulls, number, VarId(variable), &closed);
         least = lesser(least, writer);
     }
     least

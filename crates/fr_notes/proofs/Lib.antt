@@ -27,3 +27,4 @@ pub mod PairLaws
 pub mod BeforeLaws
 pub mod StepLaws
 pub mod AlternativesLemmas
+pub mod PlaceLemmas

@@ -1,6 +1,8 @@
 pub mod Note
 pub mod View
 pub mod Noted
+pub mod Places
+pub mod NotesView
 pub mod Fits
 pub mod Facts
 pub mod Parts

@@ -16,6 +16,7 @@ pub enum Claim {
 
 impl Claim {
     ghost use Rattle.fr_notes.specs.Implication.{ClaimImplies};
+    ghost use Rattle.fr_notes.specs.Known.{ClaimsMeet};
 
     /// Whether the other claim is true of an actor and an object wherever this one is.
     pub fn implies(self, other: Claim) -> bool
@@ -27,6 +28,18 @@ impl Claim {
             (_, Claim::NotHeld) => true,
             (Claim::Alive, Claim::Alive) | (Claim::Gone, Claim::Gone) => true,
             _ => false,
+        }
+    }
+
+    /// Whether both claims, of two actors, can be true of one object.
+    pub fn meets(self, other: Claim) -> bool
+        ensures { IsTrue result ↔ ClaimsMeet self other }
+    {
+        match (self, other) {
+            (Claim::HeldTimes(_), Claim::HeldTimes(_) | Claim::Gone)
+            | (Claim::Gone, Claim::HeldTimes(_) | Claim::Alive)
+            | (Claim::Alive, Claim::Gone) => false,
+            (_, _) => true,
         }
     }
 }

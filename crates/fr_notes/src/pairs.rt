@@ -2,25 +2,12 @@
 ghost use Rattle.std.specs.Prelude.{◌≡◌, ◌≢◌, ◌<◌, ◌↔◌, IsTrue, Any, map, length};
 ghost use Rattle.fr_notes.specs.Compare.{AreTogether};
 ghost use Rattle.fr_notes.specs.Fits.{NoteFits};
-ghost use Rattle.fr_notes.specs.Known.{ClaimsMeet};
 ghost use Rattle.fr_notes.specs.Pairs.{EachClaimMeets, RangesMeet, EachRangeMeets, CanMeet, MeetsSome};
 ghost use Rattle.fr_notes.specs.View.{ends_of};
 
 use crate::claim::Claim;
 use crate::note::{Alternative, Note};
 use fr_program::{ActorId, App, Range};
-
-/// Whether both claims, of two actors, can be true of one object.
-fn claims_meet(claim: Claim, other: Claim) -> bool
-    ensures { IsTrue result ↔ ClaimsMeet claim other }
-{
-    match (claim, other) {
-        (Claim::HeldTimes(_), Claim::HeldTimes(_) | Claim::Gone)
-        | (Claim::Gone, Claim::HeldTimes(_) | Claim::Alive)
-        | (Claim::Alive, Claim::Gone) => false,
-        (_, _) => true,
-    }
-}
 
 /// Whether some number is in both ranges.
 fn ranges_meet(range: Range, other: Range) -> bool
@@ -37,7 +24,7 @@ fn each_claim_meets(claims: &[Claim], others: &[Claim]) -> bool
         return false;
     }
     for (object, claim) in claims.iter().enumerate() {
-        if !claims_meet(*claim, others[object]) {
+        if !claim.meets(others[object]) {
             return false;
         }
     }

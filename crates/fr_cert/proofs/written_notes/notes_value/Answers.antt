@@ -1,20 +1,24 @@
-use Rattle.std.proofs.Common.{◌∙◌, All, sym, ap, subst}
+use Rattle.std.proofs.Common.{◌≡◌, ◌∙◌, ◌<◌, ◌≤◌, [], length, sym, subst, arith}
+use Rattle.std.proofs.lemmas.List.{get_or_default}
 use Rattle.fr_notes.specs.Fits.{NoteFits}
-use Rattle.fr_cert.specs.Written.{note_tree, each_tree}
+use Rattle.fr_cert.specs.Written.{note_tree}
 use Rattle.fr_cert.proofs.WrittenLemmas.{tree_more, tree_end}
 use Rattle.fr_cert.proofs.written_notes.notes_value.Goals as goal
 
 pub note_value-requires : goal.note_value-requires
 note_value-requires c =
-    let Q = NoteFits c.args.app.now in
-    subst Q (sym c.note-item.is) (subst (All Q) (sym c.listed-listed.ensures) c.requires.1 c.loop-note.note-index c.note-item.result c.loop-note-test.true)
+    let within : c.loop-number.number < length c.args.notes.now = omega arith in
+    subst (NoteFits c.args.app.now) (sym c.note.ensures) (c.requires.1 c.loop-number.number [] within)
 
-pub loop-note-preserved : goal.loop-note-preserved
-loop-note-preserved c =
-    tree_more (note_tree c.args.app.now) c.listed-listed.result.now c.loop-note.note-index c.note-item.result c.loop-note.list.items c.push.new.self.items c.in_ok-note_value.field-0
-    c.loop-note-test.true c.note-item.is c.in_ok-note_value.ensures c.in_ok-push.ensures.items c.loop-note.invariant
+pub loop-number-preserved : goal.loop-number-preserved
+loop-number-preserved c =
+    let i = c.loop-number.number in
+    let notes = c.args.notes.now in
+    let within : i < length notes = omega arith in
+    tree_more (note_tree c.args.app.now) notes i c.note.result.now c.loop-number.list.items c.push.new.self.items c.in_ok-note_value.field-0
+    within (c.note.ensures ∙ get_or_default notes i [] c.note.result.now within) c.in_ok-note_value.ensures c.in_ok-push.ensures.items c.loop-number.invariant
 
 pub returns : goal.returns
 returns c =
-    let tree = note_tree c.args.app.now in
-    tree_end tree c.listed-listed.result.now c.loop-note.note-index c.loop-note.list.items c.loop-note-test.false c.loop-note.invariant ∙ ap (each_tree tree) c.listed-listed.ensures
+    let end : length c.args.notes.now ≤ c.loop-number.number = omega arith in
+    tree_end (note_tree c.args.app.now) c.args.notes.now c.loop-number.number c.loop-number.list.items end c.loop-number.invariant

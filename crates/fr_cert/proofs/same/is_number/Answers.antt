@@ -1,0 +1,8 @@
+use Rattle.std.proofs.Common.{sym, ap, ◌∙◌}
+use Rattle.serde_json.specs.Data.{number}
+use Rattle.serde_json.specs.View.{number_view}
+use Rattle.fr_cert.proofs.SameLemmas.{num-unsigned, num-negative}
+use Rattle.fr_cert.proofs.same.is_number.Goals as goal
+
+pub returns-in-Some : goal.returns-in-Some
+returns-in-Some c = λ yes. c.is_unsigned.ensures yes ∙ ap number (sym (num-unsigned (number_view c.args.number.now) c.in-Some.whole (sym c.in-Some.ensures)))

@@ -1,0 +1,7 @@
+use Rattle.std.specs.List.{AllWithin}
+use Rattle.fr_notes.specs.Fits.{NoteFits}
+use Rattle.fr_notes.proofs.notes.Notes.fits.Given as goal
+
+-- each note so far fits
+abbrev pub invariant-loop-number : goal.invariant-loop-number
+invariant-loop-number l = AllWithin (NoteFits l.app) l.self 0 l.number
