@@ -2,12 +2,27 @@
 use crate::effect::{Effect, Effects};
 use crate::trial::{Item, Trial};
 use fr_calls::Way;
-use fr_notes::Claim;
+use fr_notes::{Alternative, Claim};
 use fr_program::{ObjId, Range, VarId};
 use std::alloc::{AllocError, Global};
 
 /// So often a note is closed at most: it has grown to the declared ends long before.
 const MOST_TURNS: usize = 10_000;
+
+/// Adds the variables of which the other actor's steps may write what the alternative excludes.
+fn add_felt(
+    felt: &mut Vec<(usize, usize)>,
+    other: usize,
+    effects: &Effects,
+    facts: &Alternative,
+) -> Result<(), AllocError> {
+    for (variable, written) in effects.writes.iter().enumerate() {
+        if written.is_felt(variable, facts) {
+            felt.push((other, variable))?;
+        }
+    }
+    Ok(())
+}
 
 impl<'a> Trial<'a> {
     /// Merges what a step of another actor leaves of an alternative of the point. Whether the note changed.
@@ -68,23 +83,41 @@ impl<'a> Trial<'a> {
         Some(self.pool.get(facts)?.range(VarId(variable)))
     }
 
-    /// The same for the writes of one other actor.
-    fn meet_writer(
+    /// Whose steps, by actor and variable, may write what the alternative excludes.
+    fn writers_felt(
+        &self,
+        alloc: Global,
+        actor: usize,
+        facts: usize,
+        others: &[Effects],
+    ) -> Result<Vec<(usize, usize)>, AllocError> {
+        let mut felt = Vec::new(alloc);
+        let Some(facts) = self.pool.get(facts) else {
+            return Ok(felt);
+        };
+        for (other, effects) in others.iter().enumerate() {
+            if other != actor {
+                add_felt(&mut felt, other, effects, facts)?;
+            }
+        }
+        Ok(felt)
+    }
+
+    /// Merges what the writes of all other actors leave of an alternative of the point.
+    fn meet_writers(
         &mut self,
         alloc: Global,
         actor: usize,
         item: Item,
-        effects: &Effects,
+        others: &[Effects],
     ) -> Result<bool, AllocError> {
         let mut changed = false;
-        for (variable, written) in effects.writes.iter().enumerate() {
-            if let (Some(reach), Some(range)) = (
-                written.reach,
-                self.range_in(item.facts, variable),
-            ) {
-                if !reach.within(range) {
-                    changed |= self.meet_writes(alloc, actor, item, &written.effects, range)?;
-                }
+        for (other, variable) in self.writers_felt(alloc, actor, item.facts, others)? {
+            let written = others
+                .get(other)
+                .and_then(|effects| effects.writes.get(variable));
+            if let (Some(written), Some(range)) = (written, self.range_in(item.facts, variable)) {
+                changed |= self.meet_writes(alloc, actor, item, &written.effects, range)?;
             }
         }
         Ok(changed)
@@ -115,8 +148,8 @@ impl<'a> Trial<'a> {
         Ok(changed)
     }
 
-    /// Merges what the steps of all other actors leave of an alternative of the point.
-    fn meet_all(
+    /// Merges what the creates and deletes of all other actors leave of an alternative of the point.
+    fn meet_makers(
         &mut self,
         alloc: Global,
         actor: usize,
@@ -126,7 +159,6 @@ impl<'a> Trial<'a> {
         let mut changed = false;
         for (other, effects) in others.iter().enumerate() {
             if other != actor {
-                changed |= self.meet_writer(alloc, actor, item, effects)?;
                 changed |= self.meet_maker(alloc, actor, item, effects)?;
             }
         }
@@ -148,7 +180,8 @@ impl<'a> Trial<'a> {
                 number,
                 facts: *facts,
             };
-            changed |= self.meet_all(alloc, actor, item, others)?;
+            changed |= self.meet_writers(alloc, actor, item, others)?;
+            changed |= self.meet_makers(alloc, actor, item, others)?;
         }
         Ok(changed)
     }

@@ -5,7 +5,7 @@ ghost use Rattle.fr_finder.specs.Spots.{IsPlaced};
 use crate::place::{Place, changed_life, place_at};
 use crate::trial::{Item, Trial};
 use fr_calls::Way;
-use fr_notes::{Alternative, Known, change_by};
+use fr_notes::{Alternative, Claim, Known, change_by};
 use fr_program::{App, Instr, Range, VarId};
 use std::alloc::{AllocError, Global};
 use std::hash::{FoldHasher, Hash, Hasher};
@@ -21,7 +21,7 @@ pub struct Effect {
 /// The steps of one actor that others' notes can feel.
 #[derive(Drop)]
 pub struct Effects {
-    /// By variable: the steps that write it, and the least range that has all that they write.
+    /// By variable: the steps that write it. None where no other actor's notes speak of it.
     pub writes: Vec<Written>,
     /// By object: the steps that create or delete it.
     pub lives: Vec<Vec<Effect>>,
@@ -30,8 +30,106 @@ pub struct Effects {
 /// The steps that write a variable.
 #[derive(Drop)]
 pub struct Written {
-    pub reach: Option<Range>,
+    /// The least range that has all that they write.
+    reach: Option<Range>,
+    /// What is so wherever one of them is made.
+    common: Option<Common>,
     pub effects: Vec<Effect>,
+}
+
+/// What several alternatives have in common: they exclude no less than this does.
+#[derive(Drop)]
+struct Common {
+    /// Whether the actor is in the critical section by all of them.
+    critical: bool,
+    claims: Vec<Claim>,
+    ranges: Vec<Range>,
+}
+
+/// Leaves of the claims what the others say, too.
+fn weaken(claims: &mut Vec<Claim>, others: &[Claim]) {
+    for (object, other) in others.iter().enumerate() {
+        if let Some(claim) = claims.get_mut(object) {
+            if *claim != *other {
+                *claim = Claim::NotHeld;
+            }
+        }
+    }
+}
+
+/// Grows the ranges so that they have the others' numbers, too.
+fn widen(ranges: &mut Vec<Range>, others: &[Range]) {
+    for (variable, other) in others.iter().enumerate() {
+        if let Some(range) = ranges.get_mut(variable) {
+            *range = hull(Some(*range), *other);
+        }
+    }
+}
+
+impl Common {
+    /// What one alternative says.
+    fn of(alloc: Global, facts: &Alternative) -> Result<Common, AllocError> {
+        Ok(Common {
+            critical: facts.critical() > 0,
+            claims: Vec::from_slice(alloc, facts.claims())?,
+            ranges: Vec::from_slice(alloc, facts.ranges())?,
+        })
+    }
+
+    /// Takes one more alternative.
+    fn take(&mut self, facts: &Alternative) {
+        self.critical = self.critical && facts.critical() > 0;
+        weaken(&mut self.claims, facts.claims());
+        widen(&mut self.ranges, facts.ranges());
+    }
+
+    /// Whether an alternative of another actor can hold together with none of them.
+    fn excludes(&self, other: &Alternative) -> bool {
+        self.critical && other.critical() > 0
+            || !self
+                .claims
+                .iter()
+                .zip(other.claims())
+                .all(|(one, other)| one.meets(*other))
+            || !self
+                .ranges
+                .iter()
+                .zip(other.ranges())
+                .all(|(one, other)| one.meets(*other))
+    }
+}
+
+impl Written {
+    /// Whether one of the steps may be made where the alternative of another actor holds, and write what
+    /// that excludes of the variable.
+    pub fn is_felt(&self, variable: usize, other: &Alternative) -> bool {
+        match (self.reach, &self.common) {
+            (Some(reach), Some(common)) => {
+                !reach.within(other.range(VarId(variable))) && !common.excludes(other)
+            }
+            (_, _) => false,
+        }
+    }
+
+    /// Adds a step that writes these numbers.
+    fn add(
+        &mut self,
+        alloc: Global,
+        mover: Item,
+        facts: &Alternative,
+        range: Range,
+    ) -> Result<(), AllocError> {
+        self.reach = Some(hull(self.reach, range));
+        match &mut self.common {
+            Some(common) => common.take(facts),
+            None => self.common = Some(Common::of(alloc, facts)?),
+        }
+        self.effects.push(Effect {
+            mover,
+            range: Some(range),
+        })?;
+        Ok(())
+    }
 }
 
 /// The least range that has both.
@@ -51,6 +149,7 @@ fn no_writes(alloc: Global, count: usize) -> Result<Vec<Written>, AllocError> {
     for _ in 0..count {
         writes.push(Written {
             reach: None,
+            common: None,
             effects: Vec::new(alloc),
         })?;
     }
@@ -92,18 +191,6 @@ impl Effects {
         })
     }
 
-    /// Adds a step that writes these numbers to the variable.
-    fn add_write(&mut self, variable: VarId, mover: Item, range: Range) -> Result<(), AllocError> {
-        if let Some(written) = self.writes.get_mut(variable.0) {
-            written.reach = Some(hull(written.reach, range));
-            written.effects.push(Effect {
-                mover,
-                range: Some(range),
-            })?;
-        }
-        Ok(())
-    }
-
     /// Adds a step that creates or deletes the object.
     fn add_life(&mut self, object: usize, effect: Effect) -> Result<(), AllocError> {
         if let Some(effects) = self.lives.get_mut(object) {
@@ -113,7 +200,7 @@ impl Effects {
     }
 
     /// Adds what the step from the point does, where this alternative holds.
-    fn add(&mut self, trial: &Trial, mover: Item) -> Result<(), AllocError> {
+    fn add(&mut self, alloc: Global, trial: &Trial, mover: Item) -> Result<(), AllocError> {
         let app = trial.pool.app();
         let place = place_at(app, mover.number);
         let (Some(place), Some(facts)) = (place, trial.pool.get(mover.facts)) else {
@@ -122,16 +209,20 @@ impl Effects {
         if let Some(object) = changed_life(place.instr) {
             return self.add_life(object, Effect { mover, range: None });
         }
-        match written_by(app, place, facts) {
-            Some((variable, range)) => self.add_write(variable, mover, range),
-            None => Ok(()),
+        let Some((variable, range)) = written_by(app, place, facts) else {
+            return Ok(());
+        };
+        match self.writes.get_mut(variable.0) {
+            Some(written) if trial.is_felt(variable.0) => written.add(alloc, mover, facts, range),
+            _ => Ok(()),
         }
     }
 
     /// Adds what the step from the point does, by each alternative of its note.
-    fn add_each(&mut self, trial: &Trial, number: usize) -> Result<(), AllocError> {
+    fn add_each(&mut self, alloc: Global, trial: &Trial, number: usize) -> Result<(), AllocError> {
         for facts in trial.note(number) {
             self.add(
+                alloc,
                 trial,
                 Item {
                     number,
@@ -147,7 +238,7 @@ impl Effects {
         let mut effects = Effects::none(alloc, trial.plan.app)?;
         let span = trial.plan.span(actor);
         for number in span.first..span.end {
-            effects.add_each(trial, number)?;
+            effects.add_each(alloc, trial, number)?;
         }
         Ok(effects)
     }

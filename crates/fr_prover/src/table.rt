@@ -44,6 +44,14 @@ impl Table {
         }
     }
 
+    /// How many of the column are true.
+    pub fn count_column(&self, column: usize) -> usize {
+        self.rows
+            .iter()
+            .filter(|row| row.get(column).copied() == Some(true))
+            .count()
+    }
+
     /// How many of the row are true.
     pub fn count(&self, row: usize) -> usize {
         self.row(row).iter().filter(|cell| **cell).count()

@@ -27,6 +27,8 @@ pub struct Trial<'a> {
     pub divisions: &'a [Division],
     /// By actor and variable: whether the actor's notes speak of the variable.
     pub kept: &'a Table,
+    /// By variable: whether the notes of several actors speak of it.
+    felt: Vec<bool>,
     /// By variable: the numbers at which a range that grows may rest.
     pub thresholds: Vec<Vec<i128>>,
     pub pool: Pool<'a>,
@@ -60,6 +62,15 @@ fn no_notes(alloc: Global, app: &App) -> Result<Vec<Vec<usize>>, AllocError> {
         notes.push(Vec::new(alloc))?;
     }
     Ok(notes)
+}
+
+/// By variable: whether the notes of several actors speak of it.
+fn felt_in(alloc: Global, app: &App, kept: &Table) -> Result<Vec<bool>, AllocError> {
+    let mut felt = Vec::with_capacity(alloc, app.variables().len())?;
+    for variable in 0..app.variables().len() {
+        felt.push(kept.count_column(variable) > 1)?;
+    }
+    Ok(felt)
 }
 
 /// What both claims say.
@@ -98,6 +109,7 @@ impl<'a> Trial<'a> {
             plan,
             divisions,
             kept,
+            felt: felt_in(alloc, plan.app, kept)?,
             thresholds: thresholds_for(alloc, thresholds, divisions)?,
             pool: Pool::new(alloc, plan.app),
             notes: no_notes(alloc, plan.app)?,
@@ -112,6 +124,11 @@ impl<'a> Trial<'a> {
             Some(note) => note,
             None => &[],
         }
+    }
+
+    /// Whether the notes of several actors speak of the variable.
+    pub fn is_felt(&self, variable: usize) -> bool {
+        self.felt.get(variable).copied() == Some(true)
     }
 
     /// Takes one of the steps that may still be looked at. Whether there was one.
