@@ -64,8 +64,10 @@ pub fn write_file(rt: &HostRuntime, path: &str, text: &str) -> Result<(), CheckF
 
 /// Refuses a file for the certificate that has the application: the one that was read, by whatever name.
 fn check_out(rt: &HostRuntime, path: &str, app: &[u8]) -> Result<(), CheckFault> {
-    let Ok(mut file) = File::open(rt, path) else {
-        return Ok(());
+    let mut file = match File::open(rt, path) {
+        Ok(file) => file,
+        Err(error) if is_memory(&error) => return Err(CheckFault::Memory),
+        Err(_) => return Ok(()),
     };
     let held = load(rt.alloc(), &mut file, MOST_APP_BYTES)?;
     if !app.is_empty() && held.as_slice() == app {
