@@ -4,7 +4,9 @@ use Rattle.fr_answer.specs.Proved.{CanRefuseApp}
 use Rattle.fr_answer.proofs.Refusals.{app-refused}
 use Rattle.fr_answer.proofs.proving.certificate_text.Goals as goal
 
-pub returns-in_err-app-clause-refused : goal.returns-in_err-app-clause-refused
-returns-in_err-app-clause-refused g c =
-    let p = err_from_is_err_and c.from_residual.result c.from_residual.ensures.1 in
-    rw (p.1, p.2) (app-refused (CanRefuseApp c.args.app.now) c.in_err-app.field-0.0 tt (λ e. (e, c.in_err-app.ensures.err e)))
+pub returns-in_err-app : goal.returns-in_err-app
+returns-in_err-app c = record {
+  refused =
+      let p = err_from_is_err_and c.from_residual.result c.from_residual.ensures.1 in
+      rw (p.1, p.2) (app-refused (CanRefuseApp c.args.app.now) c.in_err-app.field-0.0 tt (λ e. (e, c.in_err-app.ensures.err e)));
+}
