@@ -5,17 +5,19 @@
 -- | IsProved         | the status and the report are those of the verdict on the bytes by the certificate  |
 -- | CanRefuseApp     | this fault can be the answer where the application alone is read                    |
 -- | CanRefuseProof   | this fault can be the answer to the bytes and the number of workers                 |
-use Rattle.std.specs.Prelude.{◌≡◌, ℕ, List, [], Some, string_bytes}
+use Rattle.std.specs.Prelude.{ℕ, List, Option, string_bytes}
 use Rattle.fr_parallel.specs.Kept.{IsNoCrew}
 use Rattle.fr_answer.specs.declared.fault.CheckFault.{CheckFault}
 use Rattle.fr_answer.specs.declared.fault.CheckFault.TheVariants.{App, Cert, Workers, Memory, Thread}
 use Rattle.fr_answer.specs.declared.proving.Proved.{Proved}
-use Rattle.fr_answer.specs.Checked.{IsAnswer, IsAppRefused, IsCertRefused}
+use Rattle.fr_report.specs.declared.reason.scene.Detail.{Detail}
+use Rattle.fr_answer.specs.Checked.{IsAppRefused, IsCertRefused}
+use Rattle.fr_answer.specs.Explained.{IsExplained}
 
 -- the bytes mean an application, and the text a certificate for it; the status and the report are those of the verdict on
 -- both
-abbrev pub IsProved : List ℕ → Proved → Type 0
-IsProved app p = IsAnswer app (string_bytes p.certificate) p.status (Some []) (Some p.report.items)
+abbrev pub IsProved : List ℕ → Option Detail → Proved → Type 0
+IsProved app detail p = IsExplained app (string_bytes p.certificate) detail p.told
 
 -- the fault is present in the application's bytes, or the machine had no memory
 abbrev pub CanRefuseApp : List ℕ → CheckFault → Type 0

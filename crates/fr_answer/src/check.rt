@@ -14,7 +14,7 @@ use std::sync::Wait;
 use std::thread::Threads;
 
 /// The exit status of a verdict.
-fn status_of(verdict: &Verdict) -> u8
+pub(crate) fn status_of(verdict: &Verdict) -> u8
     ensures { result ≡ status_of verdict.now }
 {
     match verdict {

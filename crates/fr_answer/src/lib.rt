@@ -1,8 +1,9 @@
 // What answers a command, from the bytes of the files to the report, the exit status and a refusal's line. `load` reads a
 // file, `check_with` judges and writes the report, and `answer_check` is the whole of it: the program and the worked
 // rows both call it, and its contract says what an exit status means. `answer_run` is the same of a run, whose words
-// `words_of` reads. `find_bytes` finds a certificate and `tell_found` says so. `prove_bytes` works one out and judges it, and
-// `tell_proved` says what the verdict is; `warn` tells what a verdict may hide. `answer_points` lists the points of an application.
+// `words_of` reads. `find_bytes` finds a certificate and `tell_found` says so. `prove_bytes` works one out and judges it.
+// `check_told` and `run_told` give what has to be said, with why a verdict is no, and `tell` says it; `warn` tells what a
+// verdict may hide, and `tell_place` where a refusal is. `answer_points` lists the points of an application.
 #![tactic(auto)]
 
 mod answer;
@@ -12,9 +13,11 @@ mod fault;
 mod file;
 mod found;
 mod layout;
+mod place;
 mod points;
 mod proving;
 mod running;
+mod telling;
 mod warning;
 mod words;
 
@@ -26,8 +29,11 @@ pub use file::{LoadFault, load};
 pub use found::{Found, find_bytes, tell_found};
 pub use fr_cert::MOST_BYTES as MOST_CERTIFICATE_BYTES;
 pub use fr_reader::MOST_BYTES as MOST_APP_BYTES;
+pub use fr_report::Detail;
+pub use place::{tell_app_place, tell_place};
 pub use points::{answer_points, points_to};
-pub use proving::{Proved, is_replaceable, prove_bytes, tell_proved};
-pub use running::{answer_run, run_to};
+pub use proving::{Proved, is_replaceable, prove_bytes};
+pub use running::{answer_run, run_to, run_told};
+pub use telling::{Told, check_told, tell};
 pub use warning::warn;
 pub use words::{WordsFault, answer_words, words_of};

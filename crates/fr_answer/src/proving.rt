@@ -1,42 +1,56 @@
 // Working out a certificate for the bytes of an application, and judging it.
 ghost use Rattle.std.specs.Prelude.{◌≡◌, ◌↔◌, IfOk, IfErr, IsErrOf};
-ghost use Rattle.std.specs.Io.KnownBytes.{Appends};
+ghost use Rattle.fr_ends.specs.Fits.{CertificateFits};
 ghost use Rattle.fr_parallel.specs.Kept.{IsNoCrew};
 ghost use Rattle.fr_answer.specs.Checked.{IsSafeText};
 ghost use Rattle.fr_answer.specs.Proved.{CanRefuseApp, CanRefuseProof, IsProved};
 
-use crate::check::check_with;
 use crate::fault::CheckFault;
 use crate::layout::laid_out;
-use fr_cert::write_cert;
+use crate::telling::{Told, check_told};
+use fr_cert::{MOST_BYTES, write_cert};
+use fr_ends::Certificate;
 use fr_parallel::{Gate, is_crew};
-use fr_prover::best_certificate;
+use fr_program::App;
+use fr_prover::{best_certificate, thinned};
 use fr_reader::read_app;
+use fr_report::Detail;
 use serde_json::Value;
 use std::alloc::Global;
-use std::io::Write;
 use std::sync::Wait;
 use std::thread::Threads;
 
 /// The verdict by a certificate that was worked out.
 #[derive(Drop)]
 pub struct Proved {
-    /// The exit status: 0 where the verdict is yes, 1 where it is no.
-    pub status: u8,
-    /// The report of the verdict.
-    pub report: Vec<u8>,
+    /// The exit status of the verdict, its report, and why it is no.
+    pub told: Told,
     /// The text of the certificate that was judged.
     pub certificate: String,
 }
 
-/// The text of the best certificate that is found for the application, a note on each line.
+/// The text of a certificate, a note on each line.
+fn text_of(alloc: Global, app: &App, certificate: &Certificate) -> Result<String, CheckFault>
+    requires { CertificateFits app.now certificate.now }
+    ensures { IfErr result (λ fault. fault ≡ CheckFault.Memory) }
+{
+    let compact = write_cert(alloc, app, certificate)?;
+    Ok(laid_out(alloc, compact.as_str())?)
+}
+
+/// The text of the best certificate that is found for the application. Where it is longer than a
+/// certificate may be, it is that of the certificate without what isn't needed.
 fn certificate_text(alloc: Global, app: &[u8]) -> Result<String, CheckFault>
     ensures refused { IfErr result (CanRefuseApp app.now) }
 {
     let app = read_app(alloc, app)?;
     let certificate = best_certificate(alloc, &app)?;
-    let compact = write_cert(alloc, &app, &certificate)?;
-    Ok(laid_out(alloc, compact.as_str())?)
+    let text = text_of(alloc, &app, &certificate)?;
+    if text.len() <= MOST_BYTES {
+        return Ok(text);
+    }
+    let certificate = thinned(alloc, &app, &certificate)?;
+    text_of(alloc, &app, &certificate)
 }
 
 /// The exit status of the verdict by this text of a certificate, and the verdict's report.
@@ -47,20 +61,16 @@ fn judged<R: Threads + Wait + Sync, G: Gate>(
     certificate: String,
     workers: usize,
     gate: &G,
+    detail: Option<Detail>,
 ) -> Result<Proved, CheckFault>
     requires { IsNoCrew workers → ⊥ }
-    ensures proved { IfOk result (IsProved app.now) }
-    ensures safe { IfOk result (λ p. p.status ≡ 0 → IsSafeText app.now) }
+    ensures proved { IfOk result (IsProved app.now detail) }
+    ensures safe { IfOk result (λ p. p.told.status ≡ 0 → IsSafeText app.now) }
     ensures refused { IfErr result (CanRefuseProof app.now workers) }
 {
-    let mut report = Vec::new(alloc);
     let text = certificate.as_bytes();
-    match check_with(rt, alloc, app, text, workers, gate, &mut report) {
-        Ok(status) => Ok(Proved {
-            status,
-            report,
-            certificate,
-        }),
+    match check_told(rt, alloc, app, text, workers, gate, detail) {
+        Ok(told) => Ok(Proved { told, certificate }),
         Err(CheckFault::Write) => Err(CheckFault::Memory),
         Err(fault) => Err(fault),
     }
@@ -69,7 +79,7 @@ fn judged<R: Threads + Wait + Sync, G: Gate>(
 /// Works out a certificate for the application, and judges it by this many workers, as `check` does.
 ///
 /// Ok is the text of a certificate, and the status and the report of the verdict on the application by that
-/// text. Where the status is 0, the verdict is `Yes`: the application breaks none of the twelve rules in
+/// text, with why it is no where `detail` asks for it. Where the status is 0, the verdict is `Yes`: the application breaks none of the twelve rules in
 /// any state of any run. Where it is 1, this certificate doesn't show it.
 ///
 /// # Errors
@@ -83,9 +93,10 @@ pub fn prove_bytes<R: Threads + Wait + Sync, G: Gate>(
     app: &[u8],
     workers: usize,
     gate: &G,
+    detail: Option<Detail>,
 ) -> Result<Proved, CheckFault>
-    ensures proved { IfOk result (IsProved app.now) }
-    ensures safe { IfOk result (λ p. p.status ≡ 0 → IsSafeText app.now) }
+    ensures proved { IfOk result (IsProved app.now detail) }
+    ensures safe { IfOk result (λ p. p.told.status ≡ 0 → IsSafeText app.now) }
     ensures workers { IsErrOf result CheckFault.Workers ↔ IsNoCrew workers }
     ensures refused { IfErr result (CanRefuseProof app.now workers) }
 {
@@ -93,23 +104,7 @@ pub fn prove_bytes<R: Threads + Wait + Sync, G: Gate>(
         return Err(CheckFault::Workers);
     }
     let certificate = certificate_text(alloc, app)?;
-    judged(rt, alloc, app, certificate, workers, gate)
-}
-
-/// Writes the report of the verdict, and answers its exit status.
-///
-/// # Errors
-///
-/// `Write` where the writer failed; what was written then is open.
-pub fn tell_proved<W: Write>(proved: &Proved, writer: &mut W) -> Result<u8, CheckFault>
-    ensures status { IfOk result (λ status. status ≡ proved.now.status) }
-    ensures told { IfOk result (λ status. Appends (W.contents writer.old) (W.contents writer.new) proved.now.report.items) }
-    ensures refused { IfErr result (λ fault. fault ≡ CheckFault.Write) }
-{
-    match writer.write_all(&proved.report) {
-        Ok(()) => Ok(proved.status),
-        Err(_) => Err(CheckFault::Write),
-    }
+    judged(rt, alloc, app, certificate, workers, gate, detail)
 }
 
 /// Whether a file with these bytes may be replaced by a certificate: it has an object in JSON with the keys

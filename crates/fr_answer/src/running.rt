@@ -1,9 +1,12 @@
 // Running the application that bytes mean, where it passes with its certificate.
-ghost use Rattle.std.specs.Prelude.{◌≡◌, ◌≢◌, ◌<◌, ◌≤◌, ℕ, List, IfOk, IfErr, Err, string_bytes};
+ghost use Rattle.std.specs.Prelude.{◌≡◌, ◌≢◌, ◌<◌, ◌≤◌, ℕ, List, [], IfOk, IfErr, Err, None, string_bytes};
 ghost use Rattle.fr_calls.specs.Run.{IsSafe};
 ghost use Rattle.fr_ends.specs.Fits.{CertificateFits};
 ghost use Rattle.fr_judge.specs.declared.part.Verdict.TheVariants.{Yes};
+ghost use Rattle.fr_judge.specs.Told.{Speaks};
+ghost use Rattle.fr_report.specs.Report.{report_text};
 ghost use Rattle.fr_answer.specs.Checked.{IsSafeText, IsTold};
+ghost use Rattle.fr_answer.specs.Explained.{IsRunExplained, IsWhy};
 ghost use Rattle.fr_answer.specs.Ran.{
   CanRefuseRun,
   IsOutput,
@@ -16,14 +19,15 @@ ghost use Rattle.fr_answer.specs.Ran.{
 use crate::answer::answer_fault;
 use crate::exit::{DONE, NO};
 use crate::fault::CheckFault;
+use crate::telling::{Told, why};
 use fr_ends::Certificate;
 use fr_interfere::Index;
-use fr_judge::{Passed, read_both};
+use fr_judge::{Passed, Verdict, read_both};
 use fr_parallel::Gate;
 use fr_program::App;
-use fr_report::{report, trace_text};
+use fr_report::{Detail, report, trace_text};
 use fr_runner::{MOST_POLLS, RunFault, run};
-use std::alloc::Global;
+use std::alloc::{AllocError, Global};
 use std::io::Write;
 use std::sync::Wait;
 use std::thread::Threads;
@@ -60,8 +64,26 @@ fn run_text<R: Threads + Wait + Sync, G: Gate>(
     }
 }
 
+/// The report of a verdict, and why it is no.
+fn refusal(
+    alloc: Global,
+    app: &App,
+    certificate: &Certificate,
+    verdict: Verdict,
+    detail: Option<Detail>,
+) -> Result<(String, String), AllocError>
+    requires fits { CertificateFits app.now certificate.now }
+    requires speaks { Speaks app.now verdict }
+    ensures report { IfOk result (λ r. string_bytes r.0 ≡ report_text app.now verdict) }
+    ensures unasked { IfOk result (λ r. detail ≡ None → string_bytes r.1 ≡ []) }
+{
+    let text = report(alloc, app, &verdict)?;
+    let more = why(alloc, app, certificate, verdict, detail)?;
+    Ok((text, more))
+}
+
 /// What has to be written for the application, with the exit status: the text of a run where the
-/// verdict is yes, and the report where it is no.
+/// verdict is yes, and the report where it is no, with why it is.
 fn output<R: Threads + Wait + Sync, G: Gate>(
     rt: &R,
     alloc: Global,
@@ -70,10 +92,12 @@ fn output<R: Threads + Wait + Sync, G: Gate>(
     polls: u64,
     words: &[u64],
     gate: &G,
-) -> Result<(u8, String), CheckFault>
+    detail: Option<Detail>,
+) -> Result<(u8, String, String), CheckFault>
     requires fits { CertificateFits app certificate }
     ensures output { IfOk result
         (λ r. IsOutputFor app certificate polls words.now r.0 (string_bytes r.1)) }
+    ensures why { IfOk result (λ r. IsWhy detail r.0 (string_bytes r.2)) }
     ensures safe { IfOk result (λ r. r.0 ≡ 0 → IsSafe app) }
     ensures refused { IfErr result
         (λ f. (app certificate : List ℕ) → CanRefuseRun app certificate polls f) }
@@ -83,13 +107,15 @@ fn output<R: Threads + Wait + Sync, G: Gate>(
     };
     match Passed::check_by(app, certificate, &index) {
         Ok(passed) => match run_text(rt, alloc, &passed, polls, words, gate) {
-            Ok(text) => Ok((DONE, text)),
+            Ok(text) => Ok((DONE, text, String::new(alloc))),
             Err(fault) => Err(fault),
         },
-        Err((app, _, verdict)) => match report(alloc, &app, &verdict) {
-            Ok(text) => Ok((NO, text)),
-            Err(_) => Err(CheckFault::Memory),
-        },
+        Err((app, certificate, verdict)) => {
+            match refusal(alloc, &app, &certificate, verdict, detail) {
+                Ok((text, more)) => Ok((NO, text, more)),
+                Err(_) => Err(CheckFault::Memory),
+            }
+        }
     }
 }
 
@@ -125,11 +151,41 @@ pub fn run_to<R: Threads + Wait + Sync, G: Gate, W: Write>(
         return Err(CheckFault::Polls);
     }
     let (app, certificate) = read_both(alloc, app, certificate)?;
-    let (status, text) = output(rt, alloc, app, certificate, polls, words, gate)?;
+    let (status, text, _) = output(rt, alloc, app, certificate, polls, words, gate, None)?;
     match writer.write_all(text.as_bytes()) {
         Ok(()) => Ok(status),
         Err(_) => Err(CheckFault::Write),
     }
+}
+
+/// Judges and runs the application as `run_to` does. Ok is the exit status and what has to be written: the
+/// lines of the run, or the report and where `detail` asks for it why the verdict is no.
+///
+/// # Errors
+///
+/// As those of `run_to`, but for `Write`.
+pub fn run_told<R: Threads + Wait + Sync, G: Gate>(
+    rt: &R,
+    alloc: Global,
+    app: &[u8],
+    certificate: &[u8],
+    polls: u64,
+    words: &[u64],
+    gate: &G,
+    detail: Option<Detail>,
+) -> Result<Told, CheckFault>
+    ensures told { IfOk result (IsRunExplained app.now certificate.now polls words.now detail) }
+    ensures safe { IfOk result (λ told. told.status ≡ 0 → IsSafeText app.now) }
+    ensures polls { most_polls < polls → result ≡ Err CheckFault.Polls }
+    ensures refused { IfErr result (CanRefuseRun app.now certificate.now polls) }
+{
+    if polls > MOST_POLLS {
+        return Err(CheckFault::Polls);
+    }
+    let (app, certificate) = read_both(alloc, app, certificate)?;
+    let (status, mut text, more) = output(rt, alloc, app, certificate, polls, words, gate, detail)?;
+    text.push_str(&more)?;
+    Ok(Told { status, text })
 }
 
 /// Runs the application as `run_to` does, writes the trace or the report to `out`, or the line of a

@@ -1,4 +1,5 @@
 // Warning of what a verdict may hide.
+ghost use Rattle.std.specs.Prelude.{◌≡◌, ◌≢◌, IfErr};
 
 use crate::fault::CheckFault;
 use fr_judge::read_both;
@@ -18,7 +19,9 @@ pub fn warn<W: Write>(
     app: &[u8],
     certificate: &[u8],
     writer: &mut W,
-) -> Result<(), CheckFault> {
+) -> Result<(), CheckFault>
+    ensures kept { IfErr result (λ fault. fault ≢ CheckFault.Write → writer.new ≡ writer.old) }
+{
     let (app, certificate) = read_both(alloc, app, certificate)?;
     let text = warnings_text(alloc, &app, &certificate.notes)?;
     match writer.write_all(text.as_bytes()) {

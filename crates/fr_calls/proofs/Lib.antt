@@ -1,3 +1,4 @@
+pub mod Breached
 pub mod Built
 pub mod Contents
 pub mod Formed

@@ -1,5 +1,6 @@
 pub mod State
 pub mod Rule
+pub mod FirstBreach
 pub mod Step
 pub mod Landing
 pub mod View

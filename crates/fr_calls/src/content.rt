@@ -1,5 +1,5 @@
 // What a kernel object has, in a state: its values, its count, its holder, its bytes or its messages.
-ghost use Rattle.std.specs.Prelude.{◌≡◌, ◌+◌, ◌^◌, ◌++◌, ◌∷◌, ◌<◌, ◌≤◌, ◌↔◌, ℕ, ℤ, pos, [], List, Some, IsTrue, IsSome, OnOk, OnErr, IfSome, IfNone, is_some, sum};
+ghost use Rattle.std.specs.Prelude.{◌≡◌, ◌+◌, ◌^◌, ◌++◌, ◌∷◌, ◌<◌, ◌≤◌, ◌↔◌, ℕ, ℤ, pos, [], List, Some, IsTrue, IsSome, OnOk, OnErr, IfOk, IfSome, IfNone, is_some, sum};
 ghost use Rattle.fr_program.specs.Limits.{KindInLimits};
 
 use crate::moves::Moves;
@@ -10,22 +10,29 @@ use std::marker::Model;
 
 /// The lengths of a message buffer's messages, the first one first, and their sum.
 #[derive(Debug, Drop)]
-struct Messages {
+pub struct Messages {
     lengths: VecDeque<u32>,
     total: u64,
     ghost summed: { total ≡ sum lengths.items },
 }
 
-/// The ways to keep what an object has. Queues and message buffers are deques, so that a step costs
-/// the same whatever they hold.
+/// What an object has, by its kind. Queues and message buffers are deques, so that a step costs the
+/// same whatever they hold.
 #[derive(Debug, Drop)]
-enum Stock {
+pub enum Stock {
+    /// The object isn't live.
     Dead,
+    /// A queue's values, the first one first.
     Values(VecDeque<i64>),
+    /// A binary or counting semaphore's count.
     Count(u32),
+    /// A mutex, plain or recursive, that nobody holds.
     Free,
+    /// A mutex that this actor holds, so often.
     Held { holder: ActorId, count: u32 },
+    /// How many bytes a stream buffer has.
     Bytes(u32),
+    /// The messages of a message buffer.
     Lengths(Messages),
 }
 
@@ -47,7 +54,7 @@ impl Model for Content {
 
 impl Messages {
     /// No messages. Takes no memory.
-    fn new(alloc: Global) -> Messages
+    pub fn new(alloc: Global) -> Messages
         ensures { result.lengths.items ≡ [] }
     {
         Messages {
@@ -56,8 +63,32 @@ impl Messages {
         }
     }
 
+    /// The lengths, the first message's first.
+    pub fn lengths(&self) -> &VecDeque<u32>
+        ensures { result.now ≡ self.now.lengths }
+    {
+        &self.lengths
+    }
+
+    /// The same lengths once more.
+    pub(crate) fn copied(&self) -> Result<Messages, AllocError>
+        ensures { IfOk result (λ m. m.lengths.items ≡ self.now.lengths.items) }
+    {
+        Ok(Messages {
+            lengths: self.lengths.clone()?,
+            total: self.total,
+        })
+    }
+
+    /// The sum of the lengths.
+    pub(crate) fn total(&self) -> u64
+        ensures { result ≡ sum self.now.lengths.items }
+    {
+        self.total
+    }
+
     /// A message of this length is put last; where memory is refused, all is as it was.
-    fn put(&mut self, length: u32) -> Result<(), AllocError>
+    pub fn put(&mut self, length: u32) -> Result<(), AllocError>
         requires { sum self.old.lengths.items < 2 ^ 32 }
         ensures ok { OnOk result (self.new.lengths.items ≡ self.old.lengths.items ++ length ∷ []) }
         ensures err { OnErr result (self.new.lengths.items ≡ self.old.lengths.items) }
@@ -79,9 +110,24 @@ impl Messages {
 }
 
 impl Content {
+    ghost use Rattle.fr_calls.specs.View.{content_kept};
     ghost use Rattle.fr_calls.specs.State.{Dead, Values, new_content, count_held};
     ghost use Rattle.fr_calls.specs.Step.{taken, given, is_full, queued, sent_bytes, received_bytes, sent_message, received_message};
     ghost use Rattle.fr_calls.specs.Choices.{IsAmong, IsRising};
+
+    /// What is kept so.
+    pub fn of(stock: Stock) -> Content
+        ensures { result ≡ content_kept stock }
+    {
+        Content { stock }
+    }
+
+    /// What the object has, by its kind.
+    pub fn stock(&self) -> &Stock
+        ensures { content_kept result.now ≡ self.now }
+    {
+        &self.stock
+    }
 
     /// Nothing: the object is dead.
     pub(crate) fn dead() -> Content

@@ -45,7 +45,7 @@ pub fn given_kind(act: Act, timing: Timing) -> Option<Kind>
 
 impl State {
     /// Whether it is a give of a mutex that the actor doesn't hold.
-    fn gives_unheld(&self, app: &App, point: Point, instr: &Instr) -> bool
+    pub(crate) fn gives_unheld(&self, app: &App, point: Point, instr: &Instr) -> bool
         requires formed { IsWellFormed app.now self.now }
         requires names { NamesThings app.now instr.now }
         ensures { IsTrue result ↔ GivesUnheld app.now self.now point.actor.0 instr.now }
@@ -62,7 +62,7 @@ impl State {
 
     /// Whether the actor is before a delete, or before or inside an object call, of an object that
     /// isn't live.
-    fn uses_dead(&self, app: &App, side: Side, instr: &Instr) -> bool
+    pub(crate) fn uses_dead(&self, app: &App, side: Side, instr: &Instr) -> bool
         requires formed { IsWellFormed app.now self.now }
         requires names { NamesThings app.now instr.now }
         ensures { IsTrue result ↔ UsesDead self.now instr.now side }
@@ -77,7 +77,7 @@ impl State {
     }
 
     /// What some rules ask of the actor, in this state.
-    fn condition(&self, app: &App, actor: ActorId) -> Condition
+    pub(crate) fn condition(&self, app: &App, actor: ActorId) -> Condition
         requires formed { IsWellFormed app.now self.now }
         requires actor { actor.0 < length app.now.actors }
         ensures { result ≡ condition_of app.now self.now actor.0 }

@@ -5,6 +5,7 @@
 // functions that do nothing: each is there for its contract.
 #![tactic(auto)]
 
+mod breach;
 mod content;
 mod freedom;
 mod laws;
@@ -15,11 +16,11 @@ mod step;
 mod way;
 mod worked;
 
-pub use content::Content;
+pub use content::{Content, Messages, Stock};
 pub use freedom::given_kind;
 pub use laws::{steps_stay_well_formed, the_start_is_well_formed};
 pub use moves::{Moves, can_time_out};
-pub use rules::{Condition, Rule, first_forbidden, is_unsuited, rule_of};
+pub use rules::{Condition, Rule, first_forbidden, forbids, is_at_end, is_unsuited, rule_of};
 pub use state::{Place, State};
 pub use way::{Landing, Way, lands_at};
 pub use worked::{breaches_as_worked, states_as_worked, steps_as_worked};

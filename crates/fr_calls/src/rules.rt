@@ -2,9 +2,9 @@
 ghost use Rattle.std.specs.Prelude.{◌≡◌};
 ghost use Rattle.std.specs.Option.{option_map};
 ghost use Rattle.fr_program.specs.Fault.{NamesThings};
-ghost use Rattle.fr_calls.specs.Rule.{number_of, is_at_once, allowed_in_critical, allowed_suspended, suits_form, is_unsuited, first_forbidden};
+ghost use Rattle.fr_calls.specs.Rule.{number_of, is_at_once, allowed_in_critical, allowed_suspended, suits_form, is_unsuited, is_at_end, forbids, first_forbidden};
 
-use fr_program::{Act, App, Attempt, BlockTime, Call, Instr, Kind, SemaphoreForm, Timing};
+use fr_program::{Act, App, Attempt, BlockTime, Call, End, Instr, Kind, SemaphoreForm, Timing};
 
 /// The twelve rules of use, in the order of their numbers.
 #[derive(Clone, Copy, PartialEq, Eq)]
@@ -37,6 +37,22 @@ pub enum Rule {
 }
 
 impl Rule {
+    /// All twelve, in the order of their numbers.
+    pub const ALL: [Rule; 12] = [
+        Rule::OneWriter,
+        Rule::OneReader,
+        Rule::GivenByHolder,
+        Rule::AllowedInCritical,
+        Rule::AllowedSuspended,
+        Rule::AllowedInInterrupt,
+        Rule::IsLive,
+        Rule::LifeInOrder,
+        Rule::SuitsSemaphore,
+        Rule::DepthAboveZero,
+        Rule::EndsInOrder,
+        Rule::InRange,
+    ];
+
     /// The rule's number, 1 to 12.
     pub fn number(self) -> u8
         ensures { result ≡ number_of self }
@@ -123,6 +139,55 @@ pub fn is_unsuited(kind: Kind, timing: Timing, act: Act) -> bool
             attempt: Attempt::Take(form) | Attempt::Give(form),
             ..
         } => !suits_form(kind, timing, form),
+        _ => false,
+    }
+}
+
+/// Whether a call that does this is at this end of its buffer: a send at the writer's, a receive at the
+/// reader's, a reset at both.
+pub fn is_at_end(end: End, act: Act) -> bool
+    ensures { result ≡ is_at_end end act }
+{
+    match act {
+        Act::Move { end: at, .. } => at == end,
+        Act::Try { attempt, .. } => matches!(attempt, Attempt::Reset(_)),
+    }
+}
+
+/// Whether the rule forbids an actor in this condition the instruction before which it is: one of the
+/// rules 4, 5, 6, 9, 10 and 11, which the condition decides. No other rule forbids anything by the
+/// condition alone. The instruction's numbers name things of the application.
+pub fn forbids(app: &App, condition: Condition, instr: &Instr, rule: Rule) -> bool
+    requires { NamesThings app.now instr.now }
+    ensures { result ≡ forbids app.now condition instr.now rule }
+{
+    match instr {
+        Instr::Call(call) => forbids_call(app, condition, call, rule),
+        Instr::Return => match rule {
+            Rule::EndsInOrder => !condition.interrupt || condition.critical > 0,
+            _ => false,
+        },
+        _ => false,
+    }
+}
+
+/// Whether the rule forbids an actor in this condition the call.
+fn forbids_call(app: &App, condition: Condition, call: &Call, rule: Rule) -> bool
+    requires { NamesThings app.now (Instr.Call call.now) }
+    ensures { result ≡ forbids app.now condition (Instr.Call call.now) rule }
+{
+    match (rule, call) {
+        (Rule::AllowedInCritical, _) => condition.critical > 0 && !allowed_in_critical(call),
+        (Rule::AllowedSuspended, _) => condition.suspended > 0 && !allowed_suspended(call),
+        (Rule::AllowedInInterrupt, _) => condition.interrupt && !call.is_from_isr(),
+        (Rule::SuitsSemaphore, Call::On(call)) => {
+            is_unsuited(app.kind(call.object), call.timing, call.act)
+        }
+        (Rule::DepthAboveZero, Call::ExitCritical(_)) => condition.critical == 0,
+        (Rule::DepthAboveZero, Call::ResumeAll) => condition.suspended == 0,
+        (Rule::EndsInOrder, Call::DeleteSelf) => {
+            condition.holds || condition.critical > 0 || condition.suspended > 0
+        }
         _ => false,
     }
 }

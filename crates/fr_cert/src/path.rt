@@ -28,6 +28,7 @@ impl Model for Path {
 }
 
 impl Path {
+    ghost use Rattle.std.specs.Prelude.{map};
     ghost use Rattle.fr_cert.specs.Path.{step_of};
 
     /// The whole text. Takes no memory.
@@ -46,6 +47,13 @@ impl Path {
     {
         self.steps.insert(0, step)?;
         Ok(self)
+    }
+
+    /// The steps, from the whole text inwards.
+    pub fn steps(&self) -> &[Step]
+        ensures { map step_of result.now ≡ self.now }
+    {
+        &self.steps
     }
 }
 

@@ -1,6 +1,7 @@
 // The command `find`: its words, and what the program does for it.
-use crate::words::{NAME, file_arg};
-use crate::{file_bytes, is_memory};
+use crate::explaining::refused;
+use crate::files::{Stopped, input, is_memory};
+use crate::words::{NAME, file_arg, place_arg};
 use clap::{Arg, ArgMatches, Command, value_parser};
 use fr_answer::{CheckFault, Found, MOST_APP_BYTES, find_bytes, load, tell_found};
 use std::alloc::{AllocError, Global};
@@ -20,6 +21,8 @@ pub struct FindRequest<'a> {
     /// The file for the certificate.
     pub out: &'a str,
     pub rounds: u16,
+    /// Whether it is told where a refusal is.
+    pub explains: bool,
 }
 
 /// The word `--rounds` with its number.
@@ -40,7 +43,8 @@ pub fn find_command<'a>(alloc: Global) -> Result<Command<'a>, AllocError> {
         .after_help(STATUSES)
         .arg(file_arg(alloc, "APP", "The application, in TOML"))?
         .arg(file_arg(alloc, "OUT", "The file for the certificate"))?
-        .arg(rounds_arg(alloc))
+        .arg(rounds_arg(alloc))?
+        .arg(place_arg(alloc))
 }
 
 /// The certificate that the matched words ask for. Words that were matched always ask for something, so
@@ -50,6 +54,7 @@ pub fn asked_find<'a>(words: &ArgMatches<'a>) -> Option<FindRequest<'a>> {
         app: words.get_str("APP")?,
         out: words.get_str("OUT")?,
         rounds: words.get_one::<u16>("rounds")?,
+        explains: words.get_flag("explain"),
     })
 }
 
@@ -83,12 +88,16 @@ pub fn find<R: Threads + Sync>(
     rt: &HostRuntime,
     threads: &R,
     asked: FindRequest,
-) -> Result<u8, CheckFault> {
-    let app = file_bytes(rt, asked.app, MOST_APP_BYTES)?;
+) -> Result<u8, Stopped> {
+    let app = input(rt, asked.app, MOST_APP_BYTES, asked.explains)?;
     check_out(rt, asked.out, &app)?;
-    let found = find_bytes(threads, rt.alloc(), &app, usize::from(asked.rounds))?;
+    let found = match find_bytes(threads, rt.alloc(), &app, usize::from(asked.rounds)) {
+        Ok(found) => found,
+        Err(fault) if asked.explains => return Ok(refused(rt, &app, None, &fault)?),
+        Err(fault) => return Err(Stopped::Fault(fault)),
+    };
     if let Found::Text(text) = &found {
         write_file(rt, asked.out, text.as_str())?;
     }
-    tell_found(&found, &mut rt.stdout())
+    Ok(tell_found(&found, &mut rt.stdout())?)
 }

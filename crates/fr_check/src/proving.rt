@@ -1,11 +1,12 @@
 // The command `prove`: its words, and what the program does for it.
+use crate::explaining::{detail_asked, refused};
+use crate::files::{Stopped, input, is_memory};
 use crate::finding::write_file;
-use crate::words::{NAME, file_arg, warn_arg, workers_arg};
-use crate::{file_bytes, is_memory};
+use crate::words::{NAME, all_arg, explain_arg, file_arg, warn_arg, workers_arg};
 use clap::{Arg, ArgAction, ArgMatches, Command};
 use fr_answer::{
-    CheckFault, DONE, MOST_APP_BYTES, MOST_CERTIFICATE_BYTES, Proved, is_replaceable, load,
-    prove_bytes, tell_proved, warn,
+    CheckFault, DONE, Detail, MOST_APP_BYTES, MOST_CERTIFICATE_BYTES, Proved, is_replaceable, load,
+    prove_bytes, tell, warn,
 };
 use fr_parallel::Open;
 use std::alloc::{AllocError, Global};
@@ -29,6 +30,8 @@ pub struct ProveRequest<'a> {
     pub workers: u16,
     /// Whether points that are never reached are told.
     pub warns: bool,
+    /// Whether it is told why the verdict is no or where a refusal is, and how much of a state.
+    pub detail: Option<Detail>,
 }
 
 /// The word `--certificate` with its file.
@@ -49,7 +52,9 @@ pub fn prove_command<'a>(alloc: Global) -> Result<Command<'a>, AllocError> {
         .arg(file_arg(alloc, "APP", "The application, in TOML"))?
         .arg(certificate_arg(alloc))?
         .arg(workers_arg(alloc))?
-        .arg(warn_arg(alloc))
+        .arg(warn_arg(alloc))?
+        .arg(explain_arg(alloc))?
+        .arg(all_arg(alloc))
 }
 
 /// The proof that the matched words ask for. Words that were matched always ask for something, so it is
@@ -60,6 +65,7 @@ pub fn asked_prove<'a>(words: &ArgMatches<'a>) -> Option<ProveRequest<'a>> {
         out: words.get_str("certificate"),
         workers: words.get_one::<u16>("workers")?,
         warns: words.get_flag("warn"),
+        detail: detail_asked(words),
     })
 }
 
@@ -86,7 +92,7 @@ fn write_certificate(
     proved: &Proved,
 ) -> Result<(), CheckFault> {
     match out {
-        Some(path) if proved.status == DONE => write_file(rt, path, proved.certificate.as_str()),
+        Some(path) if proved.told.status == DONE => write_file(rt, path, proved.certificate.as_str()),
         _ => Ok(()),
     }
 }
@@ -97,15 +103,21 @@ pub fn prove<R: Threads + Wait + Sync>(
     rt: &HostRuntime,
     threads: &R,
     asked: ProveRequest,
-) -> Result<u8, CheckFault> {
-    let app = file_bytes(rt, asked.app, MOST_APP_BYTES)?;
+) -> Result<u8, Stopped> {
+    let app = input(rt, asked.app, MOST_APP_BYTES, asked.detail.is_some())?;
     if let Some(path) = asked.out {
         check_out(rt, path)?;
     }
     let workers = usize::from(asked.workers);
-    let proved = prove_bytes(threads, rt.alloc(), &app, workers, &Open)?;
+    let proved = match prove_bytes(threads, rt.alloc(), &app, workers, &Open, asked.detail) {
+        Ok(proved) => proved,
+        Err(fault) if asked.detail.is_some() => {
+            return Ok(refused(rt, &app, None, &fault)?);
+        }
+        Err(fault) => return Err(Stopped::Fault(fault)),
+    };
     write_certificate(rt, asked.out, &proved)?;
-    let status = tell_proved(&proved, &mut rt.stdout())?;
+    let status = tell(&proved.told, &mut rt.stdout())?;
     if asked.warns {
         let certificate = proved.certificate.as_bytes();
         warn(rt.alloc(), &app, certificate, &mut rt.stderr())?;

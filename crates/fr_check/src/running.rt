@@ -1,9 +1,11 @@
 // The command `run`: its words, and what the program does for it.
-use crate::file_bytes;
-use crate::words::{NAME, file_arg};
+use crate::explaining::{detail_asked, refused};
+use crate::files::{Stopped, input};
+use crate::words::{NAME, all_arg, explain_arg, file_arg};
 use clap::{Arg, ArgAction, ArgMatches, Command, value_parser};
 use fr_answer::{
-    CheckFault, MOST_APP_BYTES, MOST_CERTIFICATE_BYTES, answer_run, answer_words, words_of,
+    CheckFault, Detail, MOST_APP_BYTES, MOST_CERTIFICATE_BYTES, answer_run, answer_words, run_told,
+    tell, words_of,
 };
 use fr_parallel::Open;
 use std::alloc::{AllocError, Global};
@@ -24,6 +26,8 @@ pub struct RunRequest<'a> {
     pub polls: u32,
     /// The text of the words that choices are picked by, where it is given.
     pub words: Option<&'a str>,
+    /// Whether it is told why the verdict is no or where a refusal is, and how much of a state.
+    pub detail: Option<Detail>,
 }
 
 /// The word `--polls` with its number, which has to be given.
@@ -54,7 +58,9 @@ pub fn run_command<'a>(alloc: Global) -> Result<Command<'a>, AllocError> {
         .arg(file_arg(alloc, "APP", "The application, in TOML"))?
         .arg(file_arg(alloc, "CERT", "The certificate, in JSON"))?
         .arg(polls_arg(alloc))?
-        .arg(words_arg(alloc))
+        .arg(words_arg(alloc))?
+        .arg(explain_arg(alloc))?
+        .arg(all_arg(alloc))
 }
 
 /// The run that the matched words ask for. Words that were matched always ask for something, so it is
@@ -65,7 +71,25 @@ pub fn asked_run<'a>(words: &ArgMatches<'a>) -> Option<RunRequest<'a>> {
         certificate: words.get_str("CERT")?,
         polls: words.get_one::<u32>("polls")?,
         words: words.get_str("words"),
+        detail: detail_asked(words),
     })
+}
+
+/// Prints the lines of a run, or the report with why it is no, or why and where a file is refused.
+fn explained<R: Threads + Wait + Sync>(
+    rt: &HostRuntime,
+    threads: &R,
+    app: &[u8],
+    certificate: &[u8],
+    words: &[u64],
+    asked: RunRequest,
+) -> Result<u8, CheckFault> {
+    let polls = u64::from(asked.polls);
+    let (alloc, detail) = (rt.alloc(), asked.detail);
+    match run_told(threads, alloc, app, certificate, polls, words, &Open, detail) {
+        Ok(told) => tell(&told, &mut rt.stdout()),
+        Err(fault) => refused(rt, app, Some(certificate), &fault),
+    }
 }
 
 /// Runs the application in the file. The list of words is refused before a file is read.
@@ -73,7 +97,7 @@ pub fn run<R: Threads + Wait + Sync>(
     rt: &HostRuntime,
     threads: &R,
     asked: RunRequest,
-) -> Result<u8, CheckFault> {
+) -> Result<u8, Stopped> {
     let words = match asked.words {
         None => Ok(Vec::new(rt.alloc())),
         Some(text) => words_of(rt.alloc(), text),
@@ -82,17 +106,21 @@ pub fn run<R: Threads + Wait + Sync>(
         Ok(words) => words,
         Err(fault) => return Ok(answer_words(fault, &mut rt.stderr())),
     };
-    let app = file_bytes(rt, asked.app, MOST_APP_BYTES)?;
-    let certificate = file_bytes(rt, asked.certificate, MOST_CERTIFICATE_BYTES)?;
-    Ok(answer_run(
-        threads,
-        rt.alloc(),
-        &app,
-        &certificate,
-        u64::from(asked.polls),
-        &words,
-        &Open,
-        &mut rt.stdout(),
-        &mut rt.stderr(),
-    ))
+    let explains = asked.detail.is_some();
+    let app = input(rt, asked.app, MOST_APP_BYTES, explains)?;
+    let certificate = input(rt, asked.certificate, MOST_CERTIFICATE_BYTES, explains)?;
+    match asked.detail {
+        Some(_) => Ok(explained(rt, threads, &app, &certificate, &words, asked)?),
+        None => Ok(answer_run(
+            threads,
+            rt.alloc(),
+            &app,
+            &certificate,
+            u64::from(asked.polls),
+            &words,
+            &Open,
+            &mut rt.stdout(),
+            &mut rt.stderr(),
+        )),
+    }
 }

@@ -1,13 +1,22 @@
 // What is said to words, and a file that is missing.
-use crate::file_bytes;
+use crate::files::{Stopped, input};
 use crate::words::{Request, asked, matched};
-use fr_answer::CheckFault;
+use fr_answer::{CheckFault, Detail};
 use std::alloc::{AllocError, Global};
 
-// What the words of this line ask for: of `check` the files, the workers and whether it warns, of `find` the files and the
-// rounds, of `prove` the file, the certificate's file, the workers and whether it warns, of `points` the file, of `run` the
-// files, the polls and the words. Where the words don't match, the exit status and the usage message.
-/// What the command line makes of these words.
+/// How much is told, in a word.
+fn detail_word(detail: Option<Detail>) -> &'static str {
+    match detail {
+        None => "none",
+        Some(Detail::Told) => "told",
+        Some(Detail::Whole) => "whole",
+    }
+}
+
+/// What the words of this line ask for, each with what it explains: of `check` the files, the workers and whether
+/// it warns, of `find` the files and the rounds, of `prove` the file, the certificate's file, the workers and
+/// whether it warns, of `points` the file, of `run` the files, the polls and the words. Where the words don't
+/// match, the exit status and the usage message.
 fn answer_to(alloc: Global, line: &str) -> Result<String, AllocError> {
     let mut words = Vec::new(alloc);
     for word in line.split(' ') {
@@ -15,26 +24,27 @@ fn answer_to(alloc: Global, line: &str) -> Result<String, AllocError> {
     }
     match &matched(alloc, &words) {
         Ok(matches) => match asked(matches) {
-            Some(
-                Request::Check {
-                    app,
-                    certificate,
-                    workers,
-                    warns,
-                },
-            ) => format!(in alloc; "{app} {certificate} {workers} {warns}"),
+            Some(Request::Check(check)) => {
+                let (app, certificate, workers) = (check.app, check.certificate, check.workers);
+                let told = detail_word(check.detail);
+                format!(in alloc; "{app} {certificate} {workers} {} {told}", check.warns)
+            }
             Some(Request::Find(find)) => {
                 let (app, out, rounds) = (find.app, find.out, find.rounds);
-                format!(in alloc; "{app} {out} {rounds}")
+                format!(in alloc; "{app} {out} {rounds} {}", find.explains)
             }
             Some(Request::Prove(prove)) => {
                 let (app, out, workers) = (prove.app, prove.out, prove.workers);
-                format!(in alloc; "{app} {out:?} {workers} {}", prove.warns)
+                let told = detail_word(prove.detail);
+                format!(in alloc; "{app} {out:?} {workers} {} {told}", prove.warns)
             }
-            Some(Request::Points { app }) => format!(in alloc; "the points of {app}"),
+            Some(Request::Points { app, explains }) => {
+                format!(in alloc; "the points of {app} {explains}")
+            }
             Some(Request::Run(run)) => {
                 let (app, certificate, polls) = (run.app, run.certificate, run.polls);
-                format!(in alloc; "{app} {certificate} {polls} {:?}", run.words)
+                let told = detail_word(run.detail);
+                format!(in alloc; "{app} {certificate} {polls} {:?} {told}", run.words)
             }
             None => String::from_str(alloc, "nothing"),
         },
@@ -45,11 +55,13 @@ fn answer_to(alloc: Global, line: &str) -> Result<String, AllocError> {
 #[test]
 fn words_and_what_is_said_to_them(rt: HostRuntime) {
     let cases = [
-        ("fr_check check A C --workers 64", "A C 64 false"),
-        ("fr_check check A C", "A C 4 false"),
-        ("fr_check check A C --warn", "A C 4 true"),
-        ("fr_check find A O --rounds 64", "A O 64"),
-        ("fr_check find A O", "A O 64"),
+        ("fr_check check A C --workers 64", "A C 64 false none"),
+        ("fr_check check A C", "A C 4 false none"),
+        ("fr_check check A C --warn", "A C 4 true none"),
+        ("fr_check check A C --explain", "A C 4 false told"),
+        ("fr_check check A C --all", "A C 4 false whole"),
+        ("fr_check find A O --rounds 64", "A O 64 false"),
+        ("fr_check find A O --explain", "A O 64 true"),
         ("fr_check find A O --rounds 0", "2 error: invalid value '0'"),
         (
             "fr_check find A O --rounds 65",
@@ -69,10 +81,10 @@ fn words_and_what_is_said_to_them(rt: HostRuntime) {
         ),
         (
             "fr_check run A C --polls 1000000 --words 8,x",
-            "A C 1000000 Some(\"8,x\")",
+            "A C 1000000 Some(\"8,x\") none",
         ),
-        ("fr_check run A C --polls 0", "A C 0 None"),
-        ("fr_check run A C --polls 1 --words ", "A C 1 Some(\"\")"),
+        ("fr_check run A C --polls 0", "A C 0 None none"),
+        ("fr_check run A C --polls 1 --words ", "A C 1 Some(\"\") none"),
         (
             "fr_check run A C --polls 1000001",
             "2 error: invalid value '1000001'",
@@ -81,13 +93,13 @@ fn words_and_what_is_said_to_them(rt: HostRuntime) {
             "fr_check run A C",
             "2 error: the following required arguments",
         ),
-        ("fr_check prove A", "A None 4 false"),
+        ("fr_check prove A", "A None 4 false none"),
         (
             "fr_check prove A --certificate C --workers 64",
-            "A Some(\"C\") 64 false",
+            "A Some(\"C\") 64 false none",
         ),
         ("fr_check prove A C", "2 error: unexpected argument"),
-        ("fr_check points A", "the points of A"),
+        ("fr_check points A", "the points of A false"),
         (
             "fr_check points",
             "2 error: the following required arguments",
@@ -108,6 +120,9 @@ fn words_and_what_is_said_to_them(rt: HostRuntime) {
 
 #[test]
 fn files_that_are_missing(rt: HostRuntime) {
-    let answer = file_bytes(&rt, "no-such-folder/missing.toml", 16);
-    assert!(rt; matches!(&answer, Err(CheckFault::Read)));
+    let missing = "no-such-folder/missing.toml";
+    let answer = input(&rt, missing, 16, false);
+    assert!(rt; matches!(&answer, Err(Stopped::Fault(CheckFault::Read))));
+    let answer = input(&rt, missing, 16, true);
+    assert!(rt; matches!(&answer, Err(Stopped::Told(3))));
 }

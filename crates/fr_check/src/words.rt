@@ -1,4 +1,5 @@
 // The words of the command line.
+use crate::checking::{CheckRequest, asked_check, check_command};
 use crate::finding::{FindRequest, asked_find, find_command};
 use crate::listing::points_command;
 use crate::proving::{ProveRequest, asked_prove, prove_command};
@@ -9,7 +10,7 @@ use std::alloc::{AllocError, Global};
 /// The name that the version is printed with, by `--version` and `check --version` alike.
 pub const NAME: &str = "fr_check";
 
-const STATUSES: &str = "Exit status:
+pub const STATUSES: &str = "Exit status:
   0  The verdict is yes
   1  The verdict is no
   2  The words, the application or the certificate are refused
@@ -18,14 +19,8 @@ const STATUSES: &str = "Exit status:
 /// What the command line asks for.
 #[derive(Clone, Copy)]
 pub enum Request<'a> {
-    /// The verdict on the application and the certificate in these files, by this many workers.
-    Check {
-        app: &'a str,
-        certificate: &'a str,
-        workers: u16,
-        /// Whether points that are never reached are told.
-        warns: bool,
-    },
+    /// The verdict on an application and a certificate.
+    Check(CheckRequest<'a>),
     /// A certificate for an application.
     Find(FindRequest<'a>),
     /// The verdict by a certificate that is worked out.
@@ -33,6 +28,8 @@ pub enum Request<'a> {
     /// The points of the application in this file.
     Points {
         app: &'a str,
+        /// Whether it is told where a refusal is.
+        explains: bool,
     },
     /// A run of the application.
     Run(RunRequest<'a>),
@@ -65,16 +62,28 @@ pub fn warn_arg<'a>(alloc: Global) -> Arg<'a> {
         .help("Tell lines of code that are never reached, on standard error")
 }
 
-/// The command `check`: its words, its help and its exit statuses.
-fn check_command<'a>(alloc: Global) -> Result<Command<'a>, AllocError> {
-    Command::new(alloc, "check")
-        .display_name(NAME)?
-        .about("Prints the verdict on an application and a certificate")
-        .after_help(STATUSES)
-        .arg(file_arg(alloc, "APP", "The application, in TOML"))?
-        .arg(file_arg(alloc, "CERT", "The certificate, in JSON"))?
-        .arg(workers_arg(alloc))?
-        .arg(warn_arg(alloc))
+/// The word `--explain`.
+pub fn explain_arg<'a>(alloc: Global) -> Arg<'a> {
+    Arg::new(alloc, "explain")
+        .long("explain")
+        .action(ArgAction::SetTrue)
+        .help("Tell why the verdict is no, and on standard error where a refused file is at fault")
+}
+
+/// The word `--explain` of a command that has no verdict.
+pub fn place_arg<'a>(alloc: Global) -> Arg<'a> {
+    Arg::new(alloc, "explain")
+        .long("explain")
+        .action(ArgAction::SetTrue)
+        .help("Tell where a refused file is at fault, on standard error")
+}
+
+/// The word `--all`.
+pub fn all_arg<'a>(alloc: Global) -> Arg<'a> {
+    Arg::new(alloc, "all")
+        .long("all")
+        .action(ArgAction::SetTrue)
+        .help("The same as --explain, with whole states and a line for each point that fails")
 }
 
 /// The whole command line, with its five commands.
@@ -103,18 +112,12 @@ pub fn matched<'a>(alloc: Global, words: &'a [String]) -> Result<ArgMatches<'a>,
 pub fn asked<'a>(matches: &ArgMatches<'a>) -> Option<Request<'a>> {
     let (name, words) = matches.subcommand()?;
     match name {
-        "check" => {
-            Some(Request::Check {
-                app: words.get_str("APP")?,
-                certificate: words.get_str("CERT")?,
-                workers: words.get_one::<u16>("workers")?,
-                warns: words.get_flag("warn"),
-            })
-        }
+        "check" => Some(Request::Check(asked_check(&words)?)),
         "find" => Some(Request::Find(asked_find(&words)?)),
         "prove" => Some(Request::Prove(asked_prove(&words)?)),
         "points" => Some(Request::Points {
             app: words.get_str("APP")?,
+            explains: words.get_flag("explain"),
         }),
         "run" => Some(Request::Run(asked_run(&words)?)),
         _ => None,

@@ -3,7 +3,6 @@ ghost use Rattle.std.specs.Prelude.{◌≡◌, ◌<◌, ◌↔◌, IsTrue, IfSom
 ghost use Rattle.fr_program.specs.declared.ids.Point.{Point};
 ghost use Rattle.fr_program.specs.Lookup.{instr_of};
 ghost use Rattle.fr_program.specs.Points.{points_of};
-ghost use Rattle.fr_calls.specs.Rule.{is_at_end};
 ghost use Rattle.fr_notes.specs.Known.{is_held};
 ghost use Rattle.fr_notes.specs.Note.{claim_of};
 ghost use Rattle.fr_ends.specs.Certificate.{value_for};
@@ -17,10 +16,9 @@ ghost use Rattle.fr_ends.specs.View.{values_of, guard_of};
 use crate::certificate::Certificate;
 use crate::ends::{EndName, Ends};
 use crate::guard::Guard;
+use fr_calls::is_at_end;
 use fr_notes::{Alternative, Claim, Known, Note};
-use fr_program::{
-    Act, ActorId, App, Attempt, Call, End, Instr, ObjId, ObjectCall, Point, Range, Side, VarId,
-};
+use fr_program::{ActorId, App, Call, End, Instr, ObjId, ObjectCall, Point, Range, Side, VarId};
 use std::collections::BTreeMap;
 
 /// The object call that the point is inside; None where it is inside none.
@@ -30,17 +28,6 @@ pub(crate) fn called_inside(app: &App, point: Point) -> Option<ObjectCall>
     match (point.side, app.instr(point)) {
         (Side::Inside, Some(Instr::Call(Call::On(call)))) => Some(*call),
         (_, _) => None,
-    }
-}
-
-/// Whether a call that does this is at this end of its buffer: a send at the writer's, a receive at the
-/// reader's, a reset at both.
-pub fn is_at_end(end: End, act: Act) -> bool
-    ensures { result ≡ is_at_end end act }
-{
-    match act {
-        Act::Move { end: at, .. } => at == end,
-        Act::Try { attempt, .. } => matches!(attempt, Attempt::Reset(_)),
     }
 }
 

@@ -18,5 +18,5 @@ pub use ends::{EndName, Ends};
 pub use fault::EndsFault;
 pub use fits::is_listed;
 pub use guard::{EndGuard, Guard};
-pub use guarding::{guarded, is_at_end, note_says};
+pub use guarding::{guarded, note_says};
 pub use nearness::{near, used_inside};

@@ -69,8 +69,9 @@ fn empty_lists(alloc: Global, count: usize) -> Result<Vec<Vec<usize>>, AllocErro
     Ok(lists)
 }
 
-/// For each point, by its number, the numbers of the points that lead to it, in their order.
-pub fn arrivals(alloc: Global, app: &App) -> Result<Vec<Vec<usize>>, AllocError> {
+/// For each point, by its number, the numbers of the points that lead to it, in their order. Its error is
+/// that an allocation was refused.
+pub fn points_before(alloc: Global, app: &App) -> Result<Vec<Vec<usize>>, AllocError> {
     let mut arrivals = empty_lists(alloc, app.points())?;
     for number in 0..app.points() {
         let point = app.point(number);

@@ -6,7 +6,7 @@ ghost use Rattle.fr_ends.specs.Fits.{CertificateFits};
 ghost use Rattle.fr_finder.specs.Found.{IsNoRounds};
 ghost use Rattle.fr_finder.specs.declared.fault.FindFault.TheVariants.{Rounds};
 
-use crate::arrivals::arrivals;
+use crate::arrivals::points_before;
 use crate::fault::FindFault;
 use crate::guards::ends;
 use crate::rounds::next_round;
@@ -70,7 +70,7 @@ fn stable_round<R: Threads + Sync>(
 ) -> Result<Option<Notes>, AllocError>
     ensures { IfOk result (λ found. IfSome found (λ notes. NotesFit app.now notes)) }
 {
-    let arrivals = arrivals(alloc, app)?;
+    let arrivals = points_before(alloc, app)?;
     let mut notes = start(alloc, app)?;
     for round in 0..rounds {
         let next = next_round(rt, alloc, app, &arrivals, &notes, round)?;

@@ -5,7 +5,8 @@ ghost use Rattle.fr_ends.specs.Fits.{EndFits, EndsFit};
 ghost use Rattle.fr_ends.specs.View.{end_of};
 
 use crate::spot::{Spot, spot_at};
-use fr_ends::{EndGuard, EndName, Ends, Guard, is_at_end, is_listed, note_says};
+use fr_calls::is_at_end;
+use fr_ends::{EndGuard, EndName, Ends, Guard, is_listed, note_says};
 use fr_notes::{Alternative, Note, Notes};
 use fr_program::{ActorId, App, Call, End, Instr, ObjId, Side, VarId};
 use std::alloc::{AllocError, Global};

@@ -13,8 +13,10 @@ mod rounds;
 mod spot;
 mod start;
 
-pub use arrivals::target;
+pub use arrivals::{points_before, target};
 pub use fault::FindFault;
 pub use finding::{find, is_rounds};
 pub use guards::all_ends;
 pub use landing::{left_to_mover, left_to_other};
+pub use merging::add;
+pub use start::claims_at_start;

@@ -136,8 +136,9 @@ fn replace(app: &App, note: &mut Vec<Alternative>, place: usize, one: Alternativ
     note[place] = one;
 }
 
-/// Adds an alternative, if there is room.
-fn add(app: &App, note: &mut Vec<Alternative>, other: Alternative) -> Result<(), AllocError>
+/// Adds an alternative to a note of an application, if there is room. Its error is that an allocation
+/// was refused.
+pub fn add(app: &App, note: &mut Vec<Alternative>, other: Alternative) -> Result<(), AllocError>
     requires note { NoteFits app.now note.old.items }
     requires other { AlternativeFits app.now other }
     ensures { NoteFits app.now note.new.items }

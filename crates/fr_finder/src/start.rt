@@ -16,8 +16,9 @@ fn claim_at_start(object: &Object) -> Claim {
     }
 }
 
-/// What is known of each object at the start.
-fn claims_at_start(alloc: Global, app: &App) -> Result<Vec<Claim>, AllocError> {
+/// What is known of each object at the start, by their numbers. Its error is that an allocation was
+/// refused.
+pub fn claims_at_start(alloc: Global, app: &App) -> Result<Vec<Claim>, AllocError> {
     let mut claims = Vec::with_capacity(alloc, app.objects().len())?;
     for object in app.objects() {
         claims.push(claim_at_start(object))?;

@@ -1,6 +1,7 @@
 // From the bytes of an application and of a certificate to the verdict, found by several workers.
 ghost use Rattle.std.specs.Prelude.{◌≡◌, ◌↔◌, IfOk, IfErr, IsErrOf};
 ghost use Rattle.fr_calls.specs.Run.{IsSafe};
+ghost use Rattle.fr_ends.specs.Fits.{CertificateFits};
 ghost use Rattle.fr_judge.specs.declared.part.Verdict.TheVariants.{Yes};
 ghost use Rattle.fr_judge.specs.Texts.{IsJudged};
 ghost use Rattle.fr_judge.specs.Told.{Speaks};
@@ -13,7 +14,9 @@ use crate::fault::ParFault;
 use crate::gate::Gate;
 use crate::verdict::{is_crew, judge_by_crew};
 use fr_cert::CertFault;
-use fr_judge::{Judged, TextFault, read_both};
+use fr_ends::Certificate;
+use fr_judge::{Judged, TextFault, Verdict, read_both};
+use fr_program::App;
 use fr_reader::ReadFault;
 use std::alloc::Global;
 use std::sync::Wait;
@@ -49,6 +52,50 @@ impl From<TextFault> for BytesFault {
     }
 }
 
+/// What two texts mean, and the verdict on it.
+#[derive(Drop)]
+pub struct Reading {
+    pub app: App,
+    pub certificate: Certificate,
+    pub verdict: Verdict,
+}
+
+/// The same as `judge_bytes`, with the certificate that was read, which fits the application: for whoever
+/// tells why the verdict is no.
+///
+/// # Errors
+///
+/// As those of `judge_bytes`.
+pub fn judge_reading<R: Threads + Wait + Sync, G: Gate>(
+    rt: &R,
+    alloc: Global,
+    app: &[u8],
+    certificate: &[u8],
+    workers: usize,
+    gate: &G,
+) -> Result<Reading, BytesFault>
+    ensures judged { IfOk result
+        (λ reading. IsJudged app.now certificate.now reading.app reading.verdict) }
+    ensures fits { IfOk result (λ reading. CertificateFits reading.app reading.certificate) }
+    ensures safe { IfOk result (λ reading. reading.verdict ≡ Yes → IsSafe reading.app) }
+    ensures speaks { IfOk result (λ reading. Speaks reading.app reading.verdict) }
+    ensures workers { IsErrOf result (Par Workers) ↔ IsNoCrew workers }
+    ensures fault { IfErr result (IsFaultOfBytes app.now certificate.now) }
+{
+    if !is_crew(workers) {
+        return Err(BytesFault::Par(ParFault::Workers));
+    }
+    let (app, certificate) = read_both(alloc, app, certificate)?;
+    match judge_by_crew(rt, alloc, &app, &certificate, workers, gate) {
+        Ok(verdict) => Ok(Reading {
+            app,
+            certificate,
+            verdict,
+        }),
+        Err(fault) => Err(BytesFault::Par(fault)),
+    }
+}
+
 /// Reads the application, then the certificate for it, and judges it by this many workers, each in a thread of its own.
 ///
 /// Ok is the application that the first bytes mean, and the verdict on it and on the certificate that the second ones mean: one
@@ -75,12 +122,9 @@ pub fn judge_bytes<R: Threads + Wait + Sync, G: Gate>(
     ensures workers { IsErrOf result (Par Workers) ↔ IsNoCrew workers }
     ensures fault { IfErr result (IsFaultOfBytes app.now certificate.now) }
 {
-    if !is_crew(workers) {
-        return Err(BytesFault::Par(ParFault::Workers));
-    }
-    let (app, certificate) = read_both(alloc, app, certificate)?;
-    match judge_by_crew(rt, alloc, &app, &certificate, workers, gate) {
-        Ok(verdict) => Ok(Judged { app, verdict }),
-        Err(fault) => Err(BytesFault::Par(fault)),
-    }
+    let reading = judge_reading(rt, alloc, app, certificate, workers, gate)?;
+    Ok(Judged {
+        app: reading.app,
+        verdict: reading.verdict,
+    })
 }

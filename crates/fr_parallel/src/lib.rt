@@ -13,7 +13,7 @@ mod gate;
 mod verdict;
 mod worker;
 
-pub use bytes::{BytesFault, judge_bytes};
+pub use bytes::{BytesFault, Reading, judge_bytes, judge_reading};
 pub use fault::ParFault;
 pub use gate::{Gate, Open};
 pub use verdict::{is_crew, judge_with};

@@ -11,6 +11,7 @@ mod growth;
 mod learning;
 mod measure;
 mod merging;
+mod needs;
 mod order;
 mod place;
 mod plan;
@@ -20,7 +21,9 @@ mod search;
 mod settling;
 mod stepping;
 mod table;
+mod thinning;
 mod thresholds;
 mod trial;
 
 pub use search::best_certificate;
+pub use thinning::thinned;

@@ -7,10 +7,10 @@ ghost use Rattle.fr_ends.specs.Fits.{CertificateFits};
 use crate::pool::Pool;
 use crate::trial::Trial;
 use fr_ends::{Certificate, Ends};
-use fr_finder::all_ends;
+use fr_finder::{add, all_ends};
 use fr_interfere::{Hulls, Index, Interference};
 use fr_judge::{Part, job_beside};
-use fr_notes::{Alternative, MOST_ALTERNATIVES, Note, Notes};
+use fr_notes::{Alternative, Note, Notes};
 use fr_program::App;
 use std::alloc::{AllocError, Global};
 
@@ -26,19 +26,6 @@ pub struct Failure {
 pub struct Measured {
     pub certificate: Certificate,
     pub failures: Vec<Failure>,
-}
-
-/// Adds an alternative, if there is room.
-fn add(app: &App, note: &mut Vec<Alternative>, other: Alternative) -> Result<(), AllocError>
-    requires note { NoteFits app.now note.old.items }
-    requires other { AlternativeFits app.now other }
-    ensures { NoteFits app.now note.new.items }
-{
-    let _ = app;
-    if note.len() < MOST_ALTERNATIVES {
-        note.push(other)?;
-    }
-    Ok(())
 }
 
 /// Adds a copy of the alternative with this number.
@@ -91,13 +78,41 @@ fn notes_of(alloc: Global, pool: &Pool, lists: &[Vec<usize>]) -> Result<Notes, A
     Ok(Notes::of(app, notes))
 }
 
+/// The certificate with the alternatives of these lists, with guards for all ends of buffers.
+pub fn certificate_of(
+    alloc: Global,
+    pool: &Pool,
+    lists: &[Vec<usize>],
+) -> Result<Certificate, AllocError>
+    ensures { IfOk result (λ c. CertificateFits pool.now.app.now c) }
+{
+    let notes = notes_of(alloc, pool, lists)?;
+    let ends = all_ends(alloc, pool.app(), &notes)?;
+    Ok(Certificate { notes, ends })
+}
+
 /// The certificate by which no actor is ever at any point.
-pub fn blank(alloc: Global, app: &App) -> Result<Certificate, AllocError>
+fn blank(alloc: Global, app: &App) -> Result<Certificate, AllocError>
     ensures { IfOk result (λ c. CertificateFits app.now c) }
 {
     let notes = notes_of(alloc, &Pool::new(alloc, app), &[])?;
     let ends = Ends::none(alloc);
     Ok(Certificate { notes, ends })
+}
+
+/// The certificate, if it fits the application; otherwise the one by which nobody is ever anywhere.
+pub fn fitting(
+    alloc: Global,
+    app: &App,
+    certificate: Certificate,
+) -> Result<Certificate, AllocError>
+    ensures { IfOk result (λ c. CertificateFits app.now c) }
+{
+    if certificate.fits(app) {
+        Ok(certificate)
+    } else {
+        blank(alloc, app)
+    }
 }
 
 /// The points at which the certificate fails.
@@ -121,9 +136,7 @@ pub fn measure(alloc: Global, trial: &Trial) -> Result<Measured, AllocError>
     ensures { IfOk result (λ m. CertificateFits trial.now.pool.app.now m.certificate) }
 {
     let app = trial.pool.app();
-    let notes = notes_of(alloc, &trial.pool, &trial.notes)?;
-    let ends = all_ends(alloc, app, &notes)?;
-    let certificate = Certificate { notes, ends };
+    let certificate = certificate_of(alloc, &trial.pool, &trial.notes)?;
     let failures = failures(alloc, app, &certificate)?;
     Ok(Measured {
         certificate,

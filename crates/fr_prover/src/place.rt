@@ -67,6 +67,25 @@ pub fn named(instr: &Instr) -> [Option<VarId>; 3] {
     }
 }
 
+/// The variables that an instruction tests.
+pub fn tested(instr: &Instr) -> [Option<VarId>; 2] {
+    match instr {
+        Instr::If { left, right, .. } => [variable_of(*left), variable_of(*right)],
+        _ => [None, None],
+    }
+}
+
+/// The variables whose numbers an instruction takes.
+pub fn read(instr: &Instr) -> [Option<VarId>; 2] {
+    match instr {
+        Instr::Set { left, right, .. } | Instr::If { left, right, .. } => {
+            [variable_of(*left), variable_of(*right)]
+        }
+        Instr::Call(Call::On(call)) => [sent_by(call.act), None],
+        _ => [None, None],
+    }
+}
+
 /// The object that an instruction creates or deletes, if it does.
 pub fn changed_life(instr: &Instr) -> Option<usize> {
     match instr {

@@ -2,31 +2,14 @@
 use crate::effect::Effects;
 use crate::settling::settle;
 use crate::trial::Trial;
-use fr_notes::{Alternative, Claim};
-use fr_program::{ActorId, App, Object, Point, Range, Side, VarId};
+use fr_finder::claims_at_start;
+use fr_notes::Alternative;
+use fr_program::{ActorId, App, Point, Range, Side, VarId};
 use std::alloc::{AllocError, Global};
 use std::collections::VecDeque;
 
 /// So often an actor is worked through at most, for each actor that there is.
 const MOST_TURNS: usize = 60;
-
-/// What is known of an object at the start.
-fn claim_at_start(object: &Object) -> Claim {
-    if object.live {
-        Claim::Alive
-    } else {
-        Claim::Gone
-    }
-}
-
-/// What is known of each object at the start.
-fn claims_at_start(alloc: Global, app: &App) -> Result<Vec<Claim>, AllocError> {
-    let mut claims = Vec::with_capacity(alloc, app.objects().len())?;
-    for object in app.objects() {
-        claims.push(claim_at_start(object))?;
-    }
-    Ok(claims)
-}
 
 /// The range of each variable at the start, as far as notes speak of it.
 fn ranges_at_start(alloc: Global, app: &App, said: &[bool]) -> Result<Vec<Range>, AllocError> {

@@ -5,7 +5,7 @@ ghost use Rattle.fr_ends.specs.Fits.{CertificateFits};
 use crate::candidates::worth_trying;
 use crate::division::{Division, copied_all, has_division};
 use crate::learning::{Lesson, learn, lessons};
-use crate::measure::{Failure, Measured, blank, measure};
+use crate::measure::{Failure, Measured, fitting, measure};
 use crate::place::place_at;
 use crate::plan::Plan;
 use crate::rising::rise;
@@ -230,9 +230,5 @@ pub fn best_certificate(alloc: Global, app: &App) -> Result<Certificate, AllocEr
     ensures fits { IfOk result (λ certificate. CertificateFits app.now certificate) }
 {
     let found = best(alloc, app)?;
-    if found.fits(app) {
-        Ok(found)
-    } else {
-        blank(alloc, app)
-    }
+    fitting(alloc, app, found)
 }

@@ -22,6 +22,15 @@ impl Table {
         Ok(Table { rows: lists })
     }
 
+    /// A table of so many rows that are all like this one.
+    pub fn repeated(alloc: Global, rows: usize, row: &[bool]) -> Result<Table, AllocError> {
+        let mut lists = Vec::with_capacity(alloc, rows)?;
+        for _ in 0..rows {
+            lists.push(Vec::from_slice(alloc, row)?)?;
+        }
+        Ok(Table { rows: lists })
+    }
+
     /// The row; an empty one where the table has none with this number.
     pub fn row(&self, row: usize) -> &[bool] {
         match self.rows.get(row) {
@@ -42,6 +51,18 @@ impl Table {
                 *cell = true;
             }
         }
+    }
+
+    /// Makes true in a row what is true in another one, except in one column. Whether anything is new.
+    pub fn take(&mut self, row: usize, other: usize, except: Option<usize>) -> bool {
+        let mut is_new = false;
+        for column in 0..self.row(other).len() {
+            if self.has(other, column) && !self.has(row, column) && except != Some(column) {
+                self.mark(row, column);
+                is_new = true;
+            }
+        }
+        is_new
     }
 
     /// How many of the column are true.

@@ -1,1 +1,2 @@
 pub mod ListingLemmas
+pub mod Told

@@ -5,12 +5,14 @@
 #![tactic(auto)]
 
 mod listing;
+mod reason;
 mod shown;
 mod text;
 mod trace;
 mod warnings;
 
 pub use listing::points_text;
+pub use reason::{Detail, explanation};
 pub use text::report;
 pub use trace::trace_text;
 pub use warnings::warnings_text;

@@ -2,11 +2,12 @@
 ghost use Rattle.std.specs.Prelude.{◌≤◌};
 ghost use Rattle.fr_answer.specs.Checked.{most_bytes};
 
-use crate::row::Asked;
+use crate::row::{Asked, Told};
 use fr_answer::{
-    CheckFault, DONE, Found, MOST_APP_BYTES, MOST_CERTIFICATE_BYTES, NO, Proved, WordsFault,
-    answer_check, answer_fault, answer_points, answer_run, answer_words, find_bytes, load,
-    prove_bytes, tell_found, tell_proved, warn, words_of,
+    CheckFault, DONE, Detail, Found, MOST_APP_BYTES, MOST_CERTIFICATE_BYTES, NO, Proved, REFUSED,
+    WordsFault, answer_check, answer_fault, answer_points, answer_run, answer_words, check_told,
+    find_bytes, load, prove_bytes, run_told, tell, tell_app_place, tell_found, tell_place, warn,
+    words_of,
 };
 use fr_parallel::Open;
 use std::alloc::{AllocError, Global};
@@ -65,32 +66,69 @@ fn warned(
     }
 }
 
+/// The status of a command that tells where a refusal is, where that is asked for. Without a certificate the
+/// application alone was read.
+fn placed(
+    alloc: Global,
+    files: (&[u8], Option<&[u8]>),
+    told: Told,
+    status: u8,
+    stderr: &mut Vec<u8>,
+) -> u8 {
+    if told.detail.is_none() || status != REFUSED {
+        return status;
+    }
+    let answer = match files.1 {
+        Some(certificate) => tell_place(alloc, files.0, certificate, stderr),
+        None => tell_app_place(alloc, files.0, stderr),
+    };
+    match answer {
+        Ok(()) => status,
+        Err(fault) => answer_fault(alloc, &fault, stderr),
+    }
+}
+
+/// Writes what a command has to say, or the line of its fault, and gives the status.
+fn said(
+    alloc: Global,
+    said: &Result<fr_answer::Told, CheckFault>,
+    stdout: &mut Vec<u8>,
+    stderr: &mut Vec<u8>,
+) -> u8 {
+    match said {
+        Ok(told) => match tell(told, stdout) {
+            Ok(status) => status,
+            Err(fault) => answer_fault(alloc, &fault, stderr),
+        },
+        Err(fault) => answer_fault(alloc, fault, stderr),
+    }
+}
+
 /// What `check` writes and answers to these files.
 fn check<R: Threads + Wait + Sync>(
     threads: &R,
     alloc: Global,
     files: (Option<&[u8]>, Option<&[u8]>),
     workers: usize,
-    warns: bool,
+    told: Told,
     stdout: &mut Vec<u8>,
     stderr: &mut Vec<u8>,
 ) -> u8 {
-    match &both(alloc, files.0, files.1) {
-        Ok((app, certificate)) => {
-            let status = answer_check(
-                threads,
-                alloc,
-                app,
-                certificate,
-                workers,
-                &Open,
-                stdout,
-                stderr,
-            );
-            warned(alloc, (app, certificate), warns, status, stderr)
-        }
-        Err(fault) => answer_fault(alloc, fault, stderr),
-    }
+    let (app, certificate) = &match both(alloc, files.0, files.1) {
+        Ok(files) => files,
+        Err(fault) => return answer_fault(alloc, &fault, stderr),
+    };
+    let status = match told.detail {
+        None => answer_check(threads, alloc, app, certificate, workers, &Open, stdout, stderr),
+        detail => said(
+            alloc,
+            &check_told(threads, alloc, app, certificate, workers, &Open, detail),
+            stdout,
+            stderr,
+        ),
+    };
+    let status = warned(alloc, (app, certificate), told.warns, status, stderr);
+    placed(alloc, (app, Some(certificate)), told, status, stderr)
 }
 
 /// The words of a run, none where no text is given.
@@ -106,40 +144,39 @@ fn run<R: Threads + Wait + Sync>(
     threads: &R,
     alloc: Global,
     files: (Option<&[u8]>, Option<&[u8]>),
-    polls: u64,
-    words: Option<&str>,
+    (polls, words): (u64, Option<&str>),
+    told: Told,
     stdout: &mut Vec<u8>,
     stderr: &mut Vec<u8>,
 ) -> u8 {
-    let words = match words_in(alloc, words) {
+    let words = &match words_in(alloc, words) {
         Ok(words) => words,
         Err(fault) => return answer_words(fault, stderr),
     };
-    match &both(alloc, files.0, files.1) {
-        Ok((app, certificate)) => answer_run(
+    let (app, certificate) = &match both(alloc, files.0, files.1) {
+        Ok(files) => files,
+        Err(fault) => return answer_fault(alloc, &fault, stderr),
+    };
+    let status = match told.detail {
+        None => answer_run(
             threads,
             alloc,
             app,
             certificate,
             polls,
-            &words,
+            words,
             &Open,
             stdout,
             stderr,
         ),
-        Err(fault) => answer_fault(alloc, fault, stderr),
-    }
-}
-
-/// What is found for the application in this file.
-fn found_for<R: Threads + Sync>(
-    threads: &R,
-    alloc: Global,
-    app: Option<&[u8]>,
-    rounds: usize,
-) -> Result<Found, CheckFault> {
-    let app = file_bytes(alloc, app, MOST_APP_BYTES)?;
-    find_bytes(threads, alloc, &app, rounds)
+        detail => said(
+            alloc,
+            &run_told(threads, alloc, app, certificate, polls, words, &Open, detail),
+            stdout,
+            stderr,
+        ),
+    };
+    placed(alloc, (app, Some(certificate)), told, status, stderr)
 }
 
 /// What `find` writes and answers to this file, with the text of the certificate that it writes.
@@ -148,12 +185,20 @@ fn find<R: Threads + Sync>(
     alloc: Global,
     app: Option<&[u8]>,
     rounds: usize,
+    told: Told,
     stdout: &mut Vec<u8>,
     stderr: &mut Vec<u8>,
 ) -> (u8, Option<String>) {
-    let found = match found_for(threads, alloc, app, rounds) {
-        Ok(found) => found,
+    let app = &match file_bytes(alloc, app, MOST_APP_BYTES) {
+        Ok(app) => app,
         Err(fault) => return (answer_fault(alloc, &fault, stderr), None),
+    };
+    let found = match find_bytes(threads, alloc, app, rounds) {
+        Ok(found) => found,
+        Err(fault) => {
+            let status = answer_fault(alloc, &fault, stderr);
+            return (placed(alloc, (app, None), told, status, stderr), None);
+        }
     };
     let status = match tell_found(&found, stdout) {
         Ok(status) => status,
@@ -165,39 +210,34 @@ fn find<R: Threads + Sync>(
     }
 }
 
-/// The verdict by a certificate that is worked out for the application in this file.
-fn proved_for<R: Threads + Wait + Sync>(
-    threads: &R,
-    alloc: Global,
-    app: Option<&[u8]>,
-    workers: usize,
-) -> Result<(Vec<u8>, Proved), CheckFault> {
-    let app = file_bytes(alloc, app, MOST_APP_BYTES)?;
-    let proved = prove_bytes(threads, alloc, &app, workers, &Open)?;
-    Ok((app, proved))
-}
-
 /// What `prove` writes and answers to this file, with the text of the certificate that passed.
 fn prove<R: Threads + Wait + Sync>(
     threads: &R,
     alloc: Global,
     app: Option<&[u8]>,
     workers: usize,
-    warns: bool,
+    told: Told,
     stdout: &mut Vec<u8>,
     stderr: &mut Vec<u8>,
 ) -> (u8, Option<String>) {
-    let (app, proved) = match proved_for(threads, alloc, app, workers) {
-        Ok(proved) => proved,
+    let app = &match file_bytes(alloc, app, MOST_APP_BYTES) {
+        Ok(app) => app,
         Err(fault) => return (answer_fault(alloc, &fault, stderr), None),
     };
-    let status = match tell_proved(&proved, stdout) {
+    let proved = match prove_bytes(threads, alloc, app, workers, &Open, told.detail) {
+        Ok(proved) => proved,
+        Err(fault) => {
+            let status = answer_fault(alloc, &fault, stderr);
+            return (placed(alloc, (app, None), told, status, stderr), None);
+        }
+    };
+    let status = match tell(&proved.told, stdout) {
         Ok(status) => status,
         Err(fault) => answer_fault(alloc, &fault, stderr),
     };
     let files = (app.as_slice(), proved.certificate.as_bytes());
-    let status = warned(alloc, files, warns, status, stderr);
-    if proved.status == DONE {
+    let status = warned(alloc, files, told.warns, status, stderr);
+    if proved.told.status == DONE {
         (status, Some(proved.certificate))
     } else {
         (status, None)
@@ -205,11 +245,19 @@ fn prove<R: Threads + Wait + Sync>(
 }
 
 /// What `points` writes and answers to this file.
-fn points(alloc: Global, app: Option<&[u8]>, stdout: &mut Vec<u8>, stderr: &mut Vec<u8>) -> u8 {
-    match &file_bytes(alloc, app, MOST_APP_BYTES) {
-        Ok(app) => answer_points(alloc, app, stdout, stderr),
-        Err(fault) => answer_fault(alloc, fault, stderr),
-    }
+fn points(
+    alloc: Global,
+    app: Option<&[u8]>,
+    told: Told,
+    stdout: &mut Vec<u8>,
+    stderr: &mut Vec<u8>,
+) -> u8 {
+    let app = &match file_bytes(alloc, app, MOST_APP_BYTES) {
+        Ok(app) => app,
+        Err(fault) => return answer_fault(alloc, &fault, stderr),
+    };
+    let status = answer_points(alloc, app, stdout, stderr);
+    placed(alloc, (app, None), told, status, stderr)
 }
 
 impl Call {
@@ -221,40 +269,34 @@ impl Call {
         certificate: Option<&[u8]>,
         asked: &Asked,
     ) -> Call {
-        let (mut out, mut err) = (Vec::new(alloc), Vec::new(alloc));
+        let (mut stdout, mut stderr) = (Vec::new(alloc), Vec::new(alloc));
         let files = (app, certificate);
+        let (out, err) = (&mut stdout, &mut stderr);
         let (status, written) = match asked {
-            Asked::Check { workers, warns } => {
-                let (workers, warns) = (*workers, *warns);
-                (
-                    check(threads, alloc, files, workers, warns, &mut out, &mut err),
-                    None,
-                )
+            Asked::Check { workers, told } => {
+                (check(threads, alloc, files, *workers, *told, out, err), None)
             }
             Asked::Prove {
                 workers,
                 kept,
-                warns,
+                told,
             } => {
-                let (status, text) = prove(
-                    threads, alloc, app, *workers, *warns, &mut out, &mut err,
-                );
+                let (status, text) = prove(threads, alloc, app, *workers, *told, out, err);
                 (status, text.filter(|_| *kept))
             }
-            Asked::Run { polls, words } => {
-                let words = words.as_deref();
-                (
-                    run(threads, alloc, files, *polls, words, &mut out, &mut err),
-                    None,
-                )
+            Asked::Run { polls, words, told } => {
+                let turns = (*polls, words.as_deref());
+                (run(threads, alloc, files, turns, *told, out, err), None)
             }
-            Asked::Find { rounds } => find(threads, alloc, app, *rounds, &mut out, &mut err),
-            Asked::Points => (points(alloc, app, &mut out, &mut err), None),
+            Asked::Find { rounds, told } => {
+                find(threads, alloc, app, *rounds, *told, out, err)
+            }
+            Asked::Points { told } => (points(alloc, app, *told, out, err), None),
         };
         Call {
             answer: Answer {
-                stdout: out,
-                stderr: err,
+                stdout,
+                stderr,
                 status,
             },
             written,

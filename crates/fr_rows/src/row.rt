@@ -5,7 +5,8 @@
 // cert.json    the certificate
 // args         the words, one a line: a check of both files, by so many workers; a run of so many polls with these words; a
 //              search, in so many rounds, for a certificate that goes to out.json; a proof, by so many workers, whose
-//              certificate goes to out.json where that is named; or the points of the application
+//              certificate goes to out.json where that is named; or the points of the application; and at last what else
+//              is told: --warn, --explain, --all
 // stdout       what has to be written to standard output
 // stderr       what has to be written to standard error
 // status       the exit status
@@ -17,6 +18,7 @@
 //              a second command, of app.toml and out.json, and what it has to answer
 use crate::answer::{Answer, Call};
 use crate::files::{bytes_of, names_in, text_of, wrong};
+use fr_answer::Detail;
 use std::alloc::Global;
 use std::io;
 use std::str::Lines;
@@ -45,31 +47,44 @@ pub struct Cut {
     pub length: usize,
 }
 
+/// What else is told by a command.
+#[derive(Clone, Copy)]
+pub struct Told {
+    /// Whether lines that are never reached are told.
+    pub warns: bool,
+    /// Whether it is told why the verdict is no or where a refusal is, and how much of a state.
+    pub detail: Option<Detail>,
+}
+
 /// What a row asks of its files.
 #[derive(Drop)]
 pub enum Asked {
-    /// The verdict, by so many workers, and warnings if it `warns`.
+    /// The verdict, by so many workers.
     Check {
         workers: usize,
-        warns: bool,
+        told: Told,
     },
     /// A run of so many polls, with the words of this text, where there is one.
     Run {
         polls: u64,
         words: Option<String>,
+        told: Told,
     },
     /// A certificate, in at most so many rounds.
     Find {
         rounds: usize,
+        told: Told,
     },
     /// The verdict by a certificate that is worked out, which is written if it is `kept`.
     Prove {
         workers: usize,
         kept: bool,
-        warns: bool,
+        told: Told,
     },
     /// The points of the application.
-    Points,
+    Points {
+        told: Told,
+    },
 }
 
 /// What has to be in the file for the certificate afterwards.
@@ -158,39 +173,44 @@ fn byte(word: Option<&str>) -> io::Result<u8> {
     }
 }
 
-/// An error where there are words beyond those that a command has.
-fn check_end(word: Option<&str>) -> io::Result<()> {
-    match word {
-        None => Ok(()),
-        Some(_) => Err(wrong("there are more words than those of the command")),
+/// What else is told: words `--warn`, `--explain` and `--all`, up to the last word. The first of them was taken.
+fn told_asked<'a>(first: Option<&'a str>, words: &mut Lines<'a>) -> io::Result<Told> {
+    let mut told = Told {
+        warns: false,
+        detail: None,
+    };
+    for word in first.into_iter().chain(words) {
+        match word {
+            "--warn" => told.warns = true,
+            "--explain" => told.detail = Some(Detail::Told),
+            "--all" => told.detail = Some(Detail::Whole),
+            _ => return Err(wrong("there are other words than those of the command")),
+        }
+    }
+    Ok(told)
+}
+
+/// The number of workers, in words `--workers N`, and the word after them. The first of them was taken.
+fn workers_asked<'a>(
+    first: Option<&'a str>,
+    words: &mut Lines<'a>,
+) -> io::Result<(usize, Option<&'a str>)> {
+    match first {
+        Some("--workers") => Ok((number(words.next())?, words.next())),
+        _ => Ok((DEFAULT_WORKERS, first)),
     }
 }
 
-/// The number of workers and whether it warns, in words `--workers N` and `--warn`, which end the command. The first of them
-/// was taken.
-fn workers_asked(first: Option<&str>, words: &mut Lines) -> io::Result<(usize, bool)> {
-    let (workers, next) = match first {
-        Some("--workers") => (number(words.next())?, words.next()),
-        _ => (DEFAULT_WORKERS, first),
-    };
-    let warns = match next {
-        None => false,
-        Some("--warn") => true,
-        Some(_) => return Err(wrong("the words are not those of a check or a proof")),
-    };
-    check_end(words.next())?;
-    Ok((workers, warns))
-}
-
-/// The rest of a check's words: the number of workers, and whether it warns.
+/// The rest of a check's words: the number of workers, and what else is told.
 fn check_asked(words: &mut Lines) -> io::Result<Asked> {
-    let (workers, warns) = workers_asked(words.next(), words)?;
-    Ok(Asked::Check { workers, warns })
+    let (workers, next) = workers_asked(words.next(), words)?;
+    let told = told_asked(next, words)?;
+    Ok(Asked::Check { workers, told })
 }
 
-/// The rest of a proof's words: where the certificate goes, the number of workers, and whether it warns. The first of them was
-/// taken.
-fn prove_asked(first: Option<&str>, words: &mut Lines) -> io::Result<Asked> {
+/// The rest of a proof's words: where the certificate goes, the number of workers, and what else is told. The
+/// first of them was taken.
+fn prove_asked<'a>(first: Option<&'a str>, words: &mut Lines<'a>) -> io::Result<Asked> {
     let kept = first == Some("--certificate");
     let next = if kept {
         if words.next() != Some(OUT) {
@@ -200,38 +220,44 @@ fn prove_asked(first: Option<&str>, words: &mut Lines) -> io::Result<Asked> {
     } else {
         first
     };
-    let (workers, warns) = workers_asked(next, words)?;
+    let (workers, next) = workers_asked(next, words)?;
+    let told = told_asked(next, words)?;
     Ok(Asked::Prove {
         workers,
         kept,
-        warns,
+        told,
     })
 }
 
-/// The rest of a run's words: the number of polls, and the text of its words.
+/// The rest of a run's words: the number of polls, the text of its words, and what else is told.
 fn run_asked(alloc: Global, words: &mut Lines) -> io::Result<Asked> {
     if words.next() != Some("--polls") {
         return Err(wrong("the words are not those of a run"));
     }
     let polls = number(words.next())? as u64;
-    let text = match words.next() {
-        None => None,
-        Some("--words") => Some(String::from_str(alloc, words.next().unwrap_or(""))?),
-        Some(_) => return Err(wrong("the words are not those of a run")),
+    let (text, next) = match words.next() {
+        Some("--words") => {
+            let text = String::from_str(alloc, words.next().unwrap_or(""))?;
+            (Some(text), words.next())
+        }
+        next => (None, next),
     };
-    check_end(words.next())?;
-    Ok(Asked::Run { polls, words: text })
+    let told = told_asked(next, words)?;
+    Ok(Asked::Run {
+        polls,
+        words: text,
+        told,
+    })
 }
 
-/// The rest of a search's words: the number of rounds.
+/// The rest of a search's words: the number of rounds, and what else is told.
 fn find_asked(words: &mut Lines) -> io::Result<Asked> {
-    let rounds = match words.next() {
-        None => DEFAULT_ROUNDS,
-        Some("--rounds") => number(words.next())?,
-        Some(_) => return Err(wrong("the words are not those of a search")),
+    let (rounds, next) = match words.next() {
+        Some("--rounds") => (number(words.next())?, words.next()),
+        next => (DEFAULT_ROUNDS, next),
     };
-    check_end(words.next())?;
-    Ok(Asked::Find { rounds })
+    let told = told_asked(next, words)?;
+    Ok(Asked::Find { rounds, told })
 }
 
 /// What the words ask of the application and of the certificate in the file with this name.
@@ -243,7 +269,9 @@ fn asked_in(alloc: Global, words: &str, certificate: &str) -> io::Result<Asked> 
     }
     let second = words.next();
     match command {
-        Some("points") if second.is_none() => Ok(Asked::Points),
+        Some("points") => Ok(Asked::Points {
+            told: told_asked(second, &mut words)?,
+        }),
         Some("prove") => prove_asked(second, &mut words),
         Some("find") if second == Some(OUT) => find_asked(&mut words),
         Some("check") if second == Some(certificate) => check_asked(&mut words),

@@ -1,9 +1,10 @@
-// What is written for lines of code and for certificates, or why they are refused, and the words that texts give.
+// What is written for lines of code and for certificates, or why they are refused and where, and the words that texts give.
 use crate::files::wrong;
 use crate::judged_files::app_in;
-use fr_answer::{WordsFault, words_of};
+use fr_answer::{CheckFault, WordsFault, answer_fault, tell_place, words_of};
 use fr_cert::{CertFault, Path, read_cert, write_cert};
 use fr_instr::{names_of, read_line, write_line};
+use fr_judge::read_both;
 use fr_program::App;
 use std::alloc::{AllocError, Global};
 use std::io;
@@ -76,6 +77,28 @@ pub fn certificate_answer(alloc: Global, app: &str, text: &str) -> io::Result<St
         && written(alloc, &app, answer.as_str())?.as_str() != answer.as_str()
     {
         return Err(wrong("what is written for a certificate doesn't mean itself"));
+    }
+    Ok(answer)
+}
+
+/// Why the two texts are refused, and where: the lines that are told, with ` //` between them.
+pub fn refusal_answer(alloc: Global, app: &str, certificate: &str) -> io::Result<String> {
+    let (app, certificate) = (app.as_bytes(), certificate.as_bytes());
+    let fault = match read_both(alloc, app, certificate) {
+        Ok(_) => return Err(wrong("nothing is refused")),
+        Err(fault) => CheckFault::from(fault),
+    };
+    let mut told = Vec::new(alloc);
+    answer_fault(alloc, &fault, &mut told);
+    if tell_place(alloc, app, certificate, &mut told).is_err() {
+        return Err(wrong("there is no memory"));
+    }
+    let mut answer = String::new(alloc);
+    for line in String::from_utf8_lossy(alloc, told.as_slice())?.lines() {
+        if !answer.is_empty() {
+            answer.push_str(" //")?;
+        }
+        answer.push_str(line)?;
     }
     Ok(answer)
 }

@@ -1,0 +1,85 @@
+// The files that a command reads, and why one of them can't be read.
+ghost use Rattle.std.specs.Prelude.{◌≤◌};
+ghost use Rattle.fr_answer.specs.Checked.{most_bytes};
+
+use fr_answer::{CheckFault, LoadFault, answer_fault, load};
+use std::fs::File;
+use std::io;
+
+/// Why a command has no answer.
+#[derive(Drop)]
+pub enum Stopped {
+    /// A fault, of which nothing was printed.
+    Fault(CheckFault),
+    /// All that has to be said was printed; the exit status.
+    Told(u8),
+}
+
+impl From<CheckFault> for Stopped {
+    fn from(fault: CheckFault) -> Stopped {
+        Stopped::Fault(fault)
+    }
+}
+
+/// Why a file's bytes couldn't be had.
+#[derive(Drop)]
+enum Unread {
+    /// An allocation was refused.
+    Memory,
+    /// The file couldn't be opened.
+    Unopened(io::Error),
+    /// A read failed.
+    Device,
+}
+
+/// Whether an allocation was refused.
+pub fn is_memory(error: &io::Error) -> bool {
+    matches!(error.kind(), io::ErrorKind::OutOfMemory)
+}
+
+/// The file's bytes, at most one more than the limit.
+fn file_bytes(rt: &HostRuntime, path: &str, limit: usize) -> Result<Vec<u8>, Unread>
+    requires { limit ≤ most_bytes }
+{
+    let mut file = match File::open(rt, path) {
+        Ok(file) => file,
+        Err(error) if is_memory(&error) => return Err(Unread::Memory),
+        Err(error) => return Err(Unread::Unopened(error)),
+    };
+    match load(rt.alloc(), &mut file, limit) {
+        Ok(bytes) => Ok(bytes),
+        Err(LoadFault::Memory) => Err(Unread::Memory),
+        Err(LoadFault::Device) => Err(Unread::Device),
+    }
+}
+
+/// Prints that a file can't be read, which one, and why; gives the exit status.
+fn tell_unread(rt: &HostRuntime, path: &str, unread: &Unread) -> u8 {
+    let status = answer_fault(rt.alloc(), &CheckFault::Read, &mut rt.stderr());
+    let told = match unread {
+        Unread::Unopened(error) => eprintln!(rt; "  {path}: {error}"),
+        _ => eprintln!(rt; "  {path}: a read failed"),
+    };
+    match told {
+        Ok(()) => status,
+        Err(_) => answer_fault(rt.alloc(), &CheckFault::Write, &mut rt.stderr()),
+    }
+}
+
+/// The bytes of a file that a command reads, at most one more than the limit. If it can't be read, it is told
+/// which file it is and why, where the command `explains`.
+pub fn input(
+    rt: &HostRuntime,
+    path: &str,
+    limit: usize,
+    explains: bool,
+) -> Result<Vec<u8>, Stopped>
+    requires { limit ≤ most_bytes }
+{
+    match file_bytes(rt, path, limit) {
+        Ok(bytes) => Ok(bytes),
+        Err(Unread::Memory) => Err(Stopped::Fault(CheckFault::Memory)),
+        Err(unread) if explains => Err(Stopped::Told(tell_unread(rt, path, &unread))),
+        Err(_) => Err(Stopped::Fault(CheckFault::Read)),
+    }
+}

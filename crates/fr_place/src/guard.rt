@@ -1,0 +1,79 @@
+// Why a guard doesn't fit an application.
+use crate::certificate::push_json_value;
+use crate::note::{kind_named, kind_text};
+use crate::path::{inner_key, value_at};
+use crate::scope::Scope;
+use fr_cert::Step;
+use fr_program::Kind;
+use serde_json::Value;
+use std::alloc::AllocError;
+
+/// Appends the kind of the object with this name.
+fn push_kind(scope: &Scope, out: &mut String, name: &str, wanted: &str) -> Result<(), AllocError> {
+    match kind_named(scope, name) {
+        Some(kind) => {
+            let kind = kind_text(kind);
+            writeln!(out, "  {name} has the kind {kind}; wanted: {wanted}")
+        }
+        None => Ok(()),
+    }
+}
+
+/// Whether the object with this name is a stream or message buffer.
+fn is_buffer(scope: &Scope, name: &str) -> bool {
+    matches!(
+        kind_named(scope, name),
+        Some(Kind::Stream { .. } | Kind::Message { .. })
+    )
+}
+
+/// Whether the object with this name is a mutex.
+fn is_mutex(scope: &Scope, name: &str) -> bool {
+    matches!(kind_named(scope, name), Some(Kind::Mutex | Kind::Recursive))
+}
+
+/// The text in the value at this key.
+fn text_at<'a>(value: &'a Value, key: &str) -> &'a str {
+    match value.get(key) {
+        Some(found) => found.as_str().unwrap_or(""),
+        None => "",
+    }
+}
+
+/// Appends why the guard of an end doesn't fit.
+fn push_reason(scope: &Scope, out: &mut String, end: &Value) -> Result<(), AllocError> {
+    let buffer = text_at(end, "buffer");
+    if !is_buffer(scope, buffer) {
+        return push_kind(scope, out, buffer, "stream or message");
+    }
+    let Some(guard) = end.get("guard") else {
+        return Ok(());
+    };
+    let mutex = text_at(guard, "mutex");
+    if !mutex.is_empty() && !is_mutex(scope, mutex) {
+        return push_kind(scope, out, mutex, "mutex or recursive");
+    }
+    if guard.get("values").is_some() {
+        return out.push_str("  two actors have one value\n");
+    }
+    Ok(())
+}
+
+/// Appends why the guard to which the steps lead, or the value in it, isn't one of this application.
+pub(crate) fn push_guard(
+    scope: &Scope,
+    out: &mut String,
+    tree: &Value,
+    steps: &[Step],
+) -> Result<(), AllocError> {
+    let Some(value) = value_at(tree, steps) else {
+        return out.push('\n');
+    };
+    if inner_key(steps).is_some() {
+        out.push_str(": ")?;
+        push_json_value(scope.alloc, out, value)?;
+        return out.push_str("; wanted: a number of 64 bits with a sign\n");
+    }
+    out.push_str(": the guard doesn't fit the application\n")?;
+    push_reason(scope, out, value)
+}

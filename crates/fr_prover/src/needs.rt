@@ -1,0 +1,143 @@
+// What of each note the rest of an actor's code may need: the variables that it reads and the objects that it names, and
+// those by which actors may keep out of each other's way.
+use crate::place::{Place, changed_life, place_at, read, tested};
+use crate::table::Table;
+use fr_finder::points_before;
+use fr_program::{App, Call, Instr, ObjId};
+use std::alloc::{AllocError, Global};
+
+/// What may be needed of the notes.
+#[derive(Drop)]
+pub struct Needs {
+    /// By point and variable: whether its numbers there may be needed.
+    pub variables: Table,
+    /// By point and object: whether its life there may be needed.
+    pub objects: Table,
+}
+
+/// The object that an instruction names, if it names one.
+fn object_of(instr: &Instr) -> Option<ObjId> {
+    match instr {
+        Instr::Call(call) => call.object(),
+        _ => None,
+    }
+}
+
+/// The variable to which an instruction gives another number whatever happens, if there is one.
+fn overwritten(instr: &Instr) -> Option<usize> {
+    match instr {
+        Instr::Set { target, .. } | Instr::Pick { target, .. } => Some(target.0),
+        _ => None,
+    }
+}
+
+/// Makes it true in this place, if the list has it.
+fn mark(list: &mut Vec<bool>, place: usize) {
+    if let Some(cell) = list.get_mut(place) {
+        *cell = true;
+    }
+}
+
+/// Marks the variables that the instruction tests.
+fn mark_tested(list: &mut Vec<bool>, instr: &Instr) {
+    for variable in tested(instr) {
+        if let Some(variable) = variable {
+            mark(list, variable.0);
+        }
+    }
+}
+
+/// By variable: whether some line tests it.
+fn tested_somewhere(alloc: Global, app: &App) -> Result<Vec<bool>, AllocError> {
+    let mut list = vec![in alloc; false; app.variables().len()]?;
+    for number in 0..app.points() {
+        if let Some(place) = place_at(app, number) {
+            mark_tested(&mut list, place.instr);
+        }
+    }
+    Ok(list)
+}
+
+/// By object: whether some line creates or deletes it.
+fn changed_somewhere(alloc: Global, app: &App) -> Result<Vec<bool>, AllocError> {
+    let mut list = vec![in alloc; false; app.objects().len()]?;
+    for number in 0..app.points() {
+        if let Some(object) = place_at(app, number).and_then(|place| changed_life(place.instr)) {
+            mark(&mut list, object);
+        }
+    }
+    Ok(list)
+}
+
+impl Needs {
+    /// Marks what the instruction of the point needs.
+    fn mark_own(&mut self, place: Place, number: usize) {
+        for variable in read(place.instr) {
+            if let Some(variable) = variable {
+                self.variables.mark(number, variable.0);
+            }
+        }
+        if let Some(object) = object_of(place.instr) {
+            self.objects.mark(number, object.0);
+        }
+    }
+
+    /// Marks at a point what is needed at one that it leads to. Whether anything is new.
+    fn hand_back(&mut self, app: &App, source: usize, number: usize) -> bool {
+        let Some(place) = place_at(app, source) else {
+            return false;
+        };
+        let variables = self
+            .variables
+            .take(source, number, overwritten(place.instr));
+        let objects = self.objects.take(source, number, None);
+        variables || objects
+    }
+
+    /// What the instructions need by themselves, and at all points what may keep actors apart.
+    fn own(alloc: Global, app: &App) -> Result<Needs, AllocError> {
+        let mut needs = Needs {
+            variables: Table::repeated(alloc, app.points(), &tested_somewhere(alloc, app)?)?,
+            objects: Table::repeated(alloc, app.points(), &changed_somewhere(alloc, app)?)?,
+        };
+        for number in 0..app.points() {
+            if let Some(place) = place_at(app, number) {
+                needs.mark_own(place, number);
+            }
+        }
+        Ok(needs)
+    }
+
+    /// Marks at the points that lead to this one what is needed at it. Those at which anything is new wait.
+    fn hand_back_to_all(
+        &mut self,
+        app: &App,
+        sources: &[usize],
+        number: usize,
+        waiting: &mut Vec<usize>,
+    ) -> Result<(), AllocError> {
+        for source in sources {
+            if self.hand_back(app, *source, number) {
+                waiting.push(*source)?;
+            }
+        }
+        Ok(())
+    }
+
+    /// What may be needed at each point of the application: by its own instruction, or by one that the
+    /// actor may come to later.
+    pub fn of(alloc: Global, app: &App) -> Result<Needs, AllocError> {
+        let mut needs = Needs::own(alloc, app)?;
+        let sources = points_before(alloc, app)?;
+        let mut waiting: Vec<usize> = (0..app.points()).collect(alloc)?;
+        for _ in 0..u64::MAX {
+            let Some(number) = waiting.pop() else {
+                break;
+            };
+            if let Some(sources) = sources.get(number) {
+                needs.hand_back_to_all(app, sources, number, &mut waiting)?;
+            }
+        }
+        Ok(needs)
+    }
+}

@@ -1,0 +1,46 @@
+-- The states of what shows a part are well formed.
+use Rattle.std.proofs.Common.{◌≡◌, ◌<◌, List, length, get_or, Some, None, sym, subst, All}
+use Rattle.fr_program.specs.declared.ids.Point.{Point}
+use Rattle.fr_program.specs.Program.{Program}
+use Rattle.fr_calls.specs.State.{IsWellFormed, start}
+use Rattle.fr_ends.specs.Certificate.{Certificate}
+use Rattle.fr_judge.specs.declared.part.Part.{Part}
+use Rattle.fr_judge.specs.declared.part.Part.TheVariants.{Entry, Rule, Goes, Guard, Near, Spoiled}
+use Rattle.fr_witness.specs.declared.evidence.Witness.{Witness}
+use Rattle.fr_witness.specs.declared.evidence.Witness.TheVariants.{Start, Breaks, Leaves, Unguarded, Both}
+use Rattle.fr_witness.specs.Witness.{Shows}
+use Rattle.fr_report.specs.Told.{IsFormed}
+
+module _ (P : Program) (C : Certificate) (p : Point) where
+  pub formed_of : (part : Part) (w : Witness) → IsWellFormed P (start P) → Shows P C p part w → IsFormed P w
+  formed_of Entry (Start S) first s = subst (IsWellFormed P) (sym s.0) first
+  formed_of (Rule rule) (Breaks S) first s = s.0.formed
+  formed_of (Goes t) (Leaves steps) first (n, way, has, all, undone) = λ k d b. ((all k d b).2.formed, (all k d b).2.left)
+  formed_of (Guard e) (Unguarded None) first s = cc
+  formed_of (Guard e) (Unguarded (Some S)) first s = s.0.formed
+  formed_of (Near q) (Both S) first s = s.0.formed
+  formed_of (Spoiled q) (Leaves steps) first (n, m, way, has, hasm, all, undone) = λ k d b. ((all k d b).3.formed, (all k d b).3.left)
+  formed_of (Spoiled q) (Breaks S) first s = s.1.formed
+  formed_of Entry (Breaks _) _ s = elim s [ ]
+  formed_of Entry (Leaves _) _ s = elim s [ ]
+  formed_of Entry (Unguarded _) _ s = elim s [ ]
+  formed_of Entry (Both _) _ s = elim s [ ]
+  formed_of (Rule _) (Start _) _ s = elim s [ ]
+  formed_of (Rule _) (Leaves _) _ s = elim s [ ]
+  formed_of (Rule _) (Unguarded _) _ s = elim s [ ]
+  formed_of (Rule _) (Both _) _ s = elim s [ ]
+  formed_of (Goes _) (Start _) _ s = elim s [ ]
+  formed_of (Goes _) (Breaks _) _ s = elim s [ ]
+  formed_of (Goes _) (Unguarded _) _ s = elim s [ ]
+  formed_of (Goes _) (Both _) _ s = elim s [ ]
+  formed_of (Guard _) (Start _) _ s = elim s [ ]
+  formed_of (Guard _) (Breaks _) _ s = elim s [ ]
+  formed_of (Guard _) (Leaves _) _ s = elim s [ ]
+  formed_of (Guard _) (Both _) _ s = elim s [ ]
+  formed_of (Near _) (Start _) _ s = elim s [ ]
+  formed_of (Near _) (Breaks _) _ s = elim s [ ]
+  formed_of (Near _) (Leaves _) _ s = elim s [ ]
+  formed_of (Near _) (Unguarded _) _ s = elim s [ ]
+  formed_of (Spoiled _) (Start _) _ s = elim s [ ]
+  formed_of (Spoiled _) (Unguarded _) _ s = elim s [ ]
+  formed_of (Spoiled _) (Both _) _ s = elim s [ ]

@@ -1,0 +1,75 @@
+// A guard, in words.
+ghost use Rattle.fr_calls.specs.State.{IsWellFormed};
+
+use super::words::{put_critical, value_in, variable_name};
+use crate::shown::{actor_name, object_name};
+use fr_calls::State;
+use fr_ends::{EndName, Guard};
+use fr_program::{ActorId, App, VarId};
+use fr_witness::Subject;
+use std::alloc::AllocError;
+use std::collections::BTreeMap;
+
+/// What the guard names: its mutex or its variable.
+pub(super) fn guarded_by(guard: &Guard) -> Option<Subject> {
+    match guard {
+        Guard::Mutex(mutex) => Some(Subject::Object(*mutex)),
+        Guard::Turn(variable, _) => Some(Subject::Variable(*variable)),
+        Guard::Sole(_) | Guard::Critical => None,
+    }
+}
+
+/// Appends who has a turn at which value.
+fn put_turns(
+    text: &mut String,
+    app: &App,
+    variable: VarId,
+    values: &BTreeMap<ActorId, i64>,
+) -> Result<(), AllocError> {
+    text.push_str("the actor whose turn it is:")?;
+    let name = variable_name(app, variable);
+    for (actor, value) in values {
+        let who = actor_name(app, *actor);
+        write!(text, " {who} where {name} is {value}")?;
+    }
+    Ok(())
+}
+
+/// Appends who may be inside a call at the end of a buffer.
+pub(super) fn put_guard(text: &mut String, app: &App, guard: &Guard) -> Result<(), AllocError> {
+    match guard {
+        Guard::Sole(actor) => write!(text, "{} alone", actor_name(app, *actor)),
+        Guard::Mutex(mutex) => write!(text, "whoever holds {}", object_name(app, *mutex)),
+        Guard::Critical => text.push_str("whoever is in the critical section"),
+        Guard::Turn(variable, values) => put_turns(text, app, *variable, values),
+    }
+}
+
+/// Appends why the actor doesn't have the guard in the state.
+pub(super) fn put_unguarded(
+    text: &mut String,
+    app: &App,
+    guard: &Guard,
+    actor: ActorId,
+    state: &State,
+) -> Result<(), AllocError>
+    requires { IsWellFormed app.now state.now }
+{
+    let name = actor_name(app, actor);
+    match guard {
+        Guard::Sole(only) => write!(text, "{name} isn't {}", actor_name(app, *only)),
+        Guard::Mutex(mutex) => write!(text, "{name} doesn't hold {}", object_name(app, *mutex)),
+        Guard::Critical => put_critical(text, name, state.depth(actor)),
+        Guard::Turn(variable, _) => {
+            let (of, value) = (variable_name(app, *variable), value_in(app, state, *variable));
+            write!(text, "{of} is {value}, so that it isn't the turn of {name}")
+        }
+    }
+}
+
+/// Appends an end of a buffer.
+pub(super) fn put_end(text: &mut String, app: &App, end: EndName) -> Result<(), AllocError> {
+    let (buffer, side) = (object_name(app, end.buffer), end.end.text());
+    write!(text, "{buffer} {side}")
+}
+

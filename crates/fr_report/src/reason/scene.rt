@@ -1,0 +1,221 @@
+// What is shown of a state: the things that the notes, the step and the guard speak of.
+ghost use Rattle.std.specs.Prelude.{◌<◌, length};
+ghost use Rattle.fr_calls.specs.State.{IsWellFormed};
+
+use super::words::{fact, suspension_in};
+use fr_calls::State;
+use fr_notes::{Alternative, Claim, Note};
+use fr_program::{Act, ActorId, App, Attempt, Call, Instr, ObjId, ObjectCall, Operand, Point, VarId};
+use fr_witness::Subject;
+use std::alloc::{AllocError, Global};
+
+/// A point with its instruction and its note.
+#[derive(Clone, Copy)]
+pub(super) struct Site<'a> {
+    pub point: Point,
+    pub instr: &'a Instr,
+    pub note: &'a Note,
+}
+
+/// How much of a state is shown.
+#[derive(Clone, Copy, PartialEq, Eq)]
+pub enum Detail {
+    /// What the notes, the step and the guard speak of.
+    Told,
+    /// Every variable, every object and all depths.
+    Whole,
+}
+
+/// What states are shown for: one or two points, and perhaps a thing that a guard names.
+#[derive(Clone, Copy)]
+pub(super) struct Scene<'a> {
+    pub app: &'a App,
+    pub detail: Detail,
+    pub site: Site<'a>,
+    pub other: Option<Site<'a>>,
+    pub guarded: Option<Subject>,
+}
+
+/// Whether the operand is this variable.
+fn is_variable(operand: Operand, variable: VarId) -> bool {
+    match operand {
+        Operand::Number(_) => false,
+        Operand::Variable(x) => x.0 == variable.0,
+    }
+}
+
+/// Whether the call gives a value to the variable or sends its value.
+fn call_names(call: ObjectCall, variable: VarId) -> bool {
+    if call.act.written() == Some(variable) {
+        return true;
+    }
+    match call.act {
+        Act::Try {
+            attempt: Attempt::QueueSend(value),
+            ..
+        } => is_variable(value, variable),
+        _ => false,
+    }
+}
+
+/// Whether the instruction names the variable.
+fn names_variable(instr: &Instr, variable: VarId) -> bool {
+    match instr {
+        Instr::Set {
+            target,
+            left,
+            right,
+            ..
+        } => {
+            target.0 == variable.0 || is_variable(*left, variable) || is_variable(*right, variable)
+        }
+        Instr::If { left, right, .. } => {
+            is_variable(*left, variable) || is_variable(*right, variable)
+        }
+        Instr::Pick { target, .. } => target.0 == variable.0,
+        Instr::Call(Call::On(call)) => call_names(*call, variable),
+        _ => false,
+    }
+}
+
+/// Whether the instruction names the object.
+fn names_object(instr: &Instr, object: ObjId) -> bool {
+    match instr {
+        Instr::Call(call) => call.object() == Some(object),
+        _ => false,
+    }
+}
+
+/// Whether the alternative says something of the subject: more than that a depth is 0, that an object isn't
+/// held, or that a variable is in its declared range.
+pub(super) fn says_of(app: &App, says: &Alternative, subject: Subject) -> bool {
+    match subject {
+        Subject::Critical => says.critical() > 0,
+        Subject::Suspended => says.suspended() > 0,
+        Subject::Object(object) => says.claim(object) != Claim::NotHeld,
+        Subject::Variable(variable) => {
+            variable.0 < app.variables().len() && says.range(variable) != app.range(variable)
+        }
+    }
+}
+
+impl Site<'_> {
+    /// Whether the note or the instruction speaks of the subject.
+    fn speaks_of(&self, app: &App, subject: Subject) -> bool {
+        let named = match subject {
+            Subject::Critical | Subject::Suspended => false,
+            Subject::Object(object) => names_object(self.instr, object),
+            Subject::Variable(variable) => names_variable(self.instr, variable),
+        };
+        named
+            || self
+                .note
+                .alternatives()
+                .iter()
+                .any(|says| says_of(app, says, subject))
+    }
+}
+
+/// All things that a state has, for one actor: its depths, the objects and the variables.
+pub(super) fn subjects(alloc: Global, app: &App) -> Result<Vec<Subject>, AllocError> {
+    let mut subjects = Vec::new(alloc);
+    subjects.push(Subject::Critical)?;
+    subjects.push(Subject::Suspended)?;
+    for number in 0..app.objects().len() {
+        subjects.push(Subject::Object(ObjId(number)))?;
+    }
+    for number in 0..app.variables().len() {
+        subjects.push(Subject::Variable(VarId(number)))?;
+    }
+    Ok(subjects)
+}
+
+/// Appends an item of a list.
+pub(super) fn put_item(text: &mut String, item: &str) -> Result<(), AllocError> {
+    if !text.is_empty() {
+        text.push_str("; ")?;
+    }
+    text.push_str(item)
+}
+
+impl Scene<'_> {
+    /// Whether the subject is shown, for the actor of this site.
+    fn shows(&self, site: Site, state: &State, subject: Subject) -> bool
+        requires { IsWellFormed self.now.app.now state.now }
+    {
+        let (app, actor) = (self.app, site.point.actor);
+        let spoken = match subject {
+            Subject::Critical => state.depth(actor) > 0,
+            Subject::Suspended => suspension_in(app, state, actor) > 0,
+            Subject::Object(_) | Subject::Variable(_) => match self.other {
+                Some(other) => other.speaks_of(app, subject),
+                None => false,
+            },
+        };
+        spoken
+            || self.detail == Detail::Whole
+            || self.guarded == Some(subject)
+            || site.speaks_of(app, subject)
+    }
+
+    /// What is shown of a state for the actor of this site: its depths, and where `things` says so
+    /// objects and variables. An item of a list after the other.
+    fn put_shown(
+        &self,
+        alloc: Global,
+        text: &mut String,
+        site: Site,
+        state: &State,
+        things: bool,
+    ) -> Result<(), AllocError>
+        requires { IsWellFormed self.now.app.now state.now }
+    {
+        for subject in &subjects(alloc, self.app)? {
+            let is_thing = matches!(*subject, Subject::Object(_) | Subject::Variable(_));
+            if (things || !is_thing) && self.shows(site, state, *subject) {
+                put_item(text, &fact(alloc, self.app, site.point.actor, state, *subject)?)?;
+            }
+        }
+        Ok(())
+    }
+
+    /// What is shown of a state: a list, or `any` where nothing in it matters.
+    pub(super) fn shown(&self, alloc: Global, state: &State) -> Result<String, AllocError>
+        requires { IsWellFormed self.now.app.now state.now }
+    {
+        let mut text = String::new(alloc);
+        if let Some(other) = self.other {
+            if other.point.actor.0 != self.site.point.actor.0 {
+                self.put_shown(alloc, &mut text, other, state, false)?;
+            }
+        }
+        self.put_shown(alloc, &mut text, self.site, state, true)?;
+        if text.is_empty() {
+            text.push_str("any")?;
+        }
+        Ok(text)
+    }
+
+    /// What a step of this actor changed: a list of what is otherwise after it, with no item where it
+    /// changed nothing but the actor's place.
+    pub(super) fn changed(
+        &self,
+        alloc: Global,
+        actor: ActorId,
+        before: &State,
+        after: &State,
+    ) -> Result<String, AllocError>
+        requires before { IsWellFormed self.now.app.now before.now }
+        requires after { IsWellFormed self.now.app.now after.now }
+    {
+        let mut text = String::new(alloc);
+        for subject in &subjects(alloc, self.app)? {
+            let was = fact(alloc, self.app, actor, before, *subject)?;
+            let is = fact(alloc, self.app, actor, after, *subject)?;
+            if was != is {
+                put_item(&mut text, &is)?;
+            }
+        }
+        Ok(text)
+    }
+}

@@ -1,0 +1,268 @@
+// What a note says and what is so in a state, in words.
+ghost use Rattle.fr_calls.specs.State.{IsWellFormed};
+
+use crate::shown::{actor_name, object_name};
+use fr_calls::{Content, State, Stock};
+use fr_notes::{Alternative, Claim};
+use fr_program::{ActorId, App, Kind, ObjId, VarId};
+use fr_witness::Subject;
+use std::alloc::{AllocError, Global};
+use std::collections::VecDeque;
+
+/// The most values of a queue that are written out.
+const MOST_VALUES: usize = 8;
+
+/// The name of a variable of the application, or no text where there is none.
+pub(super) fn variable_name(app: &App, variable: VarId) -> &str {
+    match app.variables().get(variable.0) {
+        Some(variable) => variable.name.as_str(),
+        None => "",
+    }
+}
+
+/// The variable's value in the state; 0 where the application has no such variable.
+pub(super) fn value_in(app: &App, state: &State, variable: VarId) -> i64
+    requires { IsWellFormed app.now state.now }
+{
+    if variable.0 < app.variables().len() {
+        state.value(variable)
+    } else {
+        0
+    }
+}
+
+/// What the object has in the state; None where the application has no such object.
+pub(super) fn content_in<'a>(app: &App, state: &'a State, object: ObjId) -> Option<&'a Content>
+    requires { IsWellFormed app.now state.now }
+{
+    if object.0 < app.objects().len() {
+        Some(state.content(object))
+    } else {
+        None
+    }
+}
+
+/// How deep the actor has suspended the scheduler in the state.
+pub(super) fn suspension_in(app: &App, state: &State, actor: ActorId) -> u32
+    requires { IsWellFormed app.now state.now }
+{
+    if actor.0 < app.actors().len() {
+        state.suspension(actor)
+    } else {
+        0
+    }
+}
+
+/// What a person calls an object of this kind.
+pub(super) fn kind_name(kind: Kind) -> &'static str {
+    match kind {
+        Kind::Queue { .. } => "queue",
+        Kind::Binary => "binary semaphore",
+        Kind::Counting { .. } => "counting semaphore",
+        Kind::Mutex => "mutex",
+        Kind::Recursive => "recursive mutex",
+        Kind::Stream { .. } => "stream buffer",
+        Kind::Message { .. } => "message buffer",
+    }
+}
+
+/// Appends that an actor holds a mutex, so often.
+fn put_held(text: &mut String, actor: &str, object: &str, count: u32) -> Result<(), AllocError> {
+    match count {
+        0 => write!(text, "{actor} doesn't hold {object}"),
+        1 => write!(text, "{actor} holds {object} once"),
+        _ => write!(text, "{actor} holds {object} {count} times"),
+    }
+}
+
+/// Appends how deep an actor is in the critical section.
+pub(super) fn put_critical(text: &mut String, actor: &str, depth: u32) -> Result<(), AllocError> {
+    match depth {
+        0 => write!(text, "{actor} isn't in the critical section"),
+        _ => write!(text, "{actor} is in the critical section at depth {depth}"),
+    }
+}
+
+/// Appends how deep an actor has suspended the scheduler.
+pub(super) fn put_suspended(text: &mut String, actor: &str, depth: u32) -> Result<(), AllocError> {
+    match depth {
+        0 => write!(text, "{actor} hasn't suspended the scheduler"),
+        _ => write!(text, "{actor} has suspended the scheduler at depth {depth}"),
+    }
+}
+
+/// Appends a claim of an object.
+fn put_claim(
+    text: &mut String,
+    actor: &str,
+    object: &str,
+    claim: Claim,
+) -> Result<(), AllocError> {
+    match claim {
+        Claim::NotHeld => put_held(text, actor, object, 0),
+        Claim::Alive => write!(text, "{object} is live, and {actor} doesn't hold it"),
+        Claim::Gone => write!(text, "{object} is dead"),
+        Claim::HeldTimes(count) => put_held(text, actor, object, count),
+    }
+}
+
+/// Appends the numbers that a variable can have.
+pub(super) fn put_range(
+    text: &mut String,
+    name: &str,
+    lo: i128,
+    hi: i128,
+) -> Result<(), AllocError> {
+    if lo == hi {
+        write!(text, "{name} is {lo}")
+    } else {
+        write!(text, "{name} is from {lo} to {hi}")
+    }
+}
+
+/// Appends what an alternative of an actor's note says of something.
+pub(super) fn put_said(
+    text: &mut String,
+    app: &App,
+    actor: ActorId,
+    says: &Alternative,
+    subject: Subject,
+) -> Result<(), AllocError> {
+    let name = actor_name(app, actor);
+    match subject {
+        Subject::Critical => put_critical(text, name, u32::from(says.critical())),
+        Subject::Suspended => put_suspended(text, name, u32::from(says.suspended())),
+        Subject::Object(object) => {
+            put_claim(text, name, object_name(app, object), says.claim(object))
+        }
+        Subject::Variable(variable) => {
+            let range = says.range(variable);
+            put_range(text, variable_name(app, variable), range.lo, range.hi)
+        }
+    }
+}
+
+/// Appends what an object has, as an answer to a claim: that it is dead or live, or how often the actor
+/// holds it.
+fn put_against(
+    text: &mut String,
+    actor: ActorId,
+    name: &str,
+    object: &str,
+    content: &Content,
+    claim: Claim,
+) -> Result<(), AllocError> {
+    let count = content.count_held(actor);
+    if content.is_dead() {
+        write!(text, "{object} is dead")
+    } else if count == 0 && matches!(claim, Claim::Gone) {
+        write!(text, "{object} is live")
+    } else {
+        put_held(text, name, object, count)
+    }
+}
+
+/// Appends what is so of something, where an alternative of the actor's note says otherwise.
+pub(super) fn put_otherwise(
+    text: &mut String,
+    app: &App,
+    actor: ActorId,
+    says: &Alternative,
+    state: &State,
+    subject: Subject,
+) -> Result<(), AllocError>
+    requires { IsWellFormed app.now state.now }
+{
+    let name = actor_name(app, actor);
+    match subject {
+        Subject::Critical => put_critical(text, name, state.depth(actor)),
+        Subject::Suspended => put_suspended(text, name, suspension_in(app, state, actor)),
+        Subject::Object(object) => match content_in(app, state, object) {
+            Some(content) => {
+                let (of, claim) = (object_name(app, object), says.claim(object));
+                put_against(text, actor, name, of, content, claim)
+            }
+            None => Ok(()),
+        },
+        Subject::Variable(variable) => {
+            let value = i128::from(value_in(app, state, variable));
+            put_range(text, variable_name(app, variable), value, value)
+        }
+    }
+}
+
+/// Appends the values of a queue, the first one first, or how many they are where they are many.
+fn put_values(text: &mut String, values: &VecDeque<i64>) -> Result<(), AllocError> {
+    let count = values.len();
+    match count {
+        0 => return text.push_str("live, empty"),
+        1..=MOST_VALUES => text.push_str("live, with")?,
+        _ => return write!(text, "live, with {count} values"),
+    }
+    for value in values {
+        write!(text, " {value}")?;
+    }
+    Ok(())
+}
+
+/// Appends the lengths of the messages of a buffer, or how many they are where they are many.
+fn put_lengths(text: &mut String, lengths: &VecDeque<u32>) -> Result<(), AllocError> {
+    let count = lengths.len();
+    match count {
+        0 => return text.push_str("live, empty"),
+        1..=MOST_VALUES => text.push_str("live, with messages of")?,
+        _ => return write!(text, "live, with {count} messages"),
+    }
+    for length in lengths {
+        write!(text, " {length}")?;
+    }
+    text.push_str(" bytes")
+}
+
+/// Appends what an object has.
+fn put_stock(text: &mut String, app: &App, stock: &Stock) -> Result<(), AllocError> {
+    match stock {
+        Stock::Dead => text.push_str("dead"),
+        Stock::Values(values) => put_values(text, values),
+        Stock::Count(count) => write!(text, "live, at {count}"),
+        Stock::Free => text.push_str("live, free"),
+        Stock::Held { holder, count } => {
+            let (name, count) = (actor_name(app, *holder), *count);
+            match count {
+                1 => write!(text, "live, held by {name}"),
+                _ => write!(text, "live, held by {name} {count} times"),
+            }
+        }
+        Stock::Bytes(bytes) => write!(text, "live, with {bytes} bytes"),
+        Stock::Lengths(messages) => put_lengths(text, messages.lengths()),
+    }
+}
+
+/// What is so in the state of something, for this actor: an item of a list.
+pub(super) fn fact(
+    alloc: Global,
+    app: &App,
+    actor: ActorId,
+    state: &State,
+    subject: Subject,
+) -> Result<String, AllocError>
+    requires { IsWellFormed app.now state.now }
+{
+    let mut text = String::new(alloc);
+    let name = actor_name(app, actor);
+    match subject {
+        Subject::Critical => put_critical(&mut text, name, state.depth(actor))?,
+        Subject::Suspended => put_suspended(&mut text, name, suspension_in(app, state, actor))?,
+        Subject::Object(object) => {
+            write!(&mut text, "{} ", object_name(app, object))?;
+            if let Some(content) = content_in(app, state, object) {
+                put_stock(&mut text, app, content.stock())?;
+            }
+        }
+        Subject::Variable(variable) => {
+            let (of, value) = (variable_name(app, variable), value_in(app, state, variable));
+            write!(&mut text, "{of} = {value}")?;
+        }
+    }
+    Ok(text)
+}
