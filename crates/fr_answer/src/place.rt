@@ -48,7 +48,11 @@ pub fn tell_place<W: Write>(
 /// # Errors
 ///
 /// As those of `tell_place`.
-pub fn tell_app_place<W: Write>(alloc: Global, app: &[u8], writer: &mut W) -> Result<(), CheckFault> {
+pub fn tell_app_place<W: Write>(
+    alloc: Global,
+    app: &[u8],
+    writer: &mut W,
+) -> Result<(), CheckFault> {
     let text = match read_app(alloc, app) {
         Ok(_) => String::new(alloc),
         Err(fault) => place_of_app(alloc, app, &fault)?,

@@ -132,7 +132,13 @@ pub fn check_told<R: Threads + Wait + Sync, G: Gate>(
 {
     let reading = judge_reading(rt, alloc, app, certificate, workers, gate)?;
     let mut text = report(alloc, &reading.app, &reading.verdict)?;
-    let more = why(alloc, &reading.app, &reading.certificate, reading.verdict, detail)?;
+    let more = why(
+        alloc,
+        &reading.app,
+        &reading.certificate,
+        reading.verdict,
+        detail,
+    )?;
     text.push_str(&more)?;
     Ok(Told {
         status: status_of(&reading.verdict),

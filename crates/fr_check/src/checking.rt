@@ -59,7 +59,15 @@ fn explained<R: Threads + Wait + Sync>(
     asked: CheckRequest,
 ) -> Result<u8, CheckFault> {
     let workers = usize::from(asked.workers);
-    match check_told(threads, rt.alloc(), app, certificate, workers, &Open, asked.detail) {
+    match check_told(
+        threads,
+        rt.alloc(),
+        app,
+        certificate,
+        workers,
+        &Open,
+        asked.detail,
+    ) {
         Ok(told) => tell(&told, &mut rt.stdout()),
         Err(fault) => refused(rt, app, Some(certificate), &fault),
     }

@@ -68,12 +68,7 @@ fn tell_unread(rt: &HostRuntime, path: &str, unread: &Unread) -> u8 {
 
 /// The bytes of a file that a command reads, at most one more than the limit. If it can't be read, it is told
 /// which file it is and why, where the command `explains`.
-pub fn input(
-    rt: &HostRuntime,
-    path: &str,
-    limit: usize,
-    explains: bool,
-) -> Result<Vec<u8>, Stopped>
+pub fn input(rt: &HostRuntime, path: &str, limit: usize, explains: bool) -> Result<Vec<u8>, Stopped>
     requires { limit ≤ most_bytes }
 {
     match file_bytes(rt, path, limit) {

@@ -20,10 +20,10 @@ use fr_answer::{CheckFault, REFUSED, answer_fault};
 use listing::list_points;
 use proving::prove;
 use running::run;
+use std::env;
 use std::process::ExitCode;
 use std::sync::Wait;
 use std::thread::Threads;
-use std::env;
 use words::{Request, asked, matched};
 
 /// Refuses words that the usage message can't be printed for.

@@ -92,7 +92,11 @@ fn write_certificate(
     proved: &Proved,
 ) -> Result<(), CheckFault> {
     match out {
-        Some(path) if proved.told.status == DONE => write_file(rt, path, proved.certificate.as_str()),
+        Some(path) if proved.told.status == DONE => write_file(
+            rt,
+            path,
+            proved.certificate.as_str(),
+        ),
         _ => Ok(()),
     }
 }

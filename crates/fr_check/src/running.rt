@@ -86,7 +86,16 @@ fn explained<R: Threads + Wait + Sync>(
 ) -> Result<u8, CheckFault> {
     let polls = u64::from(asked.polls);
     let (alloc, detail) = (rt.alloc(), asked.detail);
-    match run_told(threads, alloc, app, certificate, polls, words, &Open, detail) {
+    match run_told(
+        threads,
+        alloc,
+        app,
+        certificate,
+        polls,
+        words,
+        &Open,
+        detail,
+    ) {
         Ok(told) => tell(&told, &mut rt.stdout()),
         Err(fault) => refused(rt, app, Some(certificate), &fault),
     }

@@ -84,7 +84,10 @@ fn words_and_what_is_said_to_them(rt: HostRuntime) {
             "A C 1000000 Some(\"8,x\") none",
         ),
         ("fr_check run A C --polls 0", "A C 0 None none"),
-        ("fr_check run A C --polls 1 --words ", "A C 1 Some(\"\") none"),
+        (
+            "fr_check run A C --polls 1 --words ",
+            "A C 1 Some(\"\") none",
+        ),
         (
             "fr_check run A C --polls 1000001",
             "2 error: invalid value '1000001'",

@@ -10,7 +10,12 @@ use fr_program::{App, Point};
 use std::alloc::{AllocError, Global};
 
 /// The line of code at a point.
-pub(crate) fn code_text(alloc: Global, app: &App, names: &Names, point: Point) -> Result<String, AllocError>
+pub(crate) fn code_text(
+    alloc: Global,
+    app: &App,
+    names: &Names,
+    point: Point,
+) -> Result<String, AllocError>
     requires { names.now ≡ names_in app.now }
     ensures { IfOk result (λ text. string_bytes text ≡ code_text app.now point) }
 {

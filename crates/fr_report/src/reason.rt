@@ -14,8 +14,6 @@ mod scene;
 mod steps;
 mod words;
 
-pub use scene::Detail;
-
 use crate::shown::actor_name;
 use fr_calls::{Rule, State, the_start_is_well_formed};
 use fr_ends::{Certificate, EndName};
@@ -26,6 +24,7 @@ use guards::{guarded_by, put_end, put_guard, put_unguarded};
 use notes::{put_broken, put_note, rival_of, site_of};
 use places::{put_place, put_places, put_standing};
 use rules::put_breach;
+pub use scene::Detail;
 use scene::{Scene, Site};
 use std::alloc::{AllocError, Global};
 use steps::put_outcome;
@@ -169,7 +168,14 @@ fn put_start(
 {
     put_state(alloc, text, scene, "the start", state)?;
     let site = scene.site;
-    put_broken(text, scene.app, "its note", site.point.actor, site.note, state)
+    put_broken(
+        text,
+        scene.app,
+        "its note",
+        site.point.actor,
+        site.note,
+        state,
+    )
 }
 
 /// Appends a state in which the actor breaches a rule, and what it is that the rule forbids.

@@ -119,7 +119,16 @@ fn check<R: Threads + Wait + Sync>(
         Err(fault) => return answer_fault(alloc, &fault, stderr),
     };
     let status = match told.detail {
-        None => answer_check(threads, alloc, app, certificate, workers, &Open, stdout, stderr),
+        None => answer_check(
+            threads,
+            alloc,
+            app,
+            certificate,
+            workers,
+            &Open,
+            stdout,
+            stderr,
+        ),
         detail => said(
             alloc,
             &check_told(threads, alloc, app, certificate, workers, &Open, detail),
@@ -171,7 +180,16 @@ fn run<R: Threads + Wait + Sync>(
         ),
         detail => said(
             alloc,
-            &run_told(threads, alloc, app, certificate, polls, words, &Open, detail),
+            &run_told(
+                threads,
+                alloc,
+                app,
+                certificate,
+                polls,
+                words,
+                &Open,
+                detail,
+            ),
             stdout,
             stderr,
         ),
@@ -274,7 +292,10 @@ impl Call {
         let (out, err) = (&mut stdout, &mut stderr);
         let (status, written) = match asked {
             Asked::Check { workers, told } => {
-                (check(threads, alloc, files, *workers, *told, out, err), None)
+                (
+                    check(threads, alloc, files, *workers, *told, out, err),
+                    None,
+                )
             }
             Asked::Prove {
                 workers,
@@ -288,9 +309,7 @@ impl Call {
                 let turns = (*polls, words.as_deref());
                 (run(threads, alloc, files, turns, *told, out, err), None)
             }
-            Asked::Find { rounds, told } => {
-                find(threads, alloc, app, *rounds, *told, out, err)
-            }
+            Asked::Find { rounds, told } => { find(threads, alloc, app, *rounds, *told, out, err) }
             Asked::Points { told } => (points(alloc, app, *told, out, err), None),
         };
         Call {

@@ -61,7 +61,10 @@ pub(super) fn put_unguarded(
         Guard::Mutex(mutex) => write!(text, "{name} doesn't hold {}", object_name(app, *mutex)),
         Guard::Critical => put_critical(text, name, state.depth(actor)),
         Guard::Turn(variable, _) => {
-            let (of, value) = (variable_name(app, *variable), value_in(app, state, *variable));
+            let (of, value) = (
+                variable_name(app, *variable),
+                value_in(app, state, *variable),
+            );
             write!(text, "{of} is {value}, so that it isn't the turn of {name}")
         }
     }
@@ -72,4 +75,3 @@ pub(super) fn put_end(text: &mut String, app: &App, end: EndName) -> Result<(), 
     let (buffer, side) = (object_name(app, end.buffer), end.end.text());
     write!(text, "{buffer} {side}")
 }
-

@@ -16,7 +16,11 @@ use fr_witness::claim_broken;
 use std::alloc::{AllocError, Global};
 
 /// The site of a point; None where the application has no such point.
-pub(super) fn site_of<'a>(app: &'a App, certificate: &'a Certificate, point: Point) -> Option<Site<'a>>
+pub(super) fn site_of<'a>(
+    app: &'a App,
+    certificate: &'a Certificate,
+    point: Point,
+) -> Option<Site<'a>>
     requires { CertificateFits app.now certificate.now }
     ensures { IfSome result (λ s. (s.point ≡ point) × IsSite app.now s) }
 {

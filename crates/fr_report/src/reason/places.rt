@@ -18,7 +18,11 @@ pub(super) fn put_place(
 ) -> Result<(), AllocError> {
     let names = names_of(alloc, app)?;
     let code = code_text(alloc, app, &names, point)?;
-    let (actor, pc, side) = (actor_name(app, point.actor), point.pc, side_name(point.side));
+    let (actor, pc, side) = (
+        actor_name(app, point.actor),
+        point.pc,
+        side_name(point.side),
+    );
     write!(text, "{actor} {pc} {side}: {code}")
 }
 

@@ -7,7 +7,8 @@ use super::words::{
 use crate::shown::{actor_name, object_name};
 use fr_calls::{Rule, State};
 use fr_program::{
-    Act, ActorId, App, Attempt, Call, Instr, Kind, ObjId, ObjectCall, Operand, Operator, Range, VarId,
+    Act, ActorId, App, Attempt, Call, Instr, Kind, ObjId, ObjectCall, Operand, Operator, Range,
+    VarId,
 };
 use std::alloc::AllocError;
 
@@ -31,17 +32,15 @@ fn result_of(operator: Operator, left: i64, right: i64) -> Range {
 }
 
 /// Appends the value that a `set` gives, and the range that it isn't in.
-fn put_set(
-    text: &mut String,
-    app: &App,
-    variable: VarId,
-    value: Range,
-) -> Result<(), AllocError> {
+fn put_set(text: &mut String, app: &App, variable: VarId, value: Range) -> Result<(), AllocError> {
     let Some(declared) = app.variables().get(variable.0) else {
         return Ok(());
     };
     let (name, lo, hi, value) = (&declared.name, declared.lo, declared.hi, value.lo);
-    write!(text, "{name} would be {value}, and its range is {lo} to {hi}")
+    write!(
+        text,
+        "{name} would be {value}, and its range is {lo} to {hi}"
+    )
 }
 
 /// Appends the value that is sent to a queue, and the range that it isn't in.
@@ -52,7 +51,10 @@ fn put_sent(text: &mut String, app: &App, object: ObjId, value: i64) -> Result<(
     let name = &declared.name;
     match declared.kind {
         Kind::Queue { lo, hi, .. } => {
-            write!(text, "the value is {value}, and the range of {name} is {lo} to {hi}")
+            write!(
+                text,
+                "the value is {value}, and the range of {name} is {lo} to {hi}"
+            )
         }
         _ => Ok(()),
     }
@@ -69,19 +71,24 @@ fn put_out(text: &mut String, app: &App, instr: &Instr, state: &State) -> Result
             operator,
             right,
         } => {
-            let (left, right) = (operand_in(app, state, *left), operand_in(app, state, *right));
+            let (left, right) = (
+                operand_in(app, state, *left),
+                operand_in(app, state, *right),
+            );
             put_set(text, app, *target, result_of(*operator, left, right))
         }
-        Instr::Call(Call::On(
-            ObjectCall {
-                object,
-                act: Act::Try {
-                    attempt: Attempt::QueueSend(value),
+        Instr::Call(
+            Call::On(
+                ObjectCall {
+                    object,
+                    act: Act::Try {
+                        attempt: Attempt::QueueSend(value),
+                        ..
+                    },
                     ..
                 },
-                ..
-            },
-        )) => put_sent(text, app, *object, operand_in(app, state, *value)),
+            ),
+        ) => put_sent(text, app, *object, operand_in(app, state, *value)),
         _ => Ok(()),
     }
 }

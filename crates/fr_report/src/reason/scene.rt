@@ -5,7 +5,9 @@ ghost use Rattle.fr_calls.specs.State.{IsWellFormed};
 use super::words::{fact, suspension_in};
 use fr_calls::State;
 use fr_notes::{Alternative, Claim, Note};
-use fr_program::{Act, ActorId, App, Attempt, Call, Instr, ObjId, ObjectCall, Operand, Point, VarId};
+use fr_program::{
+    Act, ActorId, App, Attempt, Call, Instr, ObjId, ObjectCall, Operand, Point, VarId,
+};
 use fr_witness::Subject;
 use std::alloc::{AllocError, Global};
 
@@ -173,7 +175,10 @@ impl Scene<'_> {
         for subject in &subjects(alloc, self.app)? {
             let is_thing = matches!(*subject, Subject::Object(_) | Subject::Variable(_));
             if (things || !is_thing) && self.shows(site, state, *subject) {
-                put_item(text, &fact(alloc, self.app, site.point.actor, state, *subject)?)?;
+                put_item(
+                    text,
+                    &fact(alloc, self.app, site.point.actor, state, *subject)?,
+                )?;
             }
         }
         Ok(())

@@ -14,12 +14,7 @@ fn attempt_name(attempt: Attempt) -> &'static str {
 }
 
 /// Appends how many bytes a call on a buffer moved.
-fn put_moved(
-    text: &mut String,
-    end: End,
-    kind: BufferKind,
-    choice: i64,
-) -> Result<(), AllocError> {
+fn put_moved(text: &mut String, end: End, kind: BufferKind, choice: i64) -> Result<(), AllocError> {
     let verb = match end {
         End::Writer => "sent",
         End::Reader => "received",

@@ -92,12 +92,7 @@ pub(super) fn put_suspended(text: &mut String, actor: &str, depth: u32) -> Resul
 }
 
 /// Appends a claim of an object.
-fn put_claim(
-    text: &mut String,
-    actor: &str,
-    object: &str,
-    claim: Claim,
-) -> Result<(), AllocError> {
+fn put_claim(text: &mut String, actor: &str, object: &str, claim: Claim) -> Result<(), AllocError> {
     match claim {
         Claim::NotHeld => put_held(text, actor, object, 0),
         Claim::Alive => write!(text, "{object} is live, and {actor} doesn't hold it"),
