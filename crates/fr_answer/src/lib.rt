@@ -2,7 +2,7 @@
 // file, `check_with` judges and writes the report, and `answer_check` is the whole of it: the program and the worked
 // rows both call it, and its contract says what an exit status means. `answer_run` is the same of a run, whose words
 // `words_of` reads. `find_bytes` finds a certificate and `tell_found` says so. `prove_bytes` works one out and judges it.
-// `check_told` and `run_told` give what has to be said, with why a verdict is no, and `tell` says it; `warn` tells what a
+// `refute_bytes` looks for a run into a breach. `check_told` and `run_told` give what has to be said, with why a verdict is no, and `tell` says it; `warn` tells what a
 // verdict may hide, and `tell_place` where a refusal is. `answer_points` lists the points of an application.
 #![tactic(auto)]
 
@@ -16,6 +16,7 @@ mod layout;
 mod place;
 mod points;
 mod proving;
+mod refuting;
 mod running;
 mod telling;
 mod warning;
@@ -33,6 +34,7 @@ pub use fr_report::Detail;
 pub use place::{tell_app_place, tell_place};
 pub use points::{answer_points, points_to};
 pub use proving::{Proved, is_replaceable, prove_bytes};
+pub use refuting::refute_bytes;
 pub use running::{answer_run, run_to, run_told};
 pub use telling::{Told, check_told, tell};
 pub use warning::warn;

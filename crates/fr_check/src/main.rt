@@ -7,6 +7,7 @@ mod files;
 mod finding;
 mod listing;
 mod proving;
+mod refuting;
 mod running;
 #[cfg(test)]
 mod tests;
@@ -19,6 +20,7 @@ use finding::find;
 use fr_answer::{CheckFault, REFUSED, answer_fault};
 use listing::list_points;
 use proving::prove;
+use refuting::refute;
 use running::run;
 use std::env;
 use std::process::ExitCode;
@@ -61,6 +63,7 @@ fn answer<R: Threads + Wait + Sync>(rt: &HostRuntime, threads: &R) -> Result<u8,
             Some(Request::Find(asked)) => find(rt, threads, asked),
             Some(Request::Prove(asked)) => prove(rt, threads, asked),
             Some(Request::Points { app, explains }) => list_points(rt, app, explains),
+            Some(Request::Refute(asked)) => refute(rt, asked),
             Some(Request::Run(asked)) => run(rt, threads, asked),
             None => Ok(refuse_words(rt)?),
         },

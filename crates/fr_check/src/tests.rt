@@ -15,7 +15,7 @@ fn detail_word(detail: Option<Detail>) -> &'static str {
 
 /// What the words of this line ask for, each with what it explains: of `check` the files, the workers and whether
 /// it warns, of `find` the files and the rounds, of `prove` the file, the certificate's file, the workers and
-/// whether it warns, of `points` the file, of `run` the files, the polls and the words. Where the words don't
+/// whether it warns, of `refute` the file and the states, of `points` the file, of `run` the files, the polls and the words. Where the words don't
 /// match, the exit status and the usage message.
 fn answer_to(alloc: Global, line: &str) -> Result<String, AllocError> {
     let mut words = Vec::new(alloc);
@@ -40,6 +40,10 @@ fn answer_to(alloc: Global, line: &str) -> Result<String, AllocError> {
             }
             Some(Request::Points { app, explains }) => {
                 format!(in alloc; "the points of {app} {explains}")
+            }
+            Some(Request::Refute(refute)) => {
+                let (app, states) = (refute.app, refute.states);
+                format!(in alloc; "{app} {states} {}", refute.explains)
             }
             Some(Request::Run(run)) => {
                 let (app, certificate, polls) = (run.app, run.certificate, run.polls);
@@ -100,6 +104,16 @@ fn words_and_what_is_said_to_them(rt: HostRuntime) {
         (
             "fr_check prove A --certificate C --workers 64",
             "A Some(\"C\") 64 false none",
+        ),
+        ("fr_check refute A", "A 1000000 false"),
+        (
+            "fr_check refute A --states 100000000 --explain",
+            "A 100000000 true",
+        ),
+        ("fr_check refute A --states 0", "2 error: invalid value '0'"),
+        (
+            "fr_check refute A --states 100000001",
+            "2 error: invalid value '100000001'",
         ),
         ("fr_check prove A C", "2 error: unexpected argument"),
         ("fr_check points A", "the points of A false"),

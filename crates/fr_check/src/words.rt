@@ -3,6 +3,7 @@ use crate::checking::{CheckRequest, asked_check, check_command};
 use crate::finding::{FindRequest, asked_find, find_command};
 use crate::listing::points_command;
 use crate::proving::{ProveRequest, asked_prove, prove_command};
+use crate::refuting::{RefuteRequest, asked_refute, refute_command};
 use crate::running::{RunRequest, asked_run, run_command};
 use clap::{Arg, ArgAction, ArgMatches, Command, Error, value_parser};
 use std::alloc::{AllocError, Global};
@@ -31,6 +32,8 @@ pub enum Request<'a> {
         /// Whether it is told where a refusal is.
         explains: bool,
     },
+    /// A run of the application into a breach.
+    Refute(RefuteRequest<'a>),
     /// A run of the application.
     Run(RunRequest<'a>),
 }
@@ -86,7 +89,7 @@ pub fn all_arg<'a>(alloc: Global) -> Arg<'a> {
         .help("The same as --explain, with whole states and a line for each point that fails")
 }
 
-/// The whole command line, with its five commands.
+/// The whole command line, with its six commands.
 fn command<'a>(alloc: Global) -> Result<Command<'a>, AllocError> {
     Command::new(alloc, NAME)
         .version("0.1.0")
@@ -97,6 +100,7 @@ fn command<'a>(alloc: Global) -> Result<Command<'a>, AllocError> {
         .arg_required_else_help(true)
         .subcommand(prove_command(alloc)?)?
         .subcommand(check_command(alloc)?)?
+        .subcommand(refute_command(alloc)?)?
         .subcommand(find_command(alloc)?)?
         .subcommand(points_command(alloc)?)?
         .subcommand(run_command(alloc)?)
@@ -119,6 +123,7 @@ pub fn asked<'a>(matches: &ArgMatches<'a>) -> Option<Request<'a>> {
             app: words.get_str("APP")?,
             explains: words.get_flag("explain"),
         }),
+        "refute" => Some(Request::Refute(asked_refute(&words)?)),
         "run" => Some(Request::Run(asked_run(&words)?)),
         _ => None,
     }

@@ -1,4 +1,5 @@
 pub mod Listing
+pub mod Refuted
 pub mod Report
 pub mod Shown
 pub mod Told

@@ -6,6 +6,7 @@
 
 mod listing;
 mod reason;
+mod refuting;
 mod shown;
 mod text;
 mod trace;
@@ -13,6 +14,7 @@ mod warnings;
 
 pub use listing::points_text;
 pub use reason::{Detail, explanation};
+pub use refuting::finding_text;
 pub use text::report;
 pub use trace::trace_text;
 pub use warnings::warnings_text;

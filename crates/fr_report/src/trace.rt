@@ -8,7 +8,7 @@ use fr_runner::{Entry, Trace};
 use std::alloc::{AllocError, Global};
 
 /// Appends the line of an entry.
-fn put_entry(text: &mut String, app: &App, entry: Entry) -> Result<(), AllocError>
+pub(crate) fn put_entry(text: &mut String, app: &App, entry: Entry) -> Result<(), AllocError>
     ensures { OnOk result (string_bytes text.new ≡ string_bytes text.old ++ entry_text app.now entry) }
 {
     match entry {

@@ -6,8 +6,8 @@ use crate::row::{Asked, Told};
 use fr_answer::{
     CheckFault, DONE, Detail, Found, MOST_APP_BYTES, MOST_CERTIFICATE_BYTES, NO, Proved, REFUSED,
     WordsFault, answer_check, answer_fault, answer_points, answer_run, answer_words, check_told,
-    find_bytes, load, prove_bytes, run_told, tell, tell_app_place, tell_found, tell_place, warn,
-    words_of,
+    find_bytes, load, prove_bytes, refute_bytes, run_told, tell, tell_app_place, tell_found,
+    tell_place, warn, words_of,
 };
 use fr_parallel::Open;
 use std::alloc::{AllocError, Global};
@@ -262,6 +262,23 @@ fn prove<R: Threads + Wait + Sync>(
     }
 }
 
+/// What `refute` writes and answers to this file.
+fn refute(
+    alloc: Global,
+    app: Option<&[u8]>,
+    states: usize,
+    told: Told,
+    stdout: &mut Vec<u8>,
+    stderr: &mut Vec<u8>,
+) -> u8 {
+    let app = &match file_bytes(alloc, app, MOST_APP_BYTES) {
+        Ok(app) => app,
+        Err(fault) => return answer_fault(alloc, &fault, stderr),
+    };
+    let status = said(alloc, &refute_bytes(alloc, app, states), stdout, stderr);
+    placed(alloc, (app, None), told, status, stderr)
+}
+
 /// What `points` writes and answers to this file.
 fn points(
     alloc: Global,
@@ -310,6 +327,9 @@ impl Call {
                 (run(threads, alloc, files, turns, *told, out, err), None)
             }
             Asked::Find { rounds, told } => { find(threads, alloc, app, *rounds, *told, out, err) }
+            Asked::Refute { states, told } => {
+                (refute(alloc, app, *states, *told, out, err), None)
+            }
             Asked::Points { told } => (points(alloc, app, *told, out, err), None),
         };
         Call {

@@ -5,7 +5,7 @@
 // cert.json    the certificate
 // args         the words, one a line: a check of both files, by so many workers; a run of so many polls with these words; a
 //              search, in so many rounds, for a certificate that goes to out.json; a proof, by so many workers, whose
-//              certificate goes to out.json where that is named; or the points of the application; and at last what else
+//              certificate goes to out.json where that is named; a run into a breach, by so many states; or the points of the application; and at last what else
 //              is told: --warn, --explain, --all
 // stdout       what has to be written to standard output
 // stderr       what has to be written to standard error
@@ -32,6 +32,8 @@ const OUT: &str = "out.json";
 const DEFAULT_WORKERS: usize = 4;
 
 const DEFAULT_ROUNDS: usize = 64;
+
+const DEFAULT_STATES: usize = 1_000_000;
 
 /// A file that the program reads.
 #[derive(Clone, Copy)]
@@ -79,6 +81,11 @@ pub enum Asked {
     Prove {
         workers: usize,
         kept: bool,
+        told: Told,
+    },
+    /// A run into a breach, by at most so many states.
+    Refute {
+        states: usize,
         told: Told,
     },
     /// The points of the application.
@@ -260,6 +267,17 @@ fn find_asked(words: &mut Lines) -> io::Result<Asked> {
     Ok(Asked::Find { rounds, told })
 }
 
+/// The rest of the words of a search for a breach: the number of states, and what else is told. The first of
+/// them was taken.
+fn refute_asked<'a>(first: Option<&'a str>, words: &mut Lines<'a>) -> io::Result<Asked> {
+    let (states, next) = match first {
+        Some("--states") => (number(words.next())?, words.next()),
+        next => (DEFAULT_STATES, next),
+    };
+    let told = told_asked(next, words)?;
+    Ok(Asked::Refute { states, told })
+}
+
 /// What the words ask of the application and of the certificate in the file with this name.
 fn asked_in(alloc: Global, words: &str, certificate: &str) -> io::Result<Asked> {
     let mut words = words.lines();
@@ -273,6 +291,7 @@ fn asked_in(alloc: Global, words: &str, certificate: &str) -> io::Result<Asked> 
             told: told_asked(second, &mut words)?,
         }),
         Some("prove") => prove_asked(second, &mut words),
+        Some("refute") => refute_asked(second, &mut words),
         Some("find") if second == Some(OUT) => find_asked(&mut words),
         Some("check") if second == Some(certificate) => check_asked(&mut words),
         Some("run") if second == Some(certificate) => run_asked(alloc, &mut words),

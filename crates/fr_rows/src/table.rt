@@ -4,7 +4,7 @@
 // args      what is asked of each case, a word: `own`, `guarded`, `near`, `spoiler`, `implies` and `together` ask of one point
 //           or two; `index` asks for a list of the application's index; `certificate` what is written for a certificate or
 //           why it is refused; `line` the same for a line of code; `words` the words of a run that a text gives; `refusal` why
-//           the two texts are refused and where, with ` //` between the lines
+//           the two texts are refused and where, with ` //` between the lines; `refute` the run into a breach that is found, likewise
 // app.toml  the application, with a `?` in the place of each text that a case gives
 // cert.json the certificate, likewise
 // cases     the cases, one a line: the numbers of the points, where points are asked about, or the list; then the texts that are put into
@@ -15,7 +15,7 @@ use crate::filling::filled;
 use crate::index_lists::list_answer;
 use crate::judged_files::Files;
 use crate::points::{Asked, answer_at};
-use crate::texts::{certificate_answer, line_answer, refusal_answer, words_answer};
+use crate::texts::{certificate_answer, line_answer, refusal_answer, refute_answer, words_answer};
 use std::alloc::Global;
 use std::io;
 
@@ -30,6 +30,7 @@ enum Subject {
     Line,
     Words,
     Refusal,
+    Refute,
 }
 
 /// A question, and the answer that it has to get.
@@ -62,6 +63,7 @@ fn subject_named(word: &str) -> io::Result<Subject> {
         "line" => Ok(Subject::Line),
         "words" => Ok(Subject::Words),
         "refusal" => Ok(Subject::Refusal),
+        "refute" => Ok(Subject::Refute),
         _ => Err(wrong("its word is none that a table has")),
     }
 }
@@ -143,6 +145,10 @@ impl Table {
             Subject::Refusal => {
                 let (app, certificate) = self.files(alloc, Some(question))?;
                 refusal_answer(alloc, app.as_str(), certificate.as_str())
+            }
+            Subject::Refute => {
+                let (app, _) = self.files(alloc, Some(question))?;
+                refute_answer(alloc, app.as_str())
             }
             Subject::Points(asked) => {
                 let (numbers, texts) = match question.split_once(BETWEEN) {

@@ -1,13 +1,16 @@
 // What is written for lines of code and for certificates, or why they are refused and where, and the words that texts give.
 use crate::files::wrong;
 use crate::judged_files::app_in;
-use fr_answer::{CheckFault, WordsFault, answer_fault, tell_place, words_of};
+use fr_answer::{CheckFault, WordsFault, answer_fault, refute_bytes, tell_place, words_of};
 use fr_cert::{CertFault, Path, read_cert, write_cert};
 use fr_instr::{names_of, read_line, write_line};
 use fr_judge::read_both;
 use fr_program::App;
 use std::alloc::{AllocError, Global};
 use std::io;
+
+/// The most states that are looked at for a breach.
+const MOST_STATES: usize = 10_000;
 
 /// The words with commas between them, or `refused`.
 pub fn words_answer(alloc: Global, text: &str) -> io::Result<String> {
@@ -81,6 +84,18 @@ pub fn certificate_answer(alloc: Global, app: &str, text: &str) -> io::Result<St
     Ok(answer)
 }
 
+/// The lines of the text, with ` //` between them.
+fn joined(alloc: Global, text: &str) -> Result<String, AllocError> {
+    let mut joined = String::new(alloc);
+    for line in text.lines() {
+        if !joined.is_empty() {
+            joined.push_str(" //")?;
+        }
+        joined.push_str(line)?;
+    }
+    Ok(joined)
+}
+
 /// Why the two texts are refused, and where: the lines that are told, with ` //` between them.
 pub fn refusal_answer(alloc: Global, app: &str, certificate: &str) -> io::Result<String> {
     let (app, certificate) = (app.as_bytes(), certificate.as_bytes());
@@ -93,12 +108,14 @@ pub fn refusal_answer(alloc: Global, app: &str, certificate: &str) -> io::Result
     if tell_place(alloc, app, certificate, &mut told).is_err() {
         return Err(wrong("there is no memory"));
     }
-    let mut answer = String::new(alloc);
-    for line in String::from_utf8_lossy(alloc, told.as_slice())?.lines() {
-        if !answer.is_empty() {
-            answer.push_str(" //")?;
-        }
-        answer.push_str(line)?;
+    let text = String::from_utf8_lossy(alloc, told.as_slice())?;
+    Ok(joined(alloc, text.as_str())?)
+}
+
+/// The run into a breach that is found for the application in this text, with ` //` between the lines.
+pub fn refute_answer(alloc: Global, app: &str) -> io::Result<String> {
+    match refute_bytes(alloc, app.as_bytes(), MOST_STATES) {
+        Ok(told) => Ok(joined(alloc, told.text.as_str())?),
+        Err(_) => Err(wrong("the application is refused, or there is no memory")),
     }
-    Ok(answer)
 }

@@ -38,7 +38,7 @@ fn place_in(app: &App, state: &State, actor: ActorId) -> Place
 }
 
 /// Appends where the actor stands in the state, with its line of code.
-pub(super) fn put_standing(
+pub(crate) fn put_standing(
     alloc: Global,
     text: &mut String,
     app: &App,

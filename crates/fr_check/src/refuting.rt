@@ -1,0 +1,64 @@
+// The command `refute`: its words, and what the program does for it.
+use crate::explaining::refused;
+use crate::files::{Stopped, input};
+use crate::words::{NAME, file_arg, place_arg};
+use clap::{Arg, ArgMatches, Command, value_parser};
+use fr_answer::{MOST_APP_BYTES, refute_bytes, tell};
+use std::alloc::{AllocError, Global};
+
+const STATUSES: &str = "Exit status:
+  0  No state of any run breaches a rule
+  1  A run into a breach was printed, or none was found and more states are left
+  2  The words or the application are refused
+  3  The machine failed: no memory, or a file that can't be read or written";
+
+/// A search for a breach that the command line asks for.
+#[derive(Clone, Copy)]
+pub struct RefuteRequest<'a> {
+    pub app: &'a str,
+    /// The most states that are kept.
+    pub states: u32,
+    /// Whether it is told where a refusal is.
+    pub explains: bool,
+}
+
+/// The word `--states` with its number.
+fn states_arg<'a>(alloc: Global) -> Arg<'a> {
+    Arg::new(alloc, "states")
+        .long("states")
+        .value_name("N")
+        .value_parser(value_parser!(u32).range(1..=100_000_000))
+        .default_value("1000000")
+        .help("The most states that are looked at, 1 to 100000000")
+}
+
+/// The command `refute`: its words, its help and its exit statuses.
+pub fn refute_command<'a>(alloc: Global) -> Result<Command<'a>, AllocError> {
+    Command::new(alloc, "refute")
+        .display_name(NAME)?
+        .about("Looks for a run of an application into a breach of a rule, shortest first")
+        .after_help(STATUSES)
+        .arg(file_arg(alloc, "APP", "The application, in TOML"))?
+        .arg(states_arg(alloc))?
+        .arg(place_arg(alloc))
+}
+
+/// The search that the matched words ask for. Words that were matched always ask for something, so it is
+/// never None.
+pub fn asked_refute<'a>(words: &ArgMatches<'a>) -> Option<RefuteRequest<'a>> {
+    Some(RefuteRequest {
+        app: words.get_str("APP")?,
+        states: words.get_one::<u32>("states")?,
+        explains: words.get_flag("explain"),
+    })
+}
+
+/// Prints a run of the application in the file into a breach, or that none was found.
+pub fn refute(rt: &HostRuntime, asked: RefuteRequest) -> Result<u8, Stopped> {
+    let app = input(rt, asked.app, MOST_APP_BYTES, asked.explains)?;
+    match refute_bytes(rt.alloc(), &app, asked.states as usize) {
+        Ok(told) => Ok(tell(&told, &mut rt.stdout())?),
+        Err(fault) if asked.explains => Ok(refused(rt, &app, None, &fault)?),
+        Err(fault) => Err(Stopped::Fault(fault)),
+    }
+}
