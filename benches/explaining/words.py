@@ -150,7 +150,7 @@ def guard_text(app, guard, actor, state):
         sole, mutex = guard.get("sole"), guard.get("mutex")
         return (f"{sole} alone", f"{name} isn't {sole}") if sole else (f"whoever holds {mutex}", held_text(name, mutex, 0))
     turn, values = guard["turn"], guard["values"]
-    turns = " ".join(f"{who} where {turn} is {values[who]}" for who in app.actors if who in values)
+    turns = ", ".join(f"{who} where {turn} is {values[who]}" for who in app.actors if who in values)
     lacks = f"{turn} is {state.values[turn]}, so that it isn't the turn of {name}"
     return f"the actor whose turn it is:{' ' * bool(turns)}{turns}", lacks
 

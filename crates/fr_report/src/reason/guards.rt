@@ -27,10 +27,11 @@ fn put_turns(
     values: &BTreeMap<ActorId, i64>,
 ) -> Result<(), AllocError> {
     text.push_str("the actor whose turn it is:")?;
-    let name = variable_name(app, variable);
+    let (name, mut between) = (variable_name(app, variable), "");
     for (actor, value) in values {
         let who = actor_name(app, *actor);
-        write!(text, " {who} where {name} is {value}")?;
+        write!(text, "{between} {who} where {name} is {value}")?;
+        between = ",";
     }
     Ok(())
 }

@@ -101,19 +101,24 @@ fn alternative_text(
     Ok(text)
 }
 
-/// Appends what a note says, each alternative after the other.
+/// Appends what a note says, each alternative after the other; of a note without one that the actor is never
+/// there.
 pub(super) fn put_note(
     alloc: Global,
     text: &mut String,
     app: &App,
     site: Site,
 ) -> Result<(), AllocError> {
-    let mut said = String::new(alloc);
+    let (actor, mut said) = (site.point.actor, String::new(alloc));
     for says in site.note.alternatives() {
         if !said.is_empty() {
             said.push_str(" or ")?;
         }
-        said.push_str(&alternative_text(alloc, app, site.point.actor, says)?)?;
+        said.push_str(&alternative_text(alloc, app, actor, says)?)?;
+    }
+    if said.is_empty() {
+        let name = actor_name(app, actor);
+        write!(&mut said, "{name} is never there")?;
     }
     write!(text, "  its note says: {said}\n")
 }
