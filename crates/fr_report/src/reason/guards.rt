@@ -27,11 +27,14 @@ fn put_turns(
     values: &BTreeMap<ActorId, i64>,
 ) -> Result<(), AllocError> {
     text.push_str("the actor whose turn it is:")?;
-    let (name, mut between) = (variable_name(app, variable), "");
+    let (name, mut is_first) = (variable_name(app, variable), true);
     for (actor, value) in values {
         let who = actor_name(app, *actor);
-        write!(text, "{between} {who} where {name} is {value}")?;
-        between = ",";
+        if !is_first {
+            text.push(',')?;
+        }
+        write!(text, " {who} where {name} is {value}")?;
+        is_first = false;
     }
     Ok(())
 }
