@@ -34,7 +34,7 @@ pub use fr_report::Detail;
 pub use place::{tell_app_place, tell_place};
 pub use points::{answer_points, points_to};
 pub use proving::{Proved, is_replaceable, prove_bytes};
-pub use refuting::refute_bytes;
+pub use refuting::{breach_told, refute_bytes};
 pub use running::{answer_run, run_to, run_told};
 pub use telling::{Told, check_told, tell};
 pub use warning::warn;

@@ -1,7 +1,7 @@
 // Looking for a run of the application that bytes mean into a breach.
-ghost use Rattle.std.specs.Prelude.{◌≡◌, IfOk, IfErr};
-ghost use Rattle.fr_calls.specs.Run.{IsSafe};
+ghost use Rattle.std.specs.Prelude.{◌≡◌, IfOk, IfErr, IfSome, string_bytes};
 ghost use Rattle.fr_refuter.specs.Refutes.{IsFound};
+ghost use Rattle.fr_report.specs.Refuted.{IsFindingText};
 ghost use Rattle.fr_answer.specs.Checked.{IsSafeText};
 ghost use Rattle.fr_answer.specs.Proved.{CanRefuseApp};
 ghost use Rattle.fr_answer.specs.Refuted.{IsRefuted, finding_status};
@@ -9,10 +9,11 @@ ghost use Rattle.fr_answer.specs.Refuted.{IsRefuted, finding_status};
 use crate::exit::{DONE, NO};
 use crate::fault::CheckFault;
 use crate::telling::Told;
+use fr_program::App;
 use fr_reader::read_app;
 use fr_refuter::{Finding, refute};
 use fr_report::finding_text;
-use std::alloc::Global;
+use std::alloc::{AllocError, Global};
 
 /// The exit status of what was found.
 fn finding_status(found: &Finding) -> u8
@@ -22,6 +23,19 @@ fn finding_status(found: &Finding) -> u8
         Finding::Safe { .. } => DONE,
         Finding::Breach(_) | Finding::Unknown { .. } => NO,
     }
+}
+
+/// What is told of what was found.
+fn told_of(alloc: Global, app: &App, found: &Finding) -> Result<Told, AllocError>
+    requires { IsFound app.now found.now }
+    ensures status { IfOk result (λ told. told.status ≡ finding_status found.now) }
+    ensures text { IfOk result (λ told. IsFindingText app.now found.now (string_bytes told.text)) }
+{
+    let text = finding_text(alloc, app, found)?;
+    Ok(Told {
+        status: finding_status(found),
+        text,
+    })
 }
 
 /// Looks for a run of the application into a breach of one of the twelve rules, shortest first, and keeps so
@@ -43,9 +57,27 @@ pub fn refute_bytes(alloc: Global, app: &[u8], most_states: usize) -> Result<Tol
 {
     let app = read_app(alloc, app)?;
     let found = refute(alloc, &app, most_states)?;
-    let text = finding_text(alloc, &app, &found)?;
-    Ok(Told {
-        status: finding_status(&found),
-        text,
-    })
+    Ok(told_of(alloc, &app, &found)?)
+}
+
+/// A run of the application into a breach, as `refute_bytes` tells it, if there is one among so many states.
+///
+/// # Errors
+///
+/// As those of `refute_bytes`.
+pub fn breach_told(
+    alloc: Global,
+    app: &[u8],
+    most_states: usize,
+) -> Result<Option<Told>, CheckFault>
+    ensures told { IfOk result (λ found. IfSome found (λ told. IsRefuted app.now told)) }
+    ensures status { IfOk result (λ found. IfSome found (λ told. told.status ≡ 1)) }
+    ensures refused { IfErr result (CanRefuseApp app.now) }
+{
+    let app = read_app(alloc, app)?;
+    let found = refute(alloc, &app, most_states)?;
+    let Finding::Breach(_) = &found else {
+        return Ok(None);
+    };
+    Ok(Some(told_of(alloc, &app, &found)?))
 }

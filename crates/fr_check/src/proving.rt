@@ -5,8 +5,8 @@ use crate::finding::write_file;
 use crate::words::{NAME, all_arg, explain_arg, file_arg, warn_arg, workers_arg};
 use clap::{Arg, ArgAction, ArgMatches, Command};
 use fr_answer::{
-    CheckFault, DONE, Detail, MOST_APP_BYTES, MOST_CERTIFICATE_BYTES, Proved, is_replaceable, load,
-    prove_bytes, tell, warn,
+    CheckFault, DONE, Detail, MOST_APP_BYTES, MOST_CERTIFICATE_BYTES, Proved, Told, breach_told,
+    is_replaceable, load, prove_bytes, tell, warn,
 };
 use fr_parallel::Open;
 use std::alloc::{AllocError, Global};
@@ -17,7 +17,7 @@ use std::thread::Threads;
 
 const STATUSES: &str = "Exit status:
   0  The verdict is yes
-  1  The verdict by the best certificate that was found is no
+  1  A run into a breach was printed, or the verdict by the best certificate that was found
   2  The words or the application are refused, or the file for the certificate has something else
   3  The machine failed: no memory, no thread, or a file that can't be read or written";
 
@@ -32,7 +32,12 @@ pub struct ProveRequest<'a> {
     pub warns: bool,
     /// Whether it is told why the verdict is no or where a refusal is, and how much of a state.
     pub detail: Option<Detail>,
+    /// Whether a run into a breach is looked for where the verdict is no.
+    pub searches: bool,
 }
+
+/// The most states that are looked at for a breach where the verdict is no.
+const MOST_STATES: usize = 100_000;
 
 /// The word `--certificate` with its file.
 fn certificate_arg<'a>(alloc: Global) -> Arg<'a> {
@@ -41,6 +46,14 @@ fn certificate_arg<'a>(alloc: Global) -> Arg<'a> {
         .value_name("OUT")
         .action(ArgAction::Set)
         .help("The file for the certificate, which is written where the verdict is yes")
+}
+
+/// The word `--no-search`.
+fn no_search_arg<'a>(alloc: Global) -> Arg<'a> {
+    Arg::new(alloc, "no-search")
+        .long("no-search")
+        .action(ArgAction::SetTrue)
+        .help("Look for no run into a breach where the verdict is no")
 }
 
 /// The command `prove`: its words, its help and its exit statuses.
@@ -52,6 +65,7 @@ pub fn prove_command<'a>(alloc: Global) -> Result<Command<'a>, AllocError> {
         .arg(file_arg(alloc, "APP", "The application, in TOML"))?
         .arg(certificate_arg(alloc))?
         .arg(workers_arg(alloc))?
+        .arg(no_search_arg(alloc))?
         .arg(warn_arg(alloc))?
         .arg(explain_arg(alloc))?
         .arg(all_arg(alloc))
@@ -66,6 +80,7 @@ pub fn asked_prove<'a>(words: &ArgMatches<'a>) -> Option<ProveRequest<'a>> {
         workers: words.get_one::<u16>("workers")?,
         warns: words.get_flag("warn"),
         detail: detail_asked(words),
+        searches: !words.get_flag("no-search"),
     })
 }
 
@@ -101,7 +116,25 @@ fn write_certificate(
     }
 }
 
-/// Works out a certificate for the application in the file, and prints the verdict by it. The file for the
+/// What has to be said of a proof: the verdict; or where it is no, and a run into a breach is found, that
+/// run.
+fn told_of(
+    rt: &HostRuntime,
+    app: &[u8],
+    told: Told,
+    asked: ProveRequest,
+) -> Result<Told, CheckFault> {
+    if told.status == DONE || !asked.searches {
+        return Ok(told);
+    }
+    match breach_told(rt.alloc(), app, MOST_STATES)? {
+        Some(breach) => Ok(breach),
+        None => Ok(told),
+    }
+}
+
+/// Works out a certificate for the application in the file, and prints the verdict by it, or where it is no and one is
+/// found, a run into a breach. The file for the
 /// certificate is looked at before the search, and written before anything is printed.
 pub fn prove<R: Threads + Wait + Sync>(
     rt: &HostRuntime,
@@ -121,7 +154,8 @@ pub fn prove<R: Threads + Wait + Sync>(
         Err(fault) => return Err(Stopped::Fault(fault)),
     };
     write_certificate(rt, asked.out, &proved)?;
-    let status = tell(&proved.told, &mut rt.stdout())?;
+    let told = told_of(rt, &app, proved.told, asked)?;
+    let status = tell(&told, &mut rt.stdout())?;
     if asked.warns {
         let certificate = proved.certificate.as_bytes();
         warn(rt.alloc(), &app, certificate, &mut rt.stderr())?;

@@ -14,8 +14,8 @@ fn detail_word(detail: Option<Detail>) -> &'static str {
 }
 
 /// What the words of this line ask for, each with what it explains: of `check` the files, the workers and whether
-/// it warns, of `find` the files and the rounds, of `prove` the file, the certificate's file, the workers and
-/// whether it warns, of `refute` the file and the states, of `points` the file, of `run` the files, the polls and the words. Where the words don't
+/// it warns, of `find` the files and the rounds, of `prove` the file, the certificate's file, the workers,
+/// whether it warns and whether it searches, of `refute` the file and the states, of `points` the file, of `run` the files, the polls and the words. Where the words don't
 /// match, the exit status and the usage message.
 fn answer_to(alloc: Global, line: &str) -> Result<String, AllocError> {
     let mut words = Vec::new(alloc);
@@ -36,7 +36,8 @@ fn answer_to(alloc: Global, line: &str) -> Result<String, AllocError> {
             Some(Request::Prove(prove)) => {
                 let (app, out, workers) = (prove.app, prove.out, prove.workers);
                 let told = detail_word(prove.detail);
-                format!(in alloc; "{app} {out:?} {workers} {} {told}", prove.warns)
+                let (warns, searches) = (prove.warns, prove.searches);
+                format!(in alloc; "{app} {out:?} {workers} {warns} {told} {searches}")
             }
             Some(Request::Points { app, explains }) => {
                 format!(in alloc; "the points of {app} {explains}")
@@ -100,10 +101,11 @@ fn words_and_what_is_said_to_them(rt: HostRuntime) {
             "fr_check run A C",
             "2 error: the following required arguments",
         ),
-        ("fr_check prove A", "A None 4 false none"),
+        ("fr_check prove A", "A None 4 false none true"),
+        ("fr_check prove A --no-search", "A None 4 false none false"),
         (
             "fr_check prove A --certificate C --workers 64",
-            "A Some(\"C\") 64 false none",
+            "A Some(\"C\") 64 false none true",
         ),
         ("fr_check refute A", "A 1000000 false"),
         (

@@ -5,14 +5,17 @@ ghost use Rattle.fr_answer.specs.Checked.{most_bytes};
 use crate::row::{Asked, Told};
 use fr_answer::{
     CheckFault, DONE, Detail, Found, MOST_APP_BYTES, MOST_CERTIFICATE_BYTES, NO, Proved, REFUSED,
-    WordsFault, answer_check, answer_fault, answer_points, answer_run, answer_words, check_told,
-    find_bytes, load, prove_bytes, refute_bytes, run_told, tell, tell_app_place, tell_found,
-    tell_place, warn, words_of,
+    WordsFault, answer_check, answer_fault, answer_points, answer_run, answer_words, breach_told,
+    check_told, find_bytes, load, prove_bytes, refute_bytes, run_told, tell, tell_app_place,
+    tell_found, tell_place, warn, words_of,
 };
 use fr_parallel::Open;
 use std::alloc::{AllocError, Global};
 use std::sync::Wait;
 use std::thread::Threads;
+
+/// The most states that a proof looks at for a breach.
+const MOST_STATES: usize = 100_000;
 
 /// What is written to standard output and to standard error, and the exit status.
 #[derive(Drop)]
@@ -228,12 +231,28 @@ fn find<R: Threads + Sync>(
     }
 }
 
+/// A run into a breach where the verdict is no, one is asked for and found; otherwise the verdict.
+fn searched(
+    alloc: Global,
+    app: &[u8],
+    verdict: fr_answer::Told,
+    searches: bool,
+) -> Result<fr_answer::Told, CheckFault> {
+    if verdict.status == DONE || !searches {
+        return Ok(verdict);
+    }
+    match breach_told(alloc, app, MOST_STATES)? {
+        Some(breach) => Ok(breach),
+        None => Ok(verdict),
+    }
+}
+
 /// What `prove` writes and answers to this file, with the text of the certificate that passed.
 fn prove<R: Threads + Wait + Sync>(
     threads: &R,
     alloc: Global,
     app: Option<&[u8]>,
-    workers: usize,
+    (workers, searches): (usize, bool),
     told: Told,
     stdout: &mut Vec<u8>,
     stderr: &mut Vec<u8>,
@@ -249,13 +268,12 @@ fn prove<R: Threads + Wait + Sync>(
             return (placed(alloc, (app, None), told, status, stderr), None);
         }
     };
-    let status = match tell(&proved.told, stdout) {
-        Ok(status) => status,
-        Err(fault) => answer_fault(alloc, &fault, stderr),
-    };
+    let passed = proved.told.status == DONE;
+    let answer = searched(alloc, app, proved.told, searches);
+    let status = said(alloc, &answer, stdout, stderr);
     let files = (app.as_slice(), proved.certificate.as_bytes());
     let status = warned(alloc, files, told.warns, status, stderr);
-    if proved.told.status == DONE {
+    if passed {
         (status, Some(proved.certificate))
     } else {
         (status, None)
@@ -317,9 +335,11 @@ impl Call {
             Asked::Prove {
                 workers,
                 kept,
+                searches,
                 told,
             } => {
-                let (status, text) = prove(threads, alloc, app, *workers, *told, out, err);
+                let crew = (*workers, *searches);
+                let (status, text) = prove(threads, alloc, app, crew, *told, out, err);
                 (status, text.filter(|_| *kept))
             }
             Asked::Run { polls, words, told } => {

@@ -77,10 +77,12 @@ pub enum Asked {
         rounds: usize,
         told: Told,
     },
-    /// The verdict by a certificate that is worked out, which is written if it is `kept`.
+    /// The verdict by a certificate that is worked out, which is written if it is `kept`; and where it is no, a
+    /// run into a breach, if it `searches`.
     Prove {
         workers: usize,
         kept: bool,
+        searches: bool,
         told: Told,
     },
     /// A run into a breach, by at most so many states.
@@ -215,7 +217,7 @@ fn check_asked(words: &mut Lines) -> io::Result<Asked> {
     Ok(Asked::Check { workers, told })
 }
 
-/// The rest of a proof's words: where the certificate goes, the number of workers, and what else is told. The
+/// The rest of a proof's words: where the certificate goes, the number of workers, whether it searches, and what else is told. The
 /// first of them was taken.
 fn prove_asked<'a>(first: Option<&'a str>, words: &mut Lines<'a>) -> io::Result<Asked> {
     let kept = first == Some("--certificate");
@@ -228,10 +230,13 @@ fn prove_asked<'a>(first: Option<&'a str>, words: &mut Lines<'a>) -> io::Result<
         first
     };
     let (workers, next) = workers_asked(next, words)?;
+    let searches = next != Some("--no-search");
+    let next = if searches { next } else { words.next() };
     let told = told_asked(next, words)?;
     Ok(Asked::Prove {
         workers,
         kept,
+        searches,
         told,
     })
 }

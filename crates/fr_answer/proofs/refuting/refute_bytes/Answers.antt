@@ -12,4 +12,4 @@ returns-in_err-app-clause-refused c =
 
 pub returns-clause-safe : goal.returns-clause-safe
 returns-clause-safe c e =
-    (c.in_ok-app.app, c.in_ok-app.ensures.ok, zero-safe c.in_ok-app.app c.in_ok-found.found c.in_ok-found.ensures (sym c.finding_status.ensures ∙ e))
+    (c.in_ok-app.app, c.in_ok-app.ensures.ok, zero-safe c.in_ok-app.app c.in_ok-found.found c.in_ok-found.ensures (sym c.in_ok-told_of.ensures.status ∙ e))
