@@ -1,9 +1,10 @@
 // What answers a command, from the bytes of the files to the report, the exit status and a refusal's line. `load` reads a
 // file, `check_with` judges and writes the report, and `answer_check` is the whole of it: the program and the worked
 // rows both call it, and its contract says what an exit status means. `answer_run` is the same of a run, whose words
-// `words_of` reads. `find_bytes` finds a certificate and `tell_found` says so. `prove_bytes` works one out and judges it.
-// `refute_bytes` looks for a run into a breach. `check_told` and `run_told` give what has to be said, with why a verdict is no, and `tell` says it; `warn` tells what a
-// verdict may hide, and `tell_place` where a refusal is. `answer_points` lists the points of an application.
+// `words_of` reads. `find_bytes` finds a certificate and `tell_found` says so. `prove_bytes` works one out and judges it,
+// and `refute_bytes` looks for a run into a breach. `check_told` and `run_told` give what has to be said, with why a
+// verdict is no, and `tell` says it; `warn` tells what a verdict may hide, and `tell_place` where a refusal is.
+// `answer_points` lists the points of an application.
 #![tactic(auto)]
 
 mod answer;

@@ -79,8 +79,9 @@ fn judged<R: Threads + Wait + Sync, G: Gate>(
 /// Works out a certificate for the application, and judges it by this many workers, as `check` does.
 ///
 /// Ok is the text of a certificate, and the status and the report of the verdict on the application by that
-/// text, with why it is no where `detail` asks for it. Where the status is 0, the verdict is `Yes`: the application breaks none of the twelve rules in
-/// any state of any run. Where it is 1, this certificate doesn't show it.
+/// text, with why it is no where `detail` asks for it. Where the status is 0, the verdict is `Yes`: the
+/// application breaks none of the twelve rules in any state of any run. Where it is 1, this certificate
+/// doesn't show it.
 ///
 /// # Errors
 ///

@@ -133,9 +133,9 @@ fn told_of(
     }
 }
 
-/// Works out a certificate for the application in the file, and prints the verdict by it, or where it is no and one is
-/// found, a run into a breach. The file for the
-/// certificate is looked at before the search, and written before anything is printed.
+/// Works out a certificate for the application in the file, and prints the verdict by it, or where it is no
+/// and one is found, a run into a breach. The file for the certificate is looked at before the search, and
+/// written before anything is printed.
 pub fn prove<R: Threads + Wait + Sync>(
     rt: &HostRuntime,
     threads: &R,

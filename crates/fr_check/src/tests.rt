@@ -14,9 +14,9 @@ fn detail_word(detail: Option<Detail>) -> &'static str {
 }
 
 /// What the words of this line ask for, each with what it explains: of `check` the files, the workers and whether
-/// it warns, of `find` the files and the rounds, of `prove` the file, the certificate's file, the workers,
-/// whether it warns and whether it searches, of `refute` the file and the states, of `points` the file, of `run` the files, the polls and the words. Where the words don't
-/// match, the exit status and the usage message.
+/// it warns, of `find` the files and the rounds, of `prove` the file, the certificate's file, the workers, whether it
+/// warns and whether it searches, of `refute` the file and the states, of `points` the file, of `run` the files, the
+/// polls and the words. Where the words don't match, the exit status and the usage message.
 fn answer_to(alloc: Global, line: &str) -> Result<String, AllocError> {
     let mut words = Vec::new(alloc);
     for word in line.split(' ') {

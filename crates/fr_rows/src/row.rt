@@ -5,8 +5,8 @@
 // cert.json    the certificate
 // args         the words, one a line: a check of both files, by so many workers; a run of so many polls with these words; a
 //              search, in so many rounds, for a certificate that goes to out.json; a proof, by so many workers, whose
-//              certificate goes to out.json where that is named; a run into a breach, by so many states; or the points of the application; and at last what else
-//              is told: --warn, --explain, --all
+//              certificate goes to out.json where that is named; a run into a breach, by so many states; or the points
+//              of the application; and at last what else is told: --warn, --explain, --all
 // stdout       what has to be written to standard output
 // stderr       what has to be written to standard error
 // status       the exit status
@@ -217,8 +217,8 @@ fn check_asked(words: &mut Lines) -> io::Result<Asked> {
     Ok(Asked::Check { workers, told })
 }
 
-/// The rest of a proof's words: where the certificate goes, the number of workers, whether it searches, and what else is told. The
-/// first of them was taken.
+/// The rest of a proof's words: where the certificate goes, the number of workers, whether it searches, and what
+/// else is told. The first of them was taken.
 fn prove_asked<'a>(first: Option<&'a str>, words: &mut Lines<'a>) -> io::Result<Asked> {
     let kept = first == Some("--certificate");
     let next = if kept {
