@@ -1,5 +1,5 @@
 -- What a refused text and a status say: a fault that stands, a verdict, and a safe application.
-use Rattle.std.proofs.Common.{◌≡◌, ◌≤◌, ℕ, List, Bool, true, false, refl, arith}
+use Rattle.std.proofs.Common.{◌≡◌, ◌≤◌, ◌∙◌, ℕ, List, Bool, true, false, refl, arith, ap, subst, string_bytes}
 use Rattle.std.specs.Prelude.{if◌then◌else◌}
 use Rattle.fr_reader.specs.declared.fault.ReadFault.{ReadFault}
 use Rattle.fr_reader.specs.Faults.{is_memory as app_is_memory}
@@ -22,7 +22,11 @@ use Rattle.fr_refuter.specs.declared.answer.Finding.TheVariants.{Breach, Safe, U
 use Rattle.fr_refuter.specs.Refutes.{IsFound}
 use Rattle.fr_answer.specs.declared.fault.CheckFault.{CheckFault}
 use Rattle.fr_answer.specs.declared.fault.CheckFault.TheVariants.{App, Cert, Memory}
-use Rattle.fr_answer.specs.Refuted.{finding_status}
+use Rattle.fr_reader.specs.Meaning.{Means}
+use Rattle.fr_refuter.specs.declared.replay.Refutation.{Refutation}
+use Rattle.fr_report.specs.Refuted.{IsFindingText}
+use Rattle.fr_answer.specs.declared.telling.Told.{Told}
+use Rattle.fr_answer.specs.Refuted.{finding_status, IsBreachTold}
 use Rattle.fr_answer.specs.Checked.{status_of, app_fault, cert_fault, check_fault, IsAppRefused, IsCertRefused, CanRefuse}
 
 -- what holds of want of memory, and of a fault that the application's text has, holds of what it comes to
@@ -65,3 +69,9 @@ pub zero-safe : (P : Program) (found : Finding) → IsFound P found → finding_
 zero-safe P (Breach r) is e = absurd (omega (arith, e))
 zero-safe P (Safe states) is e = is
 zero-safe P (Unknown states) is e = absurd (omega (arith, e))
+
+-- what is told of a finding that is a breach is a run into one
+pub breach-told : (app : List ℕ) (P : Program) (found : Finding) (r : Refutation) (t : Told) → found ≡ Breach r → Means app P → IsFound P found
+    → t.status ≡ finding_status found → IsFindingText P found (string_bytes t.text) → IsBreachTold app t
+breach-told app P found r t e means is status text =
+    (P, r, means, subst (λ f. IsFound P f) e is, status ∙ ap finding_status e, subst (λ f. IsFindingText P f (string_bytes t.text)) e text)

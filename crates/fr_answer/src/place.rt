@@ -1,4 +1,6 @@
 // Where a refusal is: the lines that follow the one line that names the fault.
+ghost use Rattle.std.specs.Prelude.{◌≡◌, ◌≢◌, IfErr};
+
 use crate::fault::CheckFault;
 use fr_cert::read_cert;
 use fr_place::{SWAPPED, place_of_app, place_of_certificate, seem_swapped};
@@ -34,7 +36,9 @@ pub fn tell_place<W: Write>(
     app: &[u8],
     certificate: &[u8],
     writer: &mut W,
-) -> Result<(), CheckFault> {
+) -> Result<(), CheckFault>
+    ensures kept { IfErr result (λ fault. fault ≢ CheckFault.Write → writer.new ≡ writer.old) }
+{
     let text = place_of(alloc, app, certificate)?;
     match writer.write_all(text.as_bytes()) {
         Ok(()) => Ok(()),
@@ -48,11 +52,9 @@ pub fn tell_place<W: Write>(
 /// # Errors
 ///
 /// As those of `tell_place`.
-pub fn tell_app_place<W: Write>(
-    alloc: Global,
-    app: &[u8],
-    writer: &mut W,
-) -> Result<(), CheckFault> {
+pub fn tell_app_place<W: Write>(alloc: Global, app: &[u8], writer: &mut W) -> Result<(), CheckFault>
+    ensures kept { IfErr result (λ fault. fault ≢ CheckFault.Write → writer.new ≡ writer.old) }
+{
     let text = match read_app(alloc, app) {
         Ok(_) => String::new(alloc),
         Err(fault) => place_of_app(alloc, app, &fault)?,

@@ -4,7 +4,7 @@ ghost use Rattle.fr_refuter.specs.Refutes.{IsFound};
 ghost use Rattle.fr_report.specs.Refuted.{IsFindingText};
 ghost use Rattle.fr_answer.specs.Checked.{IsSafeText};
 ghost use Rattle.fr_answer.specs.Proved.{CanRefuseApp};
-ghost use Rattle.fr_answer.specs.Refuted.{IsRefuted, finding_status};
+ghost use Rattle.fr_answer.specs.Refuted.{IsBreachTold, IsRefuted, finding_status};
 
 use crate::exit::{DONE, NO};
 use crate::fault::CheckFault;
@@ -70,8 +70,7 @@ pub fn breach_told(
     app: &[u8],
     most_states: usize,
 ) -> Result<Option<Told>, CheckFault>
-    ensures told { IfOk result (λ found. IfSome found (λ told. IsRefuted app.now told)) }
-    ensures status { IfOk result (λ found. IfSome found (λ told. told.status ≡ 1)) }
+    ensures told { IfOk result (λ found. IfSome found (λ told. IsBreachTold app.now told)) }
     ensures refused { IfErr result (CanRefuseApp app.now) }
 {
     let app = read_app(alloc, app)?;
