@@ -57,21 +57,25 @@ fn answer_to(alloc: Global, line: &str) -> Result<String, AllocError> {
     }
 }
 
+/// Whether each line is answered by a text that begins as it says.
+fn are_answered(alloc: Global, cases: &[(&str, &str)]) -> bool {
+    for (line, start) in cases {
+        let answer = answer_to(alloc, line);
+        if !matches!(&answer, Ok(text) if text.as_str().starts_with(start)) {
+            return false;
+        }
+    }
+    true
+}
+
 #[test]
-fn words_and_what_is_said_to_them(rt: HostRuntime) {
+fn words_of_check_and_of_none(rt: HostRuntime) {
     let cases = [
         ("fr_check check A C --workers 64", "A C 64 false none"),
         ("fr_check check A C", "A C 4 false none"),
         ("fr_check check A C --warn", "A C 4 true none"),
         ("fr_check check A C --explain", "A C 4 false told"),
         ("fr_check check A C --all", "A C 4 false whole"),
-        ("fr_check find A O --rounds 64", "A O 64 false"),
-        ("fr_check find A O --explain", "A O 64 true"),
-        ("fr_check find A O --rounds 0", "2 error: invalid value '0'"),
-        (
-            "fr_check find A O --rounds 65",
-            "2 error: invalid value '65'",
-        ),
         (
             "fr_check check A C --workers 0",
             "2 error: invalid value '0'",
@@ -84,23 +88,20 @@ fn words_and_what_is_said_to_them(rt: HostRuntime) {
             "fr_check check A",
             "2 error: the following required arguments",
         ),
+        ("fr_check", "2 Checks that a multicore FreeRTOS application"),
         (
-            "fr_check run A C --polls 1000000 --words 8,x",
-            "A C 1000000 Some(\"8,x\") none",
+            "fr_check --help",
+            "0 Checks that a multicore FreeRTOS application",
         ),
-        ("fr_check run A C --polls 0", "A C 0 None none"),
-        (
-            "fr_check run A C --polls 1 --words ",
-            "A C 1 Some(\"\") none",
-        ),
-        (
-            "fr_check run A C --polls 1000001",
-            "2 error: invalid value '1000001'",
-        ),
-        (
-            "fr_check run A C",
-            "2 error: the following required arguments",
-        ),
+        ("fr_check --version", "0 fr_check 0.1.0\n"),
+        ("fr_check check --version", "0 fr_check 0.1.0\n"),
+    ];
+    assert!(rt; are_answered(rt.alloc(), &cases));
+}
+
+#[test]
+fn words_of_prove_and_refute(rt: HostRuntime) {
+    let cases = [
         ("fr_check prove A", "A None 4 false none true"),
         ("fr_check prove A --no-search", "A None 4 false none false"),
         (
@@ -118,23 +119,51 @@ fn words_and_what_is_said_to_them(rt: HostRuntime) {
             "2 error: invalid value '100000001'",
         ),
         ("fr_check prove A C", "2 error: unexpected argument"),
+    ];
+    assert!(rt; are_answered(rt.alloc(), &cases));
+}
+
+#[test]
+fn words_of_find_and_points(rt: HostRuntime) {
+    let cases = [
+        ("fr_check find A O --rounds 64", "A O 64 false"),
+        ("fr_check find A O --explain", "A O 64 true"),
+        ("fr_check find A O --rounds 0", "2 error: invalid value '0'"),
+        (
+            "fr_check find A O --rounds 65",
+            "2 error: invalid value '65'",
+        ),
         ("fr_check points A", "the points of A false"),
         (
             "fr_check points",
             "2 error: the following required arguments",
         ),
-        ("fr_check", "2 Checks that a multicore FreeRTOS application"),
-        (
-            "fr_check --help",
-            "0 Checks that a multicore FreeRTOS application",
-        ),
-        ("fr_check --version", "0 fr_check 0.1.0\n"),
-        ("fr_check check --version", "0 fr_check 0.1.0\n"),
     ];
-    for (line, start) in cases {
-        let answer = answer_to(rt.alloc(), line);
-        assert!(rt; matches!(&answer, Ok(text) if text.as_str().starts_with(start)));
-    }
+    assert!(rt; are_answered(rt.alloc(), &cases));
+}
+
+#[test]
+fn words_of_run(rt: HostRuntime) {
+    let cases = [
+        (
+            "fr_check run A C --polls 1000000 --words 8,x",
+            "A C 1000000 Some(\"8,x\") none",
+        ),
+        ("fr_check run A C --polls 0", "A C 0 None none"),
+        (
+            "fr_check run A C --polls 1 --words ",
+            "A C 1 Some(\"\") none",
+        ),
+        (
+            "fr_check run A C --polls 1000001",
+            "2 error: invalid value '1000001'",
+        ),
+        (
+            "fr_check run A C",
+            "2 error: the following required arguments",
+        ),
+    ];
+    assert!(rt; are_answered(rt.alloc(), &cases));
 }
 
 #[test]
