@@ -1,8 +1,8 @@
 // States that are put together by hand: each change leaves a state that fits the application. And a second state that is
 // the same.
-ghost use Rattle.std.specs.Prelude.{◌≡◌, ◌≤◌, ◌<◌, ◌↔◌, ◌≤ℤ◌, ℕ, ℤ, pos, length, sum, All, IsTrue, IsFalse, IfOk};
+ghost use Rattle.std.specs.Prelude.{◌≡◌, ◌≤◌, ◌<◌, ◌↔◌, ◌≤ℤ◌, ℕ, ℤ, pos, length, sum, All, IsTrue, IsFalse, IfOk, OnOk};
 ghost use Rattle.fr_program.specs.Lookup.{IsPoint};
-ghost use Rattle.fr_calls.specs.State.{IsWellFormed, At, CanHave, kind_of, write, becomes, suspend_at, critical_at, goes_to};
+ghost use Rattle.fr_calls.specs.State.{IsWellFormed, At, Done, CanHave, kind_of, write, becomes, suspend_at, critical_at, goes_to};
 
 use crate::content::{Content, Stock};
 use crate::state::{Place, State};
@@ -91,6 +91,17 @@ impl Content {
     }
 }
 
+/// The contents become the same as others; the list's memory is used again.
+fn copy_contents(contents: &mut Vec<Content>, others: &[Content]) -> Result<(), AllocError>
+    ensures { OnOk result (contents.new.items ≡ others.now) }
+{
+    contents.clear();
+    for content in others {
+        contents.push(content.copied()?)?;
+    }
+    Ok(())
+}
+
 /// The same contents once more.
 fn copied_contents(alloc: Global, contents: &[Content]) -> Result<Vec<Content>, AllocError>
     ensures { IfOk result (λ v. v.items ≡ contents.now) }
@@ -121,6 +132,25 @@ impl State {
         })
     }
 
+    /// The state becomes the same as another one, and its lists' memory is used again. Where memory is
+    /// refused, what it is then is open.
+    ///
+    /// # Errors
+    ///
+    /// Only where memory is refused.
+    pub fn copy_from(&mut self, other: &State) -> Result<(), AllocError>
+        ensures { OnOk result (self.new ≡ other.now) }
+    {
+        self.places.clear();
+        self.places.extend_from_slice(&other.places)?;
+        self.values.clear();
+        self.values.extend_from_slice(&other.values)?;
+        self.suspended.clear();
+        self.suspended.extend_from_slice(&other.suspended)?;
+        self.critical = other.critical;
+        copy_contents(&mut self.objects, &other.objects)
+    }
+
     /// The state with the point's actor there.
     pub fn stand_at(&mut self, app: &App, point: Point)
         requires formed { IsWellFormed app.now self.old }
@@ -136,6 +166,17 @@ impl State {
                 side: point.side,
             },
         );
+    }
+
+    /// The state with the actor done.
+    pub fn finish(&mut self, app: &App, actor: ActorId)
+        requires formed { IsWellFormed app.now self.old }
+        requires actor { actor.0 < length app.now.actors }
+        ensures now { self.new ≡ goes_to actor.0 Done self.old }
+        ensures formed { IsWellFormed app.now self.new }
+    {
+        let _ = app;
+        self.go_to(actor, Place::Done);
     }
 
     /// The state with this number in the variable.
