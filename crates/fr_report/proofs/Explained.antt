@@ -1,0 +1,12 @@
+-- The lines of steps that are explained, with those of one more.
+use Rattle.std.proofs.Common.{◌≡◌, ℕ, List, [], ◌∷◌, ◌++◌, refl}
+use Rattle.std.proofs.lemmas.List.{append_assoc, append-nil}
+use Rattle.fr_program.specs.Program.{Program}
+use Rattle.fr_refuter.specs.declared.step.StepTaken.{StepTaken}
+use Rattle.fr_report.specs.Refuted.{step_text, AreExplained}
+
+pub explained-more : (P : Program) (steps : List StepTaken) (step : StepTaken) (text more : List ℕ) → AreExplained P steps text →
+    AreExplained P (steps ++ step ∷ []) ((text ++ step_text P step) ++ more)
+explained-more P [] step text more h = (more, [], rw (h, append-nil) refl, refl)
+explained-more P (x ∷ steps) step text more (own, others, e, rest) =
+    (own, (others ++ step_text P step) ++ more, simp (e, append_assoc) refl, explained-more P steps step others more rest)
