@@ -299,6 +299,44 @@ fn points(
     placed(alloc, (app, None), told, status, stderr)
 }
 
+/// What is written to both outputs and answered to what is asked of these files, with the text of the certificate that
+/// is written, if one is.
+fn status_of<R: Threads + Wait + Sync>(
+    threads: &R,
+    alloc: Global,
+    files: (Option<&[u8]>, Option<&[u8]>),
+    asked: &Asked,
+    out: &mut Vec<u8>,
+    err: &mut Vec<u8>,
+) -> (u8, Option<String>) {
+    let app = files.0;
+    let status = match asked {
+        Asked::Check { workers, told } => check(threads, alloc, files, *workers, *told, out, err),
+        Asked::Prove {
+            workers,
+            kept,
+            searches,
+            told,
+        } => {
+            let crew = (*workers, *searches);
+            let (status, text) = prove(threads, alloc, app, crew, *told, out, err);
+            return (status, text.filter(|_| *kept));
+        }
+        Asked::Run { polls, words, told } => {
+            let turns = (*polls, words.as_deref());
+            run(threads, alloc, files, turns, *told, out, err)
+        }
+        Asked::Find { rounds, told } => return find(threads, alloc, app, *rounds, *told, out, err),
+        Asked::Refute {
+            states,
+            workers,
+            told,
+        } => refute(threads, alloc, app, (*states, *workers), *told, out, err),
+        Asked::Points { told } => points(alloc, app, *told, out, err),
+    };
+    (status, None)
+}
+
 impl Call {
     /// What the program answers and writes to what is asked of these files; None is a file that is missing.
     pub fn on_files<R: Threads + Wait + Sync>(
@@ -310,39 +348,7 @@ impl Call {
     ) -> Call {
         let (mut stdout, mut stderr) = (Vec::new(alloc), Vec::new(alloc));
         let files = (app, certificate);
-        let (out, err) = (&mut stdout, &mut stderr);
-        let (status, written) = match asked {
-            Asked::Check { workers, told } => {
-                (
-                    check(threads, alloc, files, *workers, *told, out, err),
-                    None,
-                )
-            }
-            Asked::Prove {
-                workers,
-                kept,
-                searches,
-                told,
-            } => {
-                let crew = (*workers, *searches);
-                let (status, text) = prove(threads, alloc, app, crew, *told, out, err);
-                (status, text.filter(|_| *kept))
-            }
-            Asked::Run { polls, words, told } => {
-                let turns = (*polls, words.as_deref());
-                (run(threads, alloc, files, turns, *told, out, err), None)
-            }
-            Asked::Find { rounds, told } => { find(threads, alloc, app, *rounds, *told, out, err) }
-            Asked::Refute {
-                states,
-                workers,
-                told,
-            } => {
-                let crew = (*states, *workers);
-                (refute(threads, alloc, app, crew, *told, out, err), None)
-            }
-            Asked::Points { told } => (points(alloc, app, *told, out, err), None),
-        };
+        let (status, written) = status_of(threads, alloc, files, asked, &mut stdout, &mut stderr);
         Call {
             answer: Answer {
                 stdout,
