@@ -71,7 +71,7 @@ zero-safe P (Safe states) is e = is
 zero-safe P (Unknown states) is e = absurd (omega (arith, e))
 
 -- what is told of a finding that is a breach is a run into one
-pub breach-told : (app : List ℕ) (P : Program) (found : Finding) (r : Refutation) (t : Told) → found ≡ Breach r → Means app P → IsFound P found
-    → t.status ≡ finding_status found → IsFindingText P found (string_bytes t.text) → IsBreachTold app t
-breach-told app P found r t e means is status text =
-    (P, r, means, subst (λ f. IsFound P f) e is, status ∙ ap finding_status e, subst (λ f. IsFindingText P f (string_bytes t.text)) e text)
+pub breach-told : (app : List ℕ) (explains : Bool) (P : Program) (found : Finding) (r : Refutation) (t : Told) → found ≡ Breach r → Means app P → IsFound P found
+    → t.status ≡ finding_status found → IsFindingText explains P found (string_bytes t.text) → IsBreachTold app explains t
+breach-told app explains P found r t e means is status text =
+    (P, r, means, subst (λ f. IsFound P f) e is, status ∙ ap finding_status e, subst (λ f. IsFindingText explains P f (string_bytes t.text)) e text)

@@ -1,9 +1,10 @@
 // What answers a command, from the bytes of the files to the report, the exit status and a refusal's line. `load` reads a
 // file, `check_with` judges and writes the report, and `answer_check` is the whole of it: the program and the worked
 // rows both call it, and its contract says what an exit status means. `answer_run` is the same of a run, whose words
-// `words_of` reads. `find_bytes` finds a certificate and `tell_found` says so. `prove_bytes` works one out and judges it,
-// and `refute_bytes` looks for a run into a breach. `check_told` and `run_told` give what has to be said, with why a
-// verdict is no, and `tell` says it; `warn` tells what a verdict may hide, and `tell_place` where a refusal is.
+// `words_of` reads. `find_bytes` finds a certificate and `tell_found` says so. `prove_told` works one out and judges it,
+// and where the verdict is no looks for a run into a breach, as `refute_bytes` does. `check_told`, `run_told` and these
+// two give what has to be said, with why a verdict is no or what each step of such a run does, and `tell` says it; `warn`
+// tells what a verdict may hide, and `tell_place` where a refusal is.
 // `answer_points` lists the points of an application.
 #![tactic(auto)]
 
@@ -34,8 +35,8 @@ pub use fr_reader::MOST_BYTES as MOST_APP_BYTES;
 pub use fr_report::Detail;
 pub use place::{tell_app_place, tell_place};
 pub use points::{answer_points, points_to};
-pub use proving::{Proved, is_replaceable, prove_bytes};
-pub use refuting::{breach_told, refute_bytes};
+pub use proving::{Proved, is_replaceable, prove_told};
+pub use refuting::refute_bytes;
 pub use running::{answer_run, run_to, run_told};
 pub use telling::{Told, check_told, tell};
 pub use warning::warn;

@@ -1,7 +1,9 @@
 // The command `check`: its words, and what the program does for it.
 use crate::explaining::{detail_asked, refused};
 use crate::files::{Stopped, input};
-use crate::words::{NAME, STATUSES, all_arg, explain_arg, file_arg, warn_arg, workers_arg};
+use crate::words::{
+    EXPLAINS_VERDICT, NAME, STATUSES, all_arg, explain_arg, file_arg, warn_arg, workers_arg,
+};
 use clap::{ArgMatches, Command};
 use fr_answer::{
     CheckFault, Detail, MOST_APP_BYTES, MOST_CERTIFICATE_BYTES, NO, answer_check, check_told, tell,
@@ -34,7 +36,7 @@ pub fn check_command<'a>(alloc: Global) -> Result<Command<'a>, AllocError> {
         .arg(file_arg(alloc, "CERT", "The certificate, in JSON"))?
         .arg(workers_arg(alloc))?
         .arg(warn_arg(alloc))?
-        .arg(explain_arg(alloc))?
+        .arg(explain_arg(alloc, EXPLAINS_VERDICT))?
         .arg(all_arg(alloc))
 }
 

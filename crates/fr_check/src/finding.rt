@@ -1,7 +1,7 @@
 // The command `find`: its words, and what the program does for it.
 use crate::explaining::refused;
 use crate::files::{Stopped, input, is_memory};
-use crate::words::{NAME, file_arg, place_arg};
+use crate::words::{EXPLAINS_REFUSAL, NAME, explain_arg, file_arg};
 use clap::{Arg, ArgMatches, Command, value_parser};
 use fr_answer::{CheckFault, Found, MOST_APP_BYTES, find_bytes, load, tell_found};
 use std::alloc::{AllocError, Global};
@@ -44,7 +44,7 @@ pub fn find_command<'a>(alloc: Global) -> Result<Command<'a>, AllocError> {
         .arg(file_arg(alloc, "APP", "The application, in TOML"))?
         .arg(file_arg(alloc, "OUT", "The file for the certificate"))?
         .arg(rounds_arg(alloc))?
-        .arg(place_arg(alloc))
+        .arg(explain_arg(alloc, EXPLAINS_REFUSAL))
 }
 
 /// The certificate that the matched words ask for. Words that were matched always ask for something, so

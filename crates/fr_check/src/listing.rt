@@ -1,6 +1,6 @@
 // The command `points`: its words, and what the program does for it.
 use crate::files::{Stopped, input};
-use crate::words::{NAME, file_arg, place_arg};
+use crate::words::{EXPLAINS_REFUSAL, NAME, explain_arg, file_arg};
 use clap::Command;
 use fr_answer::{MOST_APP_BYTES, REFUSED, answer_points, tell_app_place};
 use std::alloc::{AllocError, Global};
@@ -17,7 +17,7 @@ pub fn points_command<'a>(alloc: Global) -> Result<Command<'a>, AllocError> {
         .about("Prints the points of an application, for which a certificate has notes")
         .after_help(STATUSES)
         .arg(file_arg(alloc, "APP", "The application, in TOML"))?
-        .arg(place_arg(alloc))
+        .arg(explain_arg(alloc, EXPLAINS_REFUSAL))
 }
 
 /// Prints the points of the application in the file; where it is refused and `explains` asks for it, where.

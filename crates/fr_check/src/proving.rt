@@ -5,8 +5,8 @@ use crate::finding::write_file;
 use crate::words::{NAME, all_arg, explain_arg, file_arg, warn_arg, workers_arg};
 use clap::{Arg, ArgAction, ArgMatches, Command};
 use fr_answer::{
-    CheckFault, DONE, Detail, MOST_APP_BYTES, MOST_CERTIFICATE_BYTES, Proved, Told, breach_told,
-    is_replaceable, load, prove_bytes, tell, warn,
+    CheckFault, DONE, Detail, MOST_APP_BYTES, MOST_CERTIFICATE_BYTES, Proved, is_replaceable, load,
+    prove_told, tell, warn,
 };
 use fr_parallel::Open;
 use std::alloc::{AllocError, Global};
@@ -21,6 +21,9 @@ const STATUSES: &str = "Exit status:
   2  The words or the application are refused, or the file for the certificate has something else
   3  The machine failed: no memory, no thread, or a file that can't be read or written";
 
+const EXPLAINS: &str =
+    "Tell why it is no or what each step did, and on standard error where a refused file is wrong";
+
 /// A proof that the command line asks for.
 #[derive(Clone, Copy)]
 pub struct ProveRequest<'a> {
@@ -30,14 +33,12 @@ pub struct ProveRequest<'a> {
     pub workers: u16,
     /// Whether points that are never reached are told.
     pub warns: bool,
-    /// Whether it is told why the verdict is no or where a refusal is, and how much of a state.
+    /// Whether it is told why the verdict is no, what each step of a run into a breach does, or where a refusal
+    /// is, and how much of a state.
     pub detail: Option<Detail>,
     /// Whether a run into a breach is looked for where the verdict is no.
     pub searches: bool,
 }
-
-/// The most states that are looked at for a breach where the verdict is no.
-const MOST_STATES: usize = 100_000;
 
 /// The word `--certificate` with its file.
 fn certificate_arg<'a>(alloc: Global) -> Arg<'a> {
@@ -67,7 +68,7 @@ pub fn prove_command<'a>(alloc: Global) -> Result<Command<'a>, AllocError> {
         .arg(workers_arg(alloc))?
         .arg(no_search_arg(alloc))?
         .arg(warn_arg(alloc))?
-        .arg(explain_arg(alloc))?
+        .arg(explain_arg(alloc, EXPLAINS))?
         .arg(all_arg(alloc))
 }
 
@@ -116,26 +117,9 @@ fn write_certificate(
     }
 }
 
-/// What has to be said of a proof: the verdict; or where it is no, and a run into a breach is found, that
-/// run.
-fn told_of(
-    rt: &HostRuntime,
-    app: &[u8],
-    told: Told,
-    asked: ProveRequest,
-) -> Result<Told, CheckFault> {
-    if told.status == DONE || !asked.searches {
-        return Ok(told);
-    }
-    match breach_told(rt.alloc(), app, MOST_STATES)? {
-        Some(breach) => Ok(breach),
-        None => Ok(told),
-    }
-}
-
 /// Works out a certificate for the application in the file, and prints the verdict by it, or where it is no
-/// and one is found, a run into a breach. The file for the certificate is looked at before the search, and
-/// written before anything is printed.
+/// and one is found, a run into a breach. The file for the certificate is looked at before anything is worked
+/// out, and written before anything is printed.
 pub fn prove<R: Threads + Wait + Sync>(
     rt: &HostRuntime,
     threads: &R,
@@ -145,17 +129,24 @@ pub fn prove<R: Threads + Wait + Sync>(
     if let Some(path) = asked.out {
         check_out(rt, path)?;
     }
-    let workers = usize::from(asked.workers);
-    let proved = match prove_bytes(threads, rt.alloc(), &app, workers, &Open, asked.detail) {
+    let (workers, detail) = (usize::from(asked.workers), asked.detail);
+    let proved = match prove_told(
+        threads,
+        rt.alloc(),
+        &app,
+        workers,
+        &Open,
+        asked.searches,
+        detail,
+    ) {
         Ok(proved) => proved,
-        Err(fault) if asked.detail.is_some() => {
+        Err(fault) if detail.is_some() => {
             return Ok(refused(rt, &app, None, &fault)?);
         }
         Err(fault) => return Err(Stopped::Fault(fault)),
     };
     write_certificate(rt, asked.out, &proved)?;
-    let told = told_of(rt, &app, proved.told, asked)?;
-    let status = tell(&told, &mut rt.stdout())?;
+    let status = tell(&proved.told, &mut rt.stdout())?;
     if asked.warns {
         let certificate = proved.certificate.as_bytes();
         warn(rt.alloc(), &app, certificate, &mut rt.stderr())?;

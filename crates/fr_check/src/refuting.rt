@@ -1,10 +1,11 @@
 // The command `refute`: its words, and what the program does for it.
 use crate::explaining::refused;
 use crate::files::{Stopped, input};
-use crate::words::{NAME, file_arg, place_arg};
+use crate::words::{NAME, explain_arg, file_arg, workers_arg};
 use clap::{Arg, ArgMatches, Command, value_parser};
 use fr_answer::{MOST_APP_BYTES, refute_bytes, tell};
 use std::alloc::{AllocError, Global};
+use std::thread::Threads;
 
 const STATUSES: &str = "Exit status:
   0  No state of any run breaches a rule
@@ -12,13 +13,17 @@ const STATUSES: &str = "Exit status:
   2  The words or the application are refused
   3  The machine failed: no memory, or a file that can't be read or written";
 
+const EXPLAINS: &str =
+    "Tell what each step of the run did, and on standard error where a refused file is at fault";
+
 /// A search for a breach that the command line asks for.
 #[derive(Clone, Copy)]
 pub struct RefuteRequest<'a> {
     pub app: &'a str,
     /// The most states that are kept.
     pub states: u32,
-    /// Whether it is told where a refusal is.
+    pub workers: u16,
+    /// Whether it is told what each step of the run did, or where a refusal is.
     pub explains: bool,
 }
 
@@ -40,7 +45,8 @@ pub fn refute_command<'a>(alloc: Global) -> Result<Command<'a>, AllocError> {
         .after_help(STATUSES)
         .arg(file_arg(alloc, "APP", "The application, in TOML"))?
         .arg(states_arg(alloc))?
-        .arg(place_arg(alloc))
+        .arg(workers_arg(alloc))?
+        .arg(explain_arg(alloc, EXPLAINS))
 }
 
 /// The search that the matched words ask for. Words that were matched always ask for something, so it is
@@ -49,14 +55,20 @@ pub fn asked_refute<'a>(words: &ArgMatches<'a>) -> Option<RefuteRequest<'a>> {
     Some(RefuteRequest {
         app: words.get_str("APP")?,
         states: words.get_one::<u32>("states")?,
+        workers: words.get_one::<u16>("workers")?,
         explains: words.get_flag("explain"),
     })
 }
 
 /// Prints a run of the application in the file into a breach, or that none was found.
-pub fn refute(rt: &HostRuntime, asked: RefuteRequest) -> Result<u8, Stopped> {
+pub fn refute<R: Threads + Sync>(
+    rt: &HostRuntime,
+    threads: &R,
+    asked: RefuteRequest,
+) -> Result<u8, Stopped> {
     let app = input(rt, asked.app, MOST_APP_BYTES, asked.explains)?;
-    match refute_bytes(rt.alloc(), &app, asked.states as usize) {
+    let (states, workers) = (asked.states as usize, usize::from(asked.workers));
+    match refute_bytes(threads, rt.alloc(), &app, states, workers, asked.explains) {
         Ok(told) => Ok(tell(&told, &mut rt.stdout())?),
         Err(fault) if asked.explains => Ok(refused(rt, &app, None, &fault)?),
         Err(fault) => Err(Stopped::Fault(fault)),

@@ -1,7 +1,7 @@
 // The command `run`: its words, and what the program does for it.
 use crate::explaining::{detail_asked, refused};
 use crate::files::{Stopped, input};
-use crate::words::{NAME, all_arg, explain_arg, file_arg};
+use crate::words::{EXPLAINS_VERDICT, NAME, all_arg, explain_arg, file_arg};
 use clap::{Arg, ArgAction, ArgMatches, Command, value_parser};
 use fr_answer::{
     CheckFault, Detail, MOST_APP_BYTES, MOST_CERTIFICATE_BYTES, answer_run, answer_words, run_told,
@@ -59,7 +59,7 @@ pub fn run_command<'a>(alloc: Global) -> Result<Command<'a>, AllocError> {
         .arg(file_arg(alloc, "CERT", "The certificate, in JSON"))?
         .arg(polls_arg(alloc))?
         .arg(words_arg(alloc))?
-        .arg(explain_arg(alloc))?
+        .arg(explain_arg(alloc, EXPLAINS_VERDICT))?
         .arg(all_arg(alloc))
 }
 

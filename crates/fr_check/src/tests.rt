@@ -15,7 +15,7 @@ fn detail_word(detail: Option<Detail>) -> &'static str {
 
 /// What the words of this line ask for, each with what it explains: of `check` the files, the workers and whether
 /// it warns, of `find` the files and the rounds, of `prove` the file, the certificate's file, the workers, whether it
-/// warns and whether it searches, of `refute` the file and the states, of `points` the file, of `run` the files, the
+/// warns and whether it searches, of `refute` the file, the states and the workers, of `points` the file, of `run` the files, the
 /// polls and the words. Where the words don't match, the exit status and the usage message.
 fn answer_to(alloc: Global, line: &str) -> Result<String, AllocError> {
     let mut words = Vec::new(alloc);
@@ -43,8 +43,8 @@ fn answer_to(alloc: Global, line: &str) -> Result<String, AllocError> {
                 format!(in alloc; "the points of {app} {explains}")
             }
             Some(Request::Refute(refute)) => {
-                let (app, states) = (refute.app, refute.states);
-                format!(in alloc; "{app} {states} {}", refute.explains)
+                let (app, states, workers) = (refute.app, refute.states, refute.workers);
+                format!(in alloc; "{app} {states} {workers} {}", refute.explains)
             }
             Some(Request::Run(run)) => {
                 let (app, certificate, polls) = (run.app, run.certificate, run.polls);
@@ -108,10 +108,19 @@ fn words_of_prove_and_refute(rt: HostRuntime) {
             "fr_check prove A --certificate C --workers 64",
             "A Some(\"C\") 64 false none true",
         ),
-        ("fr_check refute A", "A 1000000 false"),
+        ("fr_check refute A", "A 1000000 4 false"),
         (
             "fr_check refute A --states 100000000 --explain",
-            "A 100000000 true",
+            "A 100000000 4 true",
+        ),
+        ("fr_check refute A --workers 64", "A 1000000 64 false"),
+        (
+            "fr_check refute A --workers 0",
+            "2 error: invalid value '0'",
+        ),
+        (
+            "fr_check refute A --workers 65",
+            "2 error: invalid value '65'",
         ),
         ("fr_check refute A --states 0", "2 error: invalid value '0'"),
         (

@@ -54,7 +54,7 @@ pub fn workers_arg<'a>(alloc: Global) -> Arg<'a> {
         .value_name("N")
         .value_parser(value_parser!(u16).range(1..=64))
         .default_value("4")
-        .help("Threads that judge, 1 to 64")
+        .help("Threads that judge or search, 1 to 64")
 }
 
 /// The word `--warn`.
@@ -65,20 +65,19 @@ pub fn warn_arg<'a>(alloc: Global) -> Arg<'a> {
         .help("Tell lines of code that are never reached, on standard error")
 }
 
-/// The word `--explain`.
-pub fn explain_arg<'a>(alloc: Global) -> Arg<'a> {
-    Arg::new(alloc, "explain")
-        .long("explain")
-        .action(ArgAction::SetTrue)
-        .help("Tell why the verdict is no, and on standard error where a refused file is at fault")
-}
+/// What `--explain` does where there is a verdict.
+pub const EXPLAINS_VERDICT: &str =
+    "Tell why the verdict is no, and on standard error where a refused file is at fault";
 
-/// The word `--explain` of a command that has no verdict.
-pub fn place_arg<'a>(alloc: Global) -> Arg<'a> {
+/// What `--explain` does where only a file can be refused.
+pub const EXPLAINS_REFUSAL: &str = "Tell where a refused file is at fault, on standard error";
+
+/// The word `--explain`, with what it does.
+pub fn explain_arg<'a>(alloc: Global, help: &'a str) -> Arg<'a> {
     Arg::new(alloc, "explain")
         .long("explain")
         .action(ArgAction::SetTrue)
-        .help("Tell where a refused file is at fault, on standard error")
+        .help(help)
 }
 
 /// The word `--all`.

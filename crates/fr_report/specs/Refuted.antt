@@ -4,9 +4,11 @@
 -- |------------------|-------------------------------------------------------------------------------------|
 -- | steps_text       | the lines of steps, as those of a run                                               |
 -- | breach_line      | the rule, the actor that breaches it, and the number of steps                       |
--- | IsRefutationText | that line and the lines of the steps, and then where the actor is, which is left open |
+-- | AreExplained     | the line of each step, and behind it lines that explain it, which are left open      |
+-- | AreStepLines     | the lines of steps, explained or not                                                |
+-- | IsRefutationText | the first line, those of the steps, and then where the actor is, which is left open  |
 -- | IsFindingText    | the same of a breach; else how many states were seen, and whether these are all     |
-use Rattle.std.specs.Prelude.{◌≡◌, ◌++◌, ℕ, List, codes, decimal, length}
+use Rattle.std.specs.Prelude.{◌≡◌, ◌++◌, ℕ, Bool, true, false, List, [], ◌∷◌, codes, decimal, length}
 use Rattle.std.specs.List.{flat_map}
 use Rattle.fr_program.specs.Program.{Program}
 use Rattle.fr_program.specs.Lookup.{actor_at}
@@ -33,12 +35,23 @@ breach_line P r =
     codes "breach: rule " ++ (decimal (number_of r.rule) ++ (codes ": " ++ (rule_text r.rule ++ (codes ": "
     ++ ((actor_at P r.actor.0).name ++ (codes ", after " ++ (decimal (length r.steps.items) ++ codes " steps\n")))))))
 
--- what the breach is, the steps that lead to it, and then a text that tells where the actor is
-abbrev pub IsRefutationText : Program → Refutation → List ℕ → Type 0
-IsRefutationText P r text = (last : List ℕ) × (text ≡ (breach_line P r ++ steps_text P r.steps.items) ++ last)
+-- the line of each step in its order, and behind it lines that explain it, which are left open
+abbrev pub AreExplained : Program → List StepTaken → List ℕ → Type 0
+AreExplained P [] text = text ≡ []
+AreExplained P (step ∷ rest) text = (more others : List ℕ) × (text ≡ step_text P step ++ (more ++ others)) × AreExplained P rest others
+
+-- the lines of the steps alone, or with lines that explain them
+abbrev pub AreStepLines : Bool → Program → List StepTaken → List ℕ → Type 0
+AreStepLines false P steps text = text ≡ steps_text P steps
+AreStepLines true P steps text = AreExplained P steps text
+
+-- what the breach is, the lines of the steps that lead to it, explained or not, and then a text that tells where the actor is
+abbrev pub IsRefutationText : Bool → Program → Refutation → List ℕ → Type 0
+IsRefutationText explains P r text =
+    (lines last : List ℕ) × AreStepLines explains P r.steps.items lines × (text ≡ (breach_line P r ++ lines) ++ last)
 
 -- what is written for a finding
-abbrev pub IsFindingText : Program → Finding → List ℕ → Type 0
-IsFindingText P (Breach r) text = IsRefutationText P r text
-IsFindingText P (Safe states) text = text ≡ codes "no breach in " ++ (decimal states ++ codes " states\n")
-IsFindingText P (Unknown states) text = text ≡ codes "no breach in " ++ (decimal states ++ codes " states, more are left\n")
+abbrev pub IsFindingText : Bool → Program → Finding → List ℕ → Type 0
+IsFindingText explains P (Breach r) text = IsRefutationText explains P r text
+IsFindingText explains P (Safe states) text = text ≡ codes "no breach in " ++ (decimal states ++ codes " states\n")
+IsFindingText explains P (Unknown states) text = text ≡ codes "no breach in " ++ (decimal states ++ codes " states, more are left\n")

@@ -1,13 +1,16 @@
-// The texts that a person reads: the report of a verdict (`report`), the lines of a trace (`trace_text`), the listing
-// of an application's points (`points_text`), and warnings (`warnings_text`). Below it are verdicts (fr_judge), traces
-// (fr_runner) and the writing of a line (fr_instr). The crate above, fr_answer, prints what these four give; the
-// contracts of the first three say the text to the letter.
+// The texts that a person reads: the report of a verdict (`report`) and why it is no (`explanation`), the lines of a
+// trace (`trace_text`), the listing of an application's points (`points_text`), a run into a breach (`finding_text`),
+// and warnings (`warnings_text`). Below it are verdicts (fr_judge), states that show why (fr_witness), traces
+// (fr_runner), runs into a breach (fr_refuter) and the writing of a line (fr_instr). The crate above, fr_answer, prints
+// what these give; but for the explanations and the warnings their contracts say the text to the letter.
 #![tactic(auto)]
 
 mod listing;
 mod reason;
 mod refuting;
 mod shown;
+#[cfg(test)]
+mod tests;
 mod text;
 mod trace;
 mod warnings;

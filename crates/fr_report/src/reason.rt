@@ -6,6 +6,7 @@ ghost use Rattle.fr_notes.specs.Fits.{NoteFits};
 ghost use Rattle.fr_ends.specs.Fits.{CertificateFits};
 ghost use Rattle.fr_report.specs.Told.{IsTold, AreTold, IsFormed, IsScene};
 
+mod changes;
 mod guards;
 mod notes;
 mod places;
@@ -15,6 +16,7 @@ mod steps;
 mod words;
 
 use crate::shown::actor_name;
+pub(crate) use changes::step_explained;
 use fr_calls::{Rule, State, the_start_is_well_formed};
 use fr_ends::{Certificate, EndName};
 use fr_judge::{Part, Verdict};
@@ -28,7 +30,7 @@ use rules::put_breach;
 pub use scene::Detail;
 use scene::{Scene, Site};
 use std::alloc::{AllocError, Global};
-use steps::put_outcome;
+use steps::outcome_text;
 
 /// What is said below a state or a step of one note.
 const ALLOWED: &str =
@@ -69,7 +71,10 @@ fn put_step(
     let (actor, choice) = (taken.actor, taken.choice);
     let name = actor_name(scene.app, actor);
     write!(text, "  step: {name}, choice {choice}")?;
-    put_outcome(text, mover.point.side, mover.instr, choice)?;
+    let outcome = outcome_text(alloc, mover.point.side, mover.instr, choice)?;
+    if !outcome.is_empty() {
+        write!(text, ": {outcome}")?;
+    }
     text.push('\n')?;
     let changed = scene.changed(alloc, actor, &taken.before, &taken.after)?;
     if !changed.is_empty() {

@@ -5,17 +5,14 @@ ghost use Rattle.fr_answer.specs.Checked.{most_bytes};
 use crate::row::{Asked, Told};
 use fr_answer::{
     CheckFault, DONE, Detail, Found, MOST_APP_BYTES, MOST_CERTIFICATE_BYTES, NO, Proved, REFUSED,
-    WordsFault, answer_check, answer_fault, answer_points, answer_run, answer_words, breach_told,
-    check_told, find_bytes, load, prove_bytes, refute_bytes, run_told, tell, tell_app_place,
-    tell_found, tell_place, warn, words_of,
+    WordsFault, answer_check, answer_fault, answer_points, answer_run, answer_words, check_told,
+    find_bytes, load, prove_told, refute_bytes, run_told, tell, tell_app_place, tell_found,
+    tell_place, warn, words_of,
 };
 use fr_parallel::Open;
 use std::alloc::{AllocError, Global};
 use std::sync::Wait;
 use std::thread::Threads;
-
-/// The most states that a proof looks at for a breach.
-const MOST_STATES: usize = 100_000;
 
 /// What is written to standard output and to standard error, and the exit status.
 #[derive(Drop)]
@@ -231,22 +228,6 @@ fn find<R: Threads + Sync>(
     }
 }
 
-/// A run into a breach where the verdict is no, one is asked for and found; otherwise the verdict.
-fn searched(
-    alloc: Global,
-    app: &[u8],
-    verdict: fr_answer::Told,
-    searches: bool,
-) -> Result<fr_answer::Told, CheckFault> {
-    if verdict.status == DONE || !searches {
-        return Ok(verdict);
-    }
-    match breach_told(alloc, app, MOST_STATES)? {
-        Some(breach) => Ok(breach),
-        None => Ok(verdict),
-    }
-}
-
 /// What `prove` writes and answers to this file, with the text of the certificate that passed.
 fn prove<R: Threads + Wait + Sync>(
     threads: &R,
@@ -261,30 +242,33 @@ fn prove<R: Threads + Wait + Sync>(
         Ok(app) => app,
         Err(fault) => return (answer_fault(alloc, &fault, stderr), None),
     };
-    let proved = match prove_bytes(threads, alloc, app, workers, &Open, told.detail) {
+    let Proved {
+        told: answer,
+        certificate,
+    } = match prove_told(threads, alloc, app, workers, &Open, searches, told.detail) {
         Ok(proved) => proved,
         Err(fault) => {
             let status = answer_fault(alloc, &fault, stderr);
             return (placed(alloc, (app, None), told, status, stderr), None);
         }
     };
-    let passed = proved.told.status == DONE;
-    let answer = searched(alloc, app, proved.told, searches);
-    let status = said(alloc, &answer, stdout, stderr);
-    let files = (app.as_slice(), proved.certificate.as_bytes());
+    let passed = answer.status == DONE;
+    let status = said(alloc, &Ok(answer), stdout, stderr);
+    let files = (app.as_slice(), certificate.as_bytes());
     let status = warned(alloc, files, told.warns, status, stderr);
     if passed {
-        (status, Some(proved.certificate))
+        (status, Some(certificate))
     } else {
         (status, None)
     }
 }
 
 /// What `refute` writes and answers to this file.
-fn refute(
+fn refute<R: Threads + Sync>(
+    threads: &R,
     alloc: Global,
     app: Option<&[u8]>,
-    states: usize,
+    (states, workers): (usize, usize),
     told: Told,
     stdout: &mut Vec<u8>,
     stderr: &mut Vec<u8>,
@@ -293,7 +277,9 @@ fn refute(
         Ok(app) => app,
         Err(fault) => return answer_fault(alloc, &fault, stderr),
     };
-    let status = said(alloc, &refute_bytes(alloc, app, states), stdout, stderr);
+    let explains = told.detail.is_some();
+    let found = refute_bytes(threads, alloc, app, states, workers, explains);
+    let status = said(alloc, &found, stdout, stderr);
     placed(alloc, (app, None), told, status, stderr)
 }
 
@@ -313,6 +299,44 @@ fn points(
     placed(alloc, (app, None), told, status, stderr)
 }
 
+/// What is written to both outputs and answered to what is asked of these files, with the text of the certificate that
+/// is written, if one is.
+fn status_of<R: Threads + Wait + Sync>(
+    threads: &R,
+    alloc: Global,
+    files: (Option<&[u8]>, Option<&[u8]>),
+    asked: &Asked,
+    out: &mut Vec<u8>,
+    err: &mut Vec<u8>,
+) -> (u8, Option<String>) {
+    let app = files.0;
+    let status = match asked {
+        Asked::Check { workers, told } => check(threads, alloc, files, *workers, *told, out, err),
+        Asked::Prove {
+            workers,
+            kept,
+            searches,
+            told,
+        } => {
+            let crew = (*workers, *searches);
+            let (status, text) = prove(threads, alloc, app, crew, *told, out, err);
+            return (status, text.filter(|_| *kept));
+        }
+        Asked::Run { polls, words, told } => {
+            let turns = (*polls, words.as_deref());
+            run(threads, alloc, files, turns, *told, out, err)
+        }
+        Asked::Find { rounds, told } => return find(threads, alloc, app, *rounds, *told, out, err),
+        Asked::Refute {
+            states,
+            workers,
+            told,
+        } => refute(threads, alloc, app, (*states, *workers), *told, out, err),
+        Asked::Points { told } => points(alloc, app, *told, out, err),
+    };
+    (status, None)
+}
+
 impl Call {
     /// What the program answers and writes to what is asked of these files; None is a file that is missing.
     pub fn on_files<R: Threads + Wait + Sync>(
@@ -324,34 +348,7 @@ impl Call {
     ) -> Call {
         let (mut stdout, mut stderr) = (Vec::new(alloc), Vec::new(alloc));
         let files = (app, certificate);
-        let (out, err) = (&mut stdout, &mut stderr);
-        let (status, written) = match asked {
-            Asked::Check { workers, told } => {
-                (
-                    check(threads, alloc, files, *workers, *told, out, err),
-                    None,
-                )
-            }
-            Asked::Prove {
-                workers,
-                kept,
-                searches,
-                told,
-            } => {
-                let crew = (*workers, *searches);
-                let (status, text) = prove(threads, alloc, app, crew, *told, out, err);
-                (status, text.filter(|_| *kept))
-            }
-            Asked::Run { polls, words, told } => {
-                let turns = (*polls, words.as_deref());
-                (run(threads, alloc, files, turns, *told, out, err), None)
-            }
-            Asked::Find { rounds, told } => { find(threads, alloc, app, *rounds, *told, out, err) }
-            Asked::Refute { states, told } => {
-                (refute(alloc, app, *states, *told, out, err), None)
-            }
-            Asked::Points { told } => (points(alloc, app, *told, out, err), None),
-        };
+        let (status, written) = status_of(threads, alloc, files, asked, &mut stdout, &mut stderr);
         Call {
             answer: Answer {
                 stdout,

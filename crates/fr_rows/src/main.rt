@@ -154,9 +154,14 @@ fn is_row_kept<R: Threads + Wait + Sync>(
 }
 
 /// Whether the case is answered as its line says, and if not, prints it with both answers, or with the error that there is.
-fn is_case_kept(rt: &HostRuntime, table: &Table, case: &Case) -> io::Result<bool> {
+fn is_case_kept<R: Threads + Sync>(
+    rt: &HostRuntime,
+    threads: &R,
+    table: &Table,
+    case: &Case,
+) -> io::Result<bool> {
     let (name, question, expected) = (&table.name, &case.question, &case.expected);
-    match table.answer(rt.alloc(), question.as_str()) {
+    match table.answer(threads, rt.alloc(), question.as_str()) {
         Ok(answer) if answer.as_str() == expected.as_str() => return Ok(true),
         Ok(answer) => println!(rt;
             "{name}: {question}: differs\n  expected {expected}\n  got {answer}"
@@ -167,10 +172,14 @@ fn is_case_kept(rt: &HostRuntime, table: &Table, case: &Case) -> io::Result<bool
 }
 
 /// How many of the table's cases are not answered as their lines say.
-fn differing_cases(rt: &HostRuntime, table: &Table) -> io::Result<usize> {
+fn differing_cases<R: Threads + Sync>(
+    rt: &HostRuntime,
+    threads: &R,
+    table: &Table,
+) -> io::Result<usize> {
     let mut differing: Vec<&Case> = Vec::new(rt.alloc());
     for case in &table.cases {
-        if !is_case_kept(rt, table, case)? {
+        if !is_case_kept(rt, threads, table, case)? {
             differing.push(case)?;
         }
     }
@@ -185,7 +194,7 @@ fn count_answers<R: Threads + Wait + Sync>(
     name: &str,
 ) -> io::Result<Count> {
     if let Some(table) = Table::read(rt, folder, name)? {
-        let differing = differing_cases(rt, &table)?;
+        let differing = differing_cases(rt, threads, &table)?;
         return Ok(Count {
             cases: table.cases.len(),
             differing,

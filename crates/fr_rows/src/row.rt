@@ -5,8 +5,8 @@
 // cert.json    the certificate
 // args         the words, one a line: a check of both files, by so many workers; a run of so many polls with these words; a
 //              search, in so many rounds, for a certificate that goes to out.json; a proof, by so many workers, whose
-//              certificate goes to out.json where that is named; a run into a breach, by so many states; or the points
-//              of the application; and at last what else is told: --warn, --explain, --all
+//              certificate goes to out.json where that is named; a run into a breach, in so many states, by so many
+//              workers; or the points of the application; and at last what else is told: --warn, --explain, --all
 // stdout       what has to be written to standard output
 // stderr       what has to be written to standard error
 // status       the exit status
@@ -85,9 +85,10 @@ pub enum Asked {
         searches: bool,
         told: Told,
     },
-    /// A run into a breach, by at most so many states.
+    /// A run into a breach, in at most so many states, by so many workers.
     Refute {
         states: usize,
+        workers: usize,
         told: Told,
     },
     /// The points of the application.
@@ -272,15 +273,20 @@ fn find_asked(words: &mut Lines) -> io::Result<Asked> {
     Ok(Asked::Find { rounds, told })
 }
 
-/// The rest of the words of a search for a breach: the number of states, and what else is told. The first of
-/// them was taken.
+/// The rest of the words of a search for a breach: the number of states, the number of workers, and what else
+/// is told. The first of them was taken.
 fn refute_asked<'a>(first: Option<&'a str>, words: &mut Lines<'a>) -> io::Result<Asked> {
     let (states, next) = match first {
         Some("--states") => (number(words.next())?, words.next()),
         next => (DEFAULT_STATES, next),
     };
+    let (workers, next) = workers_asked(next, words)?;
     let told = told_asked(next, words)?;
-    Ok(Asked::Refute { states, told })
+    Ok(Asked::Refute {
+        states,
+        workers,
+        told,
+    })
 }
 
 /// What the words ask of the application and of the certificate in the file with this name.

@@ -4,7 +4,8 @@
 // args      what is asked of each case, a word: `own`, `guarded`, `near`, `spoiler`, `implies` and `together` ask of one point
 //           or two; `index` asks for a list of the application's index; `certificate` what is written for a certificate or
 //           why it is refused; `line` the same for a line of code; `words` the words of a run that a text gives; `refusal` why
-//           the two texts are refused and where, with ` //` between the lines; `refute` the run into a breach that is found, likewise
+//           the two texts are refused and where, with ` //` between the lines; `refute` the run into a breach that is found, likewise;
+//           `explain` the same with its steps explained
 // app.toml  the application, with a `?` in the place of each text that a case gives
 // cert.json the certificate, likewise
 // cases     the cases, one a line: the numbers of the points, where points are asked about, or the list; then the texts that are put into
@@ -18,6 +19,7 @@ use crate::points::{Asked, answer_at};
 use crate::texts::{certificate_answer, line_answer, refusal_answer, refute_answer, words_answer};
 use std::alloc::Global;
 use std::io;
+use std::thread::Threads;
 
 const BETWEEN: &str = " | ";
 
@@ -30,7 +32,7 @@ enum Subject {
     Line,
     Words,
     Refusal,
-    Refute,
+    Refute { explains: bool },
 }
 
 /// A question, and the answer that it has to get.
@@ -63,7 +65,8 @@ fn subject_named(word: &str) -> io::Result<Subject> {
         "line" => Ok(Subject::Line),
         "words" => Ok(Subject::Words),
         "refusal" => Ok(Subject::Refusal),
-        "refute" => Ok(Subject::Refute),
+        "refute" => Ok(Subject::Refute { explains: false }),
+        "explain" => Ok(Subject::Refute { explains: true }),
         _ => Err(wrong("its word is none that a table has")),
     }
 }
@@ -133,7 +136,12 @@ impl Table {
     }
 
     /// The answer to a question. An error says that the question doesn't fit the table, or that there is no memory.
-    pub fn answer(&self, alloc: Global, question: &str) -> io::Result<String> {
+    pub fn answer<R: Threads + Sync>(
+        &self,
+        threads: &R,
+        alloc: Global,
+        question: &str,
+    ) -> io::Result<String> {
         match self.subject {
             Subject::Words => words_answer(alloc, question),
             Subject::Line => line_answer(alloc, self.app.as_str(), question),
@@ -146,9 +154,9 @@ impl Table {
                 let (app, certificate) = self.files(alloc, Some(question))?;
                 refusal_answer(alloc, app.as_str(), certificate.as_str())
             }
-            Subject::Refute => {
+            Subject::Refute { explains } => {
                 let (app, _) = self.files(alloc, Some(question))?;
-                refute_answer(alloc, app.as_str())
+                refute_answer(threads, alloc, app.as_str(), explains)
             }
             Subject::Points(asked) => {
                 let (numbers, texts) = match question.split_once(BETWEEN) {

@@ -8,9 +8,13 @@ use fr_judge::read_both;
 use fr_program::App;
 use std::alloc::{AllocError, Global};
 use std::io;
+use std::thread::Threads;
 
 /// The most states that are looked at for a breach.
 const MOST_STATES: usize = 10_000;
+
+/// How many workers look for a breach.
+const WORKERS: usize = 4;
 
 /// The words with commas between them, or `refused`.
 pub fn words_answer(alloc: Global, text: &str) -> io::Result<String> {
@@ -112,9 +116,22 @@ pub fn refusal_answer(alloc: Global, app: &str, certificate: &str) -> io::Result
     Ok(joined(alloc, text.as_str())?)
 }
 
-/// The run into a breach that is found for the application in this text, with ` //` between the lines.
-pub fn refute_answer(alloc: Global, app: &str) -> io::Result<String> {
-    match refute_bytes(alloc, app.as_bytes(), MOST_STATES) {
+/// The run into a breach that is found for the application in this text, with ` //` between the lines, and with
+/// its steps explained where it `explains`.
+pub fn refute_answer<R: Threads + Sync>(
+    threads: &R,
+    alloc: Global,
+    app: &str,
+    explains: bool,
+) -> io::Result<String> {
+    match refute_bytes(
+        threads,
+        alloc,
+        app.as_bytes(),
+        MOST_STATES,
+        WORKERS,
+        explains,
+    ) {
         Ok(told) => Ok(joined(alloc, told.text.as_str())?),
         Err(_) => Err(wrong("the application is refused, or there is no memory")),
     }

@@ -27,7 +27,7 @@ pub(super) fn put_place(
 }
 
 /// Where the actor stands in the state; done where the application has no such actor.
-fn place_in(app: &App, state: &State, actor: ActorId) -> Place
+pub(super) fn place_in(app: &App, state: &State, actor: ActorId) -> Place
     requires { IsWellFormed app.now state.now }
 {
     if actor.0 < app.actors().len() {

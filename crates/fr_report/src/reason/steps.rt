@@ -1,6 +1,6 @@
 // A step in words.
 use fr_program::{Act, Attempt, BufferKind, Call, End, Instr, Side};
-use std::alloc::AllocError;
+use std::alloc::{AllocError, Global};
 
 /// What a call tries, in a word.
 fn attempt_name(attempt: Attempt) -> &'static str {
@@ -13,41 +13,46 @@ fn attempt_name(attempt: Attempt) -> &'static str {
     }
 }
 
-/// Appends how many bytes a call on a buffer moved.
-fn put_moved(text: &mut String, end: End, kind: BufferKind, choice: i64) -> Result<(), AllocError> {
+/// How many bytes a call on a buffer moved.
+fn moved_text(
+    alloc: Global,
+    end: End,
+    kind: BufferKind,
+    choice: i64,
+) -> Result<String, AllocError> {
     let verb = match end {
         End::Writer => "sent",
         End::Reader => "received",
     };
     match (choice, kind) {
-        (0, _) => write!(text, ": nothing is {verb}"),
-        (_, BufferKind::Stream) => write!(text, ": {choice} bytes are {verb}"),
-        (_, BufferKind::Message) => write!(text, ": a message of {choice} bytes is {verb}"),
+        (0, _) => format!(in alloc; "nothing is {verb}"),
+        (_, BufferKind::Stream) => format!(in alloc; "{choice} bytes are {verb}"),
+        (_, BufferKind::Message) => format!(in alloc; "a message of {choice} bytes is {verb}"),
     }
 }
 
-/// Appends whether what is tried works.
-fn put_works(text: &mut String, what: &str, choice: i64) -> Result<(), AllocError> {
+/// Whether what is tried works.
+fn works_text(alloc: Global, what: &str, choice: i64) -> Result<String, AllocError> {
     match choice {
-        0 => write!(text, ": the {what} fails"),
-        _ => write!(text, ": the {what} works"),
+        0 => format!(in alloc; "the {what} fails"),
+        _ => format!(in alloc; "the {what} works"),
     }
 }
 
-/// Appends what a step by this choice does, where it is a call that can do one thing or another.
-pub(super) fn put_outcome(
-    text: &mut String,
+/// What a step by this choice does, where it is a call that can do one thing or another; otherwise no text.
+pub(super) fn outcome_text(
+    alloc: Global,
     side: Side,
     instr: &Instr,
     choice: i64,
-) -> Result<(), AllocError> {
+) -> Result<String, AllocError> {
     match (side, instr) {
-        (Side::Before, Instr::Call(Call::On(_))) => text.push_str(": the call begins"),
-        (_, Instr::Call(Call::Create { .. })) => put_works(text, "create", choice),
+        (Side::Before, Instr::Call(Call::On(_))) => String::from_str(alloc, "the call begins"),
+        (_, Instr::Call(Call::Create { .. })) => works_text(alloc, "create", choice),
         (_, Instr::Call(Call::On(call))) => match call.act {
-            Act::Try { attempt, .. } => put_works(text, attempt_name(attempt), choice),
-            Act::Move { end, kind, .. } => put_moved(text, end, kind, choice),
+            Act::Try { attempt, .. } => works_text(alloc, attempt_name(attempt), choice),
+            Act::Move { end, kind, .. } => moved_text(alloc, end, kind, choice),
         },
-        _ => Ok(()),
+        _ => Ok(String::new(alloc)),
     }
 }

@@ -67,7 +67,12 @@ pub(super) fn kind_name(kind: Kind) -> &'static str {
 }
 
 /// Appends that an actor holds a mutex, so often.
-fn put_held(text: &mut String, actor: &str, object: &str, count: u32) -> Result<(), AllocError> {
+pub(super) fn put_held(
+    text: &mut String,
+    actor: &str,
+    object: &str,
+    count: u32,
+) -> Result<(), AllocError> {
     match count {
         0 => write!(text, "{actor} doesn't hold {object}"),
         1 => write!(text, "{actor} holds {object} once"),
@@ -215,7 +220,7 @@ fn put_lengths(text: &mut String, lengths: &VecDeque<u32>) -> Result<(), AllocEr
 }
 
 /// Appends what an object has.
-fn put_stock(text: &mut String, app: &App, stock: &Stock) -> Result<(), AllocError> {
+pub(super) fn put_stock(text: &mut String, app: &App, stock: &Stock) -> Result<(), AllocError> {
     match stock {
         Stock::Dead => text.push_str("dead"),
         Stock::Values(values) => put_values(text, values),

@@ -5,11 +5,11 @@ use Rattle.fr_answer.proofs.Refusals.{app-refused, breach-told}
 use Rattle.fr_answer.proofs.refuting.breach_told.Goals as goal
 
 pub returns-in_err-app-clause-refused : goal.returns-in_err-app-clause-refused
-returns-in_err-app-clause-refused c =
+returns-in_err-app-clause-refused g c =
     let p = err_from_is_err_and c.from_residual.result c.from_residual.ensures.1 in
     rw (p.1, p.2) (app-refused (CanRefuseApp c.args.app.now) c.in_err-app.field-0.0 tt (λ e. (e, c.in_err-app.ensures.err e)))
 
 pub returns-clause-told : goal.returns-clause-told
-returns-clause-told c =
-    breach-told c.args.app.now c.in_ok-app.app c.in_ok-found.found c.in-Breach.field-0 c.in_ok-told_of.field-0 c.in-Breach.is c.in_ok-app.ensures.ok
+returns-clause-told g c =
+    breach-told c.args.app.now c.args.explains c.in_ok-app.app c.in_ok-found.found c.in-Breach.field-0 c.in_ok-told_of.field-0 c.in-Breach.is c.in_ok-app.ensures.ok
     c.in_ok-found.ensures c.in_ok-told_of.ensures.status c.in_ok-told_of.ensures.text
