@@ -9,8 +9,6 @@ mod listing;
 mod reason;
 mod refuting;
 mod shown;
-#[cfg(test)]
-mod tests;
 mod text;
 mod trace;
 mod warnings;
