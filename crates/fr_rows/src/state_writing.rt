@@ -1,5 +1,4 @@
 // States that are written as facts, in the form of `state_reading`: those that are otherwise than at the start.
-ghost use Rattle.std.specs.Prelude.{◌<◌, length};
 ghost use Rattle.fr_calls.specs.State.{IsWellFormed};
 
 use crate::state_reading::START;
