@@ -46,7 +46,7 @@ def answer_by_model(app, state, actor, choice):
 
 
 class Asked:
-    """What is asked of the step function: cases by the text of their application, and the first label that each of these has."""
+    """What is asked of the step function: cases by the text of their application, each once, and a label for each of these."""
 
     def __init__(self):
         self.label, self.cases, self.labels = "", {}, {}
@@ -54,7 +54,7 @@ class Asked:
 
     def ask(self, app, state, actor, choice, answer):
         case = f"{state_text(app, state)} | {app.actors[actor]} {choice} | {answer}"
-        self.cases.setdefault(app.text, []).append(case)
+        self.cases.setdefault(app.text, {}).setdefault(case)
         self.labels.setdefault(app.text, self.label)
 
     def step(self, app, state, actor, choice, answer):
