@@ -1,7 +1,7 @@
 // States that are written as facts, in the form of `state_reading`: those that are otherwise than at the start.
 ghost use Rattle.fr_calls.specs.State.{IsWellFormed};
 
-use crate::state_reading::START;
+use crate::state_reading::{DONE, START};
 use fr_calls::{Place, State, Stock, the_start_is_well_formed};
 use fr_program::{ActorId, App, ObjId, Side, VarId};
 use std::alloc::{AllocError, Global};
@@ -19,7 +19,7 @@ fn place_text(alloc: Global, place: Place) -> Result<String, AllocError> {
             pc,
             side: Side::Inside,
         } => format!(in alloc; "{pc} inside"),
-        Place::Done => format!(in alloc; "done"),
+        Place::Done => String::from_str(alloc, DONE),
     }
 }
 
