@@ -73,7 +73,7 @@ class Application:
     """Variables and objects by name, the actors' names, their code and the points."""
 
     def __init__(self, text):
-        tables = tomllib.loads(text)
+        self.text, tables = text, tomllib.loads(text)
         self.variables = {it["name"]: it for it in tables.get("variable", [])}
         self.objects = {it["name"]: it for it in tables.get("object", [])}
         self.actors = [it["name"] for it in tables.get("actor", [])]

@@ -155,6 +155,29 @@ def guard_text(app, guard, actor, state):
     return f"the actor whose turn it is:{' ' * bool(turns)}{turns}", lacks
 
 
+def put_change(app, actor, state, told):
+    """Makes so in the state what is told to have changed by a step of the actor."""
+    name, what = told.split(" ", 1)
+    if name in app.variables:
+        state.values[name] = int(what.removeprefix("= "))
+    elif name in app.objects:
+        state.contents[name] = content_of(app, name, what)
+    elif "critical" in what:
+        depth = depth_of(told, "critical")
+        state.critical = (actor, depth) if depth else None
+    else:
+        state.suspended[actor] = depth_of(told, "suspended")
+
+
+def changed_state(app, actor, before, changed, then):
+    """The state after a step of the actor, by what is told to have changed and by where the actor is then."""
+    after = before.copy()
+    for told in changed.split("; ") if changed else []:
+        put_change(app, actor, after, told)
+    after.places[actor] = place_of(f"  {then}")
+    return after
+
+
 def place_of(line):
     """The place in a line of `--all` of an actor."""
     pc, side = re.match(r"  \w+ (\w+) (\w+)", line).groups()

@@ -33,6 +33,9 @@ mod row;
 mod runs;
 #[cfg(test)]
 mod runs_without_memory;
+mod state_reading;
+mod state_writing;
+mod steps;
 mod table;
 mod texts;
 #[cfg(test)]

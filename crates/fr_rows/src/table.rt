@@ -5,17 +5,18 @@
 //           or two; `index` asks for a list of the application's index; `certificate` what is written for a certificate or
 //           why it is refused; `line` the same for a line of code; `words` the words of a run that a text gives; `refusal` why
 //           the two texts are refused and where, with ` //` between the lines; `refute` the run into a breach that is found, likewise;
-//           `explain` the same with its steps explained
+//           `explain` the same with its steps explained; `steps` what a step leads to
 // app.toml  the application, with a `?` in the place of each text that a case gives
 // cert.json the certificate, likewise
 // cases     the cases, one a line: the numbers of the points, where points are asked about, or the list; then the texts that are put into
-//           app.toml and cert.json, in their order, and last the answer, with ` | ` between them. An empty line, and one
-//           that begins with #, is for the reader
+//           app.toml and cert.json, in their order, for a step the state, an actor with its choice, and last the answer, with ` | `
+//           between them. An empty line, and one that begins with #, is for the reader
 use crate::files::{names_in, text_of, wrong};
 use crate::filling::filled;
 use crate::index_lists::list_answer;
 use crate::judged_files::Files;
 use crate::points::{Asked, answer_at};
+use crate::steps::step_answer;
 use crate::texts::{certificate_answer, line_answer, refusal_answer, refute_answer, words_answer};
 use std::alloc::Global;
 use std::io;
@@ -33,6 +34,7 @@ enum Subject {
     Words,
     Refusal,
     Refute { explains: bool },
+    Steps,
 }
 
 /// A question, and the answer that it has to get.
@@ -67,6 +69,7 @@ fn subject_named(word: &str) -> io::Result<Subject> {
         "refusal" => Ok(Subject::Refusal),
         "refute" => Ok(Subject::Refute { explains: false }),
         "explain" => Ok(Subject::Refute { explains: true }),
+        "steps" => Ok(Subject::Steps),
         _ => Err(wrong("its word is none that a table has")),
     }
 }
@@ -146,6 +149,11 @@ impl Table {
             Subject::Words => words_answer(alloc, question),
             Subject::Line => line_answer(alloc, self.app.as_str(), question),
             Subject::Index => list_answer(alloc, self.app.as_str(), question),
+            Subject::Steps => {
+                let mut texts = Some(question);
+                let app = filled(alloc, self.app.as_str(), &mut texts)?;
+                step_answer(alloc, app.as_str(), texts.unwrap_or(""))
+            }
             Subject::Certificate => {
                 let (app, certificate) = self.files(alloc, Some(question))?;
                 certificate_answer(alloc, app.as_str(), certificate.as_str())
