@@ -34,12 +34,7 @@ fn finding_status(found: &Finding) -> u8
 }
 
 /// What is told of what was found, with each step of a run explained where that is asked for.
-fn told_of(
-    alloc: Global,
-    app: &App,
-    found: &Finding,
-    explains: bool,
-) -> Result<Told, AllocError>
+fn told_of(alloc: Global, app: &App, found: &Finding, explains: bool) -> Result<Told, AllocError>
     requires { IsFound app.now found.now }
     ensures status { IfOk result (λ told. told.status ≡ finding_status found.now) }
     ensures text { IfOk result

@@ -1,5 +1,5 @@
 -- The states of what shows a part are well formed.
-use Rattle.std.proofs.Common.{◌≡◌, ◌<◌, List, length, get_or, Some, None, sym, subst, All}
+use Rattle.std.proofs.Common.{Some, None, sym, subst}
 use Rattle.fr_program.specs.declared.ids.Point.{Point}
 use Rattle.fr_program.specs.Program.{Program}
 use Rattle.fr_calls.specs.State.{IsWellFormed, start}

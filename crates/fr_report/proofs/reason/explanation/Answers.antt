@@ -1,5 +1,5 @@
 -- Each state of what shows the part is well formed.
-use Rattle.std.proofs.Common.{◌≡◌, Some, sym, subst}
+use Rattle.std.proofs.Common.{sym, subst}
 use Rattle.fr_judge.specs.declared.part.Verdict.TheVariants.{No}
 use Rattle.fr_witness.specs.Witness.{IsWitness}
 use Rattle.fr_report.specs.Told.{IsFormed}

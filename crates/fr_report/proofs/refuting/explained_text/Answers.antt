@@ -19,7 +19,7 @@ loop-step-preserved c =
     let s = get_or steps k no_step in
     let was = string_bytes c.loop-step.text in
     let more = string_bytes c.in_ok-more.more in
-    let is = string_bytes c.push_str.new.text in
+    let is = string_bytes c.push_str.new.self in
     let added : is ≡ (was ++ step_text P s) ++ more = search rules in
     record {
       formed = c.in_ok-more.ensures;
