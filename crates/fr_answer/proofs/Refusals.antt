@@ -1,5 +1,5 @@
 -- What a refused text and a status say: a fault that stands, a verdict, and a safe application.
-use Rattle.std.proofs.Common.{◌≡◌, ◌≤◌, ◌∙◌, ℕ, List, Bool, true, false, refl, arith, ap, subst, string_bytes}
+use Rattle.std.proofs.Common.{◌≡◌, ◌∙◌, ℕ, List, Bool, true, false, refl, arith, ap, subst, string_bytes}
 use Rattle.std.specs.Prelude.{if◌then◌else◌}
 use Rattle.fr_reader.specs.declared.fault.ReadFault.{ReadFault}
 use Rattle.fr_reader.specs.Faults.{is_memory as app_is_memory}

@@ -1,5 +1,5 @@
 -- A fault of the bytes is present in them, and the status 0 is that of a safe application.
-use Rattle.std.proofs.Common.{◌≡◌, sym, ◌∙◌}
+use Rattle.std.proofs.Common.{sym, ◌∙◌}
 use Rattle.std.proofs.lemmas.Result.{err_from_is_err_and}
 use Rattle.fr_answer.specs.Refuted.{CanRefuseSearch}
 use Rattle.fr_answer.proofs.Refusals.{app-refused, zero-safe}
