@@ -2,7 +2,8 @@
 // trace (`trace_text`), the listing of an application's points (`points_text`), a run into a breach (`finding_text`),
 // and warnings (`warnings_text`). Below it are verdicts (fr_judge), states that show why (fr_witness), traces
 // (fr_runner), runs into a breach (fr_refuter) and the writing of a line (fr_instr). The crate above, fr_answer, prints
-// what these give; but for the explanations and the warnings their contracts say the text to the letter.
+// what these give; but for the explanations, the warnings and the last line of a run into a breach their contracts say
+// the text to the letter.
 #![tactic(auto)]
 
 mod listing;
