@@ -1,5 +1,5 @@
 -- What a refused text and a status say: a fault that stands, a verdict, and a safe application.
-use Rattle.std.proofs.Common.{◌≡◌, ◌∙◌, ℕ, List, Bool, true, false, refl, arith, ap, subst, string_bytes}
+use Rattle.std.proofs.Common.{◌≡◌, ◌∙◌, ℕ, List, Bool, true, false, refl, arith, ap, subst, Some, string_bytes}
 use Rattle.std.specs.Prelude.{if◌then◌else◌}
 use Rattle.fr_reader.specs.declared.fault.ReadFault.{ReadFault}
 use Rattle.fr_reader.specs.Faults.{is_memory as app_is_memory}
@@ -25,6 +25,7 @@ use Rattle.fr_answer.specs.declared.fault.CheckFault.TheVariants.{App, Cert, Mem
 use Rattle.fr_reader.specs.Meaning.{Means}
 use Rattle.fr_refuter.specs.declared.replay.Refutation.{Refutation}
 use Rattle.fr_report.specs.Refuted.{IsFindingText}
+use Rattle.fr_answer.specs.declared.telling.Outcome.TheVariants.{Searched}
 use Rattle.fr_answer.specs.declared.telling.Told.{Told}
 use Rattle.fr_answer.specs.Refuted.{finding_status, IsBreachTold}
 use Rattle.fr_answer.specs.Checked.{status_of, app_fault, cert_fault, check_fault, IsAppRefused, IsCertRefused, CanRefuse}
@@ -72,6 +73,13 @@ zero-safe P (Unknown states) is e = absurd (omega (arith, e))
 
 -- what is told of a finding that is a breach is a run into one
 pub breach-told : (app : List ℕ) (explains : Bool) (P : Program) (found : Finding) (r : Refutation) (t : Told) → found ≡ Breach r → Means app P → IsFound P found
-    → t.status ≡ finding_status found → IsFindingText explains P found (string_bytes t.text) → IsBreachTold app explains t
-breach-told app explains P found r t e means is status text =
-    (P, r, means, subst (λ f. IsFound P f) e is, status ∙ ap finding_status e, subst (λ f. IsFindingText explains P f (string_bytes t.text)) e text)
+    → t.status ≡ finding_status found → IsFindingText explains P found (string_bytes t.text) → t.outcome ≡ Some (Searched found) → IsBreachTold app explains t
+breach-told app explains P found r t e means is status text outcome = (
+  P,
+  r,
+  means,
+  subst (λ f. IsFound P f) e is,
+  status ∙ ap finding_status e,
+  subst (λ f. IsFindingText explains P f (string_bytes t.text)) e text,
+  outcome ∙ ap (λ f. Some (Searched f)) e,
+)

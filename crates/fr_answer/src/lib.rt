@@ -4,17 +4,21 @@
 // `words_of` reads. `find_bytes` finds a certificate and `tell_found` says so. `prove_told` works one out and judges it,
 // and where the verdict is no looks for a run into a breach, as `refute_bytes` does. `check_told`, `run_told` and these
 // two give what has to be said, with why a verdict is no or what each step of such a run does, and `tell` says it; `warn`
-// tells what a verdict may hide, and `tell_place` where a refusal is.
-// `answer_points` lists the points of an application.
+// tells what a verdict may hide, and `tell_place` where a refusal is. `told_page` and `fault_page` show an answer as a page.
+// `answer_points` lists the points of an application. `check_answer`, `prove_answer` and `refute_answer` give
+// the same as `check_told`, `prove_told` and `refute_bytes`, as values for reports that machines read (fr_formats), and `listed_in` reads a list of applications.
 #![tactic(auto)]
 
 mod answer;
+mod answering;
 mod check;
 mod exit;
 mod fault;
 mod file;
 mod found;
 mod layout;
+mod list;
+mod paging;
 mod place;
 mod points;
 mod proving;
@@ -25,19 +29,25 @@ mod warning;
 mod words;
 
 pub use answer::{answer_check, answer_fault};
+pub use answering::{Ways, check_answer, fault_answer, prove_answer, refute_answer};
 pub use check::{check_to, check_with};
 pub use exit::{DONE, MACHINE, NO, REFUSED};
 pub use fault::{CheckFault, fault_line, status};
 pub use file::{LoadFault, load};
 pub use found::{Found, find_bytes, tell_found};
 pub use fr_cert::MOST_BYTES as MOST_CERTIFICATE_BYTES;
+pub use fr_formats::{
+    Answer, AnswerKind, Command, Format, Source, VERSION, answer_of_text, answers_text,
+};
 pub use fr_reader::MOST_BYTES as MOST_APP_BYTES;
 pub use fr_report::Detail;
+pub use list::{ListFault, Listed, MOST_LIST_BYTES, answer_list, listed_in, path_beside};
+pub use paging::{Question, fault_page, told_page};
 pub use place::{tell_app_place, tell_place};
 pub use points::{answer_points, points_to};
 pub use proving::{Proved, is_replaceable, prove_told};
 pub use refuting::refute_bytes;
 pub use running::{answer_run, run_to, run_told};
-pub use telling::{Told, check_told, tell};
-pub use warning::warn;
+pub use telling::{Outcome, Told, check_told, tell};
+pub use warning::{warn, warnings_of};
 pub use words::{WordsFault, answer_words, words_of};

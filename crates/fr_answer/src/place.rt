@@ -10,7 +10,11 @@ use std::io::Write;
 
 /// The lines that tell where the application's text or the certificate's is at fault, or that the two
 /// seem to be swapped; no text where neither is at fault.
-fn place_of(alloc: Global, app: &[u8], certificate: &[u8]) -> Result<String, AllocError> {
+pub(crate) fn place_of(
+    alloc: Global,
+    app: &[u8],
+    certificate: &[u8],
+) -> Result<String, AllocError> {
     if seem_swapped(app, certificate) {
         return String::from_str(alloc, SWAPPED);
     }
@@ -20,6 +24,26 @@ fn place_of(alloc: Global, app: &[u8], certificate: &[u8]) -> Result<String, All
             Err(fault) => place_of_certificate(alloc, &read, certificate, &fault),
         },
         Err(fault) => place_of_app(alloc, app, &fault),
+    }
+}
+
+/// The lines that tell where the application's text is at fault; no text where it isn't.
+pub(crate) fn place_of_alone(alloc: Global, app: &[u8]) -> Result<String, AllocError> {
+    match read_app(alloc, app) {
+        Ok(_) => Ok(String::new(alloc)),
+        Err(fault) => place_of_app(alloc, app, &fault),
+    }
+}
+
+/// The same of both texts, or of the application's alone.
+pub(crate) fn place_text(
+    alloc: Global,
+    app: &[u8],
+    certificate: Option<&[u8]>,
+) -> Result<String, AllocError> {
+    match certificate {
+        Some(certificate) => place_of(alloc, app, certificate),
+        None => place_of_alone(alloc, app),
     }
 }
 
@@ -55,10 +79,7 @@ pub fn tell_place<W: Write>(
 pub fn tell_app_place<W: Write>(alloc: Global, app: &[u8], writer: &mut W) -> Result<(), CheckFault>
     ensures kept { IfErr result (λ fault. fault ≢ CheckFault.Write → writer.new ≡ writer.old) }
 {
-    let text = match read_app(alloc, app) {
-        Ok(_) => String::new(alloc),
-        Err(fault) => place_of_app(alloc, app, &fault)?,
-    };
+    let text = place_of_alone(alloc, app)?;
     match writer.write_all(text.as_bytes()) {
         Ok(()) => Ok(()),
         Err(_) => Err(CheckFault::Write),

@@ -1,8 +1,9 @@
 // Looking for a run of the application that bytes mean into a breach.
-ghost use Rattle.std.specs.Prelude.{◌≡◌, ◌↔◌, IfOk, IfErr, IfSome, IsErrOf, string_bytes};
+ghost use Rattle.std.specs.Prelude.{◌≡◌, ◌↔◌, IfOk, IfErr, IfSome, IsErrOf, Some, string_bytes};
 ghost use Rattle.fr_parallel.specs.Kept.{IsNoCrew};
 ghost use Rattle.fr_refuter.specs.Refutes.{IsFound};
 ghost use Rattle.fr_report.specs.Refuted.{IsFindingText};
+ghost use Rattle.fr_answer.specs.declared.telling.Outcome.TheVariants.{Searched};
 ghost use Rattle.fr_answer.specs.Checked.{IsSafeText};
 ghost use Rattle.fr_answer.specs.Proved.{CanRefuseApp};
 ghost use Rattle.fr_answer.specs.Refuted.{
@@ -14,7 +15,7 @@ ghost use Rattle.fr_answer.specs.Refuted.{
 
 use crate::exit::{DONE, NO};
 use crate::fault::CheckFault;
-use crate::telling::Told;
+use crate::telling::{Outcome, Told};
 use fr_parallel::is_crew;
 use fr_program::App;
 use fr_reader::read_app;
@@ -34,16 +35,18 @@ fn finding_status(found: &Finding) -> u8
 }
 
 /// What is told of what was found, with each step of a run explained where that is asked for.
-fn told_of(alloc: Global, app: &App, found: &Finding, explains: bool) -> Result<Told, AllocError>
-    requires { IsFound app.now found.now }
-    ensures status { IfOk result (λ told. told.status ≡ finding_status found.now) }
+fn told_of(alloc: Global, app: &App, found: Finding, explains: bool) -> Result<Told, AllocError>
+    requires { IsFound app.now found }
+    ensures status { IfOk result (λ told. told.status ≡ finding_status found) }
     ensures text { IfOk result
-        (λ told. IsFindingText explains app.now found.now (string_bytes told.text)) }
+        (λ told. IsFindingText explains app.now found (string_bytes told.text)) }
+    ensures outcome { IfOk result (λ told. told.outcome ≡ Some (Searched found)) }
 {
-    let text = finding_text(alloc, app, found, explains)?;
+    let text = finding_text(alloc, app, &found, explains)?;
     Ok(Told {
-        status: finding_status(found),
+        status: finding_status(&found),
         text,
+        outcome: Some(Outcome::Searched(found)),
     })
 }
 
@@ -80,7 +83,7 @@ pub fn refute_bytes<R: Threads + Sync>(
     }
     let app = read_app(alloc, app)?;
     let found = refute(rt, alloc, &app, most_states, workers)?;
-    Ok(told_of(alloc, &app, &found, explains)?)
+    Ok(told_of(alloc, &app, found, explains)?)
 }
 
 /// A run of the application into a breach, as `refute_bytes` tells it, if there is one among so many states.
@@ -104,5 +107,5 @@ pub(crate) fn breach_told<R: Threads + Sync>(
     let Finding::Breach(_) = &found else {
         return Ok(None);
     };
-    Ok(Some(told_of(alloc, &app, &found, explains)?))
+    Ok(Some(told_of(alloc, &app, found, explains)?))
 }

@@ -185,7 +185,11 @@ pub fn run_told<R: Threads + Wait + Sync, G: Gate>(
     let (app, certificate) = read_both(alloc, app, certificate)?;
     let (status, mut text, more) = output(rt, alloc, app, certificate, polls, words, gate, detail)?;
     text.push_str(&more)?;
-    Ok(Told { status, text })
+    Ok(Told {
+        status,
+        text,
+        outcome: None,
+    })
 }
 
 /// Runs the application as `run_to` does, writes the trace or the report to `out`, or the line of a

@@ -15,6 +15,7 @@ use fr_interfere::{Hulls, Index, Interference};
 use fr_judge::{Verdict, job_beside};
 use fr_parallel::{Gate, judge_reading};
 use fr_program::App;
+use fr_refuter::Finding;
 use fr_report::{Detail, explanation, report};
 use std::alloc::{AllocError, Global};
 use std::io::Write;
@@ -24,6 +25,15 @@ use std::thread::Threads;
 /// The most failing points that are listed.
 const MOST_LISTED: u64 = 1000;
 
+/// What was found, of which a text tells.
+#[derive(Drop)]
+pub enum Outcome {
+    /// The verdict on the application by a certificate.
+    Judged(Verdict),
+    /// What is found of the application's states.
+    Searched(Finding),
+}
+
 /// What a command has to say of a verdict.
 #[derive(Drop)]
 pub struct Told {
@@ -32,6 +42,8 @@ pub struct Told {
     /// What is written: the report of the verdict or the lines of a run, and behind a report why the verdict
     /// is no.
     pub text: String,
+    /// What the text tells of; None of a run.
+    pub outcome: Option<Outcome>,
 }
 
 /// The `no:` line of the point with this number, where a part fails there.
@@ -143,6 +155,7 @@ pub fn check_told<R: Threads + Wait + Sync, G: Gate>(
     Ok(Told {
         status: status_of(&reading.verdict),
         text,
+        outcome: Some(Outcome::Judged(reading.verdict)),
     })
 }
 

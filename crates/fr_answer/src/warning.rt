@@ -7,6 +7,16 @@ use fr_report::warnings_text;
 use std::alloc::Global;
 use std::io::Write;
 
+/// The warnings for the application and its certificate, as `warnings_text` gives them.
+///
+/// # Errors
+///
+/// A fault that is present in the bytes; `Memory` where an allocation was refused.
+pub fn warnings_of(alloc: Global, app: &[u8], certificate: &[u8]) -> Result<String, CheckFault> {
+    let (app, certificate) = read_both(alloc, app, certificate)?;
+    Ok(warnings_text(alloc, &app, &certificate.notes)?)
+}
+
 /// Writes the warnings for the application and its certificate, as `warnings_text` gives them: the lines of
 /// code that the certificate says are never reached, and that there are no actors.
 ///
@@ -22,8 +32,7 @@ pub fn warn<W: Write>(
 ) -> Result<(), CheckFault>
     ensures kept { IfErr result (λ fault. fault ≢ CheckFault.Write → writer.new ≡ writer.old) }
 {
-    let (app, certificate) = read_both(alloc, app, certificate)?;
-    let text = warnings_text(alloc, &app, &certificate.notes)?;
+    let text = warnings_of(alloc, app, certificate)?;
     match writer.write_all(text.as_bytes()) {
         Ok(()) => Ok(()),
         Err(_) => Err(CheckFault::Write),

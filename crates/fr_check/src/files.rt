@@ -2,7 +2,10 @@
 ghost use Rattle.std.specs.Prelude.{◌≤◌};
 ghost use Rattle.fr_answer.specs.Checked.{most_bytes};
 
-use fr_answer::{CheckFault, LoadFault, answer_fault, load};
+use fr_answer::{
+    Answer, CheckFault, LoadFault, MACHINE, Source, answer_fault, answer_of_text, load,
+};
+use std::alloc::{AllocError, Global};
 use std::fs::File;
 use std::io;
 
@@ -15,6 +18,12 @@ pub enum Stopped {
     Told(u8),
 }
 
+impl From<AllocError> for Stopped {
+    fn from(_refused: AllocError) -> Stopped {
+        Stopped::Fault(CheckFault::Memory)
+    }
+}
+
 impl From<CheckFault> for Stopped {
     fn from(fault: CheckFault) -> Stopped {
         Stopped::Fault(fault)
@@ -23,7 +32,7 @@ impl From<CheckFault> for Stopped {
 
 /// Why a file's bytes couldn't be had.
 #[derive(Drop)]
-enum Unread {
+pub enum Unread {
     /// An allocation was refused.
     Memory,
     /// The file couldn't be opened.
@@ -38,7 +47,7 @@ pub fn is_memory(error: &io::Error) -> bool {
 }
 
 /// The file's bytes, at most one more than the limit.
-fn file_bytes(rt: &HostRuntime, path: &str, limit: usize) -> Result<Vec<u8>, Unread>
+pub fn file_bytes(rt: &HostRuntime, path: &str, limit: usize) -> Result<Vec<u8>, Unread>
     requires { limit ≤ most_bytes }
 {
     let mut file = match File::open(rt, path) {
@@ -51,6 +60,21 @@ fn file_bytes(rt: &HostRuntime, path: &str, limit: usize) -> Result<Vec<u8>, Unr
         Err(LoadFault::Memory) => Err(Unread::Memory),
         Err(LoadFault::Device) => Err(Unread::Device),
     }
+}
+
+/// The answer where this file can't be read: which one it is, and why.
+pub fn unread_answer(
+    alloc: Global,
+    source: Source,
+    path: &str,
+    unread: &Unread,
+) -> Result<Answer, AllocError> {
+    let text = match unread {
+        Unread::Memory => String::from_str(alloc, "machine: memory\n")?,
+        Unread::Unopened(error) => format!(in alloc; "machine: file\n  {path}: {error}\n")?,
+        Unread::Device => format!(in alloc; "machine: file\n  {path}: a read failed\n")?,
+    };
+    answer_of_text(alloc, source, MACHINE, &text)
 }
 
 /// Prints that a file can't be read, which one, and why; gives the exit status.

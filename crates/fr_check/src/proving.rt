@@ -1,12 +1,15 @@
 // The command `prove`: its words, and what the program does for it.
-use crate::explaining::{detail_asked, refused};
-use crate::files::{Stopped, input, is_memory};
+use crate::explaining::detail_asked;
+use crate::files::{Stopped, file_bytes, input, is_memory, unread_answer};
 use crate::finding::write_file;
+use crate::formats::{detail_in, format_arg, format_asked, print_answer};
+use crate::paging::{check_page, command_text, html_arg, show, show_fault};
 use crate::words::{NAME, all_arg, explain_arg, file_arg, warn_arg, workers_arg};
 use clap::{Arg, ArgAction, ArgMatches, Command};
 use fr_answer::{
-    CheckFault, DONE, Detail, MOST_APP_BYTES, MOST_CERTIFICATE_BYTES, Proved, is_replaceable, load,
-    prove_told, tell, warn,
+    Answer, CheckFault, Command as Asked, DONE, Detail, Format, MOST_APP_BYTES,
+    MOST_CERTIFICATE_BYTES, Proved, Question, Source, Ways, fault_answer, is_replaceable, load,
+    prove_answer, prove_told, warn,
 };
 use fr_parallel::Open;
 use std::alloc::{AllocError, Global};
@@ -38,6 +41,10 @@ pub struct ProveRequest<'a> {
     pub detail: Option<Detail>,
     /// Whether a run into a breach is looked for where the verdict is no.
     pub searches: bool,
+    /// The form of the answer; None where it is a text for a person.
+    pub format: Option<Format>,
+    /// The file for the page, where one is wanted.
+    pub html: Option<&'a str>,
 }
 
 /// The word `--certificate` with its file.
@@ -67,9 +74,11 @@ pub fn prove_command<'a>(alloc: Global) -> Result<Command<'a>, AllocError> {
         .arg(certificate_arg(alloc))?
         .arg(workers_arg(alloc))?
         .arg(no_search_arg(alloc))?
+        .arg(format_arg(alloc))?
         .arg(warn_arg(alloc))?
         .arg(explain_arg(alloc, EXPLAINS))?
-        .arg(all_arg(alloc))
+        .arg(all_arg(alloc))?
+        .arg(html_arg(alloc)?)
 }
 
 /// The proof that the matched words ask for. Words that were matched always ask for something, so it is
@@ -82,6 +91,8 @@ pub fn asked_prove<'a>(words: &ArgMatches<'a>) -> Option<ProveRequest<'a>> {
         warns: words.get_flag("warn"),
         detail: detail_asked(words),
         searches: !words.get_flag("no-search"),
+        format: format_asked(words),
+        html: words.get_str("html"),
     })
 }
 
@@ -101,36 +112,74 @@ fn check_out(rt: &HostRuntime, path: &str) -> Result<(), CheckFault> {
     }
 }
 
+/// Refuses files for the certificate and for the page that have something else, or that are one file.
+fn check_outs(rt: &HostRuntime, asked: ProveRequest) -> Result<(), CheckFault> {
+    if let Some(path) = asked.out {
+        check_out(rt, path)?;
+    }
+    match (asked.out, asked.html) {
+        (Some(certificate), Some(page)) if certificate == page => Err(CheckFault::Out),
+        (_, page) => check_page(rt, page),
+    }
+}
+
 /// Writes the certificate, where the verdict by it is yes and a file is given for it.
 fn write_certificate(
     rt: &HostRuntime,
     out: Option<&str>,
-    proved: &Proved,
+    certificate: Option<&str>,
 ) -> Result<(), CheckFault> {
-    match out {
-        Some(path) if proved.told.status == DONE => write_file(
-            rt,
-            path,
-            proved.certificate.as_str(),
-        ),
+    match (out, certificate) {
+        (Some(path), Some(text)) => write_file(rt, path, text),
         _ => Ok(()),
     }
 }
 
-/// Works out a certificate for the application in the file, and prints the verdict by it, or where it is no
-/// and one is found, a run into a breach. The file for the certificate is looked at before anything is worked
-/// out, and written before anything is printed.
-pub fn prove<R: Threads + Wait + Sync>(
+/// Writes the certificate, and then prints what there is to say, and writes it as a page where one is wanted.
+fn show_proof(
+    rt: &HostRuntime,
+    asked: ProveRequest,
+    question: Question,
+    proved: &Proved,
+) -> Result<u8, Stopped> {
+    let certificate = proved.certificate.as_str();
+    if proved.told.status == DONE {
+        write_certificate(rt, asked.out, Some(certificate))?;
+    }
+    let question = Question {
+        certificate: Some(certificate.as_bytes()),
+        ..question
+    };
+    let explains = asked.detail.is_some();
+    let status = show(rt, asked.html, question, &proved.told, explains)?;
+    if asked.warns {
+        warn(
+            rt.alloc(),
+            question.app,
+            certificate.as_bytes(),
+            &mut rt.stderr(),
+        )?;
+    }
+    Ok(status)
+}
+
+/// Prints the verdict by a certificate that was worked out as a text, or a run into a breach. The file for the
+/// certificate is looked at before anything is worked out, and written before anything is printed.
+fn prove_text<R: Threads + Wait + Sync>(
     rt: &HostRuntime,
     threads: &R,
     asked: ProveRequest,
 ) -> Result<u8, Stopped> {
     let app = input(rt, asked.app, MOST_APP_BYTES, asked.detail.is_some())?;
-    if let Some(path) = asked.out {
-        check_out(rt, path)?;
-    }
+    check_outs(rt, asked)?;
+    let command = command_text(rt.alloc(), "prove", asked.app, "")?;
+    let question = Question {
+        command: command.as_str(),
+        app: &app,
+        certificate: None,
+    };
     let (workers, detail) = (usize::from(asked.workers), asked.detail);
-    let proved = match prove_told(
+    match prove_told(
         threads,
         rt.alloc(),
         &app,
@@ -139,17 +188,65 @@ pub fn prove<R: Threads + Wait + Sync>(
         asked.searches,
         detail,
     ) {
-        Ok(proved) => proved,
-        Err(fault) if detail.is_some() => {
-            return Ok(refused(rt, &app, None, &fault)?);
-        }
-        Err(fault) => return Err(Stopped::Fault(fault)),
-    };
-    write_certificate(rt, asked.out, &proved)?;
-    let status = tell(&proved.told, &mut rt.stdout())?;
-    if asked.warns {
-        let certificate = proved.certificate.as_bytes();
-        warn(rt.alloc(), &app, certificate, &mut rt.stderr())?;
+        Ok(proved) => show_proof(rt, asked, question, &proved),
+        Err(fault) => show_fault(rt, asked.html, question, &fault, detail.is_some()),
     }
-    Ok(status)
+}
+
+/// The same as a value, for the application of these bytes.
+fn proof_answer<R: Threads + Wait + Sync>(
+    rt: &HostRuntime,
+    threads: &R,
+    asked: ProveRequest,
+    source: Source,
+    app: &[u8],
+) -> Result<Answer, AllocError> {
+    let alloc = rt.alloc();
+    if let Err(fault) = check_outs(rt, asked) {
+        return fault_answer(alloc, source, app, None, &fault);
+    }
+    let ways = Ways {
+        workers: usize::from(asked.workers),
+        detail: detail_in(asked.format, asked.detail),
+        warns: asked.warns,
+    };
+    let (answer, text) = prove_answer(threads, alloc, source, app, &Open, asked.searches, ways)?;
+    match write_certificate(rt, asked.out, text.as_deref()) {
+        Ok(()) => Ok(answer),
+        Err(fault) => fault_answer(alloc, source, app, None, &fault),
+    }
+}
+
+/// The same, for the application in the file.
+fn file_answer<R: Threads + Wait + Sync>(
+    rt: &HostRuntime,
+    threads: &R,
+    asked: ProveRequest,
+) -> Result<Answer, AllocError> {
+    let path = asked.app;
+    let source = Source {
+        command: Asked::Prove,
+        application: path,
+        certificate: asked.out,
+    };
+    match file_bytes(rt, path, MOST_APP_BYTES) {
+        Ok(app) => proof_answer(rt, threads, asked, source, &app),
+        Err(unread) => unread_answer(rt.alloc(), source, path, &unread),
+    }
+}
+
+/// Works out a certificate for the application in the file, and prints the verdict by it, or where it is no and one is
+/// found, a run into a breach, in the form that is asked for.
+pub fn prove<R: Threads + Wait + Sync>(
+    rt: &HostRuntime,
+    threads: &R,
+    asked: ProveRequest,
+) -> Result<u8, Stopped> {
+    match asked.format {
+        None => prove_text(rt, threads, asked),
+        Some(format) => {
+            let answer = file_answer(rt, threads, asked)?;
+            Ok(print_answer(rt, format, answer)?)
+        }
+    }
 }

@@ -6,7 +6,14 @@ use crate::proving::{ProveRequest, asked_prove, prove_command};
 use crate::refuting::{RefuteRequest, asked_refute, refute_command};
 use crate::running::{RunRequest, asked_run, run_command};
 use clap::{Arg, ArgAction, ArgMatches, Command, Error, value_parser};
+use fr_answer::VERSION;
 use std::alloc::{AllocError, Global};
+
+/// What `--version` prints behind the name. `./build` puts the commit in place of the zeros, in the program that it links.
+const VERSIONS: &str = "0.1.0
+commit 0000000000000000000000000000000000000000
+application format 1
+certificate formats 1 and 2";
 
 /// The name that the version is printed with, by `--version` and `check --version` alike.
 pub const NAME: &str = "fr_check";
@@ -91,7 +98,8 @@ pub fn all_arg<'a>(alloc: Global) -> Arg<'a> {
 /// The whole command line, with its six commands.
 fn command<'a>(alloc: Global) -> Result<Command<'a>, AllocError> {
     Command::new(alloc, NAME)
-        .version("0.1.0")
+        .version(VERSION)
+        .long_version(VERSIONS)
         .propagate_version(true)
         .about("Checks that a multicore FreeRTOS application keeps the kernel's usage rules")
         .after_help(STATUSES)

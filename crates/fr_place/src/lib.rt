@@ -1,13 +1,14 @@
 // Where a refusal is, in plain words: the text that follows the one line of a refusal. Given the bytes that were refused and
 // the fault, the bytes are read again, and what is at the fault's place is told: line and column, table and key, a line of
-// code with a mark below it, the path to a note with its point's name. Nothing is told that isn't known. The words are
-// presentation; the contracts promise that a text has printable ASCII and newlines alone, and that `nearest` is exact.
+// code with a mark below it, the path to a note with its point's name. Nothing is told that isn't known. Where the lines of
+// code stand in a text is told by numbers, too. The words are presentation; the contracts promise that a text has printable ASCII and newlines alone, and that `nearest` is exact.
 #![tactic(auto)]
 
 mod app;
 mod build;
 mod calls;
 mod certificate;
+mod code;
 mod declared;
 mod faulty;
 mod guard;
@@ -24,5 +25,6 @@ mod table;
 
 pub use app::place_of_app;
 pub use certificate::place_of_certificate;
+pub use code::{CodePlace, places_of_code};
 pub use nearness::nearest;
 pub use swap::{SWAPPED, seem_swapped};

@@ -26,6 +26,14 @@ pub(crate) fn code_text(
     }
 }
 
+/// The line of code at a point, as `write_line` writes it. An error says that an allocation was refused.
+pub fn line_of_code(alloc: Global, app: &App, point: Point) -> Result<String, AllocError>
+    ensures { IfOk result (λ text. string_bytes text ≡ code_text app.now point) }
+{
+    let names = names_of(alloc, app)?;
+    code_text(alloc, app, &names, point)
+}
+
 /// Appends the line of a point.
 fn put_point(
     alloc: Global,

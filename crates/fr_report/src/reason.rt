@@ -7,6 +7,7 @@ ghost use Rattle.fr_ends.specs.Fits.{CertificateFits};
 ghost use Rattle.fr_report.specs.Told.{IsTold, AreTold, IsFormed, IsScene};
 
 mod changes;
+mod depths;
 mod guards;
 mod notes;
 mod places;
@@ -16,15 +17,18 @@ mod steps;
 mod words;
 
 use crate::shown::actor_name;
-pub(crate) use changes::step_explained;
+pub use changes::{change_told, step_explained};
+pub use depths::{Depth, depth_in, depths_of, state_told};
 use fr_calls::{Rule, State, the_start_is_well_formed};
 use fr_ends::{Certificate, EndName};
 use fr_judge::{Part, Verdict};
 use fr_program::{App, Point};
 use fr_witness::{Taken, Witness, witness};
 use guards::{guarded_by, put_end, put_guard, put_unguarded};
+pub use notes::note_told;
 use notes::{put_broken, put_note, rival_of, site_of};
 pub(crate) use places::put_standing;
+pub use places::{actor_place, code_told, place_told};
 use places::{put_place, put_places};
 use rules::put_breach;
 pub use scene::Detail;

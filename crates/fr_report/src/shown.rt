@@ -42,7 +42,7 @@ pub(crate) fn number_of(app: &App, point: Point) -> usize
 }
 
 /// The name of an actor of the application, or no text where there is none.
-pub(crate) fn actor_name(app: &App, actor: ActorId) -> &str
+pub fn actor_name(app: &App, actor: ActorId) -> &str
     ensures { result.now ≡ (actor_at app.now actor.0).name }
 {
     match app.actors().get(actor.0) {
@@ -62,7 +62,7 @@ pub fn object_name(app: &App, object: ObjId) -> &str
 }
 
 /// The side's name, as a report has it.
-pub(crate) fn side_name(side: Side) -> &'static str
+pub fn side_name(side: Side) -> &'static str
     ensures { result.now ≡ side_text side }
 {
     match side {

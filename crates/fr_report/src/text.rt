@@ -34,8 +34,9 @@ fn refusal(alloc: Global, app: &App, point: Point, part: Part) -> Result<String,
     format!(in alloc; "no: {at}: {why}\n")
 }
 
-/// The text of a part that fails.
-fn part_text(alloc: Global, app: &App, part: Part) -> Result<String, AllocError>
+/// The text of a part that fails, as a report has it. The part is one on this application. An error says that an
+/// allocation was refused.
+pub fn part_text(alloc: Global, app: &App, part: Part) -> Result<String, AllocError>
     requires { IsPartOf app.now part }
     ensures { IfOk result (λ text. string_bytes text ≡ part_text app.now part) }
 {

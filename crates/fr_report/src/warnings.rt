@@ -1,7 +1,11 @@
-// What a verdict may hide: points that are never reached, and an application without actors.
+// What a verdict may hide: points that are never reached, variables and objects that are never used, and an application
+// without actors.
+mod unused;
+
 use fr_notes::Notes;
 use fr_program::App;
 use std::alloc::{AllocError, Global};
+use unused::put_unused;
 
 /// Points of one actor in a row whose notes say that the actor is never there.
 #[derive(Clone, Copy)]
@@ -75,9 +79,9 @@ fn put(text: &mut String, app: &App, row: Unreached) -> Result<(), AllocError> {
 }
 
 /// The warnings for an application with these notes, each on a line: one for each row of points whose
-/// notes say that the actor is never there, with the actor and its lines of code, and one for an
-/// application without actors. A verdict says nothing of such points, so a wrong target can hide behind
-/// them. An error says that an allocation was refused. The lines' form is this project's own.
+/// notes say that the actor is never there, with the actor and its lines of code, one for each variable and
+/// each object that no line names, and one for an application without actors. A verdict says nothing of
+/// such points and things, so a wrong target or a wrong name can hide behind them. An error says that an allocation was refused. The lines' form is this project's own.
 pub fn warnings_text(alloc: Global, app: &App, notes: &Notes) -> Result<String, AllocError> {
     let mut text = String::new(alloc);
     if app.actors().is_empty() {
@@ -86,5 +90,6 @@ pub fn warnings_text(alloc: Global, app: &App, notes: &Notes) -> Result<String, 
     for row in &rows_of(alloc, app, notes)? {
         put(&mut text, app, *row)?;
     }
+    put_unused(alloc, &mut text, app)?;
     Ok(text)
 }

@@ -2,6 +2,7 @@
 ghost use Rattle.std.specs.Prelude.{◌≤◌};
 ghost use Rattle.fr_answer.specs.Checked.{most_bytes};
 
+use crate::formatted::{check_formatted, prove_formatted, refute_formatted};
 use crate::row::{Asked, Told};
 use fr_answer::{
     CheckFault, DONE, Detail, Found, MOST_APP_BYTES, MOST_CERTIFICATE_BYTES, NO, Proved, REFUSED,
@@ -118,6 +119,10 @@ fn check<R: Threads + Wait + Sync>(
         Ok(files) => files,
         Err(fault) => return answer_fault(alloc, &fault, stderr),
     };
+    if let Some(format) = told.format {
+        let asked = (workers, told, format);
+        return check_formatted(threads, alloc, (app, certificate), asked, stdout, stderr);
+    }
     let status = match told.detail {
         None => answer_check(
             threads,
@@ -242,6 +247,10 @@ fn prove<R: Threads + Wait + Sync>(
         Ok(app) => app,
         Err(fault) => return (answer_fault(alloc, &fault, stderr), None),
     };
+    if let Some(format) = told.format {
+        let asked = (workers, searches, told, format);
+        return prove_formatted(threads, alloc, app, asked, stdout, stderr);
+    }
     let Proved {
         told: answer,
         certificate,
@@ -277,6 +286,10 @@ fn refute<R: Threads + Sync>(
         Ok(app) => app,
         Err(fault) => return answer_fault(alloc, &fault, stderr),
     };
+    if let Some(format) = told.format {
+        let asked = (states, workers, told, format);
+        return refute_formatted(threads, alloc, app, asked, stdout, stderr);
+    }
     let explains = told.detail.is_some();
     let found = refute_bytes(threads, alloc, app, states, workers, explains);
     let status = said(alloc, &found, stdout, stderr);

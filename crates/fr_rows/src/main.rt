@@ -18,11 +18,14 @@ mod changed_bytes;
 mod faults;
 mod files;
 mod filling;
+mod formatted;
 #[cfg(test)]
 mod guesses;
 mod index_lists;
 mod judged_alike;
 mod judged_files;
+#[cfg(test)]
+mod lists;
 #[cfg(test)]
 mod passing;
 mod points;

@@ -6,7 +6,8 @@
 // args         the words, one a line: a check of both files, by so many workers; a run of so many polls with these words; a
 //              search, in so many rounds, for a certificate that goes to out.json; a proof, by so many workers, whose
 //              certificate goes to out.json where that is named; a run into a breach, in so many states, by so many
-//              workers; or the points of the application; and at last what else is told: --warn, --explain, --all
+//              workers; or the points of the application; and at last what else is told: --warn, --explain, --all, and
+//              --format with the form of the answer
 // stdout       what has to be written to standard output
 // stderr       what has to be written to standard error
 // status       the exit status
@@ -18,7 +19,7 @@
 //              a second command, of app.toml and out.json, and what it has to answer
 use crate::answer::{Answer, Call};
 use crate::files::{bytes_of, names_in, text_of, wrong};
-use fr_answer::Detail;
+use fr_answer::{Detail, Format};
 use std::alloc::Global;
 use std::io;
 use std::str::Lines;
@@ -56,6 +57,8 @@ pub struct Told {
     pub warns: bool,
     /// Whether it is told why the verdict is no or where a refusal is, and how much of a state.
     pub detail: Option<Detail>,
+    /// The form of the answer; None where it is a text for a person.
+    pub format: Option<Format>,
 }
 
 /// What a row asks of its files.
@@ -183,19 +186,33 @@ fn byte(word: Option<&str>) -> io::Result<u8> {
     }
 }
 
-/// What else is told: words `--warn`, `--explain` and `--all`, up to the last word. The first of them was taken.
+/// The form with this name.
+fn format_named(name: &str) -> io::Result<Format> {
+    match Format::named(name) {
+        Some(format) => Ok(format),
+        None => Err(wrong("a form has another name than json, sarif and junit")),
+    }
+}
+
+/// What else is told: words `--warn`, `--explain`, `--all` and `--format` with a form, up to the last word. The first
+/// of them was taken.
 fn told_asked<'a>(first: Option<&'a str>, words: &mut Lines<'a>) -> io::Result<Told> {
     let mut told = Told {
         warns: false,
         detail: None,
+        format: None,
     };
+    let mut is_form = false;
     for word in first.into_iter().chain(words) {
         match word {
+            name if is_form => told.format = Some(format_named(name)?),
             "--warn" => told.warns = true,
             "--explain" => told.detail = Some(Detail::Told),
             "--all" => told.detail = Some(Detail::Whole),
+            "--format" => {}
             _ => return Err(wrong("there are other words than those of the command")),
         }
+        is_form = word == "--format";
     }
     Ok(told)
 }

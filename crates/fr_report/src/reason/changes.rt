@@ -1,7 +1,7 @@
 // What a step of a run changed, in words.
 ghost use Rattle.fr_calls.specs.State.{IsWellFormed};
 
-use super::places::{place_in, put_standing};
+use super::places::{actor_place, put_standing};
 use super::scene::{put_item, subjects};
 use super::steps::outcome_text;
 use super::words::{content_in, fact, put_held, put_stock, value_in, variable_name};
@@ -110,7 +110,7 @@ fn changes_text(
             put_item(&mut text, &change)?;
         }
     }
-    if let Place::Done = place_in(app, after, actor) {
+    if let Place::Done = actor_place(app, after, actor) {
         let mut end = String::new(alloc);
         put_standing(alloc, &mut end, app, actor, after)?;
         put_item(&mut text, &end)?;
@@ -129,7 +129,7 @@ fn call_text(
     requires { IsWellFormed app.now before.now }
 {
     let actor = step.actor;
-    let Place::At { pc, side } = place_in(app, before, actor) else {
+    let Place::At { pc, side } = actor_place(app, before, actor) else {
         return Ok(String::new(alloc));
     };
     match app.instr(Point { actor, pc, side }) {
@@ -138,9 +138,33 @@ fn call_text(
     }
 }
 
+/// What a step of a run changed, in words; where it changed nothing but the actor's place, how the call went,
+/// if it is a step of one. The step leads from the one state to the other.
+///
+/// # Errors
+///
+/// Only where memory is refused. The words are this project's own.
+pub fn change_told(
+    alloc: Global,
+    app: &App,
+    step: StepTaken,
+    before: &State,
+    after: &State,
+) -> Result<String, AllocError>
+    requires before { IsWellFormed app.now before.now }
+    requires after { IsWellFormed app.now after.now }
+{
+    let changes = changes_text(alloc, app, step.actor, before, after)?;
+    if changes.is_empty() {
+        call_text(alloc, app, step, before)
+    } else {
+        Ok(changes)
+    }
+}
+
 /// The lines that explain a step of a run: where its actor was before it, with the line of code, and what it
 /// changed; where it changed nothing but the actor's place, how the call went, if it is a step of one.
-pub(crate) fn step_explained(
+pub fn step_explained(
     alloc: Global,
     app: &App,
     step: StepTaken,
@@ -153,10 +177,7 @@ pub(crate) fn step_explained(
     let mut text = String::from_str(alloc, "  ")?;
     put_standing(alloc, &mut text, app, step.actor, before)?;
     text.push('\n')?;
-    let mut more = changes_text(alloc, app, step.actor, before, after)?;
-    if more.is_empty() {
-        more = call_text(alloc, app, step, before)?;
-    }
+    let more = change_told(alloc, app, step, before, after)?;
     if !more.is_empty() {
         write!(text, "  {more}\n")?;
     }

@@ -101,6 +101,29 @@ fn alternative_text(
     Ok(text)
 }
 
+/// What the note of a point says in words, an item for each alternative; no item where the actor is never
+/// there, or where the application has no such point. The certificate fits the application.
+///
+/// # Errors
+///
+/// Only where memory is refused. The words are this project's own.
+pub fn note_told(
+    alloc: Global,
+    app: &App,
+    certificate: &Certificate,
+    point: Point,
+) -> Result<Vec<String>, AllocError>
+    requires { CertificateFits app.now certificate.now }
+{
+    let mut told = Vec::new(alloc);
+    if let Some(site) = site_of(app, certificate, point) {
+        for says in site.note.alternatives() {
+            told.push(alternative_text(alloc, app, point.actor, says)?)?;
+        }
+    }
+    Ok(told)
+}
+
 /// Appends what a note says, each alternative after the other; of a note without one that the actor is never
 /// there.
 pub(super) fn put_note(

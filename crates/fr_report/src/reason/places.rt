@@ -1,5 +1,7 @@
 // Where actors stand, with their lines of code.
+ghost use Rattle.std.specs.Prelude.{◌≡◌, IfOk, string_bytes};
 ghost use Rattle.fr_calls.specs.State.{IsWellFormed};
+ghost use Rattle.fr_report.specs.Listing.{code_text};
 
 use super::words::{put_critical, put_suspended, suspension_in};
 use crate::listing::code_text;
@@ -27,7 +29,7 @@ pub(super) fn put_place(
 }
 
 /// Where the actor stands in the state; done where the application has no such actor.
-pub(super) fn place_in(app: &App, state: &State, actor: ActorId) -> Place
+pub fn actor_place(app: &App, state: &State, actor: ActorId) -> Place
     requires { IsWellFormed app.now state.now }
 {
     if actor.0 < app.actors().len() {
@@ -47,9 +49,44 @@ pub(crate) fn put_standing(
 ) -> Result<(), AllocError>
     requires { IsWellFormed app.now state.now }
 {
-    match place_in(app, state, actor) {
+    match actor_place(app, state, actor) {
         Place::At { pc, side } => put_place(alloc, text, app, Point { actor, pc, side }),
         Place::Done => write!(text, "{} is done", actor_name(app, actor)),
+    }
+}
+
+/// The line of code at a point, as it is written; no text where the application has no such point.
+///
+/// # Errors
+///
+/// Only where memory is refused.
+pub fn code_told(alloc: Global, app: &App, point: Point) -> Result<String, AllocError>
+    ensures { IfOk result (λ text. string_bytes text ≡ code_text app.now point) }
+{
+    let names = names_of(alloc, app)?;
+    code_text(alloc, app, &names, point)
+}
+
+/// Where the actor stands in the state, without its name: the line by its number, the side and the code, or
+/// that it is done.
+///
+/// # Errors
+///
+/// Only where memory is refused. The words are this project's own.
+pub fn place_told(
+    alloc: Global,
+    app: &App,
+    actor: ActorId,
+    state: &State,
+) -> Result<String, AllocError>
+    requires { IsWellFormed app.now state.now }
+{
+    match actor_place(app, state, actor) {
+        Place::At { pc, side } => {
+            let code = code_told(alloc, app, Point { actor, pc, side })?;
+            format!(in alloc; "{pc} {}: {code}", side_name(side))
+        }
+        Place::Done => String::from_str(alloc, "done"),
     }
 }
 
@@ -58,7 +95,7 @@ fn put_actor(text: &mut String, app: &App, actor: ActorId, state: &State) -> Res
     requires { IsWellFormed app.now state.now }
 {
     let name = actor_name(app, actor);
-    match place_in(app, state, actor) {
+    match actor_place(app, state, actor) {
         Place::At { pc, side } => write!(text, "  {name} {pc} {}", side_name(side))?,
         Place::Done => write!(text, "  {name} is done")?,
     }

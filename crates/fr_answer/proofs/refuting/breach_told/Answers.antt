@@ -13,3 +13,4 @@ pub returns-clause-told : goal.returns-clause-told
 returns-clause-told g c =
     breach-told c.args.app.now c.args.explains c.in_ok-app.app c.in_ok-found.found c.in-Breach.field-0 c.in_ok-told_of.field-0 c.in-Breach.is c.in_ok-app.ensures.ok
     c.in_ok-found.ensures c.in_ok-told_of.ensures.status c.in_ok-told_of.ensures.text
+    c.in_ok-told_of.ensures.outcome

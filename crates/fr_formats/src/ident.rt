@@ -1,0 +1,147 @@
+// The rules and parts that can fail: their names, and what a user is told of them.
+use fr_calls::Rule;
+use fr_judge::Part;
+
+/// A rule or a part that can fail.
+#[derive(Clone, Copy)]
+pub(crate) struct Ident {
+    /// Its name, which never changes.
+    pub name: &'static str,
+    /// What it says when it fails.
+    pub short: &'static str,
+    /// What usually causes it, and what to do.
+    pub help: &'static str,
+}
+
+/// All of them: the twelve rules, the other parts of a verdict, and what else a report can say.
+pub(crate) const IDENTS: [Ident; 20] = [
+    Ident {
+        name: "rule-1",
+        short: "Two actors at the writing end of a buffer",
+        help: "A stream or message buffer has one writer at a time. Let one task alone write to it, or let all writers hold one mutex or take turns while they write.",
+    },
+    Ident {
+        name: "rule-2",
+        short: "Two actors at the reading end of a buffer",
+        help: "A stream or message buffer has one reader at a time. Let one task alone read from it, or let all readers hold one mutex or take turns while they read.",
+    },
+    Ident {
+        name: "rule-3",
+        short: "Mutex given by an actor that does not hold it",
+        help: "A take with a block time can fail. Jump past the give where the take failed.",
+    },
+    Ident {
+        name: "rule-4",
+        short: "Call not allowed in a critical section",
+        help: "Leave the critical section before the call. Allowed inside are only entering and leaving critical sections, and sends and receives of stream and message buffers with a block time of 0 or in their FromISR forms.",
+    },
+    Ident {
+        name: "rule-5",
+        short: "Call not allowed while the scheduler is suspended",
+        help: "Resume the scheduler before the call. Allowed inside are only suspending and resuming, and entering and leaving critical sections.",
+    },
+    Ident {
+        name: "rule-6",
+        short: "Call not allowed in an interrupt",
+        help: "Use the form of the call for interrupts, whose name ends in FromISR or _FROM_ISR.",
+    },
+    Ident {
+        name: "rule-7",
+        short: "Handle is not live",
+        help: "A create can fail, and another actor can delete the object. Test the create with else, and let nobody delete what others use.",
+    },
+    Ident {
+        name: "rule-8",
+        short: "Object deleted in use or created while live",
+        help: "Delete an object only where nobody is inside a call on it, and create it only where it is not live.",
+    },
+    Ident {
+        name: "rule-9",
+        short: "Call does not suit this kind of semaphore",
+        help: "Take and give a recursive mutex by its recursive calls, other semaphores by the plain ones, and no mutex from an interrupt.",
+    },
+    Ident {
+        name: "rule-10",
+        short: "Depth is already zero",
+        help: "A critical section is left, or the scheduler resumed, that was never entered or suspended. Take the exit out.",
+    },
+    Ident {
+        name: "rule-11",
+        short: "Actor ends in the wrong way",
+        help: "End a task by vTaskDelete(NULL), without a mutex; let an interrupt return outside critical sections.",
+    },
+    Ident {
+        name: "rule-12",
+        short: "Value out of its declared range",
+        help: "A variable, an index or a counter leaves the range that the application declares. Test it before, or declare a wider range.",
+    },
+    Ident {
+        name: "entry",
+        short: "The first note is not true at the start",
+        help: "The note of the actor's first point says more than what is so when the scheduler starts.",
+    },
+    Ident {
+        name: "goes-to",
+        short: "A step leads to a point whose note is not true after it",
+        help: "The note before the step says too little, or the note after it too much. If the firmware can get there, mend the firmware.",
+    },
+    Ident {
+        name: "guard",
+        short: "Nothing keeps others out of this end of a buffer",
+        help: "Inside a call on a buffer the note has to show the guard of that end: the one actor, the mutex that is held, or the value of the turn.",
+    },
+    Ident {
+        name: "near",
+        short: "Another actor can delete the object of this call",
+        help: "While an actor is inside a call on an object, another one can delete it, by what both notes say.",
+    },
+    Ident {
+        name: "spoiled-by",
+        short: "A step of another actor makes this note false",
+        help: "The note says something that another actor can change. Let the note say less, or keep the other actor out by a critical section, a mutex or a turn.",
+    },
+    Ident {
+        name: "refused",
+        short: "A file is refused",
+        help: "The application or the certificate cannot be read. The message tells the fault and its place.",
+    },
+    Ident {
+        name: "states-left",
+        short: "No breach was found, and more states are left",
+        help: "The search ended before all states were seen. Give it more states, make the application smaller, or ask prove.",
+    },
+    Ident {
+        name: "never-reached",
+        short: "Lines of code are never reached",
+        help: "By the certificate the actor is never at these lines, and nothing is asked there. A wrong target can hide behind that.",
+    },
+];
+
+/// The name of a rule.
+pub(crate) fn rule_name(rule: Rule) -> &'static str {
+    let place = usize::from(rule.number()).saturating_sub(1);
+    match IDENTS.get(place) {
+        Some(ident) => ident.name,
+        None => "",
+    }
+}
+
+/// The name of a part of a verdict.
+pub(crate) fn part_name(part: Part) -> &'static str {
+    match part {
+        Part::Rule(rule) => rule_name(rule),
+        Part::Entry => "entry",
+        Part::Goes(_) => "goes-to",
+        Part::Guard(_) => "guard",
+        Part::Near(_) => "near",
+        Part::Spoiled(_) => "spoiled-by",
+    }
+}
+
+/// The place of the name among all.
+pub(crate) fn place_of(name: &str) -> usize {
+    IDENTS
+        .iter()
+        .position(|ident| ident.name == name)
+        .unwrap_or(0)
+}

@@ -1,0 +1,121 @@
+// The actors side by side, each line of code with its points.
+use crate::page::{ActorShown, LineShown, PointShown, Standing};
+use crate::writer::Writer;
+use std::alloc::AllocError;
+
+const NOTES: &str =
+    "<p>Below each line are its points, with what the certificate's note says is so there.</p>\n";
+
+/// Writes what the note of a point says, an item for each alternative.
+fn put_notes(page: &mut Writer, notes: &[String]) -> Result<(), AllocError> {
+    for note in notes {
+        page.between("<span class='note'>", note.as_str(), "</span> ")?;
+    }
+    Ok(())
+}
+
+/// Writes a line of an explanation, whose first words up to a colon say what it is.
+fn put_reason(page: &mut Writer, line: &str) -> Result<(), AllocError> {
+    match line.split_once(": ") {
+        Some((what, more)) => {
+            page.between("<p><b>", what.trim(), ":</b> ")?;
+            page.between("", more, "</p>\n")
+        }
+        None => page.between("<p>", line.trim(), "</p>\n"),
+    }
+}
+
+/// Writes why a point fails; nothing where that isn't told.
+fn put_explanation(page: &mut Writer, lines: &[String]) -> Result<(), AllocError> {
+    if lines.is_empty() {
+        return Ok(());
+    }
+    page.markup("<div class='why'>\n")?;
+    for line in lines {
+        put_reason(page, line.as_str())?;
+    }
+    page.markup("</div>\n")
+}
+
+/// Writes how it is with a point.
+fn put_standing(page: &mut Writer, point: &PointShown) -> Result<(), AllocError> {
+    match &point.standing {
+        Standing::Holds => put_notes(page, &point.notes),
+        Standing::Never => page.markup("<span class='note'>never reached</span>"),
+        Standing::Fails(told) => {
+            put_notes(page, &point.notes)?;
+            page.between(
+                "<p><strong>&#10007; fails:</strong> ",
+                told.as_str(),
+                "</p>\n",
+            )?;
+            put_explanation(page, &point.explanation)
+        }
+    }
+}
+
+/// Writes a point, with an anchor of its own.
+fn put_point(page: &mut Writer, point: &PointShown) -> Result<(), AllocError> {
+    page.markup(match &point.standing {
+        Standing::Holds => "<tr class='point' id='point-",
+        Standing::Never => "<tr class='point never' id='point-",
+        Standing::Fails(_) => "<tr class='point fails' id='point-",
+    })?;
+    page.number(point.number)?;
+    page.markup("'><td></td><td><span class='where'>point ")?;
+    page.number(point.number)?;
+    page.between(" ", point.side.as_str(), ":</span> ")?;
+    put_standing(page, point)?;
+    page.markup("</td></tr>\n")
+}
+
+/// Writes a line of code with its points.
+fn put_line(page: &mut Writer, line: &LineShown) -> Result<(), AllocError> {
+    let is_reached = line
+        .points
+        .iter()
+        .any(|point| !matches!(&point.standing, Standing::Never));
+    if is_reached || line.points.is_empty() {
+        page.markup("<tbody>\n<tr><th scope='row'>")?;
+    } else {
+        page.markup("<tbody class='never'>\n<tr><th scope='row'>")?;
+    }
+    page.number(line.number)?;
+    page.between("</th><td><code>", line.code.as_str(), "</code></td></tr>\n")?;
+    for point in &line.points {
+        put_point(page, point)?;
+    }
+    page.markup("</tbody>\n")
+}
+
+/// Writes an actor with its code.
+fn put_actor(page: &mut Writer, actor: &ActorShown) -> Result<(), AllocError> {
+    page.between("<article>\n<h3>", actor.name.as_str(), "")?;
+    page.between(" <small>", actor.kind.as_str(), "</small></h3>\n<table>\n")?;
+    for line in &actor.lines {
+        put_line(page, line)?;
+    }
+    page.markup("</table>\n</article>\n")
+}
+
+/// Writes all actors; nothing where there are none. Where notes are shown it is told what they are.
+pub fn put_code(
+    page: &mut Writer,
+    actors: &[ActorShown],
+    has_notes: bool,
+) -> Result<(), AllocError> {
+    if actors.is_empty() {
+        return Ok(());
+    }
+    page.markup("<section>\n<h2>The code</h2>\n")?;
+    if has_notes {
+        page.markup(NOTES)?;
+    }
+    page.markup("<div class='actors' style='--count: ")?;
+    page.number(actors.len())?;
+    page.markup("'>\n")?;
+    for actor in actors {
+        put_actor(page, actor)?;
+    }
+    page.markup("</div>\n</section>\n")
+}

@@ -1,0 +1,130 @@
+// What a page shows.
+
+/// An answer, in a word.
+#[derive(Clone, Copy, PartialEq, Eq)]
+pub enum Kind {
+    Yes,
+    No,
+    /// A run breaks a rule.
+    Breach,
+    /// No state of any run breaks a rule.
+    Safe,
+    /// No breach was found, and not everything was looked at.
+    Unknown,
+    /// A file is refused.
+    Refused,
+}
+
+/// An answer, with the code and perhaps a run that it is about.
+#[derive(Drop)]
+pub struct Page {
+    pub kind: Kind,
+    /// The words of the command.
+    pub command: String,
+    /// The line that the command prints.
+    pub answer: String,
+    /// More lines that tell of it, as where a file is refused.
+    pub details: Vec<String>,
+    /// Numbers in words, as `3 actors`.
+    pub counts: Vec<String>,
+    /// What the page leaves out, a sentence each.
+    pub omissions: Vec<String>,
+    pub actors: Vec<ActorShown>,
+    /// The run, from the start on; no steps where there is none.
+    pub steps: Vec<StepShown>,
+}
+
+/// A task or an interrupt, with its code.
+#[derive(Drop)]
+pub struct ActorShown {
+    pub name: String,
+    /// `task` or `interrupt`.
+    pub kind: String,
+    pub lines: Vec<LineShown>,
+    /// What a bar can run along its lane for.
+    pub tracks: Vec<Track>,
+}
+
+/// What a bar runs along a lane for.
+#[derive(Drop)]
+pub struct Track {
+    pub name: String,
+    pub kind: TrackKind,
+}
+
+#[derive(Clone, Copy, PartialEq, Eq)]
+pub enum TrackKind {
+    Critical,
+    Suspended,
+    Held,
+}
+
+/// A line of code, with its points.
+#[derive(Drop)]
+pub struct LineShown {
+    pub number: usize,
+    pub code: String,
+    pub points: Vec<PointShown>,
+}
+
+/// A place at which an actor can be.
+#[derive(Drop)]
+pub struct PointShown {
+    pub number: usize,
+    /// `before` or `inside`.
+    pub side: String,
+    /// What its note says in words, an item for each alternative.
+    pub notes: Vec<String>,
+    pub standing: Standing,
+    /// Why it fails: a state that shows it, and the step from there.
+    pub explanation: Vec<String>,
+}
+
+/// How it is with a point.
+#[derive(Drop)]
+pub enum Standing {
+    Holds,
+    /// With what the report says of it.
+    Fails(String),
+    /// Nobody ever gets there.
+    Never,
+}
+
+/// A step of a run, or its start, with the state behind it.
+#[derive(Drop)]
+pub struct StepShown {
+    /// As `step 3`.
+    pub name: String,
+    /// How many steps the page leaves out before it.
+    pub omitted: usize,
+    /// What is done; nothing at the start.
+    pub moved: Option<Moved>,
+    /// Where each actor is then, in their order.
+    pub after: Vec<ActorAfter>,
+    /// What variables and objects are then.
+    pub facts: Vec<String>,
+}
+
+/// What an actor does in a step, or that it breaks a rule there.
+#[derive(Drop)]
+pub struct Moved {
+    /// The actor's number.
+    pub actor: usize,
+    /// The line of code, by its number.
+    pub line: usize,
+    pub code: String,
+    /// As `choice 3`; no text where nothing is to be said of it.
+    pub choice: String,
+    /// What the step changes, or the rule that is broken.
+    pub change: String,
+    pub is_breach: bool,
+}
+
+/// An actor in a state of a run.
+#[derive(Drop)]
+pub struct ActorAfter {
+    /// Where it is, with its line of code.
+    pub place: String,
+    /// How deep it is in what each of its tracks is about, in their order.
+    pub depths: Vec<u32>,
+}

@@ -1,0 +1,275 @@
+// A run as lanes, one an actor: time goes down, and bars run along a lane.
+use crate::page::{ActorAfter, ActorShown, Moved, StepShown, TrackKind};
+use crate::writer::Writer;
+use std::alloc::{AllocError, Global};
+
+const RUN: &str = "<section>
+<h2>The run</h2>
+<p>Time goes down, and each actor has a lane. A bar runs as long as its actor is in the critical section, has suspended
+the scheduler or holds a mutex; a number on it is the depth.</p>
+";
+
+const PLAYER: &str = "<div class='player' hidden>
+<p><button type='button'>First</button> <button type='button'>Back</button> <button type='button'>Next</button>
+<button type='button'>Last</button> <output aria-live='polite'></output> <small>or the keys &larr; and &rarr;</small></p>
+<div></div>
+</div>
+<details class='states'>
+<summary>The state after each step</summary>
+";
+
+/// The lane of an actor, with the tracks of it that have a bar.
+#[derive(Drop)]
+struct Lane<'a> {
+    number: usize,
+    actor: &'a ActorShown,
+    tracks: Vec<usize>,
+}
+
+/// How deep an actor is in what a track is about, after a step; 0 where there is no such step.
+fn depth(steps: &[StepShown], step: Option<usize>, actor: usize, track: usize) -> u32 {
+    let Some(step) = step.and_then(|step| steps.get(step)) else {
+        return 0;
+    };
+    let Some(after) = step.after.get(actor) else {
+        return 0;
+    };
+    after.depths.get(track).copied().unwrap_or(0)
+}
+
+/// Whether a bar is on the track somewhere in the run.
+fn has_bar(steps: &[StepShown], actor: usize, track: usize) -> bool {
+    for number in 0..steps.len() {
+        if depth(steps, Some(number), actor, track) > 0 {
+            return true;
+        }
+    }
+    false
+}
+
+/// The lane of an actor.
+fn lane_of<'a>(
+    alloc: Global,
+    steps: &[StepShown],
+    number: usize,
+    actor: &'a ActorShown,
+) -> Result<Lane<'a>, AllocError> {
+    let mut tracks = Vec::new(alloc);
+    for track in 0..actor.tracks.len() {
+        if has_bar(steps, number, track) {
+            tracks.push(track)?;
+        }
+    }
+    Ok(Lane {
+        number,
+        actor,
+        tracks,
+    })
+}
+
+/// The lanes of all actors.
+fn lanes_of<'a>(
+    alloc: Global,
+    actors: &'a [ActorShown],
+    steps: &[StepShown],
+) -> Result<Vec<Lane<'a>>, AllocError> {
+    let mut lanes = Vec::new(alloc);
+    for (number, actor) in actors.iter().enumerate() {
+        lanes.push(lane_of(alloc, steps, number, actor)?)?;
+    }
+    Ok(lanes)
+}
+
+/// What a bar looks like, by its class.
+fn class_of(kind: TrackKind) -> &'static str {
+    match kind {
+        TrackKind::Critical => "critical",
+        TrackKind::Suspended => "suspended",
+        TrackKind::Held => "held",
+    }
+}
+
+/// Writes what a bar of a lane means.
+fn put_key(page: &mut Writer, lane: &Lane, track: usize) -> Result<(), AllocError> {
+    let Some(track) = lane.actor.tracks.get(track) else {
+        return Ok(());
+    };
+    page.markup("<span class='key'><i class='on ")?;
+    page.markup(class_of(track.kind))?;
+    page.between("'></i>", track.name.as_str(), "</span> ")
+}
+
+/// Writes the head of a lane: its actor, and what its bars mean.
+fn put_lane_head(page: &mut Writer, lane: &Lane) -> Result<(), AllocError> {
+    page.between("<th scope='col'><b>", lane.actor.name.as_str(), "</b> ")?;
+    page.between("<small>", lane.actor.kind.as_str(), "</small><br>")?;
+    for track in &lane.tracks {
+        put_key(page, lane, *track)?;
+    }
+    page.markup("</th>\n")
+}
+
+/// Writes the part of a bar that is in the row of a step, with the depth where it changes.
+fn put_bar(
+    page: &mut Writer,
+    steps: &[StepShown],
+    step: usize,
+    lane: &Lane,
+    track: usize,
+) -> Result<(), AllocError> {
+    let depth_at = |step: Option<usize>| depth(steps, step, lane.number, track);
+    let (before, now, next) = (
+        depth_at(step.checked_sub(1)),
+        depth_at(Some(step)),
+        depth_at(step.checked_add(1)),
+    );
+    if now == 0 {
+        return page.markup("<i></i>");
+    }
+    page.markup("<i class='on ")?;
+    if let Some(track) = lane.actor.tracks.get(track) {
+        page.markup(class_of(track.kind))?;
+    }
+    page.markup(if before == 0 { " first" } else { "" })?;
+    page.markup(if next == 0 { " last" } else { "" })?;
+    page.markup("'>")?;
+    if now != before {
+        page.number(now as usize)?;
+    }
+    page.markup("</i>")
+}
+
+/// Writes what an actor does in a step.
+fn put_move(page: &mut Writer, moved: &Moved) -> Result<(), AllocError> {
+    page.markup(if moved.is_breach {
+        "<div class='does breaks'><strong>&#10007; breach</strong> <code><span>"
+    } else {
+        "<div class='does'><code><span>"
+    })?;
+    page.number(moved.line)?;
+    page.between("</span> ", moved.code.as_str(), "</code>")?;
+    page.between(" <small>", moved.choice.as_str(), "</small>")?;
+    if !moved.change.is_empty() {
+        page.between("<p>", moved.change.as_str(), "</p>")?;
+    }
+    page.markup("</div>")
+}
+
+/// Writes the cell of a lane in the row of a step.
+fn put_cell(
+    page: &mut Writer,
+    steps: &[StepShown],
+    number: usize,
+    step: &StepShown,
+    lane: &Lane,
+) -> Result<(), AllocError> {
+    page.markup("<td><div class='lane'>")?;
+    for track in &lane.tracks {
+        put_bar(page, steps, number, lane, *track)?;
+    }
+    match &step.moved {
+        Some(moved) if moved.actor == lane.number => put_move(page, moved)?,
+        _ => {}
+    }
+    page.markup("</div></td>\n")
+}
+
+/// Writes that steps are left out; nothing where none are.
+fn put_gap(page: &mut Writer, omitted: usize, lanes: usize) -> Result<(), AllocError> {
+    if omitted == 0 {
+        return Ok(());
+    }
+    page.markup("<tr class='gap'><th></th><td colspan='")?;
+    page.number(lanes)?;
+    page.markup("'>")?;
+    page.number(omitted)?;
+    page.markup(" steps are left out here</td></tr>\n")
+}
+
+/// Writes the row of a step.
+fn put_row(
+    page: &mut Writer,
+    steps: &[StepShown],
+    number: usize,
+    step: &StepShown,
+    lanes: &[Lane],
+) -> Result<(), AllocError> {
+    put_gap(page, step.omitted, lanes.len())?;
+    page.between(
+        "<tr class='step'><th scope='row'>",
+        step.name.as_str(),
+        "</th>\n",
+    )?;
+    for lane in lanes {
+        put_cell(page, steps, number, step, lane)?;
+    }
+    page.markup("</tr>\n")
+}
+
+/// Writes where an actor is, and how deep in what.
+fn put_after(page: &mut Writer, actor: &ActorShown, after: &ActorAfter) -> Result<(), AllocError> {
+    page.between("<dt>", actor.name.as_str(), "</dt>")?;
+    page.between("<dd><code>", after.place.as_str(), "</code>")?;
+    for (track, depth) in actor.tracks.iter().zip(after.depths.iter()) {
+        if *depth > 0 {
+            page.between(" <span>", track.name.as_str(), "")?;
+            page.markup(" &times;")?;
+            page.number(*depth as usize)?;
+            page.markup("</span>")?;
+        }
+    }
+    page.markup("</dd>\n")
+}
+
+/// Writes the state behind a step.
+fn put_state(page: &mut Writer, actors: &[ActorShown], step: &StepShown) -> Result<(), AllocError> {
+    page.between(
+        "<details><summary>",
+        step.name.as_str(),
+        "</summary>\n<dl>\n",
+    )?;
+    for (actor, after) in actors.iter().zip(step.after.iter()) {
+        put_after(page, actor, after)?;
+    }
+    put_facts(page, &step.facts)?;
+    page.markup("</dl></details>\n")
+}
+
+/// Writes what variables and objects are.
+fn put_facts(page: &mut Writer, facts: &[String]) -> Result<(), AllocError> {
+    page.markup("<dt>variables and objects</dt><dd>")?;
+    for fact in facts {
+        page.between("<span>", fact.as_str(), "</span> ")?;
+    }
+    page.markup("</dd>\n")
+}
+
+/// Writes the lanes with a row for each step.
+fn put_lanes(page: &mut Writer, steps: &[StepShown], lanes: &[Lane]) -> Result<(), AllocError> {
+    page.markup("<div class='scroll'>\n<table class='lanes'>\n<thead><tr><th></th>\n")?;
+    for lane in lanes {
+        put_lane_head(page, lane)?;
+    }
+    page.markup("</tr></thead>\n<tbody>\n")?;
+    for (number, step) in steps.iter().enumerate() {
+        put_row(page, steps, number, step, lanes)?;
+    }
+    page.markup("</tbody>\n</table>\n</div>\n")
+}
+
+/// Writes the run, and behind it the state after each step.
+pub fn put_run(
+    alloc: Global,
+    page: &mut Writer,
+    actors: &[ActorShown],
+    steps: &[StepShown],
+) -> Result<(), AllocError> {
+    let lanes = lanes_of(alloc, actors, steps)?;
+    page.markup(RUN)?;
+    put_lanes(page, steps, &lanes)?;
+    page.markup(PLAYER)?;
+    for step in steps {
+        put_state(page, actors, step)?;
+    }
+    page.markup("</details>\n</section>\n")
+}

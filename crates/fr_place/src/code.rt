@@ -1,0 +1,170 @@
+// Where the lines of code stand in an application's text.
+use crate::table::{entries_at, lines_of};
+use fr_reader::Key;
+use std::alloc::{AllocError, Global};
+use toml::Value;
+use toml_parser::text::skip_blank;
+use toml_parser::{ParseError, quoted, starts_string};
+
+/// Where a line of code stands in the application's text, without its quotes.
+#[derive(Clone, Copy, Debug, PartialEq, Eq)]
+pub struct CodePlace {
+    /// The number of the line in the text, from 1.
+    pub line: usize,
+    /// The number of its first character in that line, from 1.
+    pub column: usize,
+    /// How many characters it has there.
+    pub length: usize,
+}
+
+/// What is left of a document in which texts in quotes are looked for.
+#[derive(Clone, Copy)]
+struct Quotes<'a> {
+    rest: &'a str,
+    /// The line and the column of its first character, from 1.
+    line: usize,
+    column: usize,
+}
+
+/// A text in quotes, and its place.
+#[derive(Drop)]
+struct Quoted {
+    text: String,
+    place: CodePlace,
+}
+
+/// Whether the byte begins a character, as UTF-8 writes it.
+fn begins(byte: u8) -> bool {
+    byte < 128 || byte >= 192
+}
+
+/// How many characters these bytes have.
+fn characters(bytes: &[u8]) -> usize {
+    bytes.iter().filter(|byte| begins(**byte)).count()
+}
+
+/// How many quotes open the text that begins here.
+fn opening(text: &[u8]) -> usize {
+    if text.starts_with(b"\"\"\"") || text.starts_with(b"'''") {
+        3
+    } else {
+        1
+    }
+}
+
+impl<'a> Quotes<'a> {
+    /// Goes on to this end of what is left, and gives what it passed.
+    fn go_to(&mut self, rest: &'a str) -> &'a [u8] {
+        let whole = self.rest.as_bytes();
+        let (passed, _) = whole.split_at(whole.len().saturating_sub(rest.len()));
+        for byte in passed {
+            if *byte == b'\n' {
+                self.line = self.line.saturating_add(1);
+                self.column = 1;
+            } else if begins(*byte) {
+                self.column = self.column.saturating_add(1);
+            }
+        }
+        self.rest = rest;
+        passed
+    }
+
+    /// Goes on to the next text in quotes, outside comments, and gives whether there is one.
+    fn find(&mut self) -> bool {
+        for _ in 0..=self.rest.len() {
+            self.go_to(skip_blank(self.rest, true));
+            if starts_string(self.rest) {
+                return true;
+            }
+            let mut characters = self.rest.chars();
+            if characters.next().is_none() {
+                return false;
+            }
+            self.go_to(characters.as_str());
+        }
+        false
+    }
+
+    /// The next text in quotes; None where there is no other one.
+    fn next(&mut self, alloc: Global) -> Result<Option<Quoted>, AllocError> {
+        if !self.find() || !starts_string(self.rest) {
+            return Ok(None);
+        }
+        let (text, rest) = match quoted(alloc, self.rest) {
+            Ok(read) => read,
+            Err(ParseError::OutOfMemory) => return Err(AllocError),
+            Err(_) => return Ok(None),
+        };
+        let quotes = opening(self.rest.as_bytes());
+        let (line, column) = (self.line, self.column.saturating_add(quotes));
+        let passed = characters(self.go_to(rest));
+        let length = passed.saturating_sub(quotes.saturating_mul(2));
+        Ok(Some(Quoted {
+            text,
+            place: CodePlace {
+                line,
+                column,
+                length,
+            },
+        }))
+    }
+
+    /// The place of the next text in quotes that is this one.
+    fn place_of(&mut self, alloc: Global, text: &str) -> Result<Option<CodePlace>, AllocError> {
+        for _ in 0..=self.rest.len() {
+            match self.next(alloc)? {
+                Some(found) if found.text.as_str() == text => return Ok(Some(found.place)),
+                Some(_) => {}
+                None => return Ok(None),
+            }
+        }
+        Ok(None)
+    }
+}
+
+/// The places of the lines of one actor's code, from which on the next actor's are looked for.
+fn places_of_actor(
+    alloc: Global,
+    quotes: &mut Quotes,
+    actor: &Value,
+) -> Result<Vec<CodePlace>, AllocError> {
+    let mut places = Vec::new(alloc);
+    let Some(table) = actor.as_table() else {
+        return Ok(places);
+    };
+    for line in lines_of(table) {
+        let place = quotes.place_of(alloc, line.as_str().unwrap_or(""))?;
+        if let Some(place) = place {
+            places.push(place)?;
+        }
+    }
+    Ok(places)
+}
+
+/// Where the lines of code stand in the text of an application that isn't refused: for each actor, in order, the
+/// place of each line. Of a text that isn't TOML there are none.
+///
+/// No other text in quotes of an application is a line of code, since names and kinds aren't. So the first one that
+/// is the same, from the line before on, is the line.
+///
+/// Its error is that an allocation was refused.
+pub fn places_of_code(alloc: Global, bytes: &[u8]) -> Result<Vec<Vec<CodePlace>>, AllocError> {
+    let mut places = Vec::new(alloc);
+    let table = match toml::table_from_slice(alloc, bytes) {
+        Ok(table) => table,
+        Err(error) if error.is_memory() => return Err(AllocError),
+        Err(_) => return Ok(places),
+    };
+    let Ok(text) = str::from_utf8(bytes) else {
+        return Ok(places);
+    };
+    let mut quotes = Quotes {
+        rest: text,
+        line: 1,
+        column: 1,
+    };
+    for actor in entries_at(&table, Key::Actor) {
+        places.push(places_of_actor(alloc, &mut quotes, actor)?)?;
+    }
+    Ok(places)
+}

@@ -1,0 +1,66 @@
+// What an actor can be deep in, and what is so of everything else: a state, as a picture of a run shows it.
+ghost use Rattle.fr_calls.specs.State.{IsWellFormed};
+
+use super::scene::subjects;
+use super::words::{content_in, fact, suspension_in};
+use fr_calls::State;
+use fr_program::{ActorId, App, Kind, ObjId};
+use fr_witness::Subject;
+use std::alloc::{AllocError, Global};
+
+/// What an actor can be deep in.
+#[derive(Clone, Copy)]
+pub enum Depth {
+    Critical,
+    Suspended,
+    /// A mutex, plain or recursive.
+    Held(ObjId),
+}
+
+/// All that an actor of the application can be deep in: the critical section, suspension, and each mutex.
+///
+/// # Errors
+///
+/// Only where memory is refused.
+pub fn depths_of(alloc: Global, app: &App) -> Result<Vec<Depth>, AllocError> {
+    let mut depths = Vec::new(alloc);
+    depths.push(Depth::Critical)?;
+    depths.push(Depth::Suspended)?;
+    for (number, object) in app.objects().iter().enumerate() {
+        if matches!(object.kind, Kind::Mutex | Kind::Recursive) {
+            depths.push(Depth::Held(ObjId(number)))?;
+        }
+    }
+    Ok(depths)
+}
+
+/// How deep an actor is in it in the state; 0 where the application has no such actor or mutex.
+pub fn depth_in(app: &App, state: &State, actor: ActorId, depth: Depth) -> u32
+    requires { IsWellFormed app.now state.now }
+{
+    match depth {
+        Depth::Critical => state.depth(actor),
+        Depth::Suspended => suspension_in(app, state, actor),
+        Depth::Held(object) => match content_in(app, state, object) {
+            Some(content) => content.count_held(actor),
+            None => 0,
+        },
+    }
+}
+
+/// What each object and each variable is in the state, in words, an item each.
+///
+/// # Errors
+///
+/// Only where memory is refused. The words are this project's own.
+pub fn state_told(alloc: Global, app: &App, state: &State) -> Result<Vec<String>, AllocError>
+    requires { IsWellFormed app.now state.now }
+{
+    let mut told = Vec::new(alloc);
+    for subject in &subjects(alloc, app)? {
+        if matches!(*subject, Subject::Object(_) | Subject::Variable(_)) {
+            told.push(fact(alloc, app, ActorId(0), state, *subject)?)?;
+        }
+    }
+    Ok(told)
+}
