@@ -10,6 +10,7 @@ ghost use Rattle.fr_notes.specs.Note.{Alternative as AlternativeOf};
 
 use fr_calls::{Landing, Way, lands_at};
 use fr_notes::{Alternative, Change, Known, Note, Spot, change_by, keeps};
+use fr_program::{Call, Instr, Side};
 
 /// Whether some alternative of a note holds of the mover after each step that makes this change.
 fn is_kept(known: &Known, change: &Change, next: &Note) -> bool
@@ -70,12 +71,28 @@ fn missed(spot: &Spot, way: Way) -> Option<usize>
     }
 }
 
+/// The number of the point at which steps by the second row land without keeping its note. An `if` and a create have a second
+/// row before them, and inside a call its end can have one; for all else nothing is looked at.
+fn missed_else(spot: &Spot) -> Option<usize>
+    ensures { WayOutcome spot.now.app.now spot.now.notes.now spot.now.point Way.Else result }
+{
+    match (spot.point.side, spot.instr) {
+        (Side::Inside, _) => missed(spot, Way::Else),
+        (Side::Before, Instr::If { .. }) => missed(spot, Way::Else),
+        (Side::Before, Instr::Call(call)) => match call {
+            Call::Create { .. } => missed(spot, Way::Else),
+            _ => None,
+        },
+        (Side::Before, _) => None,
+    }
+}
+
 /// The least number of a point to which a step goes without keeping its note.
 pub fn least_missed(spot: &Spot) -> Option<usize>
     ensures { GoesOutcome spot.now.app.now spot.now.notes.now spot.now.point result }
 {
     let one = missed(spot, Way::Then);
-    let other = missed(spot, Way::Else);
+    let other = missed_else(spot);
     match (one, other) {
         (Some(one), Some(other)) => Some(one.min(other)),
         (Some(one), None) => Some(one),
