@@ -2,6 +2,7 @@ pub mod AppLines
 pub mod AppNamesLemmas
 pub mod ArgsLaws
 pub mod CallLaws
+pub mod DirectLaws
 pub mod LineLaws
 pub mod NameLaws
 pub mod NumberLaws
@@ -13,3 +14,4 @@ pub mod WrittenLaws
 pub mod WrittenLineLaws
 pub mod RoundTrip
 pub mod TestedNames
+pub mod WordBytes

@@ -5,6 +5,7 @@
 
 mod app_names;
 mod call;
+mod direct;
 mod fault;
 mod given;
 mod meaning;

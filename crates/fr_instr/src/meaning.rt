@@ -126,7 +126,12 @@ fn null_at(value: Value<'_>) -> Result<(), LineFault>
 }
 
 /// What this word or number gives in a place of this kind, beside what was given before.
-fn given_at(names: &Names, place: Place, value: Value<'_>, given: Given) -> Result<Given, LineFault>
+pub(crate) fn given_at(
+    names: &Names,
+    place: Place,
+    value: Value<'_>,
+    given: Given,
+) -> Result<Given, LineFault>
     ensures { MatchResult result (Gives names.now place (word_of value.entry) given) (InPlace names.now place (word_of value.entry)) }
 {
     Ok(match place {

@@ -1,6 +1,6 @@
 // Numbers in lines: each has one text, and each place has its limits.
-ghost use Rattle.std.specs.Prelude.{◌≡◌, ◌≢◌, ℕ, ℤ, FitsSigned, IfSome, IfNone};
-ghost use Rattle.std.specs.Fmt.{signed_decimal};
+ghost use Rattle.std.specs.Prelude.{◌≡◌, ◌≢◌, ◌<◌, ◌+◌, ℕ, ℤ, FitsSigned, IfSome, IfNone, length, slice_index};
+ghost use Rattle.std.specs.Fmt.{decimal, signed_decimal};
 ghost use Rattle.std.specs.Int.{w64};
 ghost use Rattle.fr_instr.specs.Numbers.{IsInteger, IsNatural, IsTarget, IsTicks, IsLength};
 
@@ -10,11 +10,43 @@ use itoa::Buffer;
 /// The greatest target of a line.
 const MOST_TARGET: u32 = 2_147_483_647;
 
+/// The digit at this place of the text, as its number, if there is one.
+fn digit_at(text: &[u8], place: usize) -> Option<u32>
+    ensures { IfSome result (λ d. (place < length text.now) × (d < 10) × (slice_index text.now place ≡ 48 + d)) }
+{
+    match text.get(place) {
+        Some(byte) if byte.is_ascii_digit() => Some(u32::from(*byte - b'0')),
+        _ => None,
+    }
+}
+
+/// The number that the text is, where it is one of up to 9 digits. Most numbers are: they are read without writing them again.
+fn short_number(text: &[u8]) -> Option<u32>
+    ensures { IfSome result (λ n. text.now ≡ decimal n) }
+{
+    let mut n = digit_at(text, 0)?;
+    if n == 0 && text.len() > 1 {
+        return None;
+    }
+    let mut i = 1;
+    while let Some(digit) = digit_at(text, i) {
+        if n > 99_999_999 {
+            return None;
+        }
+        n = n * 10 + digit;
+        i += 1;
+    }
+    if i == text.len() { Some(n) } else { None }
+}
+
 /// The number that the text is the one way to write.
 fn number_of(text: &[u8]) -> Option<i64>
     ensures some { IfSome result (λ z. text.now ≡ signed_decimal z) }
     ensures none { IfNone result ((z : ℤ) → FitsSigned w64 z → text.now ≢ signed_decimal z) }
 {
+    if let Some(n) = short_number(text) {
+        return Some(i64::from(n));
+    }
     let Ok(digits) = std::str::from_utf8(text) else {
         return None;
     };

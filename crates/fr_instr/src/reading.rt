@@ -13,7 +13,7 @@ use crate::fault::LineFault;
 use crate::given::{self, Given};
 use crate::names::Names;
 use crate::shape::{self, CallShape, Shape, Value};
-use crate::{meaning, number, token};
+use crate::{direct, meaning, number, token};
 use fr_program::{Call, Comparison, Instr as Line, Operand, Operator, VarId};
 use std::alloc::Global;
 
@@ -190,6 +190,19 @@ fn line_of(names: &Names, shape: &Shape<'_>) -> Result<Line, LineFault>
     }
 }
 
+/// The line that the text is, found by its tokens and their shape.
+fn line_by_tokens(alloc: Global, text: &str, names: &Names) -> Result<Line, LineFault>
+    ensures ok { IfOk result (IsLine names.now text.now) }
+    ensures err { IfErr result (λ f. f ≢ Memory → Stands names.now text.now f) }
+{
+    let tokens = token::tokens(alloc, text.as_bytes())?;
+    let found = shape::shape_at(alloc, tokens.as_slice())?;
+    match found {
+        Some(shape) => line_of(names, &shape),
+        None => Err(LineFault::Syntax),
+    }
+}
+
 /// The line that the text is, with these names.
 ///
 /// A line is one of `set x = a`, `set x = a + b` (or `-`, `*`), `if a < b goto L` (or `<=`, `>`,
@@ -211,10 +224,8 @@ pub fn read_line(alloc: Global, text: &str, names: &Names) -> Result<Line, LineF
     ensures none { IfErr result (λ f. f ≢ Memory → (l : Instr) → ¬ IsLine names.now text.now l) }
     ensures err { IfErr result (λ f. f ≢ Memory → Stands names.now text.now f) }
 {
-    let tokens = token::tokens(alloc, text.as_bytes())?;
-    let found = shape::shape_at(alloc, tokens.as_slice())?;
-    match found {
-        Some(shape) => line_of(names, &shape),
-        None => Err(LineFault::Syntax),
+    if let Some(call) = direct::read_call(names, text.as_bytes()) {
+        return Ok(Line::Call(call));
     }
+    line_by_tokens(alloc, text, names)
 }

@@ -1,6 +1,6 @@
 // The tokens of a line: words, numbers and signs.
 ghost use Rattle.std.specs.Prelude.{◌≡◌, ◌+◌, ◌<◌, ◌≤◌, Some, IfSome, IfNone, IfOk, IfErr, ℕ, List, length, option_map, slice_index};
-ghost use Rattle.fr_instr.specs.Tokens.{Tok, is_letter, is_space, Begins, Spells};
+ghost use Rattle.fr_instr.specs.Tokens.{Tok, is_letter, is_word_byte, is_space, Begins, Spells};
 ghost use Rattle.std.specs.List.{list_all};
 ghost use Rattle.fr_instr.specs.declared.fault.LineFault.TheVariants.{Memory, Syntax};
 ghost use Rattle.fr_instr.specs.Reading.{front, after, sign_at, token_at};
@@ -50,13 +50,24 @@ fn is_letter(byte: u8) -> bool
     byte.is_ascii_alphabetic() || byte == b'_'
 }
 
+/// The bytes that words are made of, each at its own place; at all other places is a dot.
+static IN_WORDS: [u8; 128] =
+    *b"................................................0123456789.......ABCDEFGHIJKLMNOPQRSTUVWXYZ...._.abcdefghijklmnopqrstuvwxyz.....";
+
+/// Whether the byte may be in a word: an ASCII letter, a digit or an underscore.
+fn is_in_word(byte: u8) -> bool
+    ensures { result ≡ is_word_byte byte }
+{
+    byte < 128 && IN_WORDS[byte as usize] != b'.'
+}
+
 /// Whether the byte is of this kind. A digit is of the kind of words too.
 fn is_of(class: Class, byte: u8) -> bool
     ensures { result ≡ is_of class byte }
 {
     match class {
         Class::Space => byte == b' ',
-        Class::Word => is_letter(byte) || byte.is_ascii_digit(),
+        Class::Word => is_in_word(byte),
         Class::Digit => byte.is_ascii_digit(),
     }
 }
@@ -140,7 +151,7 @@ fn token_at(text: &[u8]) -> Option<(Token<'_>, &[u8])>
 }
 
 /// The token that the text begins with, behind spaces, and the rest.
-fn next_token(text: &[u8]) -> Option<(Token<'_>, &[u8])>
+pub(crate) fn next_token(text: &[u8]) -> Option<(Token<'_>, &[u8])>
     ensures found { IfSome result (λ p. Begins text.now (tok p.0) p.1.now) }
     ensures none { IfNone result ((t : Tok) (rest : List ℕ) → ¬ Begins text.now t rest) }
     ensures shorter { IfSome result (λ p. length p.1.now < length text.now) }
@@ -150,7 +161,7 @@ fn next_token(text: &[u8]) -> Option<(Token<'_>, &[u8])>
 }
 
 /// Whether the text has spaces only.
-fn is_blank(text: &[u8]) -> bool
+pub(crate) fn is_blank(text: &[u8]) -> bool
     ensures { result ≡ list_all is_space text.now }
 {
     text.iter().all(|b| *b == b' ')

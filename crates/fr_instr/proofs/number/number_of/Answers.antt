@@ -8,8 +8,8 @@ use Rattle.std.specs.Fmt.{signed_decimal}
 use Rattle.fr_instr.proofs.NumberLaws.{small}
 use Rattle.fr_instr.proofs.number.number_of.Goals as goal
 
-pub returns-in_default-clause-none : goal.returns-in_default-clause-none
-returns-in_default-clause-none c z fits same = c.in_default.ensures.cases.0 (rw same (IsUtf8-from_ascii (signed_decimal z) (IsAscii-signed z (small z fits))))
+pub returns-in_default-from_utf8-clause-none : goal.returns-in_default-from_utf8-clause-none
+returns-in_default-from_utf8-clause-none c z fits same = c.in_default-from_utf8.ensures.cases.0 (rw same (IsUtf8-from_ascii (signed_decimal z) (IsAscii-signed z (small z fits))))
 
 pub returns-in_default-parse-clause-none : goal.returns-in_default-parse-clause-none
 returns-in_default-parse-clause-none c z fits same =

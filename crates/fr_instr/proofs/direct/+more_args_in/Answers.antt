@@ -1,0 +1,7 @@
+use Rattle.fr_instr.proofs.DirectLaws.{more_read}
+use Rattle.fr_instr.proofs.direct.+more_args_in.Goals as goal
+
+pub returns : goal.returns
+returns n c =
+    more_read c.args.names.now c.args.places.now c.in-Some.place.now c.in-Some.places.now c.args.text.now c.in_ok-text.text.now c.in_ok-given.rest.now c.args.given c.in_ok-given.given c.more_args_in.result
+    c.in-Some.ensures.cases.0 c.in_ok-text.ensures c.in_ok-given.ensures c.more_args_in.ensures
