@@ -11,6 +11,7 @@ mod key;
 mod names;
 mod object;
 mod parts;
+mod recent;
 mod table;
 mod texts;
 mod variable;

@@ -1,5 +1,5 @@
 // The parts that the texts say: owners by number, and lines as instructions.
-ghost use Rattle.std.specs.Prelude.{◌≡◌, ◌++◌, Some, true, IfOk, IfErr, map, option_copied, string_bytes};
+ghost use Rattle.std.specs.Prelude.{◌≡◌, ◌++◌, Some, true, All, IfOk, IfErr, OnOk, map, option_copied, string_bytes};
 ghost use Rattle.std.specs.List.{AllZip};
 ghost use Rattle.fr_instr.specs.Lines.{IsLine};
 ghost use Rattle.fr_program.specs.View as program;
@@ -11,10 +11,10 @@ ghost use Rattle.fr_reader.specs.Views.{variable_text, object_text, actor_text, 
 use crate::actor::ActorText;
 use crate::fault::ReadFault;
 use crate::key::{Key, TableName};
-use crate::names;
 use crate::object::ObjectText;
 use crate::texts::Texts;
 use crate::variable::VariableText;
+use crate::{names, recent};
 use fr_instr::Names;
 use fr_program::{Actor, ActorId, Instr, Object, Parts, Variable};
 use std::alloc::Global;
@@ -117,6 +117,30 @@ fn instr_of(
     }
 }
 
+/// The same, where these lines are remembered with their instructions: a line that is the same as one of them isn't read
+/// again, and one that is read is remembered.
+fn instr_once<'a>(
+    alloc: Global,
+    names: &Names,
+    actor: &str,
+    index: usize,
+    line: &'a str,
+    recent: &mut Vec<(&'a str, Instr)>,
+) -> Result<Instr, ReadFault>
+    requires { All (λ e. IsLine names.now e.0.now e.1) recent.old.items }
+    ensures ok { IfOk result (IsLine names.now line.now) }
+    ensures recent { OnOk result (All (λ e. IsLine names.now e.0.now e.1) recent.new.items) }
+    ensures err { IfErr result (Standing (InLine names.now actor.now index line.now)) }
+{
+    if let Some(instr) = recent::instr_among(recent, line) {
+        return Ok(instr);
+    }
+    let instr = instr_of(alloc, names, actor, index, line)?;
+    recent::make_room(recent);
+    recent.push((line, instr))?;
+    Ok(instr)
+}
+
 /// The instructions that the lines of this actor mean.
 fn code_of(
     alloc: Global,
@@ -128,8 +152,9 @@ fn code_of(
     ensures err { IfErr result (Standing (InLines names.now actor.now (map line_text lines.now))) }
 {
     let mut code = Vec::new(alloc);
+    let mut recent = Vec::new(alloc);
     for (index, line) in lines.iter().enumerate() {
-        code.push(instr_of(alloc, names, actor, index, line)?)?;
+        code.push(instr_once(alloc, names, actor, index, line, &mut recent)?)?;
     }
     Ok(code)
 }
