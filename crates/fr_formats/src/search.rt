@@ -6,9 +6,9 @@ use crate::answer::{Answer, AnswerKind, Failure, PlaceShown, Source, StepShown};
 use crate::ident::rule_name;
 use crate::place::Places;
 use fr_calls::{Place, State, the_start_is_well_formed};
-use fr_program::{ActorId, App, Point};
+use fr_program::{ActorId, Point};
 use fr_refuter::{Finding, Refutation, StepTaken, take_step};
-use fr_report::{actor_place, step_explained};
+use fr_report::{actor_place, change_told};
 use std::alloc::{AllocError, Global};
 
 /// Where the actor is in the state; None where it is done.
@@ -26,22 +26,6 @@ fn standing(
     }
 }
 
-/// What a step changed, in words: the lines that explain it, but for the first one, which tells its place.
-fn change_of(
-    alloc: Global,
-    app: &App,
-    step: StepTaken,
-    before: &State,
-    after: &State,
-) -> Result<String, AllocError>
-    requires before { IsWellFormed app.now before.now }
-    requires after { IsWellFormed app.now after.now }
-{
-    let text = step_explained(alloc, app, step, before, after)?;
-    let (_, change) = text.split_once('\n').unwrap_or(("", ""));
-    String::from_str(alloc, change.trim())
-}
-
 /// Takes the step, and shows it.
 fn step_shown(
     alloc: Global,
@@ -56,7 +40,7 @@ fn step_shown(
     let place = standing(alloc, places, &before, step.actor)?;
     let app = places.app();
     let change = if take_step(app, state, step)? {
-        change_of(alloc, app, step, &before, state)?
+        change_told(alloc, app, step, &before, state)?
     } else {
         String::new(alloc)
     };

@@ -17,7 +17,8 @@ mod steps;
 mod words;
 
 use crate::shown::actor_name;
-pub use changes::{change_told, step_explained};
+pub use changes::change_told;
+pub(crate) use changes::step_explained;
 pub use depths::{Depth, depth_in, depths_of, state_told};
 use fr_calls::{Rule, State, the_start_is_well_formed};
 use fr_ends::{Certificate, EndName};

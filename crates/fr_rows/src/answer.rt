@@ -3,6 +3,7 @@ ghost use Rattle.std.specs.Prelude.{◌≤◌};
 ghost use Rattle.fr_answer.specs.Checked.{most_bytes};
 
 use crate::formatted::{check_formatted, prove_formatted, refute_formatted};
+use crate::paged::answer_paged;
 use crate::row::{Asked, Told};
 use fr_answer::{
     CheckFault, DONE, Detail, Found, MOST_APP_BYTES, MOST_CERTIFICATE_BYTES, NO, Proved, REFUSED,
@@ -23,7 +24,7 @@ pub struct Answer {
     pub status: u8,
 }
 
-/// What a command answers, and the text of the certificate that it writes, where it writes one.
+/// What a command answers, and the text of the certificate or of the page that it writes, where it writes one.
 #[derive(Drop)]
 pub struct Call {
     pub answer: Answer,
@@ -312,8 +313,31 @@ fn points(
     placed(alloc, (app, None), told, status, stderr)
 }
 
-/// What is written to both outputs and answered to what is asked of these files, with the text of the certificate that
-/// is written, if one is.
+/// What a command that writes a page writes and answers to these files, with the text of the page.
+fn page<R: Threads + Wait + Sync>(
+    threads: &R,
+    alloc: Global,
+    files: (Option<&[u8]>, Option<&[u8]>),
+    asked: &Asked,
+    out: &mut Vec<u8>,
+    err: &mut Vec<u8>,
+) -> (u8, Option<String>) {
+    let nothing: &[u8] = &[];
+    let certificate = match asked {
+        Asked::Check { .. } => files.1,
+        _ => Some(nothing),
+    };
+    match both(alloc, files.0, certificate) {
+        Ok((app, certificate)) => {
+            let files = (app.as_slice(), certificate.as_slice());
+            answer_paged(threads, alloc, asked, files, out, err)
+        }
+        Err(fault) => (answer_fault(alloc, &fault, err), None),
+    }
+}
+
+/// What is written to both outputs and answered to what is asked of these files, with the text of the certificate or of
+/// the page that is written, if one is.
 fn status_of<R: Threads + Wait + Sync>(
     threads: &R,
     alloc: Global,
@@ -322,6 +346,9 @@ fn status_of<R: Threads + Wait + Sync>(
     out: &mut Vec<u8>,
     err: &mut Vec<u8>,
 ) -> (u8, Option<String>) {
+    if asked.is_paged() {
+        return page(threads, alloc, files, asked, out, err);
+    }
     let app = files.0;
     let status = match asked {
         Asked::Check { workers, told } => check(threads, alloc, files, *workers, *told, out, err),
@@ -372,7 +399,7 @@ impl Call {
         }
     }
 
-    /// The bytes of the certificate that it writes.
+    /// The bytes of the certificate or of the page that it writes.
     pub fn written_bytes(&self) -> Option<&[u8]> {
         match &self.written {
             Some(text) => Some(text.as_bytes()),
@@ -380,11 +407,11 @@ impl Call {
         }
     }
 
-    /// The answer on one line, with the certificate that it writes.
+    /// The answer on one line, with what it writes.
     pub fn text(&self, alloc: Global) -> Result<String, AllocError> {
         let answer = self.answer.text(alloc)?;
         match &self.written {
-            Some(text) => format!(in alloc; "{answer}, out.json {text}"),
+            Some(text) => format!(in alloc; "{answer}, written {text}"),
             None => Ok(answer),
         }
     }

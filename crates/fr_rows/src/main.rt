@@ -26,6 +26,7 @@ mod judged_alike;
 mod judged_files;
 #[cfg(test)]
 mod lists;
+mod paged;
 #[cfg(test)]
 mod passing;
 mod points;

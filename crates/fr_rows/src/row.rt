@@ -6,8 +6,8 @@
 // args         the words, one a line: a check of both files, by so many workers; a run of so many polls with these words; a
 //              search, in so many rounds, for a certificate that goes to out.json; a proof, by so many workers, whose
 //              certificate goes to out.json where that is named; a run into a breach, in so many states, by so many
-//              workers; or the points of the application; and at last what else is told: --warn, --explain, --all, and
-//              --format with the form of the answer
+//              workers; or the points of the application; and at last what else is told: --warn, --explain, --all,
+//              --format with the form of the answer, and --html page.html
 // stdout       what has to be written to standard output
 // stderr       what has to be written to standard error
 // status       the exit status
@@ -15,6 +15,7 @@
 // sweep        lines `cut FILE FROM TO`: the answer is the same with the file cut to each of these lengths
 // written.json what has to be in out.json afterwards
 // unwritten    the file that must not be there afterwards, which is out.json
+// page.html    what has to be in page.html afterwards
 // then-args, then-stdout, then-stderr, then-status
 //              a second command, of app.toml and out.json, and what it has to answer
 use crate::answer::{Answer, Call};
@@ -29,6 +30,8 @@ const APP: &str = "app.toml";
 const CERTIFICATE: &str = "cert.json";
 
 const OUT: &str = "out.json";
+
+const PAGE: &str = "page.html";
 
 const DEFAULT_WORKERS: usize = 4;
 
@@ -59,6 +62,8 @@ pub struct Told {
     pub detail: Option<Detail>,
     /// The form of the answer; None where it is a text for a person.
     pub format: Option<Format>,
+    /// Whether the answer is written as a page, too.
+    pub page: bool,
 }
 
 /// What a row asks of its files.
@@ -100,7 +105,21 @@ pub enum Asked {
     },
 }
 
-/// What has to be in the file for the certificate afterwards.
+impl Asked {
+    /// Whether the answer is written as a page, too.
+    pub fn is_paged(&self) -> bool {
+        match self {
+            Asked::Check { told, .. }
+            | Asked::Run { told, .. }
+            | Asked::Find { told, .. }
+            | Asked::Prove { told, .. }
+            | Asked::Refute { told, .. }
+            | Asked::Points { told } => told.page,
+        }
+    }
+}
+
+/// What has to be in the file for the certificate afterwards, or in that for the page.
 #[derive(Drop)]
 enum Written {
     Anything,
@@ -143,6 +162,7 @@ fn is_file_of_a_row(name: &str) -> bool {
             | "sweep"
             | "written.json"
             | "unwritten"
+            | "page.html"
             | "then-args"
             | "then-stdout"
             | "then-stderr"
@@ -194,25 +214,27 @@ fn format_named(name: &str) -> io::Result<Format> {
     }
 }
 
-/// What else is told: words `--warn`, `--explain`, `--all` and `--format` with a form, up to the last word. The first
-/// of them was taken.
+/// What else is told: words `--warn`, `--explain`, `--all`, `--format` with a form and `--html page.html`, up to the last
+/// word. The first of them was taken.
 fn told_asked<'a>(first: Option<&'a str>, words: &mut Lines<'a>) -> io::Result<Told> {
     let mut told = Told {
         warns: false,
         detail: None,
         format: None,
+        page: false,
     };
-    let mut is_form = false;
+    let mut before = "";
     for word in first.into_iter().chain(words) {
         match word {
-            name if is_form => told.format = Some(format_named(name)?),
+            name if before == "--format" => told.format = Some(format_named(name)?),
+            PAGE if before == "--html" => told.page = true,
             "--warn" => told.warns = true,
             "--explain" => told.detail = Some(Detail::Told),
             "--all" => told.detail = Some(Detail::Whole),
-            "--format" => {}
+            "--format" | "--html" => {}
             _ => return Err(wrong("there are other words than those of the command")),
         }
-        is_form = word == "--format";
+        before = word;
     }
     Ok(told)
 }
@@ -379,9 +401,12 @@ fn second_in(rt: &HostRuntime, folder: &str) -> io::Result<Option<Second>> {
     }
 }
 
-/// What has to be in the file for the certificate.
+/// What has to be in the file for the certificate, or in that for the page.
 fn written_in(rt: &HostRuntime, folder: &str) -> io::Result<Written> {
     if let Some(bytes) = bytes_of(rt, folder, "written.json")? {
+        return Ok(Written::Text(bytes));
+    }
+    if let Some(bytes) = bytes_of(rt, folder, PAGE)? {
         return Ok(Written::Text(bytes));
     }
     match text_of(rt, folder, "unwritten")? {

@@ -164,7 +164,7 @@ pub fn change_told(
 
 /// The lines that explain a step of a run: where its actor was before it, with the line of code, and what it
 /// changed; where it changed nothing but the actor's place, how the call went, if it is a step of one.
-pub fn step_explained(
+pub(crate) fn step_explained(
     alloc: Global,
     app: &App,
     step: StepTaken,
