@@ -41,7 +41,7 @@ fn question_of<'a>(asked: &Asked, (app, certificate): (&'a [u8], &'a [u8])) -> Q
 }
 
 /// What the command has to say of these files. One that writes no page has no file for it.
-fn worked<R: Threads + Wait + Sync>(
+fn work_out<R: Threads + Wait + Sync>(
     threads: &R,
     alloc: Global,
     asked: &Asked,
@@ -118,7 +118,7 @@ pub fn answer_paged<R: Threads + Wait + Sync>(
     stderr: &mut Vec<u8>,
 ) -> (u8, Option<String>) {
     let question = question_of(asked, files);
-    let worked = match worked(threads, alloc, asked, files) {
+    let worked = match work_out(threads, alloc, asked, files) {
         Ok(worked) => worked,
         Err(fault) => {
             let page = refusal_page(alloc, question, &fault);
