@@ -223,18 +223,20 @@ fn told_asked<'a>(first: Option<&'a str>, words: &mut Lines<'a>) -> io::Result<T
         format: None,
         page: false,
     };
-    let mut before = "";
+    let mut is_form = false;
+    let mut is_page = false;
     for word in first.into_iter().chain(words) {
         match word {
-            name if before == "--format" => told.format = Some(format_named(name)?),
-            PAGE if before == "--html" => told.page = true,
+            name if is_form => told.format = Some(format_named(name)?),
+            PAGE if is_page => told.page = true,
             "--warn" => told.warns = true,
             "--explain" => told.detail = Some(Detail::Told),
             "--all" => told.detail = Some(Detail::Whole),
             "--format" | "--html" => {}
             _ => return Err(wrong("there are other words than those of the command")),
         }
-        before = word;
+        is_form = word == "--format";
+        is_page = word == "--html";
     }
     Ok(told)
 }
