@@ -1,7 +1,6 @@
 -- Actors of which no writing point disturbs a note, as the hulls of all that they write show.
-use Rattle.std.proofs.Common.{◌≡◌, ℕ, ◌<◌, List, Some, None, Bool, true, false, length, get_or, refl, sym, ap, ◌∙◌, subst, arith, ⊎_elim, inl, inr}
-use Rattle.std.specs.Prelude.{◌⊎◌, Option, IfSome, All, replicate, set, is_some}
-use Rattle.std.specs.List.{AllWithin}
+use Rattle.std.proofs.Common.{◌≡◌, ℕ, List, Some, None, Bool, true, false, length, get_or, refl, sym, ap, ◌∙◌, subst, arith, ⊎_elim, inl, inr}
+use Rattle.std.specs.Prelude.{Option, IfSome, All, replicate, set, is_some}
 use Rattle.std.proofs.lemmas.Bool.{cases_lt, cases_eq, false≢true}
 use Rattle.std.proofs.lemmas.List.{length-replicate, get_or-replicate, get_or_past, get_or-set_same, get_or-set_other, set_past}
 use Rattle.fr_program.specs.declared.ids.ActorId.{ActorId}
@@ -12,7 +11,7 @@ use Rattle.fr_notes.specs.Note.{Note}
 use Rattle.fr_interfere.specs.declared.rows.Block.{Block}
 use Rattle.fr_interfere.specs.Effects.{effect_at, target_of}
 use Rattle.fr_interfere.specs.Hull.{IsClosedBy}
-use Rattle.fr_interfere.specs.Rows.{IsBlock, WritesOne, HaveWriters, AreClosed, IsTold}
+use Rattle.fr_interfere.specs.Rows.{IsBlock, HaveWriters, AreClosed, IsTold}
 use Rattle.fr_interfere.specs.Spoilers.{IsListed}
 use Rattle.fr_interfere.specs.Undisturbed.{Undisturbed}
 

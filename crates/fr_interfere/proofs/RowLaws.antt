@@ -1,28 +1,35 @@
 -- A list parted into runs: each run is as the list is, and each number of the list is in one of them.
-use Rattle.std.proofs.Common.{◌≡◌, ℕ, ◌+◌, ◌-◌, ◌<◌, ◌≤◌, List, [], ◌∷◌, ◌++◌, length, get_or, take, drop, sym, ap, ◌∙◌, subst, arith, ⊎_elim}
-use Rattle.std.specs.Prelude.{Option, None, Some, IfSome, Any, Contains, slice_get}
+use Rattle.std.proofs.Common.{◌≡◌, ℕ, zero, suc, ◌+◌, ◌-◌, ◌<◌, ◌≤◌, List, [], ◌∷◌, ◌++◌, length, get_or, take, drop, sym, ap, ◌∙◌, subst, arith, ⊎_elim}
+use Rattle.std.specs.Prelude.{Option, None, Some, Result, Ok, Err, IfOk, IfSome, MatchResult, All, Any, Contains, map, slice_get}
+use Rattle.std.specs.List.{AllZip, range_with_len}
 use Rattle.std.proofs.lemmas.Bool.{cases_lt}
-use Rattle.std.proofs.lemmas.List.{length_push, get_or_push, get_or_append_left, length-take, length-drop, get_or-take, get_or-drop}
-use Rattle.std.proofs.lemmas.Option.{same_Some}
+use Rattle.std.proofs.lemmas.List.FromFn.{length-range_with_len}
+use Rattle.std.proofs.lemmas.Slice.Zip.{AllZip-long}
+use Rattle.std.proofs.lemmas.List.{length-map, length_push, get_or_push, get_or_append_left, length-take, length-drop, get_or-take, get_or-drop, get_or_default}
+use Rattle.std.proofs.lemmas.Option.{same_Some, slice_get-get_or}
 use Rattle.std.proofs.lemmas.List.Elements.{Contains-append_left, Contains-push, Contains-get_or}
 use Rattle.fr_program.specs.declared.ids.Point.{Point}
 use Rattle.fr_program.specs.Program.{Program}
 use Rattle.fr_program.specs.Fault.{IsFaultless}
-use Rattle.fr_program.specs.Points.{points_of}
+use Rattle.fr_program.specs.Lookup.{IsPoint}
+use Rattle.fr_program.specs.PointNumbers.{PointsAreNumbered}
+use Rattle.fr_program.specs.Points.{point_number, points_of}
 use Rattle.fr_notes.specs.Fits.{NotesFit}
 use Rattle.fr_notes.specs.Note.{Note}
 use Rattle.fr_notes.specs.Noted.{note_at}
 use Rattle.fr_interfere.specs.declared.hull.Hull.{Hull}
 use Rattle.fr_interfere.specs.declared.rows.Block.{Block}
 use Rattle.fr_interfere.specs.declared.effects.Effect.{Effect}
+use Rattle.fr_interfere.specs.declared.rows.Hulls.{Hulls}
 use Rattle.fr_interfere.specs.declared.rows.Row.{Row}
+use Rattle.fr_interfere.specs.declared.rows.Run.{Run}
 use Rattle.fr_interfere.specs.Hull.{AreUnder, Spares}
-use Rattle.fr_interfere.specs.Index.{Lists, list_at}
-use Rattle.fr_interfere.specs.Rows.{AreListed, AreRows, IsRow}
+use Rattle.fr_interfere.specs.Index.{IndexOf, Lists, list_at}
+use Rattle.fr_interfere.specs.Rows.{AreHullsOf, AreListed, AreRows, IsBlock, IsBlockAt, HasRun, IsInRun, IsInSome, IsRow, IsRun, WritesOne}
 use Rattle.fr_interfere.specs.Spoilers.{IsFirstOf, IsListed}
 use Rattle.fr_interfere.proofs.HullLaws.{spared-undisturbed}
-use Rattle.fr_interfere.proofs.IndexLaws.{numbers-below}
-use Rattle.fr_interfere.proofs.Lists.{get-below, get-at, at-get}
+use Rattle.fr_interfere.proofs.IndexLaws.{listed-point, numbers-below}
+use Rattle.fr_interfere.proofs.Lists.{get-below, get-there, get-at, at-get}
 use Rattle.fr_interfere.proofs.SpoilerLaws.{each-fits}
 
 module _ (numbers : List ℕ) (from behind : ℕ) (above : from < behind) (most : behind ≤ length numbers) where
@@ -59,6 +66,32 @@ module _ (numbers : List ℕ) (from behind : ℕ) (above : from < behind) (most 
       let same = at (j - from) 0 there in
       let place : from + (j - from) ≡ j = omega (arith, low) in
       subst (Contains run) (same ∙ ap (λ k. get_or numbers k 0) place) (Contains-get_or run (j - from) 0 (omega (arith, there, long)))
+
+-- the block of a run of the list has the run's points
+pub has-run : {E : Type 0} (P : Program) (notes : List Note) (numbers : List ℕ) (runs : List Run) (place : ℕ) (r : Run) → slice_get runs place ≡ Some r → IsRun numbers r → (made : Result Block E) →
+    IfOk made (λ b. IsBlock P notes b) → IfOk made (λ b. b.numbers.items ≡ take (r.behind - r.from) (drop r.from numbers)) → IfOk made (λ b. IsBlockAt P notes numbers runs place b)
+has-run P notes numbers runs place r here (above, most) (Err e) block same = tt
+has-run P notes numbers runs place r here (above, most) (Ok b) block same = λ s there.
+    let has : HasRun P notes numbers r b = record {
+      block = block;
+      each = λ j low high. subst (λ ns. Contains ns (get_or numbers j 0)) (sym same) (in-run numbers r.from r.behind above most j low high);
+    } in
+    subst (λ t. HasRun P notes numbers t b) (same_Some _ _ (sym here ∙ there)) has
+
+-- where each run has its block, the blocks have each point of the list
+module _ (P : Program) (notes : List Note) (numbers : List ℕ) (runs : List Run) (blocks : List Block) (long : length blocks ≡ length runs) (made : (k : ℕ) (b : Block) → slice_get blocks k ≡ Some b → IsBlockAt P notes numbers runs k b) where
+  pub blocks-each : All (λ b. IsBlock P notes b) blocks
+  blocks-each k d l =
+      let (r, is) = get-there runs k (omega (arith, l, long)) in
+      (made k (get_or blocks k d) (slice_get-get_or blocks k d l) r is).block
+
+  pub blocks-found : ((j : ℕ) → j < length numbers → IsInRun runs j) → (q : Point) → IsListed P numbers q → IsInSome P blocks q
+  blocks-found found q (i, l, is) =
+      let (k, r, inside, one, within) = found i l in
+      let (b, there) = get-there blocks k (omega (arith, inside, long)) in
+      let has = made k b there r (at-get runs k r inside (sym one)) in
+      let same = get_or_default numbers i 0 (point_number P q) l ∙ is in
+      (k, b, omega (arith, inside, long), get-at blocks k b b there, subst (Contains b.numbers.items) same (has.each i within.0 within.1))
 
 -- one element more
 pub any-before : {E : Type 0} (IsSo : E → Type 0) (xs : List E) (y : E) → Any IsSo xs → Any IsSo (xs ++ y ∷ [])
@@ -123,3 +156,35 @@ module _ (P : Program) (notes : List Note) (lists : List (List ℕ)) where
         subst (λ n. IsRow P notes (list_at lists n) r) (sym many ∙ end) (subst (λ ns. IsRow P notes ns r) at found))
         (cases_lt j (length rows));
   }
+
+-- what is made of each number, if all of it is made: at each place what was made of its number
+pub made-at : (E : Type 0) {T : Type 0} (IsFor : ℕ → T → Type 0) (from len : ℕ) (ys : List T) → AllZip (λ n (r : Result T E). IfOk r (IsFor n)) (range_with_len from len) (map Ok ys) → (k : ℕ) (y : T) →
+    slice_get ys k ≡ Some y → IsFor (from + k) y
+made-at E IsFor from len [] zip k y is = cc
+made-at E IsFor from zero (x ∷ xs) zip k y is = absurd zip
+made-at E IsFor from (suc len) (x ∷ xs) zip zero y is = subst (IsFor (from + 0)) (same_Some _ _ is) (subst (λ n. IsFor n x) (omega arith) zip.0)
+made-at E IsFor from (suc len) (x ∷ xs) zip (suc k) y is = subst (λ n. IsFor n y) (omega arith) (made-at E IsFor (from + 1) len xs zip.1 k y is)
+
+pub made-list : {V T E : Type 0} (F : E → Type 0) (IsFor : ℕ → T → Type 0) (items : V → List T) (made : Result V E) (rs : List (Result T E)) (n : ℕ) → AllZip (λ k r. IfOk r (IsFor k)) (range_with_len 0 n) rs
+    → MatchResult made (λ v. (ys : List T) × (rs ≡ map Ok ys) × (items v ≡ ys)) F → IfOk made (λ v. (length (items v) ≡ n) × ((k : ℕ) (y : T) → slice_get (items v) k ≡ Some y → IsFor k y))
+made-list {V} {T} {E} F IsFor items made rs n zip m =
+    elim made as (λ q. MatchResult q (λ v. (ys : List T) × (rs ≡ map Ok ys) × (items v ≡ ys)) F → IfOk q (λ v. (length (items v) ≡ n) × ((k : ℕ) (y : T) → slice_get (items v) k ≡ Some y → IsFor k y))) [
+      | Ok v ↦ λ h.
+          let each = subst (λ r. AllZip (λ j q. IfOk q (IsFor j)) (range_with_len 0 n) r) h.1 zip in
+          let long : length rs ≡ n = AllZip-long (λ k r. IfOk r (IsFor k)) (range_with_len 0 n) rs zip ∙ length-range_with_len 0 n in (
+            ap length h.2 ∙ (sym (length-map h.0 Ok) ∙ (ap length (sym h.1) ∙ long)),
+            λ k y is. subst (λ j. IsFor j y) (omega arith) (made-at E IsFor 0 n h.0 each k y (subst (λ ys. slice_get ys k ≡ Some y) h.2 is)),
+          )
+      | Err e ↦ λ h. tt
+    ] m
+
+-- the hulls of an index's points, with blocks of all points that write
+pub hulls-of : (P : Program) (notes : List Note) (I : IndexOf) → PointsAreNumbered P → (writing : List ℕ) → Lists P WritesOne (length (points_of P)) writing → (numbers : List ℕ) → numbers ≡ writing → (hulls : Hulls) →
+    AreRows P notes I.writers hulls.writers.items → AreRows P notes I.lives hulls.lives.items → All (λ b. IsBlock P notes b) hulls.actors.items →
+    ((q : Point) → IsPoint P q → IsListed P numbers q → IsInSome P hulls.actors.items q) → AreHullsOf P notes I hulls
+hulls-of P notes I numbered writing lists numbers same hulls writers lives each found = record {
+  writers = writers;
+  lives = lives;
+  each = each;
+  found = λ q at writes. found q at (subst (λ ns. IsListed P ns q) (sym same) (listed-point P WritesOne writing numbered lists q at writes));
+}

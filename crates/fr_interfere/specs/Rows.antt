@@ -6,13 +6,15 @@
 -- | AreListed         | rising numbers of points                                                                    |
 -- | IsBlock           | such numbers, whose points are all under the block's hull                                   |
 -- | IsInSome          | the point's number is in one of the blocks                                                  |
+-- | IsRun, IsInRun    | places of a list from one up to another; a place is in one of such runs                     |
+-- | IsBlockAt         | a block that has the points of the run at a place                                           |
 -- | IsRow             | a hull of the points of a list, and blocks that have each of them                           |
 -- | AreRows,          | so is each row that there is for one of the lists; the hulls of an index's points           |
 -- |   AreHullsOf      |                                                                                             |
 -- | WritesOne,        | an effect writes a variable; each point with such an effect is in one of the blocks         |
 -- |   HaveWriters     |                                                                                             |
 -- | AreClosed, IsTold | actors whose writing points disturb no note; what is known of a block's actor               |
-use Rattle.std.specs.Prelude.{◌≡◌, ◌<◌, ◌⊎◌, ℕ, List, Option, Some, Bool, true, false, All, AllPairs, Any, length, slice_get, slice_index_or}
+use Rattle.std.specs.Prelude.{◌≡◌, ◌<◌, ◌≤◌, ◌⊎◌, ℕ, List, Option, Some, Bool, true, false, All, AllPairs, Any, Contains, length, slice_get, slice_index_or}
 use Rattle.fr_program.specs.declared.ids.ActorId.{ActorId}
 use Rattle.fr_program.specs.declared.ids.Point.{Point}
 use Rattle.fr_program.specs.Program.{Program}
@@ -21,6 +23,7 @@ use Rattle.fr_program.specs.Points.{points_of}
 use Rattle.fr_notes.specs.Note.{Note}
 use Rattle.fr_interfere.specs.declared.rows.Block.{Block}
 use Rattle.fr_interfere.specs.declared.rows.Row.{Row}
+use Rattle.fr_interfere.specs.declared.rows.Run.{Run}
 use Rattle.fr_interfere.specs.declared.rows.Hulls.{Hulls}
 use Rattle.fr_interfere.specs.declared.effects.Effect.{Effect}
 use Rattle.fr_interfere.specs.Effects.{effect_at, target_of}
@@ -42,6 +45,23 @@ pub record IsBlock (P : Program) (notes : List Note) (b : Block) : Type 0 where
 -- the point's number is in one of the blocks
 abbrev pub IsInSome : Program → List Block → Point → Type 0
 IsInSome P blocks q = Any (λ b. IsListed P b.numbers.items q) blocks
+
+-- the run has one or more places of the list
+abbrev pub IsRun : List ℕ → Run → Type 0
+IsRun numbers r = (r.from < r.behind) × (r.behind ≤ length numbers)
+
+-- the place is in one of the runs
+abbrev pub IsInRun : List Run → ℕ → Type 0
+IsInRun runs j = Any (λ r. (r.from ≤ j) × (j < r.behind)) runs
+
+-- the block has the points at the places of the run
+pub record HasRun (P : Program) (notes : List Note) (numbers : List ℕ) (r : Run) (b : Block) : Type 0 where
+  pub block : IsBlock P notes b
+  pub each : (j : ℕ) → r.from ≤ j → j < r.behind → Contains b.numbers.items (slice_index_or numbers j 0)
+
+-- so it is of the run at this place
+abbrev pub IsBlockAt : Program → List Note → List ℕ → List Run → ℕ → Block → Type 0
+IsBlockAt P notes numbers runs k b = (r : Run) → slice_get runs k ≡ Some r → HasRun P notes numbers r b
 
 -- a hull of the points of a list, and blocks that have each of them
 pub record IsRow (P : Program) (notes : List Note) (numbers : List ℕ) (row : Row) : Type 0 where

@@ -8,7 +8,7 @@ ghost use Rattle.fr_program.specs.Program.{Program};
 ghost use Rattle.fr_notes.specs.Fits.{NotesFit};
 ghost use Rattle.fr_notes.specs.Note.{Note as NoteOf};
 ghost use Rattle.fr_interfere.specs.Index.{IndexOf, IsIndexOf, Lists, list_at};
-ghost use Rattle.fr_interfere.specs.Rows.{AreListed, IsBlock, IsInSome, IsRow, AreRows, WritesOne, HaveWriters, AreHullsOf, AreClosed, IsTold};
+ghost use Rattle.fr_interfere.specs.Rows.{AreListed, IsBlock, IsInSome, IsRun, IsInRun, IsBlockAt, IsRow, AreRows, WritesOne, HaveWriters, AreHullsOf, AreClosed, IsTold};
 ghost use Rattle.fr_interfere.specs.Spoilers.{IsFirstOf, IsListed};
 
 use crate::effects::{effect_at, is_free};
@@ -17,7 +17,9 @@ use crate::index::Index;
 use crate::spoilers::{first_listed, lesser};
 use fr_notes::{Note, Notes};
 use fr_program::{ActorId, App, ObjId, VarId};
+use rayon::prelude::*;
 use std::alloc::{AllocError, Global};
+use std::thread::Threads;
 
 /// Points of a list of the index, with their hull.
 #[derive(Drop)]
@@ -87,6 +89,82 @@ fn blocks_of(
     Ok(blocks)
 }
 
+/// The places of a list from one up to another, whose points are one actor's.
+#[derive(Clone, Copy)]
+struct Run {
+    from: usize,
+    behind: usize,
+}
+
+/// The points with these numbers, parted into runs of one actor each.
+fn runs_of(alloc: Global, app: &App, numbers: &[usize]) -> Result<Vec<Run>, AllocError>
+    requires below { All (λ k. k < length (points_of app.now)) numbers.now }
+    ensures each { IfOk result (λ runs. All (λ r. IsRun numbers.now r) runs.items) }
+    ensures found { IfOk result (λ runs. (j : ℕ) → j < length numbers.now → IsInRun runs.items j) }
+{
+    let mut runs = Vec::new(alloc);
+    let mut from = 0;
+    while from < numbers.len() {
+        let behind = behind_actor(app, numbers, from);
+        runs.push(Run { from, behind })?;
+        from = behind;
+    }
+    Ok(runs)
+}
+
+/// The block of the points of the run at this place.
+fn block_at(
+    alloc: Global,
+    app: &App,
+    notes: &Notes,
+    numbers: &[usize],
+    runs: &[Run],
+    place: usize,
+) -> Result<Block, AllocError>
+    requires listed { AreListed app.now numbers.now }
+    requires runs { All (λ r. IsRun numbers.now r) runs.now }
+    requires place { place < length runs.now }
+    requires fit { NotesFit app.now notes.now }
+    ensures { IfOk result (λ b. IsBlockAt app.now notes.now numbers.now runs.now place b) }
+{
+    let Run { from, behind } = runs[place];
+    Block::of(alloc, app, notes, &numbers[from..behind])
+}
+
+/// The points with these numbers, actor by actor, by several threads where that is worth it.
+fn blocks_by<R: Threads + Sync>(
+    rt: &R,
+    alloc: Global,
+    app: &App,
+    notes: &Notes,
+    numbers: &[usize],
+    workers: usize,
+) -> Result<Vec<Block>, AllocError>
+    requires listed { AreListed app.now numbers.now }
+    requires fit { NotesFit app.now notes.now }
+    ensures each { IfOk result (λ blocks. All (λ b. IsBlock app.now notes.now b) blocks.items) }
+    ensures found { IfOk result (λ blocks. (q : Point) → IsPoint app.now q → IsListed app.now numbers.now q →
+        IsInSome app.now blocks.items q) }
+{
+    let runs = runs_of(alloc, app, numbers)?;
+    let runs = runs.as_slice();
+    let least = least_piece(app, runs.len(), workers);
+    let made: Result<Vec<Block>, AllocError> = (0..runs.len())
+        .into_par_iter()
+        .with_min_len(least)
+        .map(
+            |place: usize| -> Result<Block, AllocError>
+                requires listed { AreListed app.now numbers.now }
+                requires runs { All (λ r. IsRun numbers.now r) runs.now }
+                requires place { place < length runs.now }
+                requires fit { NotesFit app.now notes.now }
+                ensures { IfOk result (λ b. IsBlockAt app.entry.now notes.entry.now numbers.entry.now runs.entry.now place b) }
+            { block_at(alloc, app, notes, numbers, runs, place) },
+        )
+        .collect(rt, alloc)?;
+    made
+}
+
 impl Row {
     /// The row of the points with these numbers.
     pub fn of(alloc: Global, app: &App, notes: &Notes, numbers: &[usize]) -> Result<Row, AllocError>
@@ -129,6 +207,19 @@ pub struct Hulls {
     actors: Vec<Block>,
 }
 
+/// In an application of fewer points one thread makes all hulls: it is done before another one has started.
+const FEW_POINTS: usize = 4096;
+
+/// How many of so many things a thread takes at the least. For each worker there are up to two threads, so that one with little
+/// to do is no loss. One thread takes all for one worker, and where the application is small.
+fn least_piece(app: &App, things: usize, workers: usize) -> usize {
+    if workers < 2 || app.points() < FEW_POINTS {
+        usize::MAX
+    } else {
+        (things / workers.saturating_mul(2)).max(1)
+    }
+}
+
 /// How many actors can be told to be closed to a note.
 pub const MOST_CLOSED: usize = 32;
 
@@ -157,6 +248,22 @@ fn writing_points(alloc: Global, app: &App) -> Result<Vec<usize>, AllocError>
     Ok(numbers)
 }
 
+/// The row of the variable with this number, where some point writes it.
+fn row_of_variable(
+    alloc: Global,
+    app: &App,
+    notes: &Notes,
+    index: &Index,
+    variable: usize,
+) -> Result<Option<Row>, AllocError>
+    requires variable { variable < length app.now.variables }
+    requires fit { NotesFit app.now notes.now }
+    requires index { IsIndexOf app.now index.now }
+    ensures { IfOk result (λ row. IfSome row (λ r. IsRow app.now notes.now (list_at index.now.writers variable) r)) }
+{
+    row_of(alloc, app, notes, index.writers(VarId(variable)))
+}
+
 /// The rows of the variables, by their numbers.
 fn writer_rows(
     alloc: Global,
@@ -170,9 +277,39 @@ fn writer_rows(
 {
     let mut rows = Vec::new(alloc);
     for variable in 0..app.variables().len() {
-        rows.push(row_of(alloc, app, notes, index.writers(VarId(variable)))?)?;
+        rows.push(row_of_variable(alloc, app, notes, index, variable)?)?;
     }
     Ok(rows)
+}
+
+/// The same, by several threads where that is worth it.
+fn writer_rows_by<R: Threads + Sync>(
+    rt: &R,
+    alloc: Global,
+    app: &App,
+    notes: &Notes,
+    index: &Index,
+    workers: usize,
+) -> Result<Vec<Option<Row>>, AllocError>
+    requires fit { NotesFit app.now notes.now }
+    requires index { IsIndexOf app.now index.now }
+    ensures { IfOk result (λ rows. AreRows app.now notes.now index.now.writers rows.items) }
+{
+    let variables = app.variables().len();
+    let least = least_piece(app, variables, workers);
+    let rows: Result<Vec<Option<Row>>, AllocError> = (0..variables)
+        .into_par_iter()
+        .with_min_len(least)
+        .map(
+            |variable: usize| -> Result<Option<Row>, AllocError>
+                requires variable { variable < length app.now.variables }
+                requires fit { NotesFit app.now notes.now }
+                requires index { IsIndexOf app.now index.now }
+                ensures { IfOk result (λ row. IfSome row (λ r. IsRow app.entry.now notes.entry.now (list_at index.entry.now.writers variable) r)) }
+            { row_of_variable(alloc, app, notes, index, variable) },
+        )
+        .collect(rt, alloc)?;
+    rows
 }
 
 /// The rows of the objects, by their numbers.
@@ -224,6 +361,36 @@ impl Hulls {
         let lives = maker_rows(alloc, app, notes, index)?;
         let writing = writing_points(alloc, app)?;
         let actors = blocks_of(alloc, app, notes, &writing)?;
+        Ok(Hulls {
+            writers,
+            lives,
+            actors,
+        })
+    }
+
+    /// The same, where the application is large by several threads: up to two for each of these workers. The work of a thread that
+    /// can't be started is done by another one.
+    ///
+    /// # Errors
+    ///
+    /// An allocation was refused.
+    pub fn build_by<R: Threads + Sync>(
+        rt: &R,
+        alloc: Global,
+        app: &App,
+        notes: &Notes,
+        index: &Index,
+        workers: usize,
+    ) -> Result<Hulls, AllocError>
+        requires fit { NotesFit app.now notes.now }
+        requires index { IsIndexOf app.now index.now }
+        ensures { IfOk result (AreHullsOf app.now notes.now index.now) }
+    {
+        app.recall_numbered();
+        let writers = writer_rows_by(rt, alloc, app, notes, index, workers)?;
+        let lives = maker_rows(alloc, app, notes, index)?;
+        let writing = writing_points(alloc, app)?;
+        let actors = blocks_by(rt, alloc, app, notes, &writing, workers)?;
         Ok(Hulls {
             writers,
             lives,

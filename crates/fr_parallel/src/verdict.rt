@@ -100,7 +100,7 @@ pub(crate) fn judge_by_crew<R: Threads + Wait + Sync, G: Gate>(
     let Ok(index) = Index::build(alloc, app) else {
         return Err(ParFault::Memory);
     };
-    let Ok(hulls) = Hulls::build(alloc, app, &certificate.notes, &index) else {
+    let Ok(hulls) = Hulls::build_by(rt, alloc, app, &certificate.notes, &index, workers) else {
         return Err(ParFault::Memory);
     };
     let (board, passes) = board_for(alloc, app, workers)?;

@@ -1,8 +1,6 @@
 use Rattle.std.proofs.Common.{sym, subst}
 use Rattle.fr_interfere.specs.Rows.{AreListed, WritesOne}
-use Rattle.fr_interfere.specs.Spoilers.{IsListed}
-use Rattle.fr_interfere.proofs.IndexLaws.{listed-point}
-use Rattle.fr_interfere.proofs.RowLaws.{lists-listed}
+use Rattle.fr_interfere.proofs.RowLaws.{lists-listed, hulls-of}
 use Rattle.fr_interfere.proofs.rows.Hulls.build.Goals as goal
 
 pub blocks_of-requires-clause-listed : goal.blocks_of-requires-clause-listed
@@ -11,12 +9,5 @@ blocks_of-requires-clause-listed c =
 
 pub returns : goal.returns
 returns c =
-    let P = c.args.app.now in
-    record {
-      writers = c.in_ok-writers.ensures;
-      lives = c.in_ok-lives.ensures;
-      each = c.in_ok-actors.ensures.each;
-      found = λ q at writes.
-          let listed = listed-point P WritesOne c.in_ok-writing.writing.items c.recall_numbered.ensures c.in_ok-writing.ensures q at writes in
-          c.in_ok-actors.ensures.found q at (subst (λ ns. IsListed P ns q) (sym c.deref.ensures.value) listed);
-    }
+    hulls-of c.args.app.now c.args.notes.now c.args.index.now c.recall_numbered.ensures c.in_ok-writing.writing.items c.in_ok-writing.ensures c.deref.result.now c.deref.ensures.value _
+    c.in_ok-writers.ensures c.in_ok-lives.ensures c.in_ok-actors.ensures.each c.in_ok-actors.ensures.found
