@@ -14,6 +14,7 @@
 -- | IsAppRefused          | the application's bytes have this fault, which isn't want of memory           |
 -- | IsCertRefused         | the certificate's bytes have, for the application that the other ones mean    |
 -- | CanRefuse, IsRefused  | this fault can be the answer to the bytes and workers; one of status 2 can    |
+-- | CanRefuseTexts        | this fault can be the answer where both texts are read, and nothing else      |
 -- | IsTold                | a fault of status 2 was written as its line                                   |
 use Rattle.std.specs.Prelude.{◌≡◌, ◌++◌, ℕ, List, Option, false, codes, if◌then◌else◌}
 use Rattle.std.specs.Io.KnownBytes.{Appends}
@@ -131,6 +132,13 @@ CanRefuse app certificate workers Memory = Unit {0}
 CanRefuse app certificate workers Thread = Unit {0}
 CanRefuse app certificate workers Write = HasVerdict app certificate × (IsNoCrew workers → ⊥)
 CanRefuse app certificate workers fault = ⊥
+
+-- the same where both texts are read and nothing is judged: the fault is present in them, or there was no memory
+abbrev pub CanRefuseTexts : List ℕ → List ℕ → CheckFault → Type 0
+CanRefuseTexts app certificate (App f) = IsAppRefused app f
+CanRefuseTexts app certificate (Cert f) = IsCertRefused app certificate f
+CanRefuseTexts app certificate Memory = Unit {0}
+CanRefuseTexts app certificate fault = ⊥
 
 -- the bytes or the number of workers are refused: a fault of status 2 is present in them
 abbrev pub IsRefused : List ℕ → List ℕ → ℕ → Type 0

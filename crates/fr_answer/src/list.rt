@@ -1,10 +1,12 @@
 // A list of applications, each with its certificate or alone.
-ghost use Rattle.std.specs.Prelude.{◌≡◌, ◌≤◌};
-ghost use Rattle.std.specs.Io.KnownBytes.{Appends};
+ghost use Rattle.std.specs.Prelude.{◌≡◌, ◌<◌, ◌≤◌, ◌↔◌, length, IfOk, IsErrOf, string_bytes};
+ghost use Rattle.fr_answer.specs.declared.list.ListFault.TheVariants.{Memory};
+ghost use Rattle.fr_answer.specs.Beside.{beside};
 
 use crate::exit::{MACHINE, REFUSED};
 use std::alloc::{AllocError, AllocFailed, Global};
 use std::io::Write;
+use std::path::Path;
 
 /// The most bytes of a list.
 pub const MOST_LIST_BYTES: usize = 1_048_576;
@@ -32,12 +34,16 @@ pub enum ListFault {
 }
 
 impl From<AllocError> for ListFault {
+    ghost from_gives = { λ _ fault. fault ≡ Memory };
+
     fn from(_refused: AllocError) -> ListFault {
         ListFault::Memory
     }
 }
 
 impl<T: Drop> From<AllocFailed<T>> for ListFault {
+    ghost from_gives = { λ _ fault. fault ≡ Memory };
+
     fn from(_refused: AllocFailed<T>) -> ListFault {
         ListFault::Memory
     }
@@ -68,7 +74,10 @@ fn entry_in(line: &str) -> Option<Option<Listed<'_>>> {
 /// # Errors
 ///
 /// As `ListFault` tells them; of several lines with more than two words the first one is told.
-pub fn listed_in(alloc: Global, bytes: &[u8]) -> Result<Vec<Listed<'_>>, ListFault> {
+pub fn listed_in(alloc: Global, bytes: &[u8]) -> Result<Vec<Listed<'_>>, ListFault>
+    ensures long { IsErrOf result ListFault.TooLong ↔ 1_048_576 < length bytes.now }
+    ensures some { IfOk result (λ entries. 0 < length entries.items) }
+{
     if bytes.len() > MOST_LIST_BYTES {
         return Err(ListFault::TooLong);
     }
@@ -89,11 +98,14 @@ pub fn listed_in(alloc: Global, bytes: &[u8]) -> Result<Vec<Listed<'_>>, ListFau
     Ok(entries)
 }
 
-/// The path of a file that a list names: relative to the list's folder, if it isn't one from the root on.
-pub fn path_beside(alloc: Global, list: &str, path: &str) -> Result<String, AllocError> {
-    match list.rsplit_once('/') {
-        Some((folder, _)) if !path.starts_with('/') => format!(in alloc; "{folder}/{path}"),
-        _ => String::from_str(alloc, path),
+/// The path of a file that a list names: relative to the list's folder, if it isn't one from the root on. An error says
+/// that an allocation was refused.
+pub fn path_beside(alloc: Global, list: &str, path: &str) -> Result<String, AllocError>
+    ensures { IfOk result (λ text. string_bytes text ≡ beside list.now path.now) }
+{
+    match Path::new(list).parent() {
+        Some(folder) => Ok(folder.join(alloc, path)?.into_string()),
+        None => String::from_str(alloc, path),
     }
 }
 

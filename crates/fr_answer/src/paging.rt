@@ -1,4 +1,6 @@
 // An answer as a page to look at.
+ghost use Rattle.std.specs.Prelude.{◌≡◌, IfErr};
+
 mod actors;
 mod judged;
 mod steps;
@@ -106,7 +108,9 @@ pub fn fault_page(
     alloc: Global,
     question: Question,
     fault: &CheckFault,
-) -> Result<String, CheckFault> {
+) -> Result<String, CheckFault>
+    ensures { IfErr result (λ refused. refused ≡ CheckFault.Memory) }
+{
     let line = fault_line(alloc, fault)?;
     let mut page = page_of(alloc, question.command, Kind::Refused, line.as_str())?;
     let place = place_text(alloc, question.app, question.certificate)?;

@@ -1,5 +1,6 @@
 // Warning of what a verdict may hide.
 ghost use Rattle.std.specs.Prelude.{◌≡◌, ◌≢◌, IfErr};
+ghost use Rattle.fr_answer.specs.Checked.{CanRefuseTexts};
 
 use crate::fault::CheckFault;
 use fr_judge::read_both;
@@ -12,7 +13,9 @@ use std::io::Write;
 /// # Errors
 ///
 /// A fault that is present in the bytes; `Memory` where an allocation was refused.
-pub fn warnings_of(alloc: Global, app: &[u8], certificate: &[u8]) -> Result<String, CheckFault> {
+pub fn warnings_of(alloc: Global, app: &[u8], certificate: &[u8]) -> Result<String, CheckFault>
+    ensures refused { IfErr result (CanRefuseTexts app.now certificate.now) }
+{
     let (app, certificate) = read_both(alloc, app, certificate)?;
     Ok(warnings_text(alloc, &app, &certificate.notes)?)
 }
@@ -30,6 +33,8 @@ pub fn warn<W: Write>(
     certificate: &[u8],
     writer: &mut W,
 ) -> Result<(), CheckFault>
+    ensures refused { IfErr result
+        (λ fault. fault ≢ CheckFault.Write → CanRefuseTexts app.now certificate.now fault) }
     ensures kept { IfErr result (λ fault. fault ≢ CheckFault.Write → writer.new ≡ writer.old) }
 {
     let text = warnings_of(alloc, app, certificate)?;
