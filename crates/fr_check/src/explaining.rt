@@ -1,18 +1,5 @@
-// The words `--explain` and `--all`, and where a refusal is.
-use clap::ArgMatches;
-use fr_answer::{CheckFault, Detail, REFUSED, answer_fault, tell_app_place, tell_place};
-
-/// How much is told of why a verdict is no: with `--all` everything, with `--explain` what matters, and
-/// nothing without either.
-pub fn detail_asked(words: &ArgMatches) -> Option<Detail> {
-    if words.get_flag("all") {
-        Some(Detail::Whole)
-    } else if words.get_flag("explain") {
-        Some(Detail::Told)
-    } else {
-        None
-    }
-}
+// Where a refusal is.
+use fr_answer::{CheckFault, REFUSED, answer_fault, tell_app_place, tell_place};
 
 /// Prints the line of a fault and, where files are refused, where they are at fault; gives the exit status.
 /// Without a certificate the application alone was read.

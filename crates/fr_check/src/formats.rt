@@ -1,27 +1,6 @@
 // The forms in which the answers of a command are printed.
-use clap::{Arg, ArgAction, ArgMatches};
 use fr_answer::{Answer, CheckFault, Detail, Format, answers_text};
-use std::alloc::Global;
 use std::io::Write;
-
-/// The names of all forms: the first one is for a person.
-const NAMES: [&str; 4] = ["text", "json", "sarif", "junit"];
-
-/// The word `--format` with its name.
-pub fn format_arg<'a>(alloc: Global) -> Arg<'a> {
-    Arg::new(alloc, "format")
-        .long("format")
-        .value_name("F")
-        .value_parser(NAMES.as_slice())
-        .action(ArgAction::Set)
-        .default_value("text")
-        .help("The form of the answer: text, json, sarif or junit")
-}
-
-/// The form that the matched words ask for; None where it is a text for a person.
-pub fn format_asked(words: &ArgMatches) -> Option<Format> {
-    Format::named(words.get_str("format")?)
-}
 
 /// How much is told: where a machine reads the answer, never less than what matters.
 pub fn detail_in(format: Option<Format>, detail: Option<Detail>) -> Option<Detail> {

@@ -1,4 +1,5 @@
-// The program: words to files, and files to the report, a refusal's line and the exit status, which `fr_answer` gives.
+// The program: words, which `fr_words` reads, to files, and files to the report, a refusal's line and the exit status, which
+// `fr_answer` gives.
 #![tactic(auto)]
 
 mod checking;
@@ -13,15 +14,13 @@ mod paging;
 mod proving;
 mod refuting;
 mod running;
-#[cfg(test)]
-mod tests;
-mod words;
 
 use checking::check;
 use clap::error::ErrorKind;
 use files::{Stopped, is_memory};
 use finding::find;
 use fr_answer::{CheckFault, REFUSED, answer_fault};
+use fr_words::{Request, asked, matched};
 use listing::list_points;
 use proving::prove;
 use refuting::refute;
@@ -30,7 +29,6 @@ use std::env;
 use std::process::ExitCode;
 use std::sync::Wait;
 use std::thread::Threads;
-use words::{Request, asked, matched};
 
 /// Refuses words that the usage message can't be printed for.
 fn refuse_words(rt: &HostRuntime) -> Result<u8, CheckFault> {

@@ -1,7 +1,6 @@
 // The word `--html`: an answer as a page in a file, beside what the command prints.
 use crate::explaining::refused;
 use crate::files::{Stopped, is_memory};
-use clap::{Arg, ArgAction};
 use fr_answer::{
     CheckFault, Question, REFUSED, Told, answer_fault, fault_page, load, tell, told_page,
 };
@@ -11,17 +10,6 @@ use std::io;
 
 /// How a page begins.
 const START: &[u8; 15] = b"<!DOCTYPE html>";
-
-/// The word `--html` with its file: for one application, whose answer is printed as a text.
-pub fn html_arg<'a>(alloc: Global) -> Result<Arg<'a>, AllocError> {
-    Arg::new(alloc, "html")
-        .long("html")
-        .value_name("FILE")
-        .action(ArgAction::Set)
-        .help("Write the answer as a page to look at into this file, too")
-        .conflicts_with("format")?
-        .conflicts_with("list")
-}
 
 /// The words of a command with its files, as a page shows them.
 pub fn command_text(

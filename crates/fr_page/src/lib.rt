@@ -9,8 +9,6 @@ mod page;
 mod run;
 mod script;
 mod style;
-#[cfg(test)]
-mod tests;
 mod whole;
 mod writer;
 

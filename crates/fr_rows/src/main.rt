@@ -4,50 +4,20 @@
 #![tactic(auto)]
 
 mod answer;
-#[cfg(test)]
-mod board_draws;
-#[cfg(test)]
-mod built_applications;
-#[cfg(test)]
-mod built_guards;
-#[cfg(test)]
-mod built_notes;
-#[cfg(test)]
-mod changed_bytes;
-#[cfg(test)]
-mod faults;
 mod files;
 mod filling;
 mod formatted;
-#[cfg(test)]
-mod guesses;
 mod index_lists;
 mod judged_alike;
 mod judged_files;
-#[cfg(test)]
-mod lists;
 mod paged;
-#[cfg(test)]
-mod passing;
 mod points;
-#[cfg(test)]
-mod polled_machine;
 mod row;
-#[cfg(test)]
-mod runs;
-#[cfg(test)]
-mod runs_without_memory;
 mod state_reading;
 mod state_writing;
 mod steps;
 mod table;
 mod texts;
-#[cfg(test)]
-mod want_of_memory;
-#[cfg(test)]
-mod workers;
-#[cfg(test)]
-mod workers_without_memory;
 
 use answer::{Answer, Call};
 use files::names_in;

@@ -1,8 +1,6 @@
-// What is said to words, and a file that is missing.
-use crate::checking::Judged;
-use crate::files::{Stopped, input};
-use crate::words::{Request, asked, matched};
-use fr_answer::{CheckFault, Detail};
+// What is said to the words of a command line.
+use fr_answer::Detail;
+use fr_words::{Judged, Request, asked, matched};
 use std::alloc::{AllocError, Global};
 
 /// How much is told, in a word.
@@ -259,13 +257,4 @@ fn words_that_ask_for_a_page(rt: HostRuntime) {
             Ok(false)
         )
     );
-}
-
-#[test]
-fn files_that_are_missing(rt: HostRuntime) {
-    let missing = "no-such-folder/missing.toml";
-    let answer = input(&rt, missing, 16, false);
-    assert!(rt; matches!(&answer, Err(Stopped::Fault(CheckFault::Read))));
-    let answer = input(&rt, missing, 16, true);
-    assert!(rt; matches!(&answer, Err(Stopped::Told(3))));
 }

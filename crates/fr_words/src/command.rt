@@ -1,12 +1,13 @@
-// The words of the command line.
-use crate::checking::{CheckRequest, asked_check, check_command};
-use crate::finding::{FindRequest, asked_find, find_command};
-use crate::listing::points_command;
-use crate::proving::{ProveRequest, asked_prove, prove_command};
-use crate::refuting::{RefuteRequest, asked_refute, refute_command};
-use crate::running::{RunRequest, asked_run, run_command};
-use clap::{Arg, ArgAction, ArgMatches, Command, Error, value_parser};
-use fr_answer::VERSION;
+// The whole command line, and what it asks for.
+use crate::check::{CheckRequest, asked_check, check_command};
+use crate::find::{FindRequest, asked_find, find_command};
+use crate::points::points_command;
+use crate::prove::{ProveRequest, asked_prove, prove_command};
+use crate::refute::{RefuteRequest, asked_refute, refute_command};
+use crate::run::{RunRequest, asked_run, run_command};
+use crate::shared::{NAME, STATUSES};
+use clap::{ArgMatches, Command, Error};
+use fr_formats::VERSION;
 use std::alloc::{AllocError, Global};
 
 /// What `--version` prints behind the name. `./build` puts the commit in place of the zeros, in the program that it links.
@@ -14,15 +15,6 @@ const VERSIONS: &str = "0.1.0
 commit 0000000000000000000000000000000000000000
 application format 1
 certificate formats 1 and 2";
-
-/// The name that the version is printed with, by `--version` and `check --version` alike.
-pub const NAME: &str = "fr_check";
-
-pub const STATUSES: &str = "Exit status:
-  0  The verdict is yes
-  1  The verdict is no
-  2  The words, the application or the certificate are refused
-  3  The machine failed: no memory, no thread, or a file that can't be read or written";
 
 /// What the command line asks for.
 #[derive(Clone, Copy)]
@@ -43,56 +35,6 @@ pub enum Request<'a> {
     Refute(RefuteRequest<'a>),
     /// A run of the application.
     Run(RunRequest<'a>),
-}
-
-/// A word that names a file, and that has to be given.
-pub fn file_arg<'a>(alloc: Global, id: &'a str, help: &'a str) -> Arg<'a> {
-    Arg::new(alloc, id)
-        .value_name(id)
-        .required(true)
-        .action(ArgAction::Set)
-        .help(help)
-}
-
-/// The word `--workers` with its number.
-pub fn workers_arg<'a>(alloc: Global) -> Arg<'a> {
-    Arg::new(alloc, "workers")
-        .long("workers")
-        .value_name("N")
-        .value_parser(value_parser!(u16).range(1..=64))
-        .default_value("4")
-        .help("Threads that judge or search, 1 to 64")
-}
-
-/// The word `--warn`.
-pub fn warn_arg<'a>(alloc: Global) -> Arg<'a> {
-    Arg::new(alloc, "warn")
-        .long("warn")
-        .action(ArgAction::SetTrue)
-        .help("Tell lines of code that are never reached, on standard error")
-}
-
-/// What `--explain` does where there is a verdict.
-pub const EXPLAINS_VERDICT: &str =
-    "Tell why the verdict is no, and on standard error where a refused file is at fault";
-
-/// What `--explain` does where only a file can be refused.
-pub const EXPLAINS_REFUSAL: &str = "Tell where a refused file is at fault, on standard error";
-
-/// The word `--explain`, with what it does.
-pub fn explain_arg<'a>(alloc: Global, help: &'a str) -> Arg<'a> {
-    Arg::new(alloc, "explain")
-        .long("explain")
-        .action(ArgAction::SetTrue)
-        .help(help)
-}
-
-/// The word `--all`.
-pub fn all_arg<'a>(alloc: Global) -> Arg<'a> {
-    Arg::new(alloc, "all")
-        .long("all")
-        .action(ArgAction::SetTrue)
-        .help("The same as --explain, with whole states and a line for each point that fails")
 }
 
 /// The whole command line, with its six commands.

@@ -1,5 +1,5 @@
 // Texts that try to end the place that they stand in.
-use crate::{
+use fr_page::{
     ActorAfter, ActorShown, Kind, LineShown, Moved, Page, PointShown, Standing, StepShown, Track,
     TrackKind, page_text, push_escaped,
 };

@@ -1,0 +1,54 @@
+// The words of the command `find`.
+use crate::shared::{EXPLAINS_REFUSAL, NAME, explain_arg, file_arg};
+use clap::{Arg, ArgMatches, Command, value_parser};
+use std::alloc::{AllocError, Global};
+
+const STATUSES: &str = "Exit status:
+  0  A certificate was found and written
+  1  None was found, and no file was written
+  2  The words or the application are refused, or the file for the certificate is the application's
+  3  The machine failed: no memory, or a file that can't be read or written";
+
+/// A certificate that the command line asks for.
+#[derive(Clone, Copy)]
+pub struct FindRequest<'a> {
+    pub app: &'a str,
+    /// The file for the certificate.
+    pub out: &'a str,
+    pub rounds: u16,
+    /// Whether it is told where a refusal is.
+    pub explains: bool,
+}
+
+/// The word `--rounds` with its number.
+fn rounds_arg<'a>(alloc: Global) -> Arg<'a> {
+    Arg::new(alloc, "rounds")
+        .long("rounds")
+        .value_name("N")
+        .value_parser(value_parser!(u16).range(1..=64))
+        .default_value("64")
+        .help("Rounds of guessing, 1 to 64")
+}
+
+/// The command `find`: its words, its help and its exit statuses.
+pub fn find_command<'a>(alloc: Global) -> Result<Command<'a>, AllocError> {
+    Command::new(alloc, "find")
+        .display_name(NAME)?
+        .about("Finds a certificate for an application, and writes it to a file")
+        .after_help(STATUSES)
+        .arg(file_arg(alloc, "APP", "The application, in TOML"))?
+        .arg(file_arg(alloc, "OUT", "The file for the certificate"))?
+        .arg(rounds_arg(alloc))?
+        .arg(explain_arg(alloc, EXPLAINS_REFUSAL))
+}
+
+/// The certificate that the matched words ask for. Words that were matched always ask for something, so
+/// it is never None.
+pub fn asked_find<'a>(words: &ArgMatches<'a>) -> Option<FindRequest<'a>> {
+    Some(FindRequest {
+        app: words.get_str("APP")?,
+        out: words.get_str("OUT")?,
+        rounds: words.get_one::<u16>("rounds")?,
+        explains: words.get_flag("explain"),
+    })
+}

@@ -1,0 +1,19 @@
+// The words of the command `points`.
+use crate::shared::{EXPLAINS_REFUSAL, NAME, explain_arg, file_arg};
+use clap::Command;
+use std::alloc::{AllocError, Global};
+
+const STATUSES: &str = "Exit status:
+  0  The points were printed
+  2  The words or the application are refused
+  3  The machine failed: no memory, or a file that can't be read or written";
+
+/// The command `points`: its words, its help and its exit statuses.
+pub fn points_command<'a>(alloc: Global) -> Result<Command<'a>, AllocError> {
+    Command::new(alloc, "points")
+        .display_name(NAME)?
+        .about("Prints the points of an application, for which a certificate has notes")
+        .after_help(STATUSES)
+        .arg(file_arg(alloc, "APP", "The application, in TOML"))?
+        .arg(explain_arg(alloc, EXPLAINS_REFUSAL))
+}

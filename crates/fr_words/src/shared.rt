@@ -1,0 +1,107 @@
+// The words that several commands have.
+use clap::{Arg, ArgAction, ArgMatches, value_parser};
+use fr_formats::Format;
+use fr_report::Detail;
+use std::alloc::{AllocError, Global};
+
+/// The name that the version is printed with, by `--version` and `check --version` alike.
+pub const NAME: &str = "fr_check";
+
+/// What the exit status says of a verdict, for the help of the whole and of `check`.
+pub const STATUSES: &str = "Exit status:
+  0  The verdict is yes
+  1  The verdict is no
+  2  The words, the application or the certificate are refused
+  3  The machine failed: no memory, no thread, or a file that can't be read or written";
+
+/// A word that names a file, and that has to be given.
+pub fn file_arg<'a>(alloc: Global, id: &'a str, help: &'a str) -> Arg<'a> {
+    Arg::new(alloc, id)
+        .value_name(id)
+        .required(true)
+        .action(ArgAction::Set)
+        .help(help)
+}
+
+/// The word `--workers` with its number.
+pub fn workers_arg<'a>(alloc: Global) -> Arg<'a> {
+    Arg::new(alloc, "workers")
+        .long("workers")
+        .value_name("N")
+        .value_parser(value_parser!(u16).range(1..=64))
+        .default_value("4")
+        .help("Threads that judge or search, 1 to 64")
+}
+
+/// The word `--warn`.
+pub fn warn_arg<'a>(alloc: Global) -> Arg<'a> {
+    Arg::new(alloc, "warn")
+        .long("warn")
+        .action(ArgAction::SetTrue)
+        .help("Tell lines of code that are never reached, on standard error")
+}
+
+/// What `--explain` does where there is a verdict.
+pub const EXPLAINS_VERDICT: &str =
+    "Tell why the verdict is no, and on standard error where a refused file is at fault";
+
+/// What `--explain` does where only a file can be refused.
+pub const EXPLAINS_REFUSAL: &str = "Tell where a refused file is at fault, on standard error";
+
+/// The word `--explain`, with what it does.
+pub fn explain_arg<'a>(alloc: Global, help: &'a str) -> Arg<'a> {
+    Arg::new(alloc, "explain")
+        .long("explain")
+        .action(ArgAction::SetTrue)
+        .help(help)
+}
+
+/// The word `--all`.
+pub fn all_arg<'a>(alloc: Global) -> Arg<'a> {
+    Arg::new(alloc, "all")
+        .long("all")
+        .action(ArgAction::SetTrue)
+        .help("The same as --explain, with whole states and a line for each point that fails")
+}
+
+/// The names of all forms: the first one is for a person.
+const NAMES: [&str; 4] = ["text", "json", "sarif", "junit"];
+
+/// The word `--format` with its name.
+pub fn format_arg<'a>(alloc: Global) -> Arg<'a> {
+    Arg::new(alloc, "format")
+        .long("format")
+        .value_name("F")
+        .value_parser(NAMES.as_slice())
+        .action(ArgAction::Set)
+        .default_value("text")
+        .help("The form of the answer: text, json, sarif or junit")
+}
+
+/// The form that the matched words ask for; None where it is a text for a person.
+pub fn format_asked(words: &ArgMatches) -> Option<Format> {
+    Format::named(words.get_str("format")?)
+}
+
+/// The word `--html` with its file: for one application, whose answer is printed as a text.
+pub fn html_arg<'a>(alloc: Global) -> Result<Arg<'a>, AllocError> {
+    Arg::new(alloc, "html")
+        .long("html")
+        .value_name("FILE")
+        .action(ArgAction::Set)
+        .help("Write the answer as a page to look at into this file, too")
+        .conflicts_with("format")?
+        .conflicts_with("list")
+}
+
+/// How much is told of why a verdict is no: with `--all` everything, with `--explain` what matters, and
+/// nothing without either.
+pub fn detail_asked(words: &ArgMatches) -> Option<Detail> {
+    if words.get_flag("all") {
+        Some(Detail::Whole)
+    } else if words.get_flag("explain") {
+        Some(Detail::Told)
+    } else {
+        None
+    }
+}
