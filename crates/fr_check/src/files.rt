@@ -1,5 +1,5 @@
 // The files that a command reads, and why one of them can't be read.
-ghost use Rattle.std.specs.Prelude.{◌≤◌};
+ghost use Rattle.std.specs.Prelude.{◌≡◌, ◌≤◌, ℕ, IfErr, IfOk};
 ghost use Rattle.fr_answer.specs.Checked.{most_bytes};
 
 use fr_answer::{
@@ -68,7 +68,9 @@ pub fn unread_answer(
     source: Source,
     path: &str,
     unread: &Unread,
-) -> Result<Answer, AllocError> {
+) -> Result<Answer, AllocError>
+    ensures { IfOk result (λ answer. answer.status ≡ 3) }
+{
     let text = match unread {
         Unread::Memory => String::from_str(alloc, "machine: memory\n")?,
         Unread::Unopened(error) => format!(in alloc; "machine: file\n  {path}: {error}\n")?,
@@ -78,7 +80,9 @@ pub fn unread_answer(
 }
 
 /// Prints that a file can't be read, which one, and why; gives the exit status.
-fn tell_unread(rt: &HostRuntime, path: &str, unread: &Unread) -> u8 {
+fn tell_unread(rt: &HostRuntime, path: &str, unread: &Unread) -> u8
+    ensures { 2 ≤ result }
+{
     let status = answer_fault(rt.alloc(), &CheckFault::Read, &mut rt.stderr());
     let told = match unread {
         Unread::Unopened(error) => eprintln!(rt; "  {path}: {error}"),
@@ -94,6 +98,7 @@ fn tell_unread(rt: &HostRuntime, path: &str, unread: &Unread) -> u8 {
 /// which file it is and why, where the command `explains`.
 pub fn input(rt: &HostRuntime, path: &str, limit: usize, explains: bool) -> Result<Vec<u8>, Stopped>
     requires { limit ≤ most_bytes }
+    ensures { IfErr result (λ stopped. (status : ℕ) → stopped ≡ Stopped.Told status → 2 ≤ status) }
 {
     match file_bytes(rt, path, limit) {
         Ok(bytes) => Ok(bytes),
