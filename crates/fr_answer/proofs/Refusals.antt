@@ -5,9 +5,9 @@ use Rattle.fr_reader.specs.declared.fault.ReadFault.{ReadFault}
 use Rattle.fr_reader.specs.Faults.{is_memory as app_is_memory}
 use Rattle.fr_cert.specs.declared.fault.CertFault.{CertFault}
 use Rattle.fr_cert.specs.Faults.{is_memory as cert_is_memory}
-use Rattle.fr_judge.specs.declared.text.TextFault.{TextFault}
-use Rattle.fr_judge.specs.declared.text.TextFault.TheVariants.{Memory as NoText, App as AppText, Cert as CertText}
-use Rattle.fr_judge.specs.Texts.{IsFaultOfTexts}
+use Rattle.fr_text.specs.declared.text.TextFault.{TextFault}
+use Rattle.fr_text.specs.declared.text.TextFault.TheVariants.{Memory as NoText, App as AppText, Cert as CertText}
+use Rattle.fr_text.specs.Texts.{IsFaultOfTexts}
 use Rattle.fr_judge.specs.declared.part.Verdict.{Verdict}
 use Rattle.fr_judge.specs.declared.part.Verdict.TheVariants.{Yes, No}
 use Rattle.fr_parallel.specs.declared.bytes.BytesFault.{BytesFault}

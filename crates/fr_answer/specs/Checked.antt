@@ -31,7 +31,7 @@ use Rattle.fr_cert.specs.declared.fault.CertFault.{CertFault}
 use Rattle.fr_cert.specs.FaultText.{text_of}
 use Rattle.fr_cert.specs.Faults.{is_memory as cert_is_memory}
 use Rattle.fr_cert.specs.Present.{IsPresent}
-use Rattle.fr_judge.specs.Texts.{IsJudged}
+use Rattle.fr_text.specs.Texts.{IsJudged}
 use Rattle.fr_parallel.specs.declared.bytes.BytesFault.{BytesFault}
 use Rattle.fr_parallel.specs.declared.bytes.BytesFault.TheVariants.{Par, App as AppRefused, Cert as CertRefused}
 use Rattle.fr_parallel.specs.declared.fault.ParFault.TheVariants.{Memory as NoMemory, Workers as NoWorkers, Threads as NoThreads}

@@ -7,10 +7,10 @@
 -- | IsRunExplained   | the same of a run: the lines of a true run, or the report and such lines            |
 use Rattle.std.specs.Prelude.{◌≡◌, ◌++◌, ℕ, List, [], Option, None, Some, string_bytes}
 use Rattle.fr_program.specs.Program.{Program}
-use Rattle.fr_judge.specs.Texts.{IsJudged}
+use Rattle.fr_text.specs.Texts.{IsJudged}
 use Rattle.fr_judge.specs.declared.part.Verdict.{Verdict}
 use Rattle.fr_report.specs.Report.{report_text}
-use Rattle.fr_report.specs.declared.reason.scene.Detail.{Detail}
+use Rattle.fr_request.specs.declared.detail.Detail.{Detail}
 use Rattle.fr_answer.specs.declared.telling.Outcome.TheVariants.{Judged}
 use Rattle.fr_answer.specs.declared.telling.Told.{Told}
 use Rattle.fr_answer.specs.Checked.{status_of}

@@ -13,7 +13,7 @@ use Rattle.fr_answer.specs.declared.fault.CheckFault.{CheckFault}
 use Rattle.fr_answer.specs.declared.fault.CheckFault.TheVariants.{App, Cert, Workers, Memory, Thread}
 use Rattle.fr_answer.specs.declared.proving.Proved.{Proved}
 use Rattle.fr_answer.specs.declared.telling.Told.{Told}
-use Rattle.fr_report.specs.declared.reason.scene.Detail.{Detail}
+use Rattle.fr_request.specs.declared.detail.Detail.{Detail}
 use Rattle.fr_answer.specs.Checked.{IsAppRefused, IsCertRefused}
 use Rattle.fr_answer.specs.Explained.{IsExplained}
 use Rattle.fr_answer.specs.Refuted.{IsBreachTold}

@@ -12,7 +12,7 @@ use crate::warning::warnings_of;
 use fr_formats::{Answer, Places, Source, answer_of_search, answer_of_text, answer_of_verdict};
 use fr_parallel::Gate;
 use fr_reader::read_app;
-use fr_report::Detail;
+use fr_request::Detail;
 use std::alloc::{AllocError, Global};
 use std::sync::Wait;
 use std::thread::Threads;

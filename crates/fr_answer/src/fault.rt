@@ -5,9 +5,9 @@ ghost use Rattle.fr_answer.specs.Checked.{fault_status, line_of};
 
 use crate::exit::{MACHINE, REFUSED};
 use fr_cert::CertFault;
-use fr_judge::TextFault;
 use fr_parallel::{BytesFault, ParFault};
 use fr_reader::ReadFault;
+use fr_text::TextFault;
 use std::alloc::{AllocError, Global};
 
 /// Why a command has no answer.

@@ -36,11 +36,9 @@ pub use fault::{CheckFault, fault_line, status};
 pub use file::{LoadFault, load};
 pub use found::{Found, find_bytes, tell_found};
 pub use fr_cert::MOST_BYTES as MOST_CERTIFICATE_BYTES;
-pub use fr_formats::{
-    Answer, AnswerKind, Command, Format, Source, VERSION, answer_of_text, answers_text,
-};
+pub use fr_formats::{Answer, AnswerKind, Command, Source, answer_of_text, answers_text};
 pub use fr_reader::MOST_BYTES as MOST_APP_BYTES;
-pub use fr_report::Detail;
+pub use fr_request::{Detail, Format, VERSION};
 pub use list::{ListFault, Listed, MOST_LIST_BYTES, answer_list, listed_in, path_beside};
 pub use paging::{Question, fault_page, told_page};
 pub use place::{tell_app_place, tell_place};

@@ -16,7 +16,7 @@ use fr_parallel::{Gate, is_crew};
 use fr_program::App;
 use fr_prover::{best_certificate, thinned};
 use fr_reader::read_app;
-use fr_report::Detail;
+use fr_request::Detail;
 use serde_json::Value;
 use std::alloc::Global;
 use std::sync::Wait;

@@ -3,8 +3,8 @@ ghost use Rattle.std.specs.Prelude.{◌≡◌, ◌≢◌, IfErr};
 ghost use Rattle.fr_answer.specs.Checked.{CanRefuseTexts};
 
 use crate::fault::CheckFault;
-use fr_judge::read_both;
 use fr_report::warnings_text;
+use fr_text::read_both;
 use std::alloc::Global;
 use std::io::Write;
 

@@ -9,7 +9,7 @@ use fr_answer::{
     check_told, warn,
 };
 use fr_parallel::Open;
-use fr_words::{CheckRequest, Judged};
+use fr_request::{CheckRequest, Judged};
 use std::sync::Wait;
 use std::thread::Threads;
 

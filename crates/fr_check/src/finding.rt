@@ -2,7 +2,7 @@
 use crate::explaining::refused;
 use crate::files::{Stopped, input, is_memory};
 use fr_answer::{CheckFault, Found, MOST_APP_BYTES, find_bytes, load, tell_found};
-use fr_words::FindRequest;
+use fr_request::FindRequest;
 use std::fs::{self, File};
 use std::thread::Threads;
 

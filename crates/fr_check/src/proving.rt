@@ -8,7 +8,7 @@ use fr_answer::{
     Source, Ways, fault_answer, is_replaceable, load, prove_answer, prove_told, warn,
 };
 use fr_parallel::Open;
-use fr_words::ProveRequest;
+use fr_request::ProveRequest;
 use std::alloc::AllocError;
 use std::fs::File;
 use std::io::ErrorKind;

@@ -5,7 +5,7 @@ use crate::paging::{check_page, command_text, show, show_fault};
 use fr_answer::{
     Answer, Command, Detail, MOST_APP_BYTES, Question, Source, Ways, refute_answer, refute_bytes,
 };
-use fr_words::RefuteRequest;
+use fr_request::RefuteRequest;
 use std::alloc::AllocError;
 use std::thread::Threads;
 

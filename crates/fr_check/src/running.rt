@@ -6,7 +6,7 @@ use fr_answer::{
     words_of,
 };
 use fr_parallel::Open;
-use fr_words::RunRequest;
+use fr_request::RunRequest;
 use std::sync::Wait;
 use std::thread::Threads;
 

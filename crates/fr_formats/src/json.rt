@@ -1,6 +1,6 @@
 // Answers as JSON.
 use crate::answer::Answer;
-use crate::format::VERSION;
+use fr_request::VERSION;
 use serde::Serialize;
 use std::alloc::{AllocError, Global};
 

@@ -17,7 +17,7 @@ mod verdict;
 mod xml;
 
 pub use answer::{Answer, AnswerKind, Command, Failure, PlaceShown, SideShown, Source, StepShown};
-pub use format::{Format, VERSION, answers_text};
+pub use format::answers_text;
 pub use place::Places;
 pub use search::answer_of_search;
 pub use text::answer_of_text;

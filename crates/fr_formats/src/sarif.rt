@@ -4,10 +4,10 @@ mod log;
 mod place;
 
 use crate::answer::{Answer, AnswerKind, Failure};
-use crate::format::VERSION;
 use crate::ident::{IDENTS, Ident, place_of};
 use crate::json::status_of;
 use flow::{flow_of_steps, flow_of_witness};
+use fr_request::VERSION;
 use log::{
     Artifact, Driver, Finding, Invocation, Location, Log, Message, Notification, Rule, Run, Said,
     Tool,

@@ -9,5 +9,3 @@ pub mod Walks
 pub mod Deletes
 pub mod Judging
 pub mod Firsts
-pub mod OneAnswer
-pub mod Theorem

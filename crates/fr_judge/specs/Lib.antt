@@ -5,6 +5,4 @@ pub mod Sound
 pub mod WorkedVerdicts
 pub mod Told
 pub mod Deleter
-pub mod Texts
 pub mod Approved
-pub mod Theorem

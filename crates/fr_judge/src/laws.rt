@@ -2,14 +2,6 @@
 ghost use Rattle.fr_judge.specs.Sound.{StartKeepsNotes, StepKeepsNotes, NotesExcludeBreaches, IsSound};
 ghost use Rattle.fr_judge.specs.Verdict.{IsVerdictOne};
 ghost use Rattle.fr_judge.specs.Owed.{OnlyOwedPartsFail};
-ghost use Rattle.fr_judge.specs.Texts.{IsAnswerOne};
-ghost use Rattle.fr_judge.specs.Theorem.{YesIsSafe};
-
-/// If bytes mean an application and a certificate for it, and the verdict on the two is yes, then no
-/// state of any run of the application breaches any of the twelve rules.
-pub fn yes_is_safe()
-    ensures { YesIsSafe }
-{}
 
 /// Where an application has no build fault, the turns of its certificate are distinct and every
 /// part is kept at every point, no state of any run breaches a rule; and every such state is well
@@ -44,10 +36,4 @@ pub fn the_verdict_is_one()
 /// application, and an end that the point is inside.
 pub fn only_owed_parts_fail()
     ensures { OnlyOwedPartsFail }
-{}
-
-/// The bytes of an application and of a certificate have one answer at the most: one application,
-/// one verdict.
-pub fn the_answer_is_one()
-    ensures { IsAnswerOne }
 {}

@@ -8,16 +8,14 @@ mod approval;
 mod deletion;
 mod laws;
 mod part;
-mod text;
 mod verdict;
 mod worked;
 
 pub use approval::Passed;
 pub use laws::{
     a_step_keeps_notes, certified_is_safe, notes_exclude_breaches, only_owed_parts_fail,
-    the_answer_is_one, the_start_keeps_notes, the_verdict_is_one, yes_is_safe,
+    the_start_keeps_notes, the_verdict_is_one,
 };
 pub use part::{Part, Verdict};
-pub use text::{Judged, TextFault, judge_text, read_both};
 pub use verdict::{job, job_beside, job_by, judge, judge_beside, judge_by};
 pub use worked::verdicts_as_worked;

@@ -1,8 +1,8 @@
 -- Which fault is present in the bytes of an application and of a certificate, where several workers were to judge them.
 use Rattle.std.specs.Prelude.{ℕ, List}
-use Rattle.fr_judge.specs.declared.text.TextFault.{TextFault}
-use Rattle.fr_judge.specs.declared.text.TextFault.TheVariants.{Memory as NoMemory, App as AppText, Cert as CertText}
-use Rattle.fr_judge.specs.Texts.{IsFaultOfTexts}
+use Rattle.fr_text.specs.declared.text.TextFault.{TextFault}
+use Rattle.fr_text.specs.declared.text.TextFault.TheVariants.{Memory as NoMemory, App as AppText, Cert as CertText}
+use Rattle.fr_text.specs.Texts.{IsFaultOfTexts}
 use Rattle.fr_parallel.specs.declared.bytes.BytesFault.{BytesFault}
 use Rattle.fr_parallel.specs.declared.bytes.BytesFault.TheVariants.{Par, App, Cert}
 use Rattle.fr_parallel.specs.declared.fault.ParFault.TheVariants.{Memory}

@@ -8,9 +8,8 @@ ghost use Rattle.fr_parallel.specs.Kept.{IsFor, IsNewFor, IsWorked, IsWorkedBy};
 ghost use Rattle.fr_parallel.specs.Assignments.{IsDoneBy, IsNewOf, IsReady};
 
 use crate::fault::ParFault;
-use crate::gate::Gate;
 use crate::worker::{Assignment, work_beside};
-use fr_board::{Board, Pass};
+use fr_board::{Board, Gate, Pass};
 use fr_ends::Certificate;
 use fr_interfere::{Hulls, Index, Interference};
 use fr_program::App;

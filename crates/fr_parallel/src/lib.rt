@@ -9,12 +9,11 @@
 mod bytes;
 mod crew;
 mod fault;
-mod gate;
 mod verdict;
 mod worker;
 
 pub use bytes::{BytesFault, Reading, judge_bytes, judge_reading};
 pub use fault::ParFault;
-pub use gate::{Gate, Open};
+pub use fr_board::{Gate, Open};
 pub use verdict::{is_crew, judge_with};
 pub use worker::{work, work_beside};

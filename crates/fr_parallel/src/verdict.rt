@@ -11,8 +11,7 @@ ghost use Rattle.fr_parallel.specs.Kept.{IsLeastFailing, IsNoCrew};
 
 use crate::crew::worked_by_all;
 use crate::fault::ParFault;
-use crate::gate::Gate;
-use fr_board::{Board, BoardFault, Pass};
+use fr_board::{Board, BoardFault, Gate, Pass};
 use fr_ends::Certificate;
 use fr_interfere::{Hulls, Index, Interference};
 use fr_judge::{Verdict, job_beside};

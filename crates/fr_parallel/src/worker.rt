@@ -9,8 +9,7 @@ ghost use Rattle.fr_interfere.specs.Index.{IsIndexOf};
 ghost use Rattle.fr_parallel.specs.Kept.{IsFor, IsWorked, KeepsAt};
 ghost use Rattle.fr_parallel.specs.Worked.{Settles};
 
-use crate::gate::Gate;
-use fr_board::{Board, Claim, Pass};
+use fr_board::{Board, Claim, Gate, Pass};
 use fr_ends::Certificate;
 use fr_interfere::{Hulls, Index, Interference};
 use fr_judge::job_beside;

@@ -17,8 +17,8 @@ mod warnings;
 
 pub use listing::{line_of_code, points_text};
 pub use reason::{
-    Depth, Detail, actor_place, change_told, code_told, depth_in, depths_of, explanation,
-    note_told, place_told, state_told,
+    Depth, actor_place, change_told, code_told, depth_in, depths_of, explanation, note_told,
+    place_told, state_told,
 };
 pub use refuting::finding_text;
 pub use shown::{actor_name, rule_text, side_name};

@@ -1,45 +1,16 @@
 // The words of the command `check`.
 use crate::shared::{
-    EXPLAINS_VERDICT, NAME, STATUSES, all_arg, detail_asked, explain_arg, file_arg, format_arg,
-    format_asked, html_arg, warn_arg, workers_arg,
+    EXPLAINS_VERDICT, STATUSES, all_arg, command_of, detail_asked, explain_arg, file_arg,
+    format_arg, format_asked, html_arg, text_arg, warn_arg, workers_arg,
 };
-use clap::{Arg, ArgAction, ArgMatches, Command};
-use fr_formats::Format;
-use fr_report::Detail;
+use clap::{Arg, ArgMatches, Command};
+use fr_request::{CheckRequest, Judged};
 use std::alloc::{AllocError, Global};
-
-/// A verdict that the command line asks for.
-#[derive(Clone, Copy)]
-pub struct CheckRequest<'a> {
-    /// The files that are judged, of which one or more are named.
-    pub files: Judged<'a>,
-    pub workers: u16,
-    /// Whether points that are never reached are told.
-    pub warns: bool,
-    /// Whether it is told why the verdict is no or where a refusal is, and how much of a state.
-    pub detail: Option<Detail>,
-    /// The form of the answer; None where it is a text for a person.
-    pub format: Option<Format>,
-    /// The file for the page, where one is wanted.
-    pub html: Option<&'a str>,
-}
-
-/// The files that are judged.
-#[derive(Clone, Copy)]
-pub enum Judged<'a> {
-    /// An application and its certificate.
-    One { app: &'a str, certificate: &'a str },
-    /// Those that the list in this file names.
-    Listed(&'a str),
-}
 
 /// The word `--list` with its file.
 fn list_arg<'a>(alloc: Global) -> Result<Arg<'a>, AllocError> {
-    Arg::new(alloc, "list")
-        .long("list")
-        .value_name("FILE")
-        .action(ArgAction::Set)
-        .help("A list of applications: each line has APP CERT, or APP alone to prove it")
+    let help = "A list of applications: each line has APP CERT, or APP alone to prove it";
+    text_arg(alloc, "list", "FILE", help)
         .conflicts_with("APP")?
         .conflicts_with("CERT")
 }
@@ -53,10 +24,8 @@ fn judged_arg<'a>(alloc: Global, id: &'a str, help: &'a str) -> Result<Arg<'a>, 
 
 /// The command `check`: its words, its help and its exit statuses.
 pub fn check_command<'a>(alloc: Global) -> Result<Command<'a>, AllocError> {
-    Command::new(alloc, "check")
-        .display_name(NAME)?
-        .about("Prints the verdict on an application and a certificate")
-        .after_help(STATUSES)
+    let about = "Prints the verdict on an application and a certificate";
+    command_of(alloc, "check", about, STATUSES)?
         .arg(judged_arg(alloc, "APP", "The application, in TOML")?)?
         .arg(judged_arg(alloc, "CERT", "The certificate, in JSON")?)?
         .arg(list_arg(alloc)?)?

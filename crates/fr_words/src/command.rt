@@ -1,13 +1,13 @@
 // The whole command line, and what it asks for.
-use crate::check::{CheckRequest, asked_check, check_command};
-use crate::find::{FindRequest, asked_find, find_command};
+use crate::check::{asked_check, check_command};
+use crate::find::{asked_find, find_command};
 use crate::points::points_command;
-use crate::prove::{ProveRequest, asked_prove, prove_command};
-use crate::refute::{RefuteRequest, asked_refute, refute_command};
-use crate::run::{RunRequest, asked_run, run_command};
+use crate::prove::{asked_prove, prove_command};
+use crate::refute::{asked_refute, refute_command};
+use crate::run::{asked_run, run_command};
 use crate::shared::{NAME, STATUSES};
 use clap::{ArgMatches, Command, Error};
-use fr_formats::VERSION;
+use fr_request::{Request, VERSION};
 use std::alloc::{AllocError, Global};
 
 /// What `--version` prints behind the name. `./build` puts the commit in place of the zeros, in the program that it links.
@@ -15,27 +15,6 @@ const VERSIONS: &str = "0.1.0
 commit 0000000000000000000000000000000000000000
 application format 1
 certificate formats 1 and 2";
-
-/// What the command line asks for.
-#[derive(Clone, Copy)]
-pub enum Request<'a> {
-    /// The verdict on an application and a certificate.
-    Check(CheckRequest<'a>),
-    /// A certificate for an application.
-    Find(FindRequest<'a>),
-    /// The verdict by a certificate that is worked out.
-    Prove(ProveRequest<'a>),
-    /// The points of the application in this file.
-    Points {
-        app: &'a str,
-        /// Whether it is told where a refusal is.
-        explains: bool,
-    },
-    /// A run of the application into a breach.
-    Refute(RefuteRequest<'a>),
-    /// A run of the application.
-    Run(RunRequest<'a>),
-}
 
 /// The whole command line, with its six commands.
 fn command<'a>(alloc: Global) -> Result<Command<'a>, AllocError> {

@@ -1,6 +1,7 @@
 // The words of the command `find`.
-use crate::shared::{EXPLAINS_REFUSAL, NAME, explain_arg, file_arg};
+use crate::shared::{EXPLAINS_REFUSAL, command_of, explain_arg, file_arg};
 use clap::{Arg, ArgMatches, Command, value_parser};
+use fr_request::FindRequest;
 use std::alloc::{AllocError, Global};
 
 const STATUSES: &str = "Exit status:
@@ -8,17 +9,6 @@ const STATUSES: &str = "Exit status:
   1  None was found, and no file was written
   2  The words or the application are refused, or the file for the certificate is the application's
   3  The machine failed: no memory, or a file that can't be read or written";
-
-/// A certificate that the command line asks for.
-#[derive(Clone, Copy)]
-pub struct FindRequest<'a> {
-    pub app: &'a str,
-    /// The file for the certificate.
-    pub out: &'a str,
-    pub rounds: u16,
-    /// Whether it is told where a refusal is.
-    pub explains: bool,
-}
 
 /// The word `--rounds` with its number.
 fn rounds_arg<'a>(alloc: Global) -> Arg<'a> {
@@ -32,10 +22,8 @@ fn rounds_arg<'a>(alloc: Global) -> Arg<'a> {
 
 /// The command `find`: its words, its help and its exit statuses.
 pub fn find_command<'a>(alloc: Global) -> Result<Command<'a>, AllocError> {
-    Command::new(alloc, "find")
-        .display_name(NAME)?
-        .about("Finds a certificate for an application, and writes it to a file")
-        .after_help(STATUSES)
+    let about = "Finds a certificate for an application, and writes it to a file";
+    command_of(alloc, "find", about, STATUSES)?
         .arg(file_arg(alloc, "APP", "The application, in TOML"))?
         .arg(file_arg(alloc, "OUT", "The file for the certificate"))?
         .arg(rounds_arg(alloc))?

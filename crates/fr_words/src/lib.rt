@@ -1,4 +1,4 @@
-// The words of the command line, by `clap`: `matched` reads them, and `asked` gives what they ask for, a `Request`. Each command
+// The words of the command line, by `clap`: `matched` reads them, and `asked` gives what they ask for, a `Request` (fr_request). Each command
 // has a module with its words, its help and its exit statuses. Nothing is read or printed here: the program does that.
 #![tactic(auto)]
 
@@ -11,9 +11,4 @@ mod refute;
 mod run;
 mod shared;
 
-pub use check::{CheckRequest, Judged};
-pub use command::{Request, asked, matched};
-pub use find::FindRequest;
-pub use prove::ProveRequest;
-pub use refute::RefuteRequest;
-pub use run::RunRequest;
+pub use command::{asked, matched};

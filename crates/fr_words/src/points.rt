@@ -1,5 +1,5 @@
 // The words of the command `points`.
-use crate::shared::{EXPLAINS_REFUSAL, NAME, explain_arg, file_arg};
+use crate::shared::{EXPLAINS_REFUSAL, command_of, explain_arg, file_arg};
 use clap::Command;
 use std::alloc::{AllocError, Global};
 
@@ -10,10 +10,8 @@ const STATUSES: &str = "Exit status:
 
 /// The command `points`: its words, its help and its exit statuses.
 pub fn points_command<'a>(alloc: Global) -> Result<Command<'a>, AllocError> {
-    Command::new(alloc, "points")
-        .display_name(NAME)?
-        .about("Prints the points of an application, for which a certificate has notes")
-        .after_help(STATUSES)
+    let about = "Prints the points of an application, for which a certificate has notes";
+    command_of(alloc, "points", about, STATUSES)?
         .arg(file_arg(alloc, "APP", "The application, in TOML"))?
         .arg(explain_arg(alloc, EXPLAINS_REFUSAL))
 }

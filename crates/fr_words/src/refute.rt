@@ -1,7 +1,9 @@
 // The words of the command `refute`.
-use crate::shared::{NAME, explain_arg, file_arg, format_arg, format_asked, html_arg, workers_arg};
+use crate::shared::{
+    command_of, explain_arg, file_arg, format_arg, format_asked, html_arg, workers_arg,
+};
 use clap::{Arg, ArgMatches, Command, value_parser};
-use fr_formats::Format;
+use fr_request::RefuteRequest;
 use std::alloc::{AllocError, Global};
 
 const STATUSES: &str = "Exit status:
@@ -12,21 +14,6 @@ const STATUSES: &str = "Exit status:
 
 const EXPLAINS: &str =
     "Tell what each step of the run did, and on standard error where a refused file is at fault";
-
-/// A search for a breach that the command line asks for.
-#[derive(Clone, Copy)]
-pub struct RefuteRequest<'a> {
-    pub app: &'a str,
-    /// The most states that are kept.
-    pub states: u32,
-    pub workers: u16,
-    /// Whether it is told what each step of the run did, or where a refusal is.
-    pub explains: bool,
-    /// The form of the answer; None where it is a text for a person.
-    pub format: Option<Format>,
-    /// The file for the page, where one is wanted.
-    pub html: Option<&'a str>,
-}
 
 /// The word `--states` with its number.
 fn states_arg<'a>(alloc: Global) -> Arg<'a> {
@@ -40,10 +27,8 @@ fn states_arg<'a>(alloc: Global) -> Arg<'a> {
 
 /// The command `refute`: its words, its help and its exit statuses.
 pub fn refute_command<'a>(alloc: Global) -> Result<Command<'a>, AllocError> {
-    Command::new(alloc, "refute")
-        .display_name(NAME)?
-        .about("Looks for a run of an application into a breach of a rule, shortest first")
-        .after_help(STATUSES)
+    let about = "Looks for a run of an application into a breach of a rule, shortest first";
+    command_of(alloc, "refute", about, STATUSES)?
         .arg(file_arg(alloc, "APP", "The application, in TOML"))?
         .arg(states_arg(alloc))?
         .arg(workers_arg(alloc))?

@@ -1,7 +1,6 @@
 // The words that several commands have.
-use clap::{Arg, ArgAction, ArgMatches, value_parser};
-use fr_formats::Format;
-use fr_report::Detail;
+use clap::{Arg, ArgAction, ArgMatches, Command, value_parser};
+use fr_request::{Detail, Format};
 use std::alloc::{AllocError, Global};
 
 /// The name that the version is printed with, by `--version` and `check --version` alike.
@@ -13,6 +12,29 @@ pub const STATUSES: &str = "Exit status:
   1  The verdict is no
   2  The words, the application or the certificate are refused
   3  The machine failed: no memory, no thread, or a file that can't be read or written";
+
+/// A command with this name, what it does, and its exit statuses.
+pub fn command_of<'a>(
+    alloc: Global,
+    name: &'a str,
+    about: &'a str,
+    statuses: &'a str,
+) -> Result<Command<'a>, AllocError> {
+    let command = Command::new(alloc, name).display_name(NAME)?;
+    Ok(command.about(about).after_help(statuses))
+}
+
+/// A word with two dashes that is given or not.
+pub fn flag_arg<'a>(alloc: Global, name: &'a str, help: &'a str) -> Arg<'a> {
+    let arg = Arg::new(alloc, name).long(name);
+    arg.action(ArgAction::SetTrue).help(help)
+}
+
+/// A word with two dashes and a text behind it.
+pub fn text_arg<'a>(alloc: Global, name: &'a str, value: &'a str, help: &'a str) -> Arg<'a> {
+    let arg = Arg::new(alloc, name).long(name).value_name(value);
+    arg.action(ArgAction::Set).help(help)
+}
 
 /// A word that names a file, and that has to be given.
 pub fn file_arg<'a>(alloc: Global, id: &'a str, help: &'a str) -> Arg<'a> {
@@ -35,10 +57,8 @@ pub fn workers_arg<'a>(alloc: Global) -> Arg<'a> {
 
 /// The word `--warn`.
 pub fn warn_arg<'a>(alloc: Global) -> Arg<'a> {
-    Arg::new(alloc, "warn")
-        .long("warn")
-        .action(ArgAction::SetTrue)
-        .help("Tell lines of code that are never reached, on standard error")
+    let help = "Tell lines of code that are never reached, on standard error";
+    flag_arg(alloc, "warn", help)
 }
 
 /// What `--explain` does where there is a verdict.
@@ -50,18 +70,13 @@ pub const EXPLAINS_REFUSAL: &str = "Tell where a refused file is at fault, on st
 
 /// The word `--explain`, with what it does.
 pub fn explain_arg<'a>(alloc: Global, help: &'a str) -> Arg<'a> {
-    Arg::new(alloc, "explain")
-        .long("explain")
-        .action(ArgAction::SetTrue)
-        .help(help)
+    flag_arg(alloc, "explain", help)
 }
 
 /// The word `--all`.
 pub fn all_arg<'a>(alloc: Global) -> Arg<'a> {
-    Arg::new(alloc, "all")
-        .long("all")
-        .action(ArgAction::SetTrue)
-        .help("The same as --explain, with whole states and a line for each point that fails")
+    let help = "The same as --explain, with whole states and a line for each point that fails";
+    flag_arg(alloc, "all", help)
 }
 
 /// The names of all forms: the first one is for a person.
@@ -69,13 +84,9 @@ const NAMES: [&str; 4] = ["text", "json", "sarif", "junit"];
 
 /// The word `--format` with its name.
 pub fn format_arg<'a>(alloc: Global) -> Arg<'a> {
-    Arg::new(alloc, "format")
-        .long("format")
-        .value_name("F")
-        .value_parser(NAMES.as_slice())
-        .action(ArgAction::Set)
-        .default_value("text")
-        .help("The form of the answer: text, json, sarif or junit")
+    let help = "The form of the answer: text, json, sarif or junit";
+    let arg = text_arg(alloc, "format", "F", help);
+    arg.value_parser(NAMES.as_slice()).default_value("text")
 }
 
 /// The form that the matched words ask for; None where it is a text for a person.
@@ -85,11 +96,8 @@ pub fn format_asked(words: &ArgMatches) -> Option<Format> {
 
 /// The word `--html` with its file: for one application, whose answer is printed as a text.
 pub fn html_arg<'a>(alloc: Global) -> Result<Arg<'a>, AllocError> {
-    Arg::new(alloc, "html")
-        .long("html")
-        .value_name("FILE")
-        .action(ArgAction::Set)
-        .help("Write the answer as a page to look at into this file, too")
+    let help = "Write the answer as a page to look at into this file, too";
+    text_arg(alloc, "html", "FILE", help)
         .conflicts_with("format")?
         .conflicts_with("list")
 }

@@ -8,10 +8,12 @@ use super::lines_of;
 use crate::fault::CheckFault;
 use fr_ends::Certificate;
 use fr_interfere::{Hulls, Index, Interference};
-use fr_judge::{Part, Verdict, job_beside, read_both};
+use fr_judge::{Part, Verdict, job_beside};
 use fr_page::{Page, PointShown, Standing};
 use fr_program::{App, Point};
-use fr_report::{Detail, explanation, note_told, part_text, side_name};
+use fr_report::{explanation, note_told, part_text, side_name};
+use fr_request::Detail;
+use fr_text::read_both;
 use std::alloc::{AllocError, Global};
 
 /// The most points that a page shows.

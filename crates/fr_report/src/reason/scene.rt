@@ -8,6 +8,7 @@ use fr_notes::{Alternative, Claim, Note};
 use fr_program::{
     Act, ActorId, App, Attempt, Call, Instr, ObjId, ObjectCall, Operand, Point, VarId,
 };
+use fr_request::Detail;
 use fr_witness::Subject;
 use std::alloc::{AllocError, Global};
 
@@ -17,15 +18,6 @@ pub(super) struct Site<'a> {
     pub point: Point,
     pub instr: &'a Instr,
     pub note: &'a Note,
-}
-
-/// How much of a state is shown.
-#[derive(Clone, Copy, PartialEq, Eq)]
-pub enum Detail {
-    /// What the notes, the step and the guard speak of.
-    Told,
-    /// Every variable, every object and all depths.
-    Whole,
 }
 
 /// What states are shown for: one or two points, and perhaps a thing that a guard names.

@@ -7,7 +7,7 @@ use Rattle.fr_cert.specs.Meaning.{Means as CertMeans}
 use Rattle.fr_cert.proofs.Laws.{one_meaning as one-certificate}
 use Rattle.fr_judge.specs.declared.part.Verdict.{Verdict as ToldVerdict}
 use Rattle.fr_judge.specs.Told.{told_verdict, TellsVerdict}
-use Rattle.fr_judge.specs.Texts.{IsAnswerOne}
+use Rattle.fr_text.specs.Texts.{IsAnswerOne}
 use Rattle.fr_judge.proofs.Unique.{one-verdict}
 
 -- what is told of an application and a certificate is one

@@ -1,4 +1,4 @@
-// Where whoever starts the workers may hold one of them.
+// Where whoever starts the workers of a board, or the threads of a run, may hold one of them.
 
 /// Where a worker arrives before it judges a job. A test may hold it there; that the worker comes back is the gate's own matter.
 pub trait Gate: Sync {

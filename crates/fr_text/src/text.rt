@@ -5,13 +5,12 @@ ghost use Rattle.fr_reader.specs.Meaning.{Means as AppMeans};
 ghost use Rattle.fr_cert.specs.Meaning.{Means as CertMeans};
 ghost use Rattle.fr_ends.specs.Fits.{CertificateFits};
 ghost use Rattle.fr_judge.specs.Told.{TellsVerdict, Speaks};
-ghost use Rattle.fr_judge.specs.Texts.{IsJudged, IsFaultOfTexts};
+ghost use Rattle.fr_text.specs.Texts.{IsJudged, IsFaultOfTexts};
 
-use crate::part::Verdict;
-use crate::verdict::judge_beside;
 use fr_cert::{CertFault, read_cert};
 use fr_ends::Certificate;
 use fr_interfere::{Hulls, Index, Interference};
+use fr_judge::{Verdict, judge_beside};
 use fr_program::App;
 use fr_reader::{ReadFault, read_app};
 use std::alloc::{AllocError, Global};

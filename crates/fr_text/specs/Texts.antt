@@ -15,8 +15,8 @@ use Rattle.fr_cert.specs.Meaning.{Means as CertMeans}
 use Rattle.fr_cert.specs.Faults.{Standing as CertStanding}
 use Rattle.fr_cert.specs.Present.{IsPresent as IsCertPresent}
 use Rattle.fr_judge.specs.declared.part.Verdict.{Verdict as ToldVerdict}
-use Rattle.fr_judge.specs.declared.text.TextFault.{TextFault}
-use Rattle.fr_judge.specs.declared.text.TextFault.TheVariants.{Memory, App, Cert}
+use Rattle.fr_text.specs.declared.text.TextFault.{TextFault}
+use Rattle.fr_text.specs.declared.text.TextFault.TheVariants.{Memory, App, Cert}
 use Rattle.fr_judge.specs.Told.{TellsVerdict}
 
 -- the first bytes mean the application, the second ones a certificate for it, and this is the verdict on both

@@ -8,7 +8,7 @@ use Rattle.fr_cert.specs.Keys.{names_in}
 use Rattle.fr_cert.specs.Meaning.{IsEnd, Means}
 use Rattle.fr_cert.specs.Shapes.{IsObject}
 use Rattle.fr_cert.proofs.EntryLemmas.{each_both}
-use Rattle.fr_judge.specs.Theorem.{YesIsSafe}
+use Rattle.fr_text.specs.Theorem.{YesIsSafe}
 use Rattle.fr_judge.proofs.Induction.{certified-safe}
 use Rattle.fr_judge.proofs.Telling.{fitting-distinct}
 

@@ -1,0 +1,107 @@
+// What each command is asked for.
+use crate::detail::Detail;
+use crate::format::Format;
+
+/// What the command line asks for.
+#[derive(Clone, Copy)]
+pub enum Request<'a> {
+    /// The verdict on an application and a certificate.
+    Check(CheckRequest<'a>),
+    /// A certificate for an application.
+    Find(FindRequest<'a>),
+    /// The verdict by a certificate that is worked out.
+    Prove(ProveRequest<'a>),
+    /// The points of the application in this file.
+    Points {
+        app: &'a str,
+        /// Whether it is told where a refusal is.
+        explains: bool,
+    },
+    /// A run of the application into a breach.
+    Refute(RefuteRequest<'a>),
+    /// A run of the application.
+    Run(RunRequest<'a>),
+}
+
+/// A verdict that the command line asks for.
+#[derive(Clone, Copy)]
+pub struct CheckRequest<'a> {
+    /// The files that are judged, of which one or more are named.
+    pub files: Judged<'a>,
+    pub workers: u16,
+    /// Whether points that are never reached are told.
+    pub warns: bool,
+    /// Whether it is told why the verdict is no or where a refusal is, and how much of a state.
+    pub detail: Option<Detail>,
+    /// The form of the answer; None where it is a text for a person.
+    pub format: Option<Format>,
+    /// The file for the page, where one is wanted.
+    pub html: Option<&'a str>,
+}
+
+/// The files that are judged.
+#[derive(Clone, Copy)]
+pub enum Judged<'a> {
+    /// An application and its certificate.
+    One { app: &'a str, certificate: &'a str },
+    /// Those that the list in this file names.
+    Listed(&'a str),
+}
+
+/// A certificate that the command line asks for.
+#[derive(Clone, Copy)]
+pub struct FindRequest<'a> {
+    pub app: &'a str,
+    /// The file for the certificate.
+    pub out: &'a str,
+    pub rounds: u16,
+    /// Whether it is told where a refusal is.
+    pub explains: bool,
+}
+
+/// A proof that the command line asks for.
+#[derive(Clone, Copy)]
+pub struct ProveRequest<'a> {
+    pub app: &'a str,
+    /// The file for the certificate, where one is wanted.
+    pub out: Option<&'a str>,
+    pub workers: u16,
+    /// Whether points that are never reached are told.
+    pub warns: bool,
+    /// Whether it is told why the verdict is no, what each step of a run into a breach does, or where a refusal
+    /// is, and how much of a state.
+    pub detail: Option<Detail>,
+    /// Whether a run into a breach is looked for where the verdict is no.
+    pub searches: bool,
+    /// The form of the answer; None where it is a text for a person.
+    pub format: Option<Format>,
+    /// The file for the page, where one is wanted.
+    pub html: Option<&'a str>,
+}
+
+/// A search for a breach that the command line asks for.
+#[derive(Clone, Copy)]
+pub struct RefuteRequest<'a> {
+    pub app: &'a str,
+    /// The most states that are kept.
+    pub states: u32,
+    pub workers: u16,
+    /// Whether it is told what each step of the run did, or where a refusal is.
+    pub explains: bool,
+    /// The form of the answer; None where it is a text for a person.
+    pub format: Option<Format>,
+    /// The file for the page, where one is wanted.
+    pub html: Option<&'a str>,
+}
+
+/// A run that the command line asks for.
+#[derive(Clone, Copy)]
+pub struct RunRequest<'a> {
+    pub app: &'a str,
+    pub certificate: &'a str,
+    pub polls: u32,
+    /// The text of the words that choices are picked by, where it is given.
+    pub words: Option<&'a str>,
+    /// Whether it is told why the verdict is no or where a refusal is, and how much of a state.
+    pub detail: Option<Detail>,
+}
