@@ -25,16 +25,21 @@ fn judged_arg<'a>(alloc: Global, id: &'a str, help: &'a str) -> Result<Arg<'a>, 
 /// The command `check`: its words, its help and its exit statuses.
 pub fn check_command<'a>(alloc: Global) -> Result<Command<'a>, AllocError> {
     let about = "Prints the verdict on an application and a certificate";
-    command_of(alloc, "check", about, STATUSES)?
-        .arg(judged_arg(alloc, "APP", "The application, in TOML")?)?
-        .arg(judged_arg(alloc, "CERT", "The certificate, in JSON")?)?
-        .arg(list_arg(alloc)?)?
-        .arg(workers_arg(alloc))?
-        .arg(format_arg(alloc))?
-        .arg(warn_arg(alloc))?
-        .arg(explain_arg(alloc, EXPLAINS_VERDICT))?
-        .arg(all_arg(alloc))?
-        .arg(html_arg(alloc)?)
+    let app = judged_arg(alloc, "APP", "The application, in TOML")?;
+    let certificate = judged_arg(alloc, "CERT", "The certificate, in JSON")?;
+    let (list, html) = (list_arg(alloc)?, html_arg(alloc)?);
+    let args = vec![in alloc;
+        app,
+        certificate,
+        list,
+        workers_arg(alloc),
+        format_arg(alloc),
+        warn_arg(alloc),
+        explain_arg(alloc, EXPLAINS_VERDICT),
+        all_arg(alloc),
+        html,
+    ]?;
+    command_of(alloc, "check", about, STATUSES, args)
 }
 
 /// The verdict that the matched words ask for. Words that were matched always ask for something, so it is

@@ -16,22 +16,52 @@ commit 0000000000000000000000000000000000000000
 application format 1
 certificate formats 1 and 2";
 
+/// The commands, in the order of the help.
+#[derive(Clone, Copy)]
+enum Name {
+    Prove,
+    Check,
+    Refute,
+    Find,
+    Points,
+    Run,
+}
+
+const NAMES: [Name; 6] = [
+    Name::Prove,
+    Name::Check,
+    Name::Refute,
+    Name::Find,
+    Name::Points,
+    Name::Run,
+];
+
+/// The command with this name.
+fn command_named<'a>(alloc: Global, name: Name) -> Result<Command<'a>, AllocError> {
+    match name {
+        Name::Prove => prove_command(alloc),
+        Name::Check => check_command(alloc),
+        Name::Refute => refute_command(alloc),
+        Name::Find => find_command(alloc),
+        Name::Points => points_command(alloc),
+        Name::Run => run_command(alloc),
+    }
+}
+
 /// The whole command line, with its six commands.
 fn command<'a>(alloc: Global) -> Result<Command<'a>, AllocError> {
-    Command::new(alloc, NAME)
+    let mut command = Command::new(alloc, NAME)
         .version(VERSION)
         .long_version(VERSIONS)
         .propagate_version(true)
         .about("Checks that a multicore FreeRTOS application keeps the kernel's usage rules")
         .after_help(STATUSES)
         .subcommand_required(true)
-        .arg_required_else_help(true)
-        .subcommand(prove_command(alloc)?)?
-        .subcommand(check_command(alloc)?)?
-        .subcommand(refute_command(alloc)?)?
-        .subcommand(find_command(alloc)?)?
-        .subcommand(points_command(alloc)?)?
-        .subcommand(run_command(alloc)?)
+        .arg_required_else_help(true);
+    for name in NAMES {
+        command = command.subcommand(command_named(alloc, name)?)?;
+    }
+    Ok(command)
 }
 
 /// What the words match; else the usage message that says what is wrong with them, the help or the

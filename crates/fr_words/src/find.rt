@@ -23,11 +23,13 @@ fn rounds_arg<'a>(alloc: Global) -> Arg<'a> {
 /// The command `find`: its words, its help and its exit statuses.
 pub fn find_command<'a>(alloc: Global) -> Result<Command<'a>, AllocError> {
     let about = "Finds a certificate for an application, and writes it to a file";
-    command_of(alloc, "find", about, STATUSES)?
-        .arg(file_arg(alloc, "APP", "The application, in TOML"))?
-        .arg(file_arg(alloc, "OUT", "The file for the certificate"))?
-        .arg(rounds_arg(alloc))?
-        .arg(explain_arg(alloc, EXPLAINS_REFUSAL))
+    let args = vec![in alloc;
+        file_arg(alloc, "APP", "The application, in TOML"),
+        file_arg(alloc, "OUT", "The file for the certificate"),
+        rounds_arg(alloc),
+        explain_arg(alloc, EXPLAINS_REFUSAL),
+    ]?;
+    command_of(alloc, "find", about, STATUSES, args)
 }
 
 /// The certificate that the matched words ask for. Words that were matched always ask for something, so

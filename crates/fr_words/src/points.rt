@@ -11,7 +11,9 @@ const STATUSES: &str = "Exit status:
 /// The command `points`: its words, its help and its exit statuses.
 pub fn points_command<'a>(alloc: Global) -> Result<Command<'a>, AllocError> {
     let about = "Prints the points of an application, for which a certificate has notes";
-    command_of(alloc, "points", about, STATUSES)?
-        .arg(file_arg(alloc, "APP", "The application, in TOML"))?
-        .arg(explain_arg(alloc, EXPLAINS_REFUSAL))
+    let args = vec![in alloc;
+        file_arg(alloc, "APP", "The application, in TOML"),
+        explain_arg(alloc, EXPLAINS_REFUSAL),
+    ]?;
+    command_of(alloc, "points", about, STATUSES, args)
 }

@@ -31,16 +31,19 @@ fn no_search_arg<'a>(alloc: Global) -> Arg<'a> {
 /// The command `prove`: its words, its help and its exit statuses.
 pub fn prove_command<'a>(alloc: Global) -> Result<Command<'a>, AllocError> {
     let about = "Works out a certificate for an application, and prints the verdict by it";
-    command_of(alloc, "prove", about, STATUSES)?
-        .arg(file_arg(alloc, "APP", "The application, in TOML"))?
-        .arg(certificate_arg(alloc))?
-        .arg(workers_arg(alloc))?
-        .arg(no_search_arg(alloc))?
-        .arg(format_arg(alloc))?
-        .arg(warn_arg(alloc))?
-        .arg(explain_arg(alloc, EXPLAINS))?
-        .arg(all_arg(alloc))?
-        .arg(html_arg(alloc)?)
+    let html = html_arg(alloc)?;
+    let args = vec![in alloc;
+        file_arg(alloc, "APP", "The application, in TOML"),
+        certificate_arg(alloc),
+        workers_arg(alloc),
+        no_search_arg(alloc),
+        format_arg(alloc),
+        warn_arg(alloc),
+        explain_arg(alloc, EXPLAINS),
+        all_arg(alloc),
+        html,
+    ]?;
+    command_of(alloc, "prove", about, STATUSES, args)
 }
 
 /// The proof that the matched words ask for. Words that were matched always ask for something, so it is

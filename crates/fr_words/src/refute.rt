@@ -28,13 +28,16 @@ fn states_arg<'a>(alloc: Global) -> Arg<'a> {
 /// The command `refute`: its words, its help and its exit statuses.
 pub fn refute_command<'a>(alloc: Global) -> Result<Command<'a>, AllocError> {
     let about = "Looks for a run of an application into a breach of a rule, shortest first";
-    command_of(alloc, "refute", about, STATUSES)?
-        .arg(file_arg(alloc, "APP", "The application, in TOML"))?
-        .arg(states_arg(alloc))?
-        .arg(workers_arg(alloc))?
-        .arg(format_arg(alloc))?
-        .arg(explain_arg(alloc, EXPLAINS))?
-        .arg(html_arg(alloc)?)
+    let html = html_arg(alloc)?;
+    let args = vec![in alloc;
+        file_arg(alloc, "APP", "The application, in TOML"),
+        states_arg(alloc),
+        workers_arg(alloc),
+        format_arg(alloc),
+        explain_arg(alloc, EXPLAINS),
+        html,
+    ]?;
+    command_of(alloc, "refute", about, STATUSES, args)
 }
 
 /// The search that the matched words ask for. Words that were matched always ask for something, so it is

@@ -31,13 +31,15 @@ fn words_arg<'a>(alloc: Global) -> Arg<'a> {
 /// The command `run`: its words, its help and its exit statuses.
 pub fn run_command<'a>(alloc: Global) -> Result<Command<'a>, AllocError> {
     let about = "Runs an application that passes with its certificate, and prints each step";
-    command_of(alloc, "run", about, STATUSES)?
-        .arg(file_arg(alloc, "APP", "The application, in TOML"))?
-        .arg(file_arg(alloc, "CERT", "The certificate, in JSON"))?
-        .arg(polls_arg(alloc))?
-        .arg(words_arg(alloc))?
-        .arg(explain_arg(alloc, EXPLAINS_VERDICT))?
-        .arg(all_arg(alloc))
+    let args = vec![in alloc;
+        file_arg(alloc, "APP", "The application, in TOML"),
+        file_arg(alloc, "CERT", "The certificate, in JSON"),
+        polls_arg(alloc),
+        words_arg(alloc),
+        explain_arg(alloc, EXPLAINS_VERDICT),
+        all_arg(alloc),
+    ]?;
+    command_of(alloc, "run", about, STATUSES, args)
 }
 
 /// The run that the matched words ask for. Words that were matched always ask for something, so it is

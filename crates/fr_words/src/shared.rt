@@ -13,15 +13,16 @@ pub const STATUSES: &str = "Exit status:
   2  The words, the application or the certificate are refused
   3  The machine failed: no memory, no thread, or a file that can't be read or written";
 
-/// A command with this name, what it does, and its exit statuses.
+/// A command with this name, what it does, its exit statuses and its words.
 pub fn command_of<'a>(
     alloc: Global,
     name: &'a str,
     about: &'a str,
     statuses: &'a str,
+    args: Vec<Arg<'a>>,
 ) -> Result<Command<'a>, AllocError> {
-    let command = Command::new(alloc, name).display_name(NAME)?;
-    Ok(command.about(about).after_help(statuses))
+    let command = Command::new(alloc, name).about(about).after_help(statuses);
+    command.args(args)?.display_name(NAME)
 }
 
 /// A word with two dashes that is given or not.
