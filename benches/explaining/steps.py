@@ -1,13 +1,21 @@
-"""States and steps as cases of tables of fr_rows, which its program answers by the proved step function."""
+"""States and steps as cases of tables, which a program of its own answers by the proved step function.
+
+The program's text is in the folder steps_program, with an ending by which the gate doesn't take it for a part of the product.
+"""
 import itertools
 import os
 import re
+import shutil
 import subprocess
 
 import model
 from model import DEAD, FREE, Held
 
-LAST = re.compile(r"(\d+) rows, (\d+) cases, (\d+) differ")
+HERE = os.path.dirname(os.path.abspath(__file__))
+TOP = os.path.join(HERE, "..", "..")
+NAME = "explaining_steps"
+CRATES = ["fr_calls", "fr_reader", "fr_instr", "fr_program"]
+LAST = re.compile(r"(\d+) tables, (\d+) cases, (\d+) differ")
 WORDS = {"binary": "count", "counting": "count", "stream": "bytes", "queue": "values", "message": "messages"}
 
 
@@ -45,6 +53,48 @@ def answer_by_model(app, state, actor, choice):
     return "out of range" if 12 in model.breaches(app, state, actor) else state_text(app, found[0])
 
 
+def below():
+    """The lines of crates.txt of the crates that the program uses, and of those below them."""
+    with open(f"{TOP}/crates.txt", encoding="utf-8") as file:
+        lines = {line.split(":")[0]: line for line in file}
+    names, found = list(CRATES), {}
+    while names:
+        name = names.pop()
+        if name in lines and name not in found:
+            found[name] = lines[name]
+            names += lines[name].split(":")[1].split()
+    return [line for name, line in lines.items() if name in found]
+
+
+def written(folder):
+    """Writes the program into the folder, over copies of the crates below it, and returns the folder of its crate."""
+    lines = below()
+    for name in (it.split(":")[0] for it in lines):
+        shutil.copytree(f"{TOP}/crates/{name}", f"{folder}/crates/{name}", ignore=shutil.ignore_patterns("out"))
+    shutil.copy(f"{TOP}/HANDLES", folder)
+    with open(f"{folder}/crates.txt", "w", encoding="utf-8") as file:
+        file.writelines([*lines, f"{NAME}: {' '.join(CRATES)}\n"])
+    crate = f"{folder}/crates/{NAME}"
+    for name in sorted(os.listdir(f"{HERE}/steps_program")):
+        stem = name.removesuffix(".txt")
+        path = f"{crate}/src/{stem}.rt"
+        if stem.startswith("invariants_of_"):
+            path = f"{crate}/proofs/state_reading/{stem.removeprefix('invariants_of_')}/Invariants.antt"
+        os.makedirs(os.path.dirname(path), exist_ok=True)
+        shutil.copy(f"{HERE}/steps_program/{name}", path)
+    return crate
+
+
+def built(room):
+    """The program, which is proved and built by `rt run`."""
+    crate = written(f"{room}/steps")
+    ran = subprocess.run(["rt", "run"], cwd=crate, stdout=subprocess.PIPE, stderr=subprocess.STDOUT, text=True, check=False)
+    program = f"{crate}/out/{NAME}"
+    if not os.path.exists(program):
+        raise SystemExit(ran.stdout)
+    return program
+
+
 class Asked:
     """What is asked of the step function: cases by the text of their application, each once, and a label for each of these."""
 
@@ -76,8 +126,7 @@ class Asked:
             name = f"{number:05}"
             labels[name] = self.labels[text]
             os.makedirs(os.path.join(room, name))
-            # A `?` can only be in a comment of an application, and in a table's file it would be a gap.
-            files = {"args": "steps\n", "app.toml": text.replace("?", "."), "cases": "\n".join(cases) + "\n"}
+            files = {"app.toml": text, "cases": "\n".join(cases) + "\n"}
             for file, written in files.items():
                 with open(os.path.join(room, name, file), "w", encoding="utf-8") as to:
                     to.write(written)
