@@ -216,21 +216,3 @@ fn greatest_sizes_are_taken(rt: HostRuntime) -> Result<(), Fail> {
     refused(&rt, alloc, sized(alloc, 0, 0, 1, 513)?, too_many);
     Ok(())
 }
-
-/// The fault of an application that has none, or None; where there is no memory, it is asked for once more.
-fn answer_again(alloc: Global) -> Result<Option<BuildFault>, AllocError> {
-    match answer(alloc, parts(alloc, BACK, "x", None, false)?) {
-        Some(BuildFault::Memory) => Ok(answer(alloc, parts(alloc, BACK, "x", None, false)?)),
-        answer => Ok(answer),
-    }
-}
-
-#[test]
-fn want_of_memory_is_memory(rt: HostRuntime) {
-    let alloc = rt.alloc();
-    let answer = match answer_again(alloc) {
-        Err(_) => answer_again(alloc),
-        answer => answer,
-    };
-    assert!(rt; answer == Ok(None));
-}

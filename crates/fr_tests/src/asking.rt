@@ -1,0 +1,165 @@
+// Asks the cases of the tables.
+use crate::alike::is_alike;
+use crate::points::point_answer;
+use crate::steps::step_answer;
+use crate::table::{Asked, Table};
+use crate::tables::{certificates, deletes, guards, implied, lists, meeting, own, spoilers, steps};
+use crate::texts::{list_text, written};
+use fr_cert::read_cert;
+use fr_program::App;
+use fr_reader::read_app;
+use std::alloc::Global;
+use std::process::Abort;
+
+/// The file with a text put into each of its gaps, from the text with this number on, and the number of the next text.
+fn filled(alloc: Global, file: &str, texts: &[&str], first: usize) -> Option<(String, usize)> {
+    let mut whole = String::new(alloc);
+    let mut next = first;
+    for (number, piece) in file.split('?').enumerate() {
+        if number > 0 {
+            whole.push_str(texts.get(next)?).ok()?;
+            next = next.checked_add(1)?;
+        }
+        whole.push_str(piece).ok()?;
+    }
+    Some((whole, next))
+}
+
+/// The application and the text of the certificate with these texts put into them; None where there are more or fewer texts
+/// than gaps, or the application is refused.
+fn files(alloc: Global, table: &Table, texts: &[&str]) -> Option<(App, String)> {
+    let (app, next) = filled(alloc, table.app, texts, 0)?;
+    let (certificate, next) = filled(alloc, table.certificate, texts, next)?;
+    if next != texts.len() {
+        return None;
+    }
+    Some((read_app(alloc, app.as_bytes()).ok()?, certificate))
+}
+
+/// The answer about the points with these numbers, where they and all others are judged alike in each way.
+fn judged(
+    alloc: Global,
+    asked: Asked,
+    app: &App,
+    certificate: &str,
+    numbers: &str,
+) -> Option<String> {
+    let certificate = read_cert(alloc, app, certificate.as_bytes()).ok()?;
+    if !is_alike(alloc, app, &certificate)? {
+        return None;
+    }
+    point_answer(alloc, asked, app, &certificate, numbers)
+}
+
+/// The answer to a question that has this answer by its table; None where the question has a wrong form.
+fn answer(
+    alloc: Global,
+    asked: Asked,
+    table: &Table,
+    question: &str,
+    expected: &str,
+) -> Option<String> {
+    let texts: Vec<&str> = question.split(" | ").collect(alloc).ok()?;
+    match (asked, texts.as_slice()) {
+        (Asked::Certificate, texts) => {
+            let (app, certificate) = files(alloc, table, texts)?;
+            written(alloc, &app, &certificate)
+        }
+        (Asked::Step, [line, state, step]) => {
+            let (app, _) = files(alloc, table, &[*line])?;
+            step_answer(alloc, &app, state, step, expected)
+        }
+        (Asked::List, [list]) => {
+            let (app, _) = files(alloc, table, &[])?;
+            list_text(alloc, &app, list)
+        }
+        (_, [numbers, texts @ ..]) => {
+            let (app, certificate) = files(alloc, table, texts)?;
+            judged(alloc, asked, &app, &certificate, numbers)
+        }
+        _ => None,
+    }
+}
+
+/// Asks a case, which has to be answered as its line says.
+fn ask_case(rt: &impl Abort, alloc: Global, asked: Asked, table: &Table, line: &str) {
+    let Some((question, expected)) = line.rsplit_once(" | ") else {
+        panic!(rt; "no answer in: {line}")
+    };
+    let got = answer(alloc, asked, table, question, expected);
+    let is_same = matches!(&got, Some(text) if text.as_str() == expected);
+    assert!(rt; is_same, "{line}\n  got {got:?}");
+}
+
+/// Asks each case of a table, which has some, and counts them.
+fn ask_table(rt: &impl Abort, alloc: Global, asked: Asked, table: &Table) -> usize {
+    let mut count: usize = 0;
+    for line in table.cases.lines() {
+        if !line.is_empty() && !line.starts_with('#') {
+            ask_case(rt, alloc, asked, table, line);
+            count = count.saturating_add(1);
+        }
+    }
+    assert!(rt; count > 0, "no cases: {}", table.app);
+    count
+}
+
+/// Asks all cases of these tables, which are so many.
+fn ask(rt: &impl Abort, alloc: Global, asked: Asked, tables: &[Table], count: usize) {
+    let mut cases: usize = 0;
+    for table in tables {
+        cases = cases.saturating_add(ask_table(rt, alloc, asked, table));
+    }
+    assert!(rt; cases == count, "{cases} cases");
+}
+
+#[test]
+fn own_obligations(rt: HostRuntime) {
+    ask(&rt, rt.alloc(), Asked::Own, &own::TABLES, 98);
+}
+
+#[test]
+fn guarded_ends(rt: HostRuntime) {
+    ask(&rt, rt.alloc(), Asked::Guarded, &guards::TABLES, 33);
+}
+
+#[test]
+fn near_deletes(rt: HostRuntime) {
+    ask(&rt, rt.alloc(), Asked::Near, &deletes::TABLES, 32);
+}
+
+#[test]
+fn spoiled_notes(rt: HostRuntime) {
+    ask(&rt, rt.alloc(), Asked::Spoiler, &spoilers::TABLES, 62);
+}
+
+#[test]
+fn implied_notes(rt: HostRuntime) {
+    ask(&rt, rt.alloc(), Asked::Implies, &implied::TABLES, 19);
+}
+
+#[test]
+fn notes_of_two_actors(rt: HostRuntime) {
+    ask(&rt, rt.alloc(), Asked::Together, &meeting::TABLES, 13);
+}
+
+#[test]
+fn lists_of_an_index(rt: HostRuntime) {
+    ask(&rt, rt.alloc(), Asked::List, &lists::TABLES, 14);
+}
+
+#[test]
+fn written_certificates(rt: HostRuntime) {
+    ask(
+        &rt,
+        rt.alloc(),
+        Asked::Certificate,
+        &certificates::TABLES,
+        37,
+    );
+}
+
+#[test]
+fn steps_of_an_actor(rt: HostRuntime) {
+    ask(&rt, rt.alloc(), Asked::Step, &steps::TABLES, 162);
+}
