@@ -114,52 +114,19 @@ fn ask(rt: &impl Abort, alloc: Global, asked: Asked, tables: &[Table], count: us
 }
 
 #[test]
-fn own_obligations(rt: HostRuntime) {
-    ask(&rt, rt.alloc(), Asked::Own, &own::TABLES, 98);
-}
-
-#[test]
-fn guarded_ends(rt: HostRuntime) {
-    ask(&rt, rt.alloc(), Asked::Guarded, &guards::TABLES, 33);
-}
-
-#[test]
-fn near_deletes(rt: HostRuntime) {
-    ask(&rt, rt.alloc(), Asked::Near, &deletes::TABLES, 32);
-}
-
-#[test]
-fn spoiled_notes(rt: HostRuntime) {
-    ask(&rt, rt.alloc(), Asked::Spoiler, &spoilers::TABLES, 62);
-}
-
-#[test]
-fn implied_notes(rt: HostRuntime) {
-    ask(&rt, rt.alloc(), Asked::Implies, &implied::TABLES, 19);
-}
-
-#[test]
-fn notes_of_two_actors(rt: HostRuntime) {
-    ask(&rt, rt.alloc(), Asked::Together, &meeting::TABLES, 13);
-}
-
-#[test]
-fn lists_of_an_index(rt: HostRuntime) {
-    ask(&rt, rt.alloc(), Asked::List, &lists::TABLES, 14);
-}
-
-#[test]
-fn written_certificates(rt: HostRuntime) {
-    ask(
-        &rt,
-        rt.alloc(),
-        Asked::Certificate,
-        &certificates::TABLES,
-        37,
-    );
-}
-
-#[test]
-fn steps_of_an_actor(rt: HostRuntime) {
-    ask(&rt, rt.alloc(), Asked::Step, &steps::TABLES, 162);
+fn all_tables(rt: HostRuntime) {
+    let subjects: [(Asked, &[Table], usize); 9] = [
+        (Asked::Own, &own::TABLES, 98),
+        (Asked::Guarded, &guards::TABLES, 33),
+        (Asked::Near, &deletes::TABLES, 32),
+        (Asked::Spoiler, &spoilers::TABLES, 62),
+        (Asked::Implies, &implied::TABLES, 19),
+        (Asked::Together, &meeting::TABLES, 13),
+        (Asked::List, &lists::TABLES, 14),
+        (Asked::Certificate, &certificates::TABLES, 37),
+        (Asked::Step, &steps::TABLES, 162),
+    ];
+    for (asked, tables, count) in subjects {
+        ask(&rt, rt.alloc(), asked, tables, count);
+    }
 }
