@@ -1,13 +1,27 @@
-"""States and steps as cases of tables of fr_rows, which its program answers by the proved step function."""
+"""States and steps as cases of tables of fr_tests, whose tests answer them by the proved step function."""
 import itertools
 import os
-import re
+import shutil
 import subprocess
 
 import model
 from model import DEAD, FREE, Held
 
-LAST = re.compile(r"(\d+) rows, (\d+) cases, (\d+) differ")
+# The module with the cases, in a copy of fr_tests, and what is printed before a case that gets another answer.
+MODULE, DIFFERS = "printed_steps", "differs: "
+TEST = """
+#[test]
+fn cases_{number:05}(rt: HostRuntime) {{
+    assert!(rt; are_kept(&rt, Asked::Step, &TABLES_{number:05}, {count}), "cases");
+}}
+"""
+TABLE = """
+const TABLES_{number:05}: [Table; 1] = [Table {{
+    app: {app},
+    certificate: "",
+    cases: {cases},
+}}];
+"""
 WORDS = {"binary": "count", "counting": "count", "stream": "bytes", "queue": "values", "message": "messages"}
 
 
@@ -45,6 +59,12 @@ def answer_by_model(app, state, actor, choice):
     return "out of range" if 12 in model.breaches(app, state, actor) else state_text(app, found[0])
 
 
+def literal(text):
+    """The text as a string of the code, on one line."""
+    marks = {"\\": "\\\\", '"': '\\"', "\n": "\\n", "\r": "\\r", "\t": "\\t"}
+    return '"' + "".join(marks.get(it, it) for it in text) + '"'
+
+
 class Asked:
     """What is asked of the step function: cases by the text of their application, each once, and a label for each of these."""
 
@@ -69,28 +89,39 @@ class Asked:
             self.others += 1
             self.ask(app, state, actor, choice, answer_by_model(app, state, actor, choice))
 
-    def write(self, room):
-        """Writes a table for each application; their labels by their names."""
-        labels = {}
+    def write(self, crate):
+        """Writes the cases as tests of a module of their own: a table and a test for each application."""
+        parts = ["// Steps that are printed.\nuse crate::asking::are_kept;\nuse crate::table::{Asked, Table};\n"]
         for number, (text, cases) in enumerate(self.cases.items()):
-            name = f"{number:05}"
-            labels[name] = self.labels[text]
-            os.makedirs(os.path.join(room, name))
-            # A `?` can only be in a comment of an application, and in a table's file it would be a gap.
-            files = {"args": "steps\n", "app.toml": text.replace("?", "."), "cases": "\n".join(cases) + "\n"}
-            for file, written in files.items():
-                with open(os.path.join(room, name, file), "w", encoding="utf-8") as to:
-                    to.write(written)
-        return labels
+            # A `?` can only be in a comment of an application, and in a table it would be a gap. The line that a case of
+            # a table of steps puts into the application is none.
+            app, lines = text.replace("?", "."), "\n".join(f" | {it}" for it in cases)
+            parts.append(TABLE.format(number=number, app=literal(app + "#?"), cases=literal(lines)))
+            parts.append(TEST.format(number=number, count=len(cases)))
+        with open(os.path.join(crate, "src", MODULE + ".rt"), "w", encoding="utf-8") as to:
+            to.write("".join(parts))
+        with open(os.path.join(crate, "src", "lib.rt"), "a", encoding="utf-8") as to:
+            to.write(f"#[cfg(test)]\nmod {MODULE};\n")
 
-    def hold(self, program, room):
-        """Has all cases answered, prints those that get another answer, and returns how many these are."""
-        labels = self.write(room)
-        ran = subprocess.run([program, room], stdout=subprocess.PIPE, stderr=subprocess.STDOUT, timeout=3600, check=False)
-        *told, last = ran.stdout.decode(errors="replace").splitlines() or [""]
-        for line in told:
-            print(f"{labels.get(line[:5], '')} {line}")
-        counted, asked = LAST.fullmatch(last), sum(map(len, self.cases.values()))
-        if not counted or int(counted[1]) != len(self.cases) or int(counted[2]) != asked:
-            raise SystemExit(f"{program} answers {last!r} to {asked} cases of {len(self.cases)} applications")
-        return int(counted[3])
+    def hold(self, top, room):
+        """Has all cases answered in a copy of the repository, prints those that get another answer, and returns how many."""
+        shutil.copytree(os.path.join(top, "crates"), os.path.join(room, "crates"), ignore=shutil.ignore_patterns("out", "data"))
+        for file in ("crates.txt", "HANDLES"):
+            shutil.copy(os.path.join(top, file), room)
+        crate = os.path.join(room, "crates", "fr_tests")
+        self.write(crate)
+        words = ["rt", "try", "--test", "--", MODULE]
+        ran = subprocess.run(words, cwd=crate, stdout=subprocess.PIPE, stderr=subprocess.STDOUT, timeout=7200, check=False)
+        told = [line.strip() for line in ran.stdout.decode(errors="replace").splitlines()]
+        differing = [line[len(DIFFERS) :] for line in told if line.startswith(DIFFERS)]
+        for case in differing:
+            print(f"{self.label_of(case)}: {case}")
+        good, count = sum(line.startswith(f"test {MODULE}::") and line.endswith("... ok") for line in told), len(self.cases)
+        if not differing and (good != count or ran.returncode != 0):
+            print("\n".join(told[-20:]))
+            raise SystemExit(f"of {count} tests {good} pass")
+        return len(differing)
+
+    def label_of(self, case):
+        """The labels of the applications that have this case."""
+        return ", ".join(self.labels[text] for text, cases in self.cases.items() if case.removeprefix(" | ") in cases)
