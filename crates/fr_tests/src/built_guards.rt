@@ -1,6 +1,6 @@
 // Guards that are built from their parts, and those that are refused, which come back.
 use fr_ends::{EndGuard, EndName, Ends, EndsFault, Guard};
-use fr_program::{ActorId, App, End, ObjId, VarId};
+use fr_program::{ActorId, End, ObjId, VarId};
 use fr_reader::read_app;
 use std::alloc::{AllocError, Global};
 use std::collections::BTreeMap;
@@ -31,15 +31,8 @@ fn turn(alloc: Global, one: i64, other: i64) -> Result<Guard, AllocError> {
     Ok(Guard::Turn(VarId(0), values))
 }
 
-/// How many guards are listed, or the fault and how many come back.
-fn built(app: &App, alloc: Global, guards: Vec<EndGuard>) -> Result<usize, (EndsFault, usize)> {
-    match Ends::build(alloc, app, guards) {
-        Ok(ends) => Ok(ends.len()),
-        Err((fault, guards)) => Err((fault, guards.len())),
-    }
-}
-
-/// What comes of one guard, or of two; None where the application is refused or there is no memory.
+/// What comes of one guard, or of two: how many are listed, or the fault and how many come back. None where the application is
+/// refused or there is no memory.
 fn build(
     alloc: Global,
     first: EndGuard,
@@ -51,7 +44,10 @@ fn build(
     if let Some(second) = second {
         guards.push(second).ok()?;
     }
-    Some(built(&app, alloc, guards))
+    Some(match Ends::build(alloc, &app, guards) {
+        Ok(ends) => Ok(ends.len()),
+        Err((fault, guards)) => Err((fault, guards.len())),
+    })
 }
 
 #[test]

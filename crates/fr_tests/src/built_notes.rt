@@ -1,6 +1,6 @@
 // Notes that are built from parts, and parts and lists that are refused.
 use fr_notes::{Note, NoteFault, NoteParts, Notes, NotesFault};
-use fr_program::{App, ObjId, Range, VarId};
+use fr_program::{ObjId, Range, VarId};
 use fr_reader::read_app;
 use std::alloc::Global;
 
@@ -10,119 +10,124 @@ object = [{name="m", kind="mutex", live=true}, {name="r", kind="recursive", live
 actor = [{name="a", kind="task", code=["goto 0"]}, {name="b", kind="task", code=["goto 0"]}]
 "#;
 
-/// The note of these parts, or its fault; None where there is no memory.
-fn built(alloc: Global, app: &App, parts: NoteParts) -> Option<Result<Note, NoteFault>> {
-    match Note::build(alloc, app, parts) {
-        Err(NoteFault::Memory) => None,
-        answer => Some(answer),
-    }
+/// What a note says: the range of a variable, how often an object is held, and which are live and dead, by their numbers.
+#[derive(Clone, Copy)]
+struct Said {
+    range: Option<(usize, i128, i128)>,
+    held: Option<(usize, u32)>,
+    live: Option<usize>,
+    dead: Option<usize>,
 }
 
-/// The fault of the note of these parts, `Some(None)` where it is built.
-fn fault(alloc: Global, parts: NoteParts) -> Option<Option<NoteFault>> {
-    let app = read_app(alloc, APP).ok()?;
-    Some(built(alloc, &app, parts)?.err())
-}
+const NOTHING: Said = Said {
+    range: None,
+    held: None,
+    live: None,
+    dead: None,
+};
 
-/// The fault of a note with this depth in the critical section and this range of the variable with this number.
-fn fault_of_range(
-    alloc: Global,
-    crit: u8,
-    variable: usize,
-    lo: i128,
-    hi: i128,
-) -> Option<Option<NoteFault>> {
+fn parts(alloc: Global, said: Said) -> Option<NoteParts> {
     let mut parts = NoteParts::none(alloc);
-    parts.crit = crit;
-    parts
-        .range
-        .push((VarId(variable), Range::new(lo, hi)?))
-        .ok()?;
-    fault(alloc, parts)
+    if let Some((variable, lo, hi)) = said.range {
+        parts
+            .range
+            .push((VarId(variable), Range::new(lo, hi)?))
+            .ok()?;
+    }
+    if let Some((object, count)) = said.held {
+        parts.held.push((ObjId(object), count)).ok()?;
+    }
+    if let Some(object) = said.live {
+        parts.live.push(ObjId(object)).ok()?;
+    }
+    if let Some(object) = said.dead {
+        parts.dead.push(ObjId(object)).ok()?;
+    }
+    Some(parts)
+}
+
+/// The fault of the note, `Some(None)` where it is built; None where something else is refused.
+fn fault(alloc: Global, said: Said) -> Option<Option<NoteFault>> {
+    let app = read_app(alloc, APP).ok()?;
+    Some(Note::build(alloc, &app, parts(alloc, said)?).err())
 }
 
 #[test]
 fn ranges_and_the_declared_one(rt: HostRuntime) {
-    let past = Some(NoteFault::Span);
-    for (crit, variable, lo, hi, wanted) in [
-        (0, 0, -1, 3, None),
-        (255, 0, 3, 3, None),
-        (0, 0, -2, 3, past),
-        (0, 0, -1, 4, past),
-        (1, 0, 4, 4, past),
-        (0, 1, 0, 2, None),
-        (0, 1, 0, 3, past),
-        (0, 1, -1, 2, past),
+    for (variable, lo, hi, is_built) in [
+        (0, -1, 3, true),
+        (0, 3, 3, true),
+        (0, -2, 3, false),
+        (0, -1, 4, false),
+        (0, 4, 4, false),
+        (1, 0, 2, true),
+        (1, 0, 3, false),
+        (1, -1, 2, false),
     ] {
-        assert!(rt;
-            fault_of_range(rt.alloc(), crit, variable, lo, hi) == Some(wanted),
-            "{lo} {hi}"
-        );
+        let range = Some((variable, lo, hi));
+        let wanted = if is_built {
+            None
+        } else {
+            Some(NoteFault::Span)
+        };
+        let got = fault(rt.alloc(), Said { range, ..NOTHING });
+        assert!(rt; got == Some(wanted), "{lo} {hi}");
     }
 }
 
-/// The fault of a note that holds the object with this number so many times.
-fn fault_of_count(alloc: Global, object: usize, count: u32) -> Option<Option<NoteFault>> {
-    let mut parts = NoteParts::none(alloc);
-    parts.held.push((ObjId(object), count)).ok()?;
-    fault(alloc, parts)
-}
-
-/// The fault of a note that holds the object with the first number, has that with the second live and that with the third
-/// dead.
-fn fault_of_lives(
-    alloc: Global,
-    held: Option<usize>,
-    live: Option<usize>,
-    dead: usize,
-) -> Option<Option<NoteFault>> {
-    let mut parts = NoteParts::none(alloc);
-    if let Some(object) = held {
-        parts.held.push((ObjId(object), 1)).ok()?;
+// A plain mutex once, a recursive one up to 255 times, and nothing else.
+#[test]
+fn counts_of_what_is_held(rt: HostRuntime) {
+    for (object, count, is_built) in [
+        (0, 1, true),
+        (0, 2, false),
+        (0, 0, false),
+        (1, 255, true),
+        (1, 256, false),
+        (1, 0, false),
+        (2, 1, false),
+        (3, 1, false),
+    ] {
+        let held = Some((object, count));
+        let wanted = if is_built {
+            None
+        } else {
+            Some(NoteFault::Count)
+        };
+        let got = fault(rt.alloc(), Said { held, ..NOTHING });
+        assert!(rt; got == Some(wanted), "{object} {count}");
     }
-    if let Some(object) = live {
-        parts.live.push(ObjId(object)).ok()?;
-    }
-    parts.dead.push(ObjId(dead)).ok()?;
-    fault(alloc, parts)
 }
 
 #[test]
-fn counts_and_lives(rt: HostRuntime) {
-    let refused = Some(NoteFault::Count);
-    // A plain mutex once, a recursive one up to 255 times, and nothing else.
-    for (object, count, wanted) in [
-        (0, 1, None),
-        (0, 2, refused),
-        (0, 0, refused),
-        (1, 255, None),
-        (1, 256, refused),
-        (1, 0, refused),
-        (2, 1, refused),
-        (3, 1, refused),
-    ] {
-        assert!(rt;
-            fault_of_count(rt.alloc(), object, count) == Some(wanted),
-            "{object} {count}"
-        );
-    }
+fn live_and_dead(rt: HostRuntime) {
     let torn = Some(NoteFault::Lives);
-    assert!(rt; fault_of_lives(rt.alloc(), None, Some(3), 3) == Some(torn));
-    assert!(rt; fault_of_lives(rt.alloc(), Some(0), None, 0) == Some(torn));
-    assert!(rt; fault_of_lives(rt.alloc(), Some(0), Some(3), 2) == Some(None));
+    for (held, live, dead, wanted) in [
+        (None, Some(3), Some(3), torn),
+        (Some((0, 1)), None, Some(0), torn),
+        (Some((0, 1)), Some(3), Some(2), None),
+    ] {
+        let range = None;
+        let got = fault(
+            rt.alloc(),
+            Said {
+                range,
+                held,
+                live,
+                dead,
+            },
+        );
+        assert!(rt; got == Some(wanted));
+    }
 }
 
-/// What comes of so many notes, alternately never and one that says nothing: whether they fit and there
-/// is none past them, or the fault and how many come back.
+/// What comes of so many notes that say nothing: whether they fit and there is none past them, or the fault and how many
+/// come back.
 fn taken(alloc: Global, count: usize) -> Option<Result<bool, (NotesFault, usize)>> {
     let app = read_app(alloc, APP).ok()?;
     let mut notes = Vec::new(alloc);
-    for number in 0..count {
-        let note = if number % 2 == 0 {
-            Note::never(alloc)
-        } else {
-            built(alloc, &app, NoteParts::none(alloc))?.ok()?
-        };
+    for _ in 0..count {
+        let note = Note::build(alloc, &app, NoteParts::none(alloc)).ok()?;
         notes.push(note).ok()?;
     }
     Some(match Notes::build(alloc, &app, notes) {

@@ -1,7 +1,13 @@
-// The tests that need code, of all crates: each rule that no clause states, and what a row as files can't hold. They stand in a
-// crate of their own, since the gate proves a crate that has tests a second time, with them.
+// The tests that need code, of all crates: tables of what is judged at a point and of steps, and what neither a command nor a
+// contract shows. They are in a crate of their own, since the gate proves a crate that has tests a second time, with them.
 #![tactic(auto)]
 
+#[cfg(test)]
+mod alike;
+#[cfg(test)]
+mod applications;
+#[cfg(test)]
+mod asking;
 #[cfg(test)]
 mod board_draws;
 #[cfg(test)]
@@ -11,30 +17,24 @@ mod built_guards;
 #[cfg(test)]
 mod built_notes;
 #[cfg(test)]
-mod changed_bytes;
-#[cfg(test)]
-mod faults;
-#[cfg(test)]
-mod guesses;
-#[cfg(test)]
-mod hostile_texts;
-#[cfg(test)]
-mod lists;
-#[cfg(test)]
 mod passing;
+#[cfg(test)]
+mod points;
 #[cfg(test)]
 mod polled_machine;
 #[cfg(test)]
+mod polls_without_memory;
+#[cfg(test)]
 mod runs;
 #[cfg(test)]
-mod runs_without_memory;
+mod states;
 #[cfg(test)]
-mod small_applications;
+mod steps;
 #[cfg(test)]
-mod want_of_memory;
+mod table;
 #[cfg(test)]
-mod words;
+mod tables;
+#[cfg(test)]
+mod texts;
 #[cfg(test)]
 mod workers;
-#[cfg(test)]
-mod workers_without_memory;

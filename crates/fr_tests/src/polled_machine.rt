@@ -1,23 +1,11 @@
 // A machine that is polled by hand, without threads: the choices that words pick, actors that are blocked, and polls that are
 // refused.
-use crate::runs::{STREAM, STREAM_NOTES, passed};
+use crate::applications::{CRITICAL, CRITICAL_NOTES, STREAM, STREAM_NOTES};
+use crate::runs::passed;
 use fr_judge::Passed;
 use fr_program::ActorId;
-use fr_report::trace_text;
 use fr_runner::{Entry, Machine, RunFault};
 use std::alloc::Global;
-
-const CRITICAL: &[u8] = br#"object = [{name="sb", kind="stream", size=64, live=true}]
-actor = [
- {name="tx", kind="task", code=["taskENTER_CRITICAL()", "xStreamBufferSend(sb, 8, 0)", "taskEXIT_CRITICAL()", "goto 0"]},
- {name="ty", kind="task", code=["taskENTER_CRITICAL()", "xStreamBufferSend(sb, 8, 0)", "taskEXIT_CRITICAL()", "goto 0"]},
-]
-"#;
-
-const CRITICAL_NOTES: &[u8] =
-    br#"{"version":1,"ends":[{"buffer":"sb","end":"writer","guard":"critical"}],"notes":[
-{"live":["sb"]},{"crit":1,"live":["sb"]},{"crit":1,"live":["sb"]},{"crit":1,"live":["sb"]},{"live":["sb"]},
-{"live":["sb"]},{"crit":1,"live":["sb"]},{"crit":1,"live":["sb"]},{"crit":1,"live":["sb"]},{"live":["sb"]}]}"#;
 
 const WIDE: &[u8] =
     br#"variable = [{name="x", lo=-9223372036854775808, hi=9223372036854775807, init=0, owner="t"}]
@@ -31,51 +19,48 @@ const ENDING: &[u8] =
 
 const ENDING_NOTES: &[u8] = br#"{"version":1,"ends":[],"notes":[{},{}]}"#;
 
-/// The text of the trace of a machine with one poll for each of these actors, polled in this order;
-/// None where something is refused.
-fn text_of(
-    alloc: Global,
-    app: &[u8],
-    notes: &[u8],
-    words: &[u64],
-    order: &[usize],
-) -> Option<String> {
+fn step(actor: usize, choice: i64) -> Entry {
+    Entry::Stepped(ActorId(actor), choice)
+}
+
+/// Whether a machine with one poll for each of these entries, polled in the order of their actors, gives them.
+fn gives(alloc: Global, app: &[u8], notes: &[u8], words: &[u64], wanted: &[Entry]) -> Option<bool> {
     let passed: Passed = passed(alloc, app, notes)?;
-    let mut machine = Machine::new(alloc, &passed, order.len() as u64, words).ok()?;
-    for actor in order {
-        machine.poll(ActorId(*actor)).ok()?;
+    let mut machine = Machine::new(alloc, &passed, wanted.len() as u64, words).ok()?;
+    for entry in wanted {
+        let (Entry::Stepped(actor, _) | Entry::Blocked(actor)) = entry;
+        machine.poll(*actor).ok()?;
     }
-    trace_text(alloc, passed.app(), &machine.into_trace()).ok()
+    Some(machine.into_trace().entries.as_slice() == wanted)
 }
 
 #[test]
 fn actors_take_turns(rt: HostRuntime) {
-    let order = [0, 1, 0, 1, 0, 1, 0, 1, 0, 1];
-    let text = text_of(rt.alloc(), STREAM, STREAM_NOTES, &[8], &order);
-    let lines =
-        "tx step 0\nrx step 0\ntx step 8\nrx step 8\ntx step 0\nrx step 0\ntx step 0\nrx step 0\ntx step 8\nrx step 8\n";
-    assert!(rt; matches!(&text, Some(text) if text.as_str() == lines));
+    let wanted = [
+        step(0, 0),
+        step(1, 0),
+        step(0, 8),
+        step(1, 8),
+        step(0, 0),
+        step(1, 0),
+        step(0, 0),
+        step(1, 0),
+        step(0, 8),
+        step(1, 8),
+    ];
+    assert!(rt; gives(rt.alloc(), STREAM, STREAM_NOTES, &[8], &wanted) == Some(true));
 }
 
 #[test]
 fn blocked_at_the_critical_section(rt: HostRuntime) {
-    let text = text_of(rt.alloc(), CRITICAL, CRITICAL_NOTES, &[], &[0, 1, 0]);
-    assert!(rt;
-        matches!(&text, Some(text) if text.as_str() == "tx step 0\nty blocked\ntx step 0\n")
-    );
+    let wanted = [step(0, 0), Entry::Blocked(ActorId(1)), step(0, 0)];
+    assert!(rt; gives(rt.alloc(), CRITICAL, CRITICAL_NOTES, &[], &wanted) == Some(true));
 }
 
 #[test]
 fn choices_of_128_bits(rt: HostRuntime) {
-    let text = text_of(
-        rt.alloc(),
-        WIDE,
-        WIDE_NOTES,
-        &[18_446_744_073_709_551_615],
-        &[0, 0],
-    );
-    let lines = "t step 9223372036854775807\nt step 0\n";
-    assert!(rt; matches!(&text, Some(text) if text.as_str() == lines));
+    let wanted = [step(0, i64::MAX), step(0, 0)];
+    assert!(rt; gives(rt.alloc(), WIDE, WIDE_NOTES, &[u64::MAX], &wanted) == Some(true));
 }
 
 /// What a task that ends does: it steps twice, and then it is done and blocked.

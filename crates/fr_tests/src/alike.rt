@@ -1,0 +1,94 @@
+// That an application is judged alike by all pairs of points, by its index, and by the hulls of the index's lists; and that what
+// is written for its certificate is read as the same.
+ghost use Rattle.std.specs.Prelude.{◌≡◌, ◌<◌, length};
+ghost use Rattle.fr_program.specs.Points.{points_of};
+ghost use Rattle.fr_ends.specs.Fits.{CertificateFits};
+ghost use Rattle.fr_interfere.specs.Index.{IsIndexOf};
+
+use crate::applications::{
+    CRITICAL, CRITICAL_NOTES, DELETED, DELETED_NOTES, LIFE, LIFE_NOTES, QUEUE, QUEUE_NOTES,
+    SOLE_NOTES, STREAM, STREAM_NOTES,
+};
+use fr_cert::{read_cert, write_cert};
+use fr_ends::Certificate;
+use fr_interfere::{Hulls, Index, Interference, spoiler, spoiler_by};
+use fr_judge::{job, job_beside, job_by, judge, judge_beside, judge_by};
+use fr_program::App;
+use fr_reader::read_app;
+use std::alloc::Global;
+
+/// Whether the point is judged alike in each way.
+fn is_point_alike(
+    app: &App,
+    certificate: &Certificate,
+    index: &Index,
+    others: &Interference,
+    number: usize,
+) -> bool
+    requires number { number < length (points_of app.now) }
+    requires fits { CertificateFits app.now certificate.now }
+    requires index { IsIndexOf app.now index.now }
+    requires app { others.now.app ≡ app.now }
+    requires notes { others.now.notes ≡ certificate.now.notes }
+{
+    let notes = &certificate.notes;
+    let part = job(app, certificate, number);
+    let disturbing = spoiler(app, notes, number);
+    part == job_by(app, certificate, index, number)
+        && part == job_beside(app, certificate, others, number)
+        && disturbing == spoiler_by(app, notes, index, number)
+        && disturbing == others.spoiler(number)
+}
+
+/// Whether what is written for the certificate is read as a certificate for which the same is written.
+pub fn is_read_again(alloc: Global, app: &App, certificate: &Certificate) -> Option<bool>
+    requires fits { CertificateFits app.now certificate.now }
+{
+    let text = write_cert(alloc, app, certificate).ok()?;
+    let again = read_cert(alloc, app, text.as_bytes()).ok()?;
+    let same = write_cert(alloc, app, &again).ok()?;
+    Some(same.as_str() == text.as_str())
+}
+
+/// Whether each point, and the whole, are judged alike in each way, and the certificate is read again. None where there is no
+/// memory.
+pub fn is_alike(alloc: Global, app: &App, certificate: &Certificate) -> Option<bool>
+    requires fits { CertificateFits app.now certificate.now }
+{
+    let index = Index::build(alloc, app).ok()?;
+    let hulls = Hulls::build(alloc, app, &certificate.notes, &index).ok()?;
+    let others = Interference::with(app, &certificate.notes, &index, &hulls);
+    for number in 0..app.points() {
+        if !is_point_alike(app, certificate, &index, &others, number) {
+            return Some(false);
+        }
+    }
+    let verdict = judge(app, certificate);
+    Some(
+        verdict == judge_by(app, certificate, &index)
+            && verdict == judge_beside(app, certificate, &others)
+            && is_read_again(alloc, app, certificate)?,
+    )
+}
+
+/// The same of these texts. None where one of them is refused.
+fn are_alike(alloc: Global, app: &[u8], notes: &[u8]) -> Option<bool> {
+    let app = read_app(alloc, app).ok()?;
+    let certificate = read_cert(alloc, &app, notes).ok()?;
+    is_alike(alloc, &app, &certificate)
+}
+
+#[test]
+fn small_applications_are_judged_alike(rt: HostRuntime) {
+    let files = [
+        (STREAM, STREAM_NOTES),
+        (QUEUE, QUEUE_NOTES),
+        (CRITICAL, CRITICAL_NOTES),
+        (CRITICAL, SOLE_NOTES),
+        (DELETED, DELETED_NOTES),
+        (LIFE, LIFE_NOTES),
+    ];
+    for (number, (app, notes)) in files.iter().enumerate() {
+        assert!(rt; are_alike(rt.alloc(), app, notes) == Some(true), "{number}");
+    }
+}

@@ -1,0 +1,52 @@
+// What is written for certificates, or why they are refused and where, and the lists of an application's index.
+use crate::alike::is_read_again;
+use fr_cert::{CertFault, Path, read_cert, write_cert};
+use fr_interfere::Index;
+use fr_program::{App, ObjId, VarId};
+use std::alloc::Global;
+
+/// Where the fault is, if it says so.
+fn place_of(fault: &CertFault) -> Option<&Path> {
+    match fault {
+        CertFault::Shape(path)
+        | CertFault::UnknownName(path, _)
+        | CertFault::Note(path)
+        | CertFault::Guard(path)
+        | CertFault::EndTwice(path)
+        | CertFault::Alternatives(path) => Some(path),
+        _ => None,
+    }
+}
+
+/// What is written for the certificate in this text, or the fault by which it is refused, and where that is if it says so. None
+/// where what is written isn't read as the same.
+pub fn written(alloc: Global, app: &App, text: &str) -> Option<String> {
+    let fault = match read_cert(alloc, app, text.as_bytes()) {
+        Ok(certificate) if is_read_again(alloc, app, &certificate)? => {
+            return write_cert(alloc, app, &certificate).ok();
+        }
+        Ok(_) => return None,
+        Err(fault) => fault,
+    };
+    match place_of(&fault) {
+        Some(path) => format!(in alloc; "{fault} at /{path}").ok(),
+        None => format!(in alloc; "{fault}").ok(),
+    }
+}
+
+/// The numbers of the list that is named, one after the other, or `none`.
+pub fn list_text(alloc: Global, app: &App, name: &str) -> Option<String> {
+    let index = Index::build(alloc, app).ok()?;
+    let numbers = match name.split_once(' ') {
+        Some(("writers", variable)) => index.writers(VarId(variable.parse().ok()?)),
+        Some(("lives", object)) => index.lives(ObjId(object.parse().ok()?)),
+        None if name == "leavers" => index.leavers(),
+        _ => return None,
+    };
+    let mut text = String::from_str(alloc, if numbers.is_empty() { "none" } else { "" }).ok()?;
+    for number in numbers {
+        let between = if text.is_empty() { "" } else { " " };
+        write!(text, "{between}{number}").ok()?;
+    }
+    Some(text)
+}
