@@ -11,7 +11,7 @@ use fr_text::TextFault;
 use std::alloc::{AllocError, Global};
 
 /// Why a command has no answer.
-#[derive(Debug, Drop)]
+#[derive(Drop)]
 pub enum CheckFault {
     /// The application's bytes are refused.
     App(ReadFault),

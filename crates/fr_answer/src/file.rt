@@ -8,7 +8,7 @@ use std::alloc::Global;
 use std::io::Read;
 
 /// Why a file's bytes couldn't be had.
-#[derive(Clone, Copy, Debug, PartialEq, Eq)]
+#[derive(Clone, Copy)]
 pub enum LoadFault {
     /// An allocation was refused.
     Memory,

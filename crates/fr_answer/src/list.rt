@@ -12,14 +12,14 @@ use std::path::Path;
 pub const MOST_LIST_BYTES: usize = 1_048_576;
 
 /// A line of a list: an application, and its certificate where one is named.
-#[derive(Clone, Copy, Debug, PartialEq, Eq)]
+#[derive(Clone, Copy)]
 pub struct Listed<'a> {
     pub application: &'a str,
     pub certificate: Option<&'a str>,
 }
 
 /// Why a text is no list.
-#[derive(Clone, Copy, Debug, PartialEq, Eq)]
+#[derive(Clone, Copy)]
 pub enum ListFault {
     /// An allocation was refused.
     Memory,

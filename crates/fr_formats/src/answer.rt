@@ -5,7 +5,7 @@ use serde::Serialize;
 use std::alloc::{AllocError, Global};
 
 /// The commands whose answers have several formats.
-#[derive(Clone, Copy, Debug, PartialEq, Eq, Serialize)]
+#[derive(Clone, Copy, Serialize)]
 #[serde(rename_all = "lowercase")]
 pub enum Command {
     Check,
@@ -22,7 +22,7 @@ pub struct Source<'a> {
 }
 
 /// What a command answers.
-#[derive(Clone, Copy, Debug, PartialEq, Eq, Serialize)]
+#[derive(Clone, Copy, Serialize)]
 #[serde(rename_all = "kebab-case")]
 pub enum AnswerKind {
     /// The verdict is yes.
@@ -42,7 +42,7 @@ pub enum AnswerKind {
 }
 
 /// Whether an actor is before its line of code, or inside the call on it.
-#[derive(Clone, Copy, Debug, PartialEq, Eq, Serialize)]
+#[derive(Clone, Copy, Serialize)]
 #[serde(rename_all = "lowercase")]
 pub enum SideShown {
     Before,

@@ -7,7 +7,7 @@ use toml_parser::text::skip_blank;
 use toml_parser::{ParseError, quoted, starts_string};
 
 /// Where a line of code stands in the application's text, without its quotes.
-#[derive(Clone, Copy, Debug, PartialEq, Eq)]
+#[derive(Clone, Copy)]
 pub struct CodePlace {
     /// The number of the line in the text, from 1.
     pub line: usize,

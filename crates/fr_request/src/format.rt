@@ -4,7 +4,7 @@
 pub const VERSION: &str = "0.1.0";
 
 /// A form that a machine reads.
-#[derive(Clone, Copy, Debug, PartialEq, Eq)]
+#[derive(Clone, Copy)]
 pub enum Format {
     /// JSON in this project's own form.
     Json,

@@ -23,7 +23,7 @@ pub struct Judged {
 }
 
 /// Why there is no verdict.
-#[derive(Debug, Drop)]
+#[derive(Drop)]
 pub enum TextFault {
     /// An allocation was refused after both were read. One that is refused while they are read comes
     /// inside `App` or `Cert`, and their `is_memory` tells it.

@@ -3,7 +3,7 @@ use crate::taken::Taken;
 use fr_calls::State;
 
 /// What shows that a part isn't kept at a point.
-#[derive(Debug, Drop)]
+#[derive(Drop)]
 pub enum Witness {
     /// The start: the note of the point where the actor begins doesn't hold of it.
     Start(State),

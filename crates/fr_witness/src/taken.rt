@@ -8,7 +8,7 @@ use fr_program::{ActorId, App};
 use std::alloc::AllocError;
 
 /// A step: the state before it, the actor that moves with its choice, and the state after it.
-#[derive(Debug, Drop)]
+#[derive(Drop)]
 pub struct Taken {
     pub before: State,
     pub actor: ActorId,
