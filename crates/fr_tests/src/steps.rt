@@ -2,35 +2,54 @@
 ghost use Rattle.std.specs.Prelude.{◌<◌, length};
 ghost use Rattle.fr_calls.specs.State.{IsWellFormed};
 
-use crate::states::{actor_named, state_in};
+use crate::states::state_in;
 use fr_calls::{Rule, State};
-use fr_instr::names_of;
+use fr_instr::{Names, names_of};
 use fr_program::{ActorId, App};
-use std::alloc::Global;
+use std::alloc::{AllocError, Global};
 
-/// Takes the actor's step by this choice, or says why not: the choice is none of its choices, the step breaches rule 12, or a
-/// depth or a count of the actor's is past 255.
-fn take_step(app: &App, state: &mut State, actor: ActorId, choice: i64) -> Result<(), &'static str>
+/// The state as a text.
+fn state_text(alloc: Global, state: &State) -> Result<String, AllocError> {
+    format!(in alloc; "{state:?}")
+}
+
+/// The state after the actor's step by this choice; `no step` where the choice is none of its choices; and where a step isn't
+/// taken, `out of range` since it breaches rule 12, or `too deep` since a depth or a count of the actor's is past 255.
+fn after(
+    alloc: Global,
+    app: &App,
+    state: &mut State,
+    actor: ActorId,
+    choice: i64,
+) -> Result<String, AllocError>
     requires formed { IsWellFormed app.now state.old }
     requires actor { actor.0 < length app.now.actors }
 {
     if !state.moves(app, actor).has(choice) {
-        return Err("no step");
+        return String::from_str(alloc, "no step");
     }
     if state.breaches(app, actor, Rule::InRange) {
-        return Err("out of range");
+        return String::from_str(alloc, "out of range");
     }
     if !state.is_shallow(app, actor) {
-        return Err("too deep");
+        return String::from_str(alloc, "too deep");
     }
-    match state.apply(app, actor, choice) {
-        Ok(()) => Ok(()),
-        Err(_) => Err("no memory"),
-    }
+    state.apply(app, actor, choice)?;
+    state_text(alloc, state)
 }
 
-/// What an actor's step by its choice leads to from the state that these facts tell: the expected facts where it leads to their
-/// state, else the state; or why there is no step.
+/// What an actor's step by its choice leads to from the state that these facts tell.
+fn step_text(alloc: Global, app: &App, names: &Names, facts: &str, step: &str) -> Option<String> {
+    let (name, choice) = step.split_once(' ')?;
+    let (actor, choice) = (names.actor(name)?, choice.parse().ok()?);
+    if actor.0 >= app.actors().len() {
+        return None;
+    }
+    let mut state = state_in(alloc, app, names, facts)?;
+    after(alloc, app, &mut state, actor, choice).ok()
+}
+
+/// What comes of the step: this answer where it is that, or tells the state to which the step leads.
 pub fn step_answer(
     alloc: Global,
     app: &App,
@@ -39,18 +58,12 @@ pub fn step_answer(
     expected: &str,
 ) -> Option<String> {
     let names = names_of(alloc, app).ok()?;
-    let (name, choice) = step.split_once(' ')?;
-    let actor = actor_named(app, &names, name)?;
-    let mut state = state_in(alloc, app, &names, facts)?;
-    if let Err(why) = take_step(app, &mut state, actor, choice.parse().ok()?) {
-        return String::from_str(alloc, why).ok();
-    }
-    let got = format!(in alloc; "{state:?}").ok()?;
-    let Some(wanted) = state_in(alloc, app, &names, expected) else {
-        return Some(got);
+    let got = step_text(alloc, app, &names, facts, step)?;
+    let is_told = match state_in(alloc, app, &names, expected) {
+        Some(state) => state_text(alloc, &state).ok()?.as_str() == got.as_str(),
+        None => false,
     };
-    let wanted = format!(in alloc; "{wanted:?}").ok()?;
-    if got.as_str() == wanted.as_str() {
+    if is_told {
         String::from_str(alloc, expected).ok()
     } else {
         Some(got)

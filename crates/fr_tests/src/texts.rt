@@ -18,19 +18,25 @@ fn place_of(fault: &CertFault) -> Option<&Path> {
     }
 }
 
-/// What is written for the certificate in this text, or the fault by which it is refused, and where that is if it says so. None
-/// where what is written isn't read as the same.
-pub fn written(alloc: Global, app: &App, text: &str) -> Option<String> {
-    let fault = match read_cert(alloc, app, text.as_bytes()) {
-        Ok(certificate) if is_read_again(alloc, app, &certificate)? => {
-            return write_cert(alloc, app, &certificate).ok();
-        }
-        Ok(_) => return None,
-        Err(fault) => fault,
-    };
-    match place_of(&fault) {
+/// The fault, and where it is, from the root on, if it says so.
+fn fault_text(alloc: Global, fault: &CertFault) -> Option<String> {
+    match place_of(fault) {
         Some(path) => format!(in alloc; "{fault} at /{path}").ok(),
         None => format!(in alloc; "{fault}").ok(),
+    }
+}
+
+/// What is written for the certificate in this text, or the fault by which it is refused. None where what is written isn't read as
+/// the same.
+pub fn written(alloc: Global, app: &App, text: &str) -> Option<String> {
+    match &read_cert(alloc, app, text.as_bytes()) {
+        Ok(certificate) => {
+            if !is_read_again(alloc, app, certificate)? {
+                return None;
+            }
+            write_cert(alloc, app, certificate).ok()
+        }
+        Err(fault) => fault_text(alloc, fault),
     }
 }
 

@@ -3,7 +3,7 @@ use crate::runs::reaches;
 use fr_calls::Rule;
 use fr_cert::read_cert;
 use fr_judge::{Part, Verdict};
-use fr_parallel::{Gate, Open, judge_with};
+use fr_parallel::{Gate, judge_with};
 use fr_program::{ActorId, Point, Side};
 use fr_reader::read_app;
 use std::alloc::Global;
@@ -52,17 +52,6 @@ fn judged<R: Threads + Wait + Sync, G: Gate>(
     let app = read_app(alloc, text.as_bytes()).ok()?;
     let certificate = read_cert(alloc, &app, notes.as_bytes()).ok()?;
     judge_with(rt, alloc, &app, &certificate, workers, gate).ok()
-}
-
-#[test]
-fn any_number_of_workers(rt: HostRuntime) {
-    for workers in [1, 2, 16, 64] {
-        let (yes, no) = (
-            judged(&rt, rt.alloc(), false, workers, &Open),
-            judged(&rt, rt.alloc(), true, workers, &Open),
-        );
-        assert!(rt; yes == Some(Verdict::Yes) && no == Some(NO), "{workers}");
-    }
 }
 
 /// Holds job 3 until job 700 has arrived.
