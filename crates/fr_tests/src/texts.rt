@@ -40,19 +40,35 @@ pub fn written(alloc: Global, app: &App, text: &str) -> Option<String> {
     }
 }
 
-/// The numbers of the list that is named, one after the other, or `none`.
-pub fn list_text(alloc: Global, app: &App, name: &str) -> Option<String> {
-    let index = Index::build(alloc, app).ok()?;
-    let numbers = match name.split_once(' ') {
-        Some(("writers", variable)) => index.writers(VarId(variable.parse().ok()?)),
-        Some(("lives", object)) => index.lives(ObjId(object.parse().ok()?)),
-        None if name == "leavers" => index.leavers(),
-        _ => return None,
-    };
+/// The list of the index with this name: `leavers`, or `writers` or `lives` with the number of a variable or an object.
+fn list_named<'a>(index: &'a Index, name: &str) -> Option<&'a [usize]> {
+    if name == "leavers" {
+        return Some(index.leavers());
+    }
+    let (list, number) = name.split_once(' ')?;
+    let number = number.parse::<usize>().ok()?;
+    match list {
+        "writers" => Some(index.writers(VarId(number))),
+        "lives" => Some(index.lives(ObjId(number))),
+        _ => None,
+    }
+}
+
+/// The numbers, one after the other, or `none`.
+fn numbers_text(alloc: Global, numbers: &[usize]) -> Option<String> {
     let mut text = String::from_str(alloc, if numbers.is_empty() { "none" } else { "" }).ok()?;
     for number in numbers {
         let between = if text.is_empty() { "" } else { " " };
         write!(text, "{between}{number}").ok()?;
     }
     Some(text)
+}
+
+/// The numbers of the list that is named, one after the other, or `none`.
+pub fn list_text(alloc: Global, app: &App, name: &str) -> Option<String> {
+    let index = Index::build(alloc, app).ok()?;
+    match list_named(&index, name) {
+        Some(numbers) => numbers_text(alloc, numbers),
+        None => None,
+    }
 }
