@@ -55,8 +55,12 @@ pub fn is_read_again(alloc: Global, app: &App, certificate: &Certificate) -> Opt
 pub fn is_alike(alloc: Global, app: &App, certificate: &Certificate) -> Option<bool>
     requires fits { CertificateFits app.now certificate.now }
 {
-    let index = Index::build(alloc, app).ok()?;
-    let hulls = Hulls::build(alloc, app, &certificate.notes, &index).ok()?;
+    let Ok(index) = Index::build(alloc, app) else {
+        return None;
+    };
+    let Ok(hulls) = Hulls::build(alloc, app, &certificate.notes, &index) else {
+        return None;
+    };
     let others = Interference::with(app, &certificate.notes, &index, &hulls);
     for number in 0..app.points() {
         if !is_point_alike(app, certificate, &index, &others, number) {

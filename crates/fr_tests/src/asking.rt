@@ -43,7 +43,9 @@ fn judged(
     certificate: &str,
     numbers: &str,
 ) -> Option<String> {
-    let certificate = read_cert(alloc, app, certificate.as_bytes()).ok()?;
+    let Ok(certificate) = read_cert(alloc, app, certificate.as_bytes()) else {
+        return None;
+    };
     if !is_alike(alloc, app, &certificate)? {
         return None;
     }

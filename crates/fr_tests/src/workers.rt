@@ -49,8 +49,12 @@ fn judged<R: Threads + Wait + Sync, G: Gate>(
     let text = format!(in alloc; "actor=[{t},{u}]").ok()?;
     let plain = "{},".repeat(alloc, 799).ok()?;
     let notes = format!(in alloc; "{{\"version\":1,\"ends\":[],\"notes\":[{plain}{{}}]}}").ok()?;
-    let app = read_app(alloc, text.as_bytes()).ok()?;
-    let certificate = read_cert(alloc, &app, notes.as_bytes()).ok()?;
+    let Ok(app) = read_app(alloc, text.as_bytes()) else {
+        return None;
+    };
+    let Ok(certificate) = read_cert(alloc, &app, notes.as_bytes()) else {
+        return None;
+    };
     judge_with(rt, alloc, &app, &certificate, workers, gate).ok()
 }
 
