@@ -6,7 +6,8 @@
 // two give what has to be said, with why a verdict is no or what each step of such a run does, and `tell` says it; `warn`
 // tells what a verdict may hide, and `tell_place` where a refusal is. `told_page` and `fault_page` show an answer as a page.
 // `answer_points` lists the points of an application. `check_answer`, `prove_answer` and `refute_answer` give
-// the same as `check_told`, `prove_told` and `refute_bytes`, as values for reports that machines read (fr_formats), and `listed_in` reads a list of applications.
+// the same as `check_told`, `prove_told` and `refute_bytes`, as values for reports that machines read (fr_formats). A list
+// of applications is read by fr_list, and `answer_list` tells why it is refused.
 #![tactic(auto)]
 
 mod answer;
@@ -37,9 +38,10 @@ pub use file::{LoadFault, load};
 pub use found::{Found, find_bytes, tell_found};
 pub use fr_cert::MOST_BYTES as MOST_CERTIFICATE_BYTES;
 pub use fr_formats::{Answer, AnswerKind, Command, Source, answer_of_text, answers_text};
+pub use fr_list::{ListFault, Listed, MOST_LIST_BYTES, listed_in, path_beside};
 pub use fr_reader::MOST_BYTES as MOST_APP_BYTES;
 pub use fr_request::{Detail, Format, VERSION};
-pub use list::{ListFault, Listed, MOST_LIST_BYTES, answer_list, listed_in, path_beside};
+pub use list::answer_list;
 pub use paging::{Question, fault_page, told_page};
 pub use place::{tell_app_place, tell_place};
 pub use points::{answer_points, points_to};
