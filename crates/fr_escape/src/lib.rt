@@ -7,6 +7,8 @@ mod html;
 mod language;
 mod plain;
 mod steering;
+#[cfg(test)]
+mod tests;
 mod uri;
 mod xml;
 
