@@ -25,7 +25,7 @@ impl Language for Html {
 
 /// Appends a text, so that it stays a text between two tags or in quotes of either kind: what is appended has none of
 /// `<`, `>`, `"` and `'`, and an `&` only where an entity begins. The rule is HTML's, for text and for the values of
-/// attributes.
+/// attributes; it doesn't serve inside a script or a style sheet.
 ///
 /// # Errors
 ///

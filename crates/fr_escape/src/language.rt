@@ -13,9 +13,10 @@ pub(crate) trait Language {
         ensures { OnOk result (string_bytes out.new ≡ string_bytes out.old ++ encode_utf8_all (written character)) };
 }
 
-/// Appends a text in the language.
+/// Appends a text, each character as the language has it.
 pub(crate) fn push_text<L: Language>(out: &mut String, text: &str) -> Result<(), AllocError>
-    ensures { OnOk result (string_bytes out.new ≡ string_bytes out.old ++ encode_utf8_all (flat_map L.written (chars text.now))) }
+    ensures { OnOk result (string_bytes out.new
+        ≡ string_bytes out.old ++ encode_utf8_all (flat_map L.written (chars text.now))) }
 {
     for character in text.chars() {
         L::push_character(out, character)?;

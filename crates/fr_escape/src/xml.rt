@@ -39,9 +39,9 @@ impl Language for Xml {
 
 /// Appends a text, so that it stays a text between two tags or in quotes of either kind: what is appended has none of
 /// `<`, `>`, `"` and `'`, and an `&` only where an entity or the number of a character begins. Line ends and tabs are
-/// written as numbers, since a parser makes blanks of them in attributes. The rule is that of XML 1.0, which has no
-/// other controls below U+0020, no U+FFFE and no U+FFFF; this project lets no other control in either, and no
-/// character that sets the direction of reading: U+FFFD is written for all of these.
+/// written as numbers, since a parser makes blanks of them in attributes. U+FFFD is written for what XML 1.0 can't have,
+/// which is most controls, U+FFFE and U+FFFF, and by a rule of this project for every other control, a carriage return
+/// too, and for each character that sets the direction of reading.
 ///
 /// # Errors
 ///
