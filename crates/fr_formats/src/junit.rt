@@ -1,6 +1,6 @@
 // Answers as JUnit's XML, in the form that Jenkins and GitLab read.
 use crate::answer::{Answer, AnswerKind, Command};
-use crate::xml::Escaped;
+use fr_escape::push_xml;
 use std::alloc::{AllocError, Global};
 
 /// How a test came out.
@@ -48,10 +48,16 @@ fn kind(answer: &Answer) -> &'static str {
     }
 }
 
+/// Appends a line, with its end.
+fn put_line(text: &mut String, line: &str) -> Result<(), AllocError> {
+    push_xml(text, line)?;
+    text.push('\n')
+}
+
 /// Appends lines, each with its end.
 fn put_lines(text: &mut String, lines: &[String]) -> Result<(), AllocError> {
     for line in lines {
-        write!(text, "{}\n", Escaped(line))?;
+        put_line(text, line)?;
     }
     Ok(())
 }
@@ -59,23 +65,23 @@ fn put_lines(text: &mut String, lines: &[String]) -> Result<(), AllocError> {
 /// Appends what failed, between tags of this name.
 fn put_failure(text: &mut String, tag: &str, answer: &Answer) -> Result<(), AllocError> {
     let (report, kind) = (&answer.report, kind(answer));
-    write!(
-        text,
-        "      <{tag} type=\"{kind}\" message=\"{}\">",
-        Escaped(report)
-    )?;
-    write!(text, "{}\n", Escaped(report))?;
+    write!(text, "      <{tag} type=\"{kind}\" message=\"")?;
+    push_xml(text, report)?;
+    text.push_str("\">")?;
+    put_line(text, report)?;
     put_lines(text, &answer.lines)?;
     write!(text, "</{tag}>\n")
 }
 
 /// Appends the case of one application.
 fn put_case(text: &mut String, answer: &Answer) -> Result<(), AllocError> {
-    let (name, command) = (Escaped(&answer.application), command_name(answer.command));
+    let command = command_name(answer.command);
     write!(
         text,
-        "    <testcase classname=\"fr_check.{command}\" name=\"{name}\">\n"
+        "    <testcase classname=\"fr_check.{command}\" name=\""
     )?;
+    push_xml(text, &answer.application)?;
+    text.push_str("\">\n")?;
     match outcome_of(answer) {
         Outcome::Passed => {}
         Outcome::Failed => put_failure(text, "failure", answer)?,

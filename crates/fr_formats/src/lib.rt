@@ -14,7 +14,6 @@ mod sarif;
 mod search;
 mod text;
 mod verdict;
-mod xml;
 
 pub use answer::{Answer, AnswerKind, Command, Failure, PlaceShown, SideShown, Source, StepShown};
 pub use format::answers_text;

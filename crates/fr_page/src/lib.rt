@@ -1,10 +1,9 @@
 // A page to look at: plain data in, the text of one HTML file out (`page_text`). It knows nothing of applications and
-// certificates: the crate above, fr_answer, fills a `Page`. Each text of a `Page` is escaped by `push_escaped`, whose
-// contract says to the letter what it becomes.
+// certificates: the crate above, fr_answer, fills a `Page`. Each text of a `Page` is escaped by `push_html` of
+// fr_escape, whose contract says to the letter what it becomes.
 #![tactic(auto)]
 
 mod code;
-mod escaped;
 mod page;
 mod run;
 mod script;
@@ -12,7 +11,6 @@ mod style;
 mod whole;
 mod writer;
 
-pub use escaped::push_escaped;
 pub use page::{
     ActorAfter, ActorShown, Kind, LineShown, Moved, Page, PointShown, Standing, StepShown, Track,
     TrackKind,

@@ -97,7 +97,7 @@ fn put_answer(page: &mut Writer, shown: &Page) -> Result<(), AllocError> {
 
 /// The page as one file in HTML without outside links. It shows the answer, the run where there is one, as lanes, and the actors
 /// side by side with their code. It needs no script; with one it steps through the run. No text of `shown` can end
-/// the place that it stands in, since each is escaped by `push_escaped`.
+/// the place that it stands in, since each is escaped by `push_html`.
 ///
 /// # Errors
 ///

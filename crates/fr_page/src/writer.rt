@@ -1,8 +1,8 @@
 // The text of a page while it is written.
-ghost use Rattle.std.specs.Prelude.{◌≡◌, ◌++◌, OnOk, string_bytes};
-ghost use Rattle.fr_page.specs.Escaped.{escaped};
+ghost use Rattle.std.specs.Prelude.{◌≡◌, ◌++◌, OnOk, encode_utf8_all, string_bytes};
+ghost use Rattle.fr_escape.specs.Html.{html};
 
-use crate::escaped::push_escaped;
+use fr_escape::push_html;
 use std::alloc::{AllocError, Global};
 
 /// The text of a page, as far as it is written. What comes from a file gets in by `text` alone, which escapes it:
@@ -28,9 +28,9 @@ impl Writer {
 
     /// Appends a text, whatever is in it.
     pub fn text(&mut self, text: &str) -> Result<(), AllocError>
-        ensures { OnOk result (string_bytes self.new.out ≡ string_bytes self.old.out ++ escaped text.now) }
+        ensures { OnOk result (string_bytes self.new.out ≡ string_bytes self.old.out ++ encode_utf8_all (html text.now)) }
     {
-        push_escaped(&mut self.out, text)
+        push_html(&mut self.out, text)
     }
 
     /// Appends a number.

@@ -1,35 +1,14 @@
 // Places in files, and in words.
 use super::log::{ArtifactLocation, Location, LogicalLocation, Message, PhysicalLocation, Region};
 use crate::answer::{PlaceShown, SideShown};
-use percent_encoding::{AsciiSet, CONTROLS, ascii_set, percent_encode};
+use fr_escape::push_uri;
 use std::alloc::{AllocError, Global};
-
-/// What a path in a URI can't have as itself.
-const OUTSIDE_PATHS: AsciiSet = ascii_set!(
-    CONTROLS
-        .add(b' ')
-        .add(b'"')
-        .add(b'#')
-        .add(b'%')
-        .add(b':')
-        .add(b'<')
-        .add(b'>')
-        .add(b'?')
-        .add(b'[')
-        .add(b'\\')
-        .add(b']')
-        .add(b'^')
-        .add(b'`')
-        .add(b'{')
-        .add(b'|')
-        .add(b'}')
-);
 
 /// The file at this path, as a URI: `file:` before one from the root on, and else relative.
 pub(super) fn file_uri(alloc: Global, path: &str) -> Result<ArtifactLocation, AllocError> {
     let start = if path.starts_with('/') { "file://" } else { "" };
     let mut uri = String::from_str(alloc, start)?;
-    percent_encode(path.as_bytes(), OUTSIDE_PATHS).append_to(&mut uri)?;
+    push_uri(&mut uri, path)?;
     Ok(ArtifactLocation { uri })
 }
 

@@ -1,0 +1,6 @@
+pub mod HtmlLaws
+pub mod MarkupLaws
+pub mod PlainLaws
+pub mod UriLaws
+pub mod WrittenLaws
+pub mod XmlLaws

@@ -1,0 +1,6 @@
+pub mod Html
+pub mod Markup
+pub mod Plain
+pub mod Steering
+pub mod Uri
+pub mod Xml
