@@ -14,18 +14,25 @@ use std::{io, process};
 /// How many names are tried for the new file.
 const MOST_NAMES: u32 = 100;
 
+/// How often an old file is looked at that is another one by then.
+const MOST_LOOKS: u32 = 100;
+
 /// The longest name that the new file's name repeats. A name has at most 255 bytes, and 28 are for what is added.
 const MOST_REPEATED: usize = 200;
 
 /// What the old file was that the path leads to, if it can be written. It stays as it is.
 fn old_file(rt: &HostRuntime, path: &str, target: &PathBuf) -> io::Result<Metadata> {
-    let old = File::options().write(true).open(rt, target.as_path())?;
-    let found = old.metadata()?;
-    match node_at(rt, Path::new(path))? {
-        Some(node) if node == Node::of(&found) => Ok(found),
-        // The link was of the kind that leads to an open file, whose name is gone.
-        _ => Err(io::Error::from(ErrorKind::NotFound)),
+    for _ in 0..MOST_LOOKS {
+        let old = File::options().write(true).open(rt, target.as_path())?;
+        let found = old.metadata()?;
+        match node_at(rt, Path::new(path))? {
+            Some(node) if node == Node::of(&found) => return Ok(found),
+            // Another process has replaced it meanwhile.
+            _ => {}
+        }
     }
+    // The link leads to an open file, as those of /dev/fd do, whose name is gone or another file's.
+    Err(io::Error::from(ErrorKind::NotFound))
 }
 
 /// A new file in the folder of this one, with a name of its own: `.NAME.PROCESS.NUMBER.tmp`.
