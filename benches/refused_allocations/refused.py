@@ -31,8 +31,8 @@ actor = [
 
 
 class Answer:
-    """What a run printed, its exit status, and the file out.json that it left; and how many allocations, threads, or reads and
-    writes there were."""
+    """What a run printed, its exit status, and the files that it left; and how many allocations, threads, or reads and writes there
+    were."""
 
     def __init__(self, out, err, status, left, count):
         self.out, self.err, self.status, self.left, self.count = out, err, status, left, count
@@ -42,11 +42,17 @@ class Answer:
 
     def text(self):
         told = f"status {self.status}, {self.out.decode(errors='replace')!r}, {self.err.decode(errors='replace')!r}"
-        return told if self.left is None else f"{told}, out.json {self.left.decode(errors='replace')!r}"
+        return told + "".join(f", {name} {text.decode(errors='replace')!r}" for name, text in self.left.items())
 
 
 def failed(answer, lines):
     return answer.status == 3 and answer.err in lines
+
+
+def failed_at_a_file(answer):
+    """Whether the machine has failed at a file; which one and why may be in a second line."""
+    line, end, more = answer.err.partition(b"\n")
+    return answer.status == 3 and line + end == FILE and (not more or more.startswith(b"  ") and more.find(b"\n") == len(more) - 1)
 
 
 def memory(answer, truth):
@@ -66,8 +72,10 @@ def thread(answer, _truth):
 
 def file(answer, truth):
     """With a read or a write refused, the machine has always failed. Output that was printed before isn't taken back; and the line of
-    an error that can't be written is missing."""
-    return failed(answer, (FILE,)) or answer.status == 3 and not answer.out + answer.err and truth.status in (2, 3)
+    an error that can't be written is missing. A file that is written is there as a whole, or not at all."""
+    if answer.left not in ({}, truth.left):
+        return False
+    return failed_at_a_file(answer) or answer.status == 3 and not answer.out + answer.err and truth.status in (2, 3)
 
 
 def passes(answer, _truth):
@@ -111,14 +119,14 @@ class Runs:
         """The answer with this one refused, or with none (0). None where there is no answer in time."""
         folder = os.path.join(self.room, str(next(self.numbers)))
         os.mkdir(folder)
-        count, out = folder + ".count", os.path.join(folder, "out.json")
+        count = folder + ".count"
         with_it = {**os.environ, "REFUSE": sweep.kind, "REFUSE_AT": str(number), "REFUSE_COUNT": count, "LD_PRELOAD": self.library}
         try:
             ran = subprocess.run(sweep.command, cwd=folder, env=with_it, stdin=subprocess.DEVNULL, stdout=subprocess.PIPE,
                                  stderr=subprocess.PIPE, timeout=LIMIT, check=False)
         except subprocess.TimeoutExpired:
             return None
-        left = read(out) if os.path.isfile(out) else None
+        left = {it: read(os.path.join(folder, it)) for it in sorted(os.listdir(folder))}
         answer = Answer(ran.stdout, ran.stderr, ran.returncode, left, int(read(count)))
         os.remove(count)
         shutil.rmtree(folder)

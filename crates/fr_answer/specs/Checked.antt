@@ -10,7 +10,6 @@
 -- | HasVerdict            | there is a verdict on the bytes                                               |
 -- | app_fault, cert_fault | the fault of a check that a refused text comes to; inner ones of memory are one |
 -- | check_fault           | the fault of a check that bytes without a verdict come to                     |
--- | load_fault            | the fault of a check whose file couldn't be read                              |
 -- | IsAppRefused          | the application's bytes have this fault, which isn't want of memory           |
 -- | IsCertRefused         | the certificate's bytes have, for the application that the other ones mean    |
 -- | CanRefuse, IsRefused  | this fault can be the answer to the bytes and workers; one of status 2 can    |
@@ -25,8 +24,6 @@ use Rattle.fr_reader.specs.FaultText.{fault_text}
 use Rattle.fr_reader.specs.Meaning.{Means}
 use Rattle.fr_reader.specs.Faults.{is_memory as app_is_memory}
 use Rattle.fr_reader.specs.Stands.{Stands}
--- how many bytes the text of a certificate has at the most, which no file that is read may exceed
-pub use Rattle.fr_cert.specs.Meaning.{most_bytes}
 use Rattle.fr_cert.specs.declared.fault.CertFault.{CertFault}
 use Rattle.fr_cert.specs.FaultText.{text_of}
 use Rattle.fr_cert.specs.Faults.{is_memory as cert_is_memory}
@@ -41,8 +38,6 @@ use Rattle.fr_judge.specs.declared.part.Verdict.TheVariants.{Yes, No}
 use Rattle.fr_report.specs.Report.{report_text}
 use Rattle.fr_answer.specs.declared.fault.CheckFault.{CheckFault}
 use Rattle.fr_answer.specs.declared.fault.CheckFault.TheVariants.{App, Cert, Workers, Rounds, Polls, Out, Memory, Thread, Read, Write}
-use Rattle.fr_answer.specs.declared.file.LoadFault.{LoadFault}
-use Rattle.fr_answer.specs.declared.file.LoadFault.TheVariants.{Memory as NotHeld, Device}
 
 -- 0 where the verdict is yes, and 1 where it is no
 abbrev pub status_of : Verdict → ℕ
@@ -108,11 +103,6 @@ check_fault (Par NoWorkers) = Workers
 check_fault (Par NoThreads) = Thread
 check_fault (AppRefused f) = app_fault f
 check_fault (CertRefused f) = cert_fault f
-
--- the fault of a check whose file couldn't be read
-abbrev pub load_fault : LoadFault → CheckFault
-load_fault NotHeld = Memory
-load_fault Device = Read
 
 -- the application's bytes have this fault, which isn't want of memory
 abbrev pub IsAppRefused : List ℕ → ReadFault → Type 0

@@ -17,7 +17,6 @@ use fr_program::App;
 use fr_prover::{best_certificate, thinned};
 use fr_reader::read_app;
 use fr_request::Detail;
-use serde_json::Value;
 use std::alloc::Global;
 use std::sync::Wait;
 use std::thread::Threads;
@@ -148,21 +147,5 @@ pub fn prove_told<R: Threads + Wait + Sync, G: Gate>(
     match breach_told(rt, alloc, app, MOST_STATES, workers, explains)? {
         Some(told) => Ok(Proved { told, ..proved }),
         None => Ok(proved),
-    }
-}
-
-/// Whether a file with these bytes may be replaced by a certificate: it has an object in JSON with the keys
-/// of one.
-///
-/// # Errors
-///
-/// `Memory` where an allocation was refused.
-pub fn is_replaceable(alloc: Global, bytes: &[u8]) -> Result<bool, CheckFault>
-    ensures { IfErr result (λ fault. fault ≡ CheckFault.Memory) }
-{
-    match Value::from_slice(alloc, bytes) {
-        Ok(tree) => Ok(tree.get("version").is_some() && tree.get("notes").is_some()),
-        Err(error) if error.is_memory() => Err(CheckFault::Memory),
-        Err(_) => Ok(false),
     }
 }

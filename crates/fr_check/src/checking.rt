@@ -1,9 +1,9 @@
 // What the program does for the command `check`.
-use crate::files::{Stopped, input};
+use crate::files::{Stopped, check_outs, input};
 use crate::formats::{detail_in, print_answer};
 use crate::judging::answer_for;
 use crate::lists::{ListRequest, check_list};
-use crate::paging::{check_page, command_text, show, show_fault};
+use crate::paging::{command_text, page_file, page_output, show, show_fault};
 use fr_answer::{
     Command, MOST_APP_BYTES, MOST_CERTIFICATE_BYTES, NO, Question, Source, Ways, answer_check,
     check_told, warn,
@@ -28,6 +28,7 @@ fn explained<R: Threads + Wait + Sync>(
         app,
         certificate: Some(certificate),
     };
+    let page = page_file(asked.html, explains);
     match check_told(
         threads,
         rt.alloc(),
@@ -37,8 +38,8 @@ fn explained<R: Threads + Wait + Sync>(
         &Open,
         asked.detail,
     ) {
-        Ok(told) => show(rt, asked.html, question, &told, explains),
-        Err(fault) => show_fault(rt, asked.html, question, &fault, explains),
+        Ok(told) => show(rt, page, question, &told),
+        Err(fault) => show_fault(rt, page, question, &fault, explains),
     }
 }
 
@@ -51,9 +52,10 @@ fn check_text<R: Threads + Wait + Sync>(
     asked: CheckRequest,
 ) -> Result<u8, Stopped> {
     let explains = asked.detail.is_some();
+    let inputs = [app_path, certificate_path];
+    check_outs(rt, &inputs, &[page_output(asked.html)], explains)?;
     let app = input(rt, app_path, MOST_APP_BYTES, explains)?;
     let certificate = input(rt, certificate_path, MOST_CERTIFICATE_BYTES, explains)?;
-    check_page(rt, asked.html)?;
     let status = if explains || asked.html.is_some() {
         let command = command_text(rt.alloc(), "check", app_path, certificate_path)?;
         explained(rt, threads, command.as_str(), (&app, &certificate), asked)?

@@ -1,8 +1,9 @@
 // What is answered for one application, as a value.
-use crate::files::{file_bytes, unread_answer};
+use crate::files::unread_answer;
 use fr_answer::{
     Answer, MOST_APP_BYTES, MOST_CERTIFICATE_BYTES, Source, Ways, check_answer, prove_answer,
 };
+use fr_files::read;
 use fr_parallel::Open;
 use std::alloc::AllocError;
 use std::sync::Wait;
@@ -16,16 +17,16 @@ pub fn answer_for<R: Threads + Wait + Sync>(
     ways: Ways,
 ) -> Result<Answer, AllocError> {
     let (alloc, path) = (rt.alloc(), source.application);
-    let app = match file_bytes(rt, path, MOST_APP_BYTES) {
+    let app = match read(rt, path, MOST_APP_BYTES) {
         Ok(app) => app,
-        Err(unread) => return unread_answer(alloc, source, path, &unread),
+        Err(fault) => return unread_answer(alloc, source, &fault),
     };
     let Some(path) = source.certificate else {
         let (answer, _) = prove_answer(threads, alloc, source, &app, &Open, true, ways)?;
         return Ok(answer);
     };
-    match file_bytes(rt, path, MOST_CERTIFICATE_BYTES) {
+    match read(rt, path, MOST_CERTIFICATE_BYTES) {
         Ok(certificate) => { check_answer(threads, alloc, source, &app, &certificate, &Open, ways) }
-        Err(unread) => unread_answer(alloc, source, path, &unread),
+        Err(fault) => unread_answer(alloc, source, &fault),
     }
 }

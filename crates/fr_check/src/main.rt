@@ -17,7 +17,7 @@ mod running;
 
 use checking::check;
 use clap::error::ErrorKind;
-use files::{Stopped, is_memory};
+use files::Stopped;
 use finding::find;
 use fr_answer::{CheckFault, REFUSED, answer_fault};
 use fr_request::Request;
@@ -27,6 +27,7 @@ use proving::prove;
 use refuting::refute;
 use running::run;
 use std::env;
+use std::io::ErrorKind as IoErrorKind;
 use std::process::ExitCode;
 use std::sync::Wait;
 use std::thread::Threads;
@@ -54,7 +55,9 @@ fn explain(rt: &HostRuntime, error: &clap::Error) -> Result<u8, CheckFault> {
 fn answer<R: Threads + Wait + Sync>(rt: &HostRuntime, threads: &R) -> Result<u8, Stopped> {
     let words = match env::args(rt) {
         Ok(words) => words,
-        Err(error) if is_memory(&error) => return Err(Stopped::Fault(CheckFault::Memory)),
+        Err(error) if matches!(error.kind(), IoErrorKind::OutOfMemory) => {
+            return Err(Stopped::Fault(CheckFault::Memory));
+        }
         Err(_) => return Ok(refuse_words(rt)?),
     };
     let Ok(words) = words.collect::<Vec<String>>(rt.alloc()) else {

@@ -1,57 +1,25 @@
 // What the program does for the command `prove`.
-use crate::files::{Stopped, file_bytes, input, is_memory, unread_answer};
-use crate::finding::write_file;
+use crate::files::{Stopped, check_outs, input, output, unread_answer, unwritten_answer};
 use crate::formats::{detail_in, print_answer};
-use crate::paging::{check_page, command_text, show, show_fault};
+use crate::paging::{command_text, page_file, page_output, show, show_fault};
 use fr_answer::{
-    Answer, CheckFault, Command, DONE, MOST_APP_BYTES, MOST_CERTIFICATE_BYTES, Proved, Question,
-    Source, Ways, fault_answer, is_replaceable, load, prove_answer, prove_told, warn,
+    Answer, Command, DONE, MOST_APP_BYTES, Proved, Question, Source, Ways, prove_answer,
+    prove_told, warn,
 };
+use fr_files::{Holds, Output, check_outputs, read, replace};
 use fr_parallel::Open;
 use fr_request::ProveRequest;
 use std::alloc::AllocError;
-use std::fs::File;
-use std::io::ErrorKind;
 use std::sync::Wait;
 use std::thread::Threads;
 
-/// Refuses a file for the certificate that has something else than a certificate.
-fn check_out(rt: &HostRuntime, path: &str) -> Result<(), CheckFault> {
-    let mut file = match File::open(rt, path) {
-        Ok(file) => file,
-        Err(error) if is_memory(&error) => return Err(CheckFault::Memory),
-        Err(error) if matches!(error.kind(), ErrorKind::NotFound) => return Ok(()),
-        Err(_) => return Err(CheckFault::Out),
-    };
-    let bytes = load(rt.alloc(), &mut file, MOST_CERTIFICATE_BYTES)?;
-    if is_replaceable(rt.alloc(), &bytes)? {
-        Ok(())
-    } else {
-        Err(CheckFault::Out)
-    }
-}
-
-/// Refuses files for the certificate and for the page that have something else, or that are one file.
-fn check_outs(rt: &HostRuntime, asked: ProveRequest) -> Result<(), CheckFault> {
-    if let Some(path) = asked.out {
-        check_out(rt, path)?;
-    }
-    match (asked.out, asked.html) {
-        (Some(certificate), Some(page)) if certificate == page => Err(CheckFault::Out),
-        (_, page) => check_page(rt, page),
-    }
-}
-
-/// Writes the certificate, where the verdict by it is yes and a file is given for it.
-fn write_certificate(
-    rt: &HostRuntime,
-    out: Option<&str>,
-    certificate: Option<&str>,
-) -> Result<(), CheckFault> {
-    match (out, certificate) {
-        (Some(path), Some(text)) => write_file(rt, path, text),
-        _ => Ok(()),
-    }
+/// The files that are written: the certificate's and the page's, where they are wanted.
+fn outputs_of<'a>(asked: ProveRequest<'a>) -> [Option<Output<'a>>; 2] {
+    let certificate = asked.out.map(|path| Output {
+        path,
+        replaces: Holds::Certificate,
+    });
+    [certificate, page_output(asked.html)]
 }
 
 /// Writes the certificate, and then prints what there is to say, and writes it as a page where one is wanted.
@@ -62,15 +30,14 @@ fn show_proof(
     proved: &Proved,
 ) -> Result<u8, Stopped> {
     let certificate = proved.certificate.as_str();
-    if proved.told.status == DONE {
-        write_certificate(rt, asked.out, Some(certificate))?;
+    if let (DONE, Some(path)) = (proved.told.status, asked.out) {
+        output(rt, path, certificate, true)?;
     }
     let question = Question {
         certificate: Some(certificate.as_bytes()),
         ..question
     };
-    let explains = asked.detail.is_some();
-    let status = show(rt, asked.html, question, &proved.told, explains)?;
+    let status = show(rt, page_file(asked.html, true), question, &proved.told)?;
     if asked.warns {
         warn(
             rt.alloc(),
@@ -89,8 +56,8 @@ fn prove_text<R: Threads + Wait + Sync>(
     threads: &R,
     asked: ProveRequest,
 ) -> Result<u8, Stopped> {
-    let app = input(rt, asked.app, MOST_APP_BYTES, asked.detail.is_some())?;
-    check_outs(rt, asked)?;
+    check_outs(rt, &[asked.app], &outputs_of(asked), true)?;
+    let app = input(rt, asked.app, MOST_APP_BYTES, true)?;
     let command = command_text(rt.alloc(), "prove", asked.app, "")?;
     let question = Question {
         command: command.as_str(),
@@ -108,7 +75,13 @@ fn prove_text<R: Threads + Wait + Sync>(
         detail,
     ) {
         Ok(proved) => show_proof(rt, asked, question, &proved),
-        Err(fault) => show_fault(rt, asked.html, question, &fault, detail.is_some()),
+        Err(fault) => show_fault(
+            rt,
+            page_file(asked.html, true),
+            question,
+            &fault,
+            detail.is_some(),
+        ),
     }
 }
 
@@ -121,18 +94,18 @@ fn proof_answer<R: Threads + Wait + Sync>(
     app: &[u8],
 ) -> Result<Answer, AllocError> {
     let alloc = rt.alloc();
-    if let Err(fault) = check_outs(rt, asked) {
-        return fault_answer(alloc, source, app, None, &fault);
-    }
     let ways = Ways {
         workers: usize::from(asked.workers),
         detail: detail_in(asked.format, asked.detail),
         warns: asked.warns,
     };
     let (answer, text) = prove_answer(threads, alloc, source, app, &Open, asked.searches, ways)?;
-    match write_certificate(rt, asked.out, text.as_deref()) {
+    let (Some(path), Some(text)) = (asked.out, text) else {
+        return Ok(answer);
+    };
+    match replace(rt, path, text.as_bytes()) {
         Ok(()) => Ok(answer),
-        Err(fault) => fault_answer(alloc, source, app, None, &fault),
+        Err(fault) => unread_answer(alloc, source, &fault),
     }
 }
 
@@ -148,9 +121,12 @@ fn file_answer<R: Threads + Wait + Sync>(
         application: path,
         certificate: asked.out,
     };
-    match file_bytes(rt, path, MOST_APP_BYTES) {
+    if let Err(fault) = check_outputs(rt, &[path], &outputs_of(asked)) {
+        return unwritten_answer(rt.alloc(), source, &fault);
+    }
+    match read(rt, path, MOST_APP_BYTES) {
         Ok(app) => proof_answer(rt, threads, asked, source, &app),
-        Err(unread) => unread_answer(rt.alloc(), source, path, &unread),
+        Err(fault) => unread_answer(rt.alloc(), source, &fault),
     }
 }
 

@@ -1,10 +1,11 @@
 // What the program does for the command `refute`.
-use crate::files::{Stopped, file_bytes, input, unread_answer};
+use crate::files::{Stopped, check_outs, input, unread_answer};
 use crate::formats::print_answer;
-use crate::paging::{check_page, command_text, show, show_fault};
+use crate::paging::{command_text, page_file, page_output, show, show_fault};
 use fr_answer::{
     Answer, Command, Detail, MOST_APP_BYTES, Question, Source, Ways, refute_answer, refute_bytes,
 };
+use fr_files::read;
 use fr_request::RefuteRequest;
 use std::alloc::AllocError;
 use std::thread::Threads;
@@ -15,18 +16,19 @@ fn refute_text<R: Threads + Sync>(
     threads: &R,
     asked: RefuteRequest,
 ) -> Result<u8, Stopped> {
-    let app = input(rt, asked.app, MOST_APP_BYTES, asked.explains)?;
+    check_outs(rt, &[asked.app], &[page_output(asked.html)], true)?;
+    let app = input(rt, asked.app, MOST_APP_BYTES, true)?;
     let (states, workers) = (asked.states as usize, usize::from(asked.workers));
-    check_page(rt, asked.html)?;
     let command = command_text(rt.alloc(), "refute", asked.app, "")?;
     let question = Question {
         command: command.as_str(),
         app: &app,
         certificate: None,
     };
+    let page = page_file(asked.html, true);
     match refute_bytes(threads, rt.alloc(), &app, states, workers, asked.explains) {
-        Ok(told) => show(rt, asked.html, question, &told, asked.explains),
-        Err(fault) => show_fault(rt, asked.html, question, &fault, asked.explains),
+        Ok(told) => show(rt, page, question, &told),
+        Err(fault) => show_fault(rt, page, question, &fault, asked.explains),
     }
 }
 
@@ -47,9 +49,9 @@ fn file_answer<R: Threads + Sync>(
         application: path,
         certificate: None,
     };
-    let app = match file_bytes(rt, path, MOST_APP_BYTES) {
+    let app = match read(rt, path, MOST_APP_BYTES) {
         Ok(app) => app,
-        Err(unread) => return unread_answer(alloc, source, path, &unread),
+        Err(fault) => return unread_answer(alloc, source, &fault),
     };
     refute_answer(threads, alloc, source, &app, asked.states as usize, ways)
 }

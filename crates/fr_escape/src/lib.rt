@@ -9,8 +9,6 @@ mod html;
 mod language;
 mod plain;
 mod steering;
-#[cfg(test)]
-mod tests;
 mod uri;
 mod xml;
 
