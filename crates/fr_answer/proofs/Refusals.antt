@@ -1,5 +1,5 @@
--- What a refused text and a status say: a fault that stands, a verdict, and a safe application.
-use Rattle.std.proofs.Common.{◌≡◌, ◌∙◌, ℕ, List, Bool, true, false, refl, arith, ap, subst, Some, string_bytes}
+-- What a refused text and a status say: a fault that stands, and a verdict.
+use Rattle.std.proofs.Common.{◌≡◌, ℕ, List, Bool, true, false, refl, arith}
 use Rattle.std.specs.Prelude.{if◌then◌else◌}
 use Rattle.fr_reader.specs.declared.fault.ReadFault.{ReadFault}
 use Rattle.fr_reader.specs.Faults.{is_memory as app_is_memory}
@@ -15,19 +15,8 @@ use Rattle.fr_parallel.specs.declared.bytes.BytesFault.TheVariants.{Par, App as 
 use Rattle.fr_parallel.specs.declared.fault.ParFault.TheVariants.{Memory as NoMemory, Workers as NoWorkers, Threads as NoThreads}
 use Rattle.fr_parallel.specs.Bytes.{bytes_fault, IsFaultOfBytes}
 use Rattle.fr_parallel.specs.Kept.{IsNoCrew}
-use Rattle.fr_program.specs.Program.{Program}
-use Rattle.fr_calls.specs.Run.{IsSafe}
-use Rattle.fr_refuter.specs.declared.answer.Finding.{Finding}
-use Rattle.fr_refuter.specs.declared.answer.Finding.TheVariants.{Breach, Safe, Unknown}
-use Rattle.fr_refuter.specs.Refutes.{IsFound}
 use Rattle.fr_answer.specs.declared.fault.CheckFault.{CheckFault}
 use Rattle.fr_answer.specs.declared.fault.CheckFault.TheVariants.{App, Cert, Memory}
-use Rattle.fr_reader.specs.Meaning.{Means}
-use Rattle.fr_refuter.specs.declared.replay.Refutation.{Refutation}
-use Rattle.fr_report.specs.Refuted.{IsFindingText}
-use Rattle.fr_answer.specs.declared.telling.Outcome.TheVariants.{Searched}
-use Rattle.fr_answer.specs.declared.telling.Told.{Told}
-use Rattle.fr_answer.specs.Refuted.{finding_status, IsBreachTold}
 use Rattle.fr_answer.specs.Checked.{status_of, app_fault, cert_fault, check_fault, IsAppRefused, IsCertRefused, CanRefuse}
 
 -- what holds of want of memory, and of a fault that the application's text has, holds of what it comes to
@@ -64,22 +53,3 @@ refused-by a c w (CertRefused f) s none = text-refused (CanRefuse a c w) a c tt 
 pub zero-yes : (v : Verdict) → status_of v ≡ 0 → v ≡ Yes
 zero-yes Yes e = refl
 zero-yes (No p part) e = absurd (omega (arith, e))
-
--- so is the status 0 of what was found that of a safe application
-pub zero-safe : (P : Program) (found : Finding) → IsFound P found → finding_status found ≡ 0 → IsSafe P
-zero-safe P (Breach r) is e = absurd (omega (arith, e))
-zero-safe P (Safe states) is e = is
-zero-safe P (Unknown states) is e = absurd (omega (arith, e))
-
--- what is told of a finding that is a breach is a run into one
-pub breach-told : (app : List ℕ) (explains : Bool) (P : Program) (found : Finding) (r : Refutation) (t : Told) → found ≡ Breach r → Means app P → IsFound P found
-    → t.status ≡ finding_status found → IsFindingText explains P found (string_bytes t.text) → t.outcome ≡ Some (Searched found) → IsBreachTold app explains t
-breach-told app explains P found r t e means is status text outcome = (
-  P,
-  r,
-  means,
-  subst (λ f. IsFound P f) e is,
-  status ∙ ap finding_status e,
-  subst (λ f. IsFindingText explains P f (string_bytes t.text)) e text,
-  outcome ∙ ap (λ f. Some (Searched f)) e,
-)

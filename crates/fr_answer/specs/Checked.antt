@@ -5,20 +5,22 @@
 -- | status_of             | the exit status of a verdict                                                  |
 -- | fault_status          | the exit status of a fault                                                    |
 -- | line_of, whole_line   | the line of a fault, and the line with its newline                            |
+-- | list_line             | the line of a list that is refused                                            |
 -- | IsAnswer              | the status and what was written are those of the verdict on the bytes         |
 -- | IsSafeText            | the bytes mean an application that is safe                                    |
 -- | HasVerdict            | there is a verdict on the bytes                                               |
 -- | app_fault, cert_fault | the fault of a check that a refused text comes to; inner ones of memory are one |
 -- | check_fault           | the fault of a check that bytes without a verdict come to                     |
+-- | list_fault            | the fault of a command that a refused list comes to                           |
 -- | IsAppRefused          | the application's bytes have this fault, which isn't want of memory           |
 -- | IsCertRefused         | the certificate's bytes have, for the application that the other ones mean    |
 -- | CanRefuse, IsRefused  | this fault can be the answer to the bytes and workers; one of status 2 can    |
--- | CanRefuseTexts        | this fault can be the answer where both texts are read, and nothing else      |
--- | IsTold                | a fault of status 2 was written as its line                                   |
-use Rattle.std.specs.Prelude.{◌≡◌, ◌++◌, ℕ, List, Option, false, codes, if◌then◌else◌}
+use Rattle.std.specs.Prelude.{◌≡◌, ◌++◌, ℕ, List, Option, false, codes, decimal, if◌then◌else◌}
 use Rattle.std.specs.Io.KnownBytes.{Appends}
 use Rattle.fr_program.specs.Program.{Program}
 use Rattle.fr_calls.specs.Run.{IsSafe}
+use Rattle.fr_list.specs.declared.listed.ListFault.{ListFault}
+use Rattle.fr_list.specs.declared.listed.ListFault.TheVariants.{Memory as NoMemoryForList, TooLong, NotText, Words as TooManyWords, Empty}
 use Rattle.fr_reader.specs.declared.fault.ReadFault.{ReadFault}
 use Rattle.fr_reader.specs.FaultText.{fault_text}
 use Rattle.fr_reader.specs.Meaning.{Means}
@@ -37,7 +39,7 @@ use Rattle.fr_judge.specs.declared.part.Verdict.{Verdict}
 use Rattle.fr_judge.specs.declared.part.Verdict.TheVariants.{Yes, No}
 use Rattle.fr_report.specs.Report.{report_text}
 use Rattle.fr_answer.specs.declared.fault.CheckFault.{CheckFault}
-use Rattle.fr_answer.specs.declared.fault.CheckFault.TheVariants.{App, Cert, Workers, Rounds, Polls, Out, Memory, Thread, Read, Write}
+use Rattle.fr_answer.specs.declared.fault.CheckFault.TheVariants.{App, Cert, List as NoList, Words, Workers, Rounds, Polls, Out, Memory, Thread, File, Write}
 
 -- 0 where the verdict is yes, and 1 where it is no
 abbrev pub status_of : Verdict → ℕ
@@ -48,26 +50,38 @@ status_of (No p part) = 1
 abbrev pub fault_status : CheckFault → ℕ
 fault_status (App f) = 2
 fault_status (Cert f) = 2
+fault_status (NoList f) = 2
+fault_status Words = 2
 fault_status Workers = 2
 fault_status Rounds = 2
 fault_status Polls = 2
 fault_status Out = 2
 fault_status Memory = 3
 fault_status Thread = 3
-fault_status Read = 3
+fault_status File = 3
 fault_status Write = 3
+
+-- the line of a list that is refused, without its newline
+abbrev pub list_line : ListFault → List ℕ
+list_line NoMemoryForList = codes "machine: memory"
+list_line TooLong = codes "refused: list 1 TooLong"
+list_line NotText = codes "refused: list 2 NotText"
+list_line (TooManyWords line) = codes "refused: list 3 Words: line " ++ decimal line
+list_line Empty = codes "refused: list 4 Empty"
 
 -- the line for standard error, without its newline
 abbrev pub line_of : CheckFault → List ℕ
 line_of (App f) = codes "refused: app " ++ fault_text f
 line_of (Cert f) = codes "refused: cert " ++ text_of f
+line_of (NoList f) = list_line f
+line_of Words = codes "refused: words"
 line_of Workers = codes "refused: workers"
 line_of Rounds = codes "refused: rounds"
 line_of Polls = codes "refused: polls"
 line_of Out = codes "refused: out"
 line_of Memory = codes "machine: memory"
 line_of Thread = codes "machine: thread"
-line_of Read = codes "machine: file"
+line_of File = codes "machine: file"
 line_of Write = codes "machine: file"
 
 -- the line with its newline
@@ -104,6 +118,14 @@ check_fault (Par NoThreads) = Thread
 check_fault (AppRefused f) = app_fault f
 check_fault (CertRefused f) = cert_fault f
 
+-- the fault of a command whose list is refused by this one: want of memory is `Memory`
+abbrev pub list_fault : ListFault → CheckFault
+list_fault NoMemoryForList = Memory
+list_fault TooLong = NoList TooLong
+list_fault NotText = NoList NotText
+list_fault (TooManyWords line) = NoList (TooManyWords line)
+list_fault Empty = NoList Empty
+
 -- the application's bytes have this fault, which isn't want of memory
 abbrev pub IsAppRefused : List ℕ → ReadFault → Type 0
 IsAppRefused app f = (app_is_memory f ≡ false) × Stands app f
@@ -123,18 +145,6 @@ CanRefuse app certificate workers Thread = Unit {0}
 CanRefuse app certificate workers Write = HasVerdict app certificate × (IsNoCrew workers → ⊥)
 CanRefuse app certificate workers fault = ⊥
 
--- the same where both texts are read and nothing is judged: the fault is present in them, or there was no memory
-abbrev pub CanRefuseTexts : List ℕ → List ℕ → CheckFault → Type 0
-CanRefuseTexts app certificate (App f) = IsAppRefused app f
-CanRefuseTexts app certificate (Cert f) = IsCertRefused app certificate f
-CanRefuseTexts app certificate Memory = Unit {0}
-CanRefuseTexts app certificate fault = ⊥
-
 -- the bytes or the number of workers are refused: a fault of status 2 is present in them
 abbrev pub IsRefused : List ℕ → List ℕ → ℕ → Type 0
 IsRefused app certificate workers = (fault : CheckFault) × CanRefuse app certificate workers fault × (fault_status fault ≡ 2)
-
--- what was asked for is refused by a fault of status 2, one of those that can be the answer, and its line with a newline
--- was written after what the writer had, and nothing else
-abbrev pub IsTold : (CheckFault → Type 0) → Option (List ℕ) → Option (List ℕ) → Type 0
-IsTold Can old new = (fault : CheckFault) × Can fault × (fault_status fault ≡ 2) × Appends old new (whole_line fault)

@@ -2,7 +2,7 @@
 --
 -- | word           | meaning                                                                              |
 -- |----------------|--------------------------------------------------------------------------------------|
--- | IsWrittenFor   | the text of a certificate that fits the application                                  |
+-- | IsCertificateFor, IsWrittenFor | the text of a certificate that fits the application                  |
 -- | IsFound        | the same of the application that the bytes mean, or nothing that is found for it     |
 -- | CanRefuseFind  | this fault can be the answer to the bytes and the number of rounds                   |
 -- | found_status   | the exit status for what is found                                                    |
@@ -21,8 +21,12 @@ use Rattle.fr_answer.specs.declared.found.Found.{Found}
 use Rattle.fr_answer.specs.declared.found.Found.TheVariants.{Text, NotFound}
 
 -- a text is that of a certificate that fits the application
+abbrev pub IsCertificateFor : Program → List ℕ → Type 0
+IsCertificateFor P text = (C : Certificate) × CertificateFits P C × (text ≡ cert_text P C)
+
+-- what is found is the text of such a certificate
 abbrev pub IsWrittenFor : Program → Found → Type 0
-IsWrittenFor P (Text text) = (C : Certificate) × CertificateFits P C × (string_bytes text ≡ cert_text P C)
+IsWrittenFor P (Text text) = IsCertificateFor P (string_bytes text)
 IsWrittenFor P NotFound = Unit {0}
 
 -- the bytes mean an application, for which this is found

@@ -5,10 +5,11 @@
 -- | most_polls       | the most polls that a run may have                                                 |
 -- | IsOutput         | what is written for a verdict: its report where it is no, else a true run's trace  |
 -- | IsOutputFor      | the same, with the exit status, for an application and a certificate               |
+-- | IsRunText        | the status and the text are those of the verdict on the bytes, with why it is no   |
 -- | IsRunAnswer      | the status and what was written are those of the verdict on the bytes              |
 -- | run_fault        | the fault of a command whose run gave no trace                                     |
 -- | CanRefuseRun     | this fault can be the answer to the bytes and the number of polls                  |
-use Rattle.std.specs.Prelude.{◌≡◌, ◌<◌, ℕ, List, Option}
+use Rattle.std.specs.Prelude.{◌≡◌, ◌<◌, ◌++◌, ℕ, List, [], Option, None}
 use Rattle.std.specs.Io.KnownBytes.{Appends}
 use Rattle.fr_program.specs.Program.{Program}
 use Rattle.fr_ends.specs.Certificate.{Certificate}
@@ -16,6 +17,7 @@ use Rattle.fr_judge.specs.Told.{TellsVerdict}
 use Rattle.fr_text.specs.Texts.{IsJudged}
 use Rattle.fr_judge.specs.declared.part.Verdict.{Verdict}
 use Rattle.fr_judge.specs.declared.part.Verdict.TheVariants.{Yes, No}
+use Rattle.fr_request.specs.declared.detail.Detail.{Detail}
 use Rattle.fr_runner.specs.declared.fault.RunFault.{RunFault}
 use Rattle.fr_runner.specs.declared.fault.RunFault.TheVariants.{Memory as NoMemory, Polls as TooManyPolls, Threads as NoThread, Spent, NoActor}
 use Rattle.fr_runner.specs.declared.trace.Entry.{Entry}
@@ -48,6 +50,13 @@ run_fault NoThread = Thread
 run_fault NoMemory = Memory
 run_fault Spent = Memory
 run_fault NoActor = Memory
+
+-- the bytes mean an application and a certificate; the status tells the verdict on them, and the text is its output, with nothing
+-- added to a yes, and nothing where nobody asks why it is no
+abbrev pub IsRunText : List ℕ → List ℕ → ℕ → List ℕ → Option Detail → ℕ → List ℕ → Type 0
+IsRunText app certificate polls words detail status text =
+    (P : Program) × (verdict : Verdict) × (out more : List ℕ) × IsJudged app certificate P verdict × (status ≡ status_of verdict)
+    × IsOutput P verdict polls words out × (text ≡ out ++ more) × (status ≡ 0 → more ≡ []) × (detail ≡ None → more ≡ [])
 
 -- the bytes mean an application and a certificate; the status tells the verdict on them, and its output was written
 -- after what the writer had, and nothing else

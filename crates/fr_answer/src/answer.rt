@@ -1,84 +1,201 @@
-// What a command writes, and its exit status.
-ghost use Rattle.std.specs.Prelude.{◌≡◌, ◌≤◌, ◌++◌, IfOk, codes, string_bytes};
-ghost use Rattle.std.specs.Io.KnownBytes.{Appends};
-ghost use Rattle.fr_parallel.specs.Kept.{IsNoCrew};
-ghost use Rattle.fr_answer.specs.Checked.{
-  CanRefuse,
-  IsAnswer,
-  IsSafeText,
-  IsTold,
-  fault_status,
-  whole_line,
+// What a command found out about an application.
+ghost use Rattle.std.specs.Prelude.{◌≡◌, IfOk, string_bytes};
+ghost use Rattle.fr_report.specs.Lines.{lines_text};
+ghost use Rattle.fr_report.specs.Refuted.{IsRunText};
+ghost use Rattle.fr_answer.specs.Answers.{
+  AreLinesOf,
+  IsTextOf,
+  first_line,
+  kind_of,
+  kind_of_fault,
+  kind_of_finding,
+  kind_of_verdict,
+  place_text,
+  what_status,
 };
 
-use crate::check::check_with;
-use crate::exit::MACHINE;
+use crate::exit::REFUSED;
 use crate::fault::{CheckFault, fault_line, status};
-use fr_parallel::Gate;
+use crate::judged::Judged;
+use fr_formats::{AnswerKind, Command, WarningShown};
+use fr_judge::Verdict;
+use fr_program::App;
+use fr_refuter::Finding;
+use fr_report::{explain_run, finding_line, text_of, verdict_line};
 use std::alloc::{AllocError, Global};
-use std::io::Write;
-use std::sync::Wait;
-use std::thread::Threads;
 
-/// The line of a fault with its newline.
-fn whole_line(alloc: Global, fault: &CheckFault) -> Result<String, AllocError>
-    ensures { IfOk result (λ line. string_bytes line ≡ whole_line fault.now) }
-{
-    let mut line = fault_line(alloc, fault)?;
-    line.push('\n')?;
-    Ok(line)
+/// Why there is no verdict, and where: a text that is refused, or the machine that failed.
+#[derive(Drop)]
+pub struct Refusal {
+    pub fault: CheckFault,
+    /// The lines that say where it is, where that is asked for.
+    pub place: Option<Vec<String>>,
 }
 
-/// Writes the fault's line, with a newline, and answers the exit status: 2 where the input is
-/// refused, and 3 where the machine failed.
-///
-/// Where there is no memory for the line it writes `machine: memory`, and the status is 3. It is 3
-/// too where the writer failed; what was written then is open.
-pub fn answer_fault<W: Write>(alloc: Global, fault: &CheckFault, writer: &mut W) -> u8
-    ensures refused { result ≡ 2 → fault_status fault.now ≡ 2 }
-    ensures told { result ≡ 2 → Appends (W.contents writer.old) (W.contents writer.new) (whole_line fault.now) }
-    ensures least { 2 ≤ result }
-    ensures most { result ≤ 3 }
+/// What was found out.
+#[derive(Drop)]
+pub enum What {
+    /// The verdict by a certificate.
+    Judged(Judged),
+    /// What a search for a breach found, whose steps are explained where that is asked for.
+    Searched {
+        app: App,
+        found: Finding,
+        explains: bool,
+    },
+    /// There is no verdict.
+    Refused(Refusal),
+}
+
+/// What a command found out about one application. All that is printed of it, in whatever form, is made from this value.
+#[derive(Drop)]
+pub struct Answer {
+    pub command: Command,
+    /// The application's file, as it was named.
+    pub application: String,
+    /// The certificate's file, where one was named.
+    pub certificate: Option<String>,
+    /// The application's text, from which the places of its lines are taken.
+    pub text: Vec<u8>,
+    pub what: What,
+    /// What the answer may hide.
+    pub warnings: Vec<WarningShown>,
+}
+
+/// The kind of a verdict.
+fn kind_of_verdict(verdict: Verdict) -> AnswerKind
+    ensures { result ≡ kind_of_verdict verdict }
 {
-    let Ok(line) = whole_line(alloc, fault) else {
-        let _written = writer.write_all(b"machine: memory\n");
-        return MACHINE;
-    };
-    match writer.write_all(line.as_bytes()) {
-        Ok(()) => status(fault),
-        Err(_) => MACHINE,
+    match verdict {
+        Verdict::Yes => AnswerKind::Yes,
+        Verdict::No { .. } => AnswerKind::No,
     }
 }
 
-/// Judges the certificate for the application by this many workers, writes the report to `out`, or
-/// the line of a refusal or of a machine fault to `err`, and answers the exit status.
-///
-/// It is 0 only where the verdict is `Yes`, so that the application breaks none of the twelve rules
-/// in any state of any run, and 1 only where it is `No`: each with the report's bytes written to
-/// `out`, and nothing to `err`. It is 2 only where the bytes or the number of workers are refused,
-/// with nothing written to `out`, and the fault's line and a newline to `err`. Else it is 3: the
-/// machine failed, and what was written then is open. Where there aren't 1 to 64 workers, it is
-/// neither 0 nor 1.
-pub fn answer_check<R: Threads + Wait + Sync, G: Gate, O: Write, E: Write>(
-    rt: &R,
-    alloc: Global,
-    app: &[u8],
-    certificate: &[u8],
-    workers: usize,
-    gate: &G,
-    out: &mut O,
-    err: &mut E,
-) -> u8
-    ensures answer { result ≤ 1 → IsAnswer app.now certificate.now result (O.contents out.old) (O.contents out.new) }
-    ensures safe { result ≡ 0 → IsSafeText app.now }
-    ensures quiet { result ≤ 1 → err.new ≡ err.old }
-    ensures workers { IsNoCrew workers → 2 ≤ result }
-    ensures refused { result ≡ 2 → IsTold (CanRefuse app.now certificate.now workers) (E.contents err.old) (E.contents err.new) }
-    ensures kept { result ≡ 2 → out.new ≡ out.old }
-    ensures most { result ≤ 3 }
+/// The kind of what a search found.
+fn kind_of_finding(found: &Finding) -> AnswerKind
+    ensures { result ≡ kind_of_finding found.now }
 {
-    match check_with(rt, alloc, app, certificate, workers, gate, out) {
-        Ok(status) => status,
-        Err(fault) => answer_fault(alloc, &fault, err),
+    match found {
+        Finding::Breach(_) => AnswerKind::Breach,
+        Finding::Safe { .. } => AnswerKind::NoBreach,
+        Finding::Unknown { .. } => AnswerKind::StatesLeft,
+    }
+}
+
+/// The kind of a fault.
+fn kind_of_fault(fault: &CheckFault) -> AnswerKind
+    ensures { result ≡ kind_of_fault fault.now }
+{
+    if status(fault) == REFUSED {
+        AnswerKind::Refused
+    } else {
+        AnswerKind::Machine
+    }
+}
+
+/// What explains a verdict, a line each.
+fn why_lines(alloc: Global, judged: &Judged) -> Result<Vec<String>, AllocError>
+    ensures { IfOk result (λ lines. AreLinesOf (What.Judged judged.now) (lines_text lines.items)) }
+{
+    match judged.why() {
+        Some(why) => why.lines(alloc, judged.app()),
+        None => Ok(Vec::new(alloc)),
+    }
+}
+
+/// The lines of a run into a breach; none where none was found.
+fn run_lines(
+    alloc: Global,
+    app: &App,
+    found: &Finding,
+    explains: bool,
+) -> Result<Vec<String>, AllocError>
+    ensures { IfOk result (λ lines. IsRunText explains app.now found.now (lines_text lines.items)) }
+{
+    match found {
+        Finding::Breach(run) => explain_run(alloc, app, run)?.lines(alloc, app, explains),
+        Finding::Safe { .. } | Finding::Unknown { .. } => Ok(Vec::new(alloc)),
+    }
+}
+
+/// The same lines.
+fn copied(alloc: Global, lines: &[String]) -> Result<Vec<String>, AllocError>
+    ensures { IfOk result (λ copied. lines_text copied.items ≡ lines_text lines.now) }
+{
+    let mut copied = Vec::new(alloc);
+    for line in lines {
+        copied.push(line.clone()?)?;
+    }
+    Ok(copied)
+}
+
+/// The lines that say where a fault is; none where that isn't asked for.
+fn place_lines(alloc: Global, refusal: &Refusal) -> Result<Vec<String>, AllocError>
+    ensures { IfOk result (λ lines. lines_text lines.items ≡ place_text refusal.now.place) }
+{
+    match &refusal.place {
+        Some(lines) => copied(alloc, lines),
+        None => Ok(Vec::new(alloc)),
+    }
+}
+
+impl What {
+    /// What kind of answer it is: yes exactly where the verdict is.
+    pub fn kind(&self) -> AnswerKind
+        ensures { result ≡ kind_of self.now }
+    {
+        match self {
+            What::Judged(judged) => kind_of_verdict(judged.verdict()),
+            What::Searched { found, .. } => kind_of_finding(found),
+            What::Refused(refusal) => kind_of_fault(&refusal.fault),
+        }
+    }
+
+    /// The exit status: 0 where no breach is possible, 1 where that isn't shown, 2 where a text or an output is refused, and 3
+    /// where the machine failed (this project's profile).
+    pub fn status(&self) -> u8
+        ensures { result ≡ what_status self.now }
+    {
+        self.kind().status()
+    }
+
+    /// The first line of the answer's text, without its newline: the verdict, what was found, or the fault. Its error is that an
+    /// allocation was refused.
+    pub fn line(&self, alloc: Global) -> Result<String, AllocError>
+        ensures { IfOk result (λ line. string_bytes line ≡ first_line self.now) }
+    {
+        match self {
+            What::Judged(judged) => {
+                judged.recall_verdict();
+                verdict_line(alloc, judged.app(), judged.verdict())
+            }
+            What::Searched { app, found, .. } => finding_line(alloc, app, found),
+            What::Refused(refusal) => fault_line(alloc, &refusal.fault),
+        }
+    }
+
+    /// The other lines: why a verdict is no, a run, or where the fault is. Its error is that an allocation was refused.
+    pub fn lines(&self, alloc: Global) -> Result<Vec<String>, AllocError>
+        ensures { IfOk result (λ lines. AreLinesOf self.now (lines_text lines.items)) }
+    {
+        match self {
+            What::Judged(judged) => why_lines(alloc, judged),
+            What::Searched {
+                app,
+                found,
+                explains,
+            } => run_lines(alloc, app, found, *explains),
+            What::Refused(refusal) => place_lines(alloc, refusal),
+        }
+    }
+
+    /// The text for a person: all lines, each with its newline. Its error is that an allocation was refused.
+    pub fn text(&self, alloc: Global) -> Result<String, AllocError>
+        ensures { IfOk result (λ text. IsTextOf self.now (string_bytes text)) }
+    {
+        let (line, lines) = (self.line(alloc)?, self.lines(alloc)?);
+        let more = text_of(alloc, &lines)?;
+        format!(in alloc; "{line}\n{more}")
     }
 }

@@ -1,6 +1,5 @@
 // Finding a certificate for the bytes of an application.
 ghost use Rattle.std.specs.Prelude.{◌≡◌, ◌↔◌, IfOk, IfErr, IsErrOf};
-ghost use Rattle.std.specs.Io.KnownBytes.{Appends};
 ghost use Rattle.fr_finder.specs.Found.{IsNoRounds};
 ghost use Rattle.fr_ends.specs.Fits.{CertificateFits};
 ghost use Rattle.fr_answer.specs.declared.fault.CheckFault.TheVariants.{Memory};
@@ -20,7 +19,6 @@ use fr_finder::{FindFault, find, is_rounds};
 use fr_program::App;
 use fr_reader::read_app;
 use std::alloc::Global;
-use std::io::Write;
 use std::thread::Threads;
 
 /// What is found for an application.
@@ -87,23 +85,24 @@ pub fn find_bytes<R: Threads + Sync>(
     found_for(rt, alloc, &app, rounds)
 }
 
-/// Writes `found` where a certificate is found, otherwise `not found`, with a newline, and answers the
-/// exit status: 0 or 1.
-///
-/// # Errors
-///
-/// `Write` where the writer failed; what was written then is open.
-pub fn tell_found<W: Write>(found: &Found, writer: &mut W) -> Result<u8, CheckFault>
-    ensures status { IfOk result (λ status. status ≡ found_status found.now) }
-    ensures told { IfOk result (λ status. Appends (W.contents writer.old) (W.contents writer.new) (found_line found.now)) }
-    ensures refused { IfErr result (λ fault. fault ≡ CheckFault.Write) }
-{
-    let (line, status) = match found {
-        Found::Text(_) => (b"found\n".as_slice(), DONE),
-        Found::NotFound => (b"not found\n".as_slice(), NO),
-    };
-    match writer.write_all(line) {
-        Ok(()) => Ok(status),
-        Err(_) => Err(CheckFault::Write),
+impl Found {
+    /// `found` where a certificate is found, otherwise `not found`, with a newline.
+    pub fn line(&self) -> &'static str
+        ensures { result.now ≡ found_line self.now }
+    {
+        match self {
+            Found::Text(_) => "found\n",
+            Found::NotFound => "not found\n",
+        }
+    }
+
+    /// The exit status: 0 where a certificate is found, otherwise 1.
+    pub fn status(&self) -> u8
+        ensures { result ≡ found_status self.now }
+    {
+        match self {
+            Found::Text(_) => DONE,
+            Found::NotFound => NO,
+        }
     }
 }

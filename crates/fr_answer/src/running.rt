@@ -1,31 +1,30 @@
 // Running the application that bytes mean, where it passes with its certificate.
-ghost use Rattle.std.specs.Prelude.{◌≡◌, ◌≢◌, ◌<◌, ◌≤◌, ℕ, List, [], IfOk, IfErr, Err, None, string_bytes};
+ghost use Rattle.std.specs.Prelude.{◌≡◌, ◌≢◌, ◌<◌, ℕ, List, [], IfOk, IfErr, Err, None, string_bytes};
 ghost use Rattle.fr_calls.specs.Run.{IsSafe};
 ghost use Rattle.fr_ends.specs.Fits.{CertificateFits};
 ghost use Rattle.fr_judge.specs.declared.part.Verdict.TheVariants.{Yes};
 ghost use Rattle.fr_judge.specs.Told.{Speaks};
 ghost use Rattle.fr_report.specs.Report.{report_text};
-ghost use Rattle.fr_answer.specs.Checked.{IsSafeText, IsTold};
-ghost use Rattle.fr_answer.specs.Explained.{IsRunExplained, IsWhy};
+ghost use Rattle.fr_answer.specs.Checked.{IsSafeText};
 ghost use Rattle.fr_answer.specs.Ran.{
   CanRefuseRun,
   IsOutput,
   IsOutputFor,
   IsRunAnswer,
+  IsRunText,
   most_polls,
   run_fault,
 };
 
-use crate::answer::answer_fault;
 use crate::exit::{DONE, NO};
 use crate::fault::CheckFault;
-use crate::telling::{Told, why};
+use crate::judging::why;
 use fr_ends::Certificate;
 use fr_interfere::Index;
 use fr_judge::{Passed, Verdict};
 use fr_parallel::Gate;
 use fr_program::App;
-use fr_report::{report, trace_text};
+use fr_report::{explanation_text, report, trace_text};
 use fr_request::Detail;
 use fr_runner::{MOST_POLLS, RunFault, run};
 use fr_text::read_both;
@@ -66,7 +65,7 @@ fn run_text<R: Threads + Wait + Sync, G: Gate>(
     }
 }
 
-/// The report of a verdict, and why it is no.
+/// The report of a verdict, and the lines of why it is no.
 fn refusal(
     alloc: Global,
     app: &App,
@@ -80,12 +79,13 @@ fn refusal(
     ensures unasked { IfOk result (λ r. detail ≡ None → string_bytes r.1 ≡ []) }
 {
     let text = report(alloc, app, &verdict)?;
-    let more = why(alloc, app, certificate, verdict, detail)?;
+    let explanation = why(alloc, app, certificate, verdict, detail)?;
+    let more = explanation_text(alloc, app, &explanation)?;
     Ok((text, more))
 }
 
-/// What has to be written for the application, with the exit status: the text of a run where the
-/// verdict is yes, and the report where it is no, with why it is.
+/// What has to be written for the application, with the exit status: the text of a run where the verdict is yes, and the report
+/// where it is no, with why it is.
 fn output<R: Threads + Wait + Sync, G: Gate>(
     rt: &R,
     alloc: Global,
@@ -99,7 +99,8 @@ fn output<R: Threads + Wait + Sync, G: Gate>(
     requires fits { CertificateFits app certificate }
     ensures output { IfOk result
         (λ r. IsOutputFor app certificate polls words.now r.0 (string_bytes r.1)) }
-    ensures why { IfOk result (λ r. IsWhy detail r.0 (string_bytes r.2)) }
+    ensures yes { IfOk result (λ r. r.0 ≡ 0 → string_bytes r.2 ≡ []) }
+    ensures unasked { IfOk result (λ r. detail ≡ None → string_bytes r.2 ≡ []) }
     ensures safe { IfOk result (λ r. r.0 ≡ 0 → IsSafe app) }
     ensures refused { IfErr result
         (λ f. (app certificate : List ℕ) → CanRefuseRun app certificate polls f) }
@@ -119,6 +120,38 @@ fn output<R: Threads + Wait + Sync, G: Gate>(
             }
         }
     }
+}
+
+/// Judges the certificate for the application. Where the verdict is yes, it runs the application for so many polls, each actor in a
+/// thread of its own, and picks choices by the words. Ok is the exit status and what has to be written: the lines of the run, or
+/// the report and where `detail` asks for it why the verdict is no.
+///
+/// # Errors
+///
+/// As those of `run_to`, but for `Write`.
+pub(crate) fn ran<R: Threads + Wait + Sync, G: Gate>(
+    rt: &R,
+    alloc: Global,
+    app: &[u8],
+    certificate: &[u8],
+    polls: u64,
+    words: &[u64],
+    gate: &G,
+    detail: Option<Detail>,
+) -> Result<(u8, String), CheckFault>
+    ensures ran { IfOk result
+        (λ r. IsRunText app.now certificate.now polls words.now detail r.0 (string_bytes r.1)) }
+    ensures safe { IfOk result (λ r. r.0 ≡ 0 → IsSafeText app.now) }
+    ensures polls { most_polls < polls → result ≡ Err CheckFault.Polls }
+    ensures refused { IfErr result (CanRefuseRun app.now certificate.now polls) }
+{
+    if polls > MOST_POLLS {
+        return Err(CheckFault::Polls);
+    }
+    let (app, certificate) = read_both(alloc, app, certificate)?;
+    let (status, mut text, more) = output(rt, alloc, app, certificate, polls, words, gate, detail)?;
+    text.push_str(&more)?;
+    Ok((status, text))
 }
 
 /// Judges the certificate for the application. Where the verdict is yes, it runs the application for
@@ -149,80 +182,9 @@ pub fn run_to<R: Threads + Wait + Sync, G: Gate, W: Write>(
     ensures refused { IfErr result (CanRefuseRun app.now certificate.now polls) }
     ensures kept { IfErr result (λ fault. fault ≢ CheckFault.Write → writer.new ≡ writer.old) }
 {
-    if polls > MOST_POLLS {
-        return Err(CheckFault::Polls);
-    }
-    let (app, certificate) = read_both(alloc, app, certificate)?;
-    let (status, text, _) = output(rt, alloc, app, certificate, polls, words, gate, None)?;
+    let (status, text) = ran(rt, alloc, app, certificate, polls, words, gate, None)?;
     match writer.write_all(text.as_bytes()) {
         Ok(()) => Ok(status),
         Err(_) => Err(CheckFault::Write),
-    }
-}
-
-/// Judges and runs the application as `run_to` does. Ok is the exit status and what has to be written: the
-/// lines of the run, or the report and where `detail` asks for it why the verdict is no.
-///
-/// # Errors
-///
-/// As those of `run_to`, but for `Write`.
-pub fn run_told<R: Threads + Wait + Sync, G: Gate>(
-    rt: &R,
-    alloc: Global,
-    app: &[u8],
-    certificate: &[u8],
-    polls: u64,
-    words: &[u64],
-    gate: &G,
-    detail: Option<Detail>,
-) -> Result<Told, CheckFault>
-    ensures told { IfOk result (IsRunExplained app.now certificate.now polls words.now detail) }
-    ensures safe { IfOk result (λ told. told.status ≡ 0 → IsSafeText app.now) }
-    ensures polls { most_polls < polls → result ≡ Err CheckFault.Polls }
-    ensures refused { IfErr result (CanRefuseRun app.now certificate.now polls) }
-{
-    if polls > MOST_POLLS {
-        return Err(CheckFault::Polls);
-    }
-    let (app, certificate) = read_both(alloc, app, certificate)?;
-    let (status, mut text, more) = output(rt, alloc, app, certificate, polls, words, gate, detail)?;
-    text.push_str(&more)?;
-    Ok(Told {
-        status,
-        text,
-        outcome: None,
-    })
-}
-
-/// Runs the application as `run_to` does, writes the trace or the report to `out`, or the line of a
-/// refusal or of a machine fault to `err`, and answers the exit status.
-///
-/// It is 0 only where the verdict is `Yes` and the text of a true trace was written to `out`, and 1
-/// only where the verdict is `No` and its report was: each with nothing written to `err`. It is 2
-/// only where the bytes or the number of polls are refused, with nothing written to `out`, and the
-/// fault's line and a newline to `err`. Else it is 3: the machine failed, and what was written then
-/// is open. Where there are more than 1,000,000 polls, it is neither 0 nor 1.
-pub fn answer_run<R: Threads + Wait + Sync, G: Gate, O: Write, E: Write>(
-    rt: &R,
-    alloc: Global,
-    app: &[u8],
-    certificate: &[u8],
-    polls: u64,
-    words: &[u64],
-    gate: &G,
-    out: &mut O,
-    err: &mut E,
-) -> u8
-    ensures answer { result ≤ 1 → IsRunAnswer app.now certificate.now polls words.now result (O.contents out.old) (O.contents out.new) }
-    ensures safe { result ≡ 0 → IsSafeText app.now }
-    ensures quiet { result ≤ 1 → err.new ≡ err.old }
-    ensures polls { most_polls < polls → 2 ≤ result }
-    ensures refused { result ≡ 2 → IsTold (CanRefuseRun app.now certificate.now polls) (E.contents err.old) (E.contents err.new) }
-    ensures kept { result ≡ 2 → out.new ≡ out.old }
-    ensures most { result ≤ 3 }
-{
-    match run_to(rt, alloc, app, certificate, polls, words, gate, out) {
-        Ok(status) => status,
-        Err(fault) => answer_fault(alloc, &fault, err),
     }
 }

@@ -1,45 +1,66 @@
-// Warning of what a verdict may hide.
-ghost use Rattle.std.specs.Prelude.{◌≡◌, ◌≢◌, IfErr};
-ghost use Rattle.fr_answer.specs.Checked.{CanRefuseTexts};
+// What an answer may hide.
+use crate::answer::What;
+use crate::ways::Warns;
+use fr_formats::{WarningKind, WarningShown};
+use fr_notes::Notes;
+use fr_program::App;
+use fr_report::{NO_ACTORS, never_reached, never_used};
+use std::alloc::{AllocError, Global};
 
-use crate::fault::CheckFault;
-use fr_report::warnings_text;
-use fr_text::read_both;
-use std::alloc::Global;
-use std::io::Write;
-
-/// The warnings for the application and its certificate, as `warnings_text` gives them.
-///
-/// # Errors
-///
-/// A fault that is present in the bytes; `Memory` where an allocation was refused.
-pub fn warnings_of(alloc: Global, app: &[u8], certificate: &[u8]) -> Result<String, CheckFault>
-    ensures refused { IfErr result (CanRefuseTexts app.now certificate.now) }
-{
-    let (app, certificate) = read_both(alloc, app, certificate)?;
-    Ok(warnings_text(alloc, &app, &certificate.notes)?)
+/// Adds lines as warnings of this kind.
+fn add(
+    warnings: &mut Vec<WarningShown>,
+    kind: WarningKind,
+    lines: Vec<String>,
+) -> Result<(), AllocError> {
+    for text in lines {
+        warnings.push(WarningShown { kind, text })?;
+    }
+    Ok(())
 }
 
-/// Writes the warnings for the application and its certificate, as `warnings_text` gives them: the lines of
-/// code that the certificate says are never reached, and that there are no actors.
-///
-/// # Errors
-///
-/// A fault that is present in the bytes; `Memory` where an allocation was refused. Nothing is written then.
-/// `Write` where the writer failed; what was written then is open.
-pub fn warn<W: Write>(
+/// The warnings for an application: that it has no actors, and where all are asked for the lines that are never reached by the notes, where
+/// there are notes, and what is never used.
+fn warnings_for(
     alloc: Global,
-    app: &[u8],
-    certificate: &[u8],
-    writer: &mut W,
-) -> Result<(), CheckFault>
-    ensures refused { IfErr result
-        (λ fault. fault ≢ CheckFault.Write → CanRefuseTexts app.now certificate.now fault) }
-    ensures kept { IfErr result (λ fault. fault ≢ CheckFault.Write → writer.new ≡ writer.old) }
-{
-    let text = warnings_of(alloc, app, certificate)?;
-    match writer.write_all(text.as_bytes()) {
-        Ok(()) => Ok(()),
-        Err(_) => Err(CheckFault::Write),
+    app: &App,
+    notes: Option<&Notes>,
+    warns: Warns,
+) -> Result<Vec<WarningShown>, AllocError> {
+    let mut warnings = Vec::new(alloc);
+    if app.actors().is_empty() {
+        let text = String::from_str(alloc, NO_ACTORS)?;
+        let kind = WarningKind::NoActors;
+        warnings.push(WarningShown { kind, text })?;
+    }
+    if warns == Warns::OfAll {
+        if let Some(notes) = notes {
+            let lines = never_reached(alloc, app, notes)?;
+            add(&mut warnings, WarningKind::NeverReached, lines)?;
+        }
+        add(
+            &mut warnings,
+            WarningKind::NeverUsed,
+            never_used(alloc, app)?,
+        )?;
+    }
+    Ok(warnings)
+}
+
+/// What the answer may hide, as far as it is asked for: a verdict says nothing of lines that are never reached, and of what is never
+/// used. An answer without a verdict hides nothing. Its error is that an allocation was refused.
+pub(crate) fn warnings_of(
+    alloc: Global,
+    what: &What,
+    warns: Warns,
+) -> Result<Vec<WarningShown>, AllocError> {
+    match what {
+        _ if warns == Warns::Never => Ok(Vec::new(alloc)),
+        What::Judged(judged) => {
+            let notes = &judged.certificate().notes;
+            warnings_for(alloc, judged.app(), Some(notes), warns)
+        }
+        What::Searched { app, .. } => warnings_for(alloc, app, None, warns),
+        What::Refused(_) => Ok(Vec::new(alloc)),
     }
 }

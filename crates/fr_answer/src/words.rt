@@ -1,12 +1,10 @@
 // The words that a run picks its choices by, as the command line gives them.
-ghost use Rattle.std.specs.Prelude.{◌≡◌, ◌≤◌, ℕ, List, IfOk, IfSome, IfNone, IsErrOf, codes};
-ghost use Rattle.std.specs.Io.KnownBytes.{Appends};
+ghost use Rattle.std.specs.Prelude.{◌≡◌, ℕ, List, IfOk, IfSome, IfNone, IsErrOf};
 ghost use Rattle.fr_answer.specs.declared.words.WordsFault.TheVariants.{Memory, Bad};
 ghost use Rattle.fr_answer.specs.Words.{AreWords, IsRunWord};
 
-use crate::exit::{MACHINE, REFUSED};
+use crate::fault::CheckFault;
 use std::alloc::{AllocError, AllocFailed, Global};
-use std::io::Write;
 
 /// Why a text gives no words.
 #[derive(Clone, Copy)]
@@ -71,23 +69,12 @@ pub fn words_of(alloc: Global, text: &str) -> Result<Vec<u64>, WordsFault>
     Ok(words)
 }
 
-/// Writes the line of words that are refused, or of the machine that has no memory for them, with a
-/// newline, and answers the exit status: 2 where the words are bad, and 3 where there is no memory
-/// or the writer failed; what was written then is open.
-pub fn answer_words<W: Write>(fault: WordsFault, writer: &mut W) -> u8
-    ensures bad { result ≡ 2 → fault ≡ Bad }
-    ensures told { result ≡ 2 → Appends (W.contents writer.old) (W.contents writer.new) (codes "refused: words\n") }
-    ensures least { 2 ≤ result }
-    ensures most { result ≤ 3 }
-{
-    match fault {
-        WordsFault::Bad => match writer.write_all(b"refused: words\n") {
-            Ok(()) => REFUSED,
-            Err(_) => MACHINE,
-        },
-        WordsFault::Memory => {
-            let _written = writer.write_all(b"machine: memory\n");
-            MACHINE
+/// Words that are no list of numbers, or want of memory for them.
+impl From<WordsFault> for CheckFault {
+    fn from(fault: WordsFault) -> CheckFault {
+        match fault {
+            WordsFault::Bad => CheckFault::Words,
+            WordsFault::Memory => CheckFault::Memory,
         }
     }
 }

@@ -1,115 +1,35 @@
-// The files that a command reads and writes, and what is told where one of them can't be read or written.
-ghost use Rattle.std.specs.Prelude.{◌≡◌, ◌≤◌, ◌<◌, ◌^◌, ℕ, IfErr, IfOk};
+// The files of the host.
+ghost use Rattle.std.specs.Prelude.{ℕ, List};
 
-use fr_answer::{
-    Answer, CheckFault, MACHINE, REFUSED, Source, answer_fault, answer_of_text, fault_line,
-};
+use fr_answer::Files;
 use fr_files::{FileFault, Output, OutputFault, check_outputs, read, replace};
-use std::alloc::{AllocError, Global};
 
-/// Why a command has no answer.
+/// The host's files. No clause can say what a disk holds.
 #[derive(Drop)]
-pub enum Stopped {
-    /// A fault, of which nothing was printed.
-    Fault(CheckFault),
-    /// All that has to be said was printed; the exit status.
-    Told(u8),
+pub struct HostFiles<'a> {
+    pub rt: &'a HostRuntime,
 }
 
-impl From<AllocError> for Stopped {
-    fn from(_refused: AllocError) -> Stopped {
-        Stopped::Fault(CheckFault::Memory)
+impl<'a> Files for HostFiles<'a> {
+    ghost Gives = { λ _ _ _ _. Unit {0} };
+
+    ghost Puts = { λ _ _ _ _. Unit {0} };
+
+    ghost May = { λ _ _. Unit {0} };
+
+    fn read(&self, path: &str, limit: usize) -> Result<Vec<u8>, FileFault> {
+        read(self.rt, path, limit)
     }
-}
 
-impl From<CheckFault> for Stopped {
-    fn from(fault: CheckFault) -> Stopped {
-        Stopped::Fault(fault)
+    fn replace(&mut self, path: &str, bytes: &[u8]) -> Result<(), FileFault> {
+        replace(self.rt, path, bytes)
     }
-}
 
-/// The answer where a file can't be read or written: which one it is, and why.
-pub fn unread_answer(alloc: Global, source: Source, fault: &FileFault) -> Result<Answer, AllocError>
-    ensures { IfOk result (λ answer. answer.status ≡ 3) }
-{
-    let text = match fault {
-        FileFault::Memory => String::from_str(alloc, "machine: memory\n")?,
-        FileFault::Failed { .. } => format!(in alloc; "machine: file\n  {fault}\n")?,
-    };
-    answer_of_text(alloc, source, MACHINE, &text)
-}
-
-/// The answer where the outputs aren't written.
-pub fn unwritten_answer(
-    alloc: Global,
-    source: Source,
-    fault: &OutputFault,
-) -> Result<Answer, AllocError>
-    ensures { IfOk result (λ answer. 2 ≤ answer.status) }
-{
-    match fault {
-        OutputFault::File(fault) => unread_answer(alloc, source, fault),
-        OutputFault::Refused => {
-            let mut text = fault_line(alloc, &CheckFault::Out)?;
-            text.push('\n')?;
-            answer_of_text(alloc, source, REFUSED, &text)
-        }
-    }
-}
-
-/// Prints that a file can't be read or written, which one, and why; gives the exit status.
-fn tell_file(rt: &HostRuntime, fault: &FileFault) -> u8
-    ensures { 2 ≤ result }
-{
-    let status = answer_fault(rt.alloc(), &CheckFault::Read, &mut rt.stderr());
-    match eprintln!(rt; "  {fault}") {
-        Ok(()) => status,
-        Err(_) => answer_fault(rt.alloc(), &CheckFault::Write, &mut rt.stderr()),
-    }
-}
-
-/// Why a command stops where a file can't be read or written. Where `tells` asks for it, it is told which one, and why.
-fn stop_at(rt: &HostRuntime, fault: &FileFault, tells: bool) -> Stopped
-    ensures { (status : ℕ) → result ≡ Stopped.Told status → 2 ≤ status }
-{
-    match fault {
-        FileFault::Memory => Stopped::Fault(CheckFault::Memory),
-        FileFault::Failed { .. } if tells => Stopped::Told(tell_file(rt, fault)),
-        FileFault::Failed { .. } => Stopped::Fault(CheckFault::Read),
-    }
-}
-
-/// The bytes of a file that a command reads, at most one more than the limit. Where it can't be read and `tells` asks for
-/// it, it is told which file it is, and why.
-pub fn input(rt: &HostRuntime, path: &str, limit: usize, tells: bool) -> Result<Vec<u8>, Stopped>
-    requires { limit < 2 ^ 32 }
-    ensures { IfErr result (λ stopped. (status : ℕ) → stopped ≡ Stopped.Told status → 2 ≤ status) }
-{
-    match read(rt, path, limit) {
-        Ok(bytes) => Ok(bytes),
-        Err(fault) => Err(stop_at(rt, &fault, tells)),
-    }
-}
-
-/// Gives a file this text in place of what it had, whole or not at all. Where that can't be done and `tells` asks for it,
-/// it is told which file it is, and why.
-pub fn output(rt: &HostRuntime, path: &str, text: &str, tells: bool) -> Result<(), Stopped> {
-    match replace(rt, path, text.as_bytes()) {
-        Ok(()) => Ok(()),
-        Err(fault) => Err(stop_at(rt, &fault, tells)),
-    }
-}
-
-/// Refuses outputs that would destroy a file, before anything is done.
-pub fn check_outs(
-    rt: &HostRuntime,
-    inputs: &[&str],
-    outputs: &[Option<Output>],
-    tells: bool,
-) -> Result<(), Stopped> {
-    match check_outputs(rt, inputs, outputs) {
-        Ok(()) => Ok(()),
-        Err(OutputFault::Refused) => Err(Stopped::Fault(CheckFault::Out)),
-        Err(OutputFault::File(fault)) => Err(stop_at(rt, &fault, tells)),
+    fn check_outputs(
+        &self,
+        inputs: &[&str],
+        outputs: &[Option<Output>],
+    ) -> Result<(), OutputFault> {
+        check_outputs(self.rt, inputs, outputs)
     }
 }

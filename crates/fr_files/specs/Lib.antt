@@ -1,1 +1,3 @@
 pub mod Named
+pub mod Replaced
+pub mod Apart

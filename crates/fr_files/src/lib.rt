@@ -2,7 +2,8 @@
 // other bytes, whole or not at all, `kind_of` says what is at a path, and `is_same_file` whether two paths lead to one file. Over
 // these four `check_outputs` refuses, before anything is done, the files that a command would destroy by its outputs. A fault names
 // the file and says why (`FileFault`). No clause can say what a disk holds, so that a file is replaced whole or not at all is tested
-// (benches/outputs); proved are which file a fault names, how much is read, and that equal names are one file.
+// (benches/outputs); proved are which file a fault names, how much is read, that equal names are one file, which bytes an output may
+// replace (specs/Replaced.antt), and that outputs that are let through differ in name from the inputs and each other (specs/Apart.antt).
 #![tactic(auto)]
 
 mod bytes;

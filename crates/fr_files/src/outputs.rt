@@ -1,10 +1,14 @@
 // Which files a command may write.
+ghost use Rattle.std.specs.Prelude.{◌≡◌, ◌≢◌, All, IfOk, IsFalse, OnOk};
+ghost use Rattle.fr_files.specs.Apart.{AreApart, names, paths};
+ghost use Rattle.fr_files.specs.Replaced.{may_replace};
+
 use crate::certificate::is_certificate;
 use crate::fault::FileFault;
 use crate::kind::{Kind, kind_of};
 use crate::reading::read;
 use crate::same::is_same_file;
-use std::alloc::AllocError;
+use std::alloc::{AllocError, Global};
 use std::io;
 
 /// What a regular file has to hold that an output replaces; it may be empty in any case.
@@ -56,24 +60,35 @@ const MOST_CERTIFICATE_BYTES: usize = 16_777_216;
 /// Where standard output and standard error go.
 const STREAMS: [&str; 2] = ["/dev/stdout", "/dev/stderr"];
 
-/// Whether the regular file may be replaced, by what it holds.
-fn may_replace(rt: &HostRuntime, output: Output) -> Result<bool, OutputFault> {
-    match output.replaces {
+/// Whether a file that holds these bytes may be replaced. An error says that an allocation was refused.
+fn may_replace_bytes(alloc: Global, replaces: Holds, held: &[u8]) -> Result<bool, AllocError>
+    ensures { IfOk result (λ may. may ≡ may_replace replaces held.now) }
+{
+    match replaces {
         Holds::Anything => Ok(true),
-        Holds::Certificate => {
-            let held = read(rt, output.path, MOST_CERTIFICATE_BYTES)?;
-            let is_short = held.len() <= MOST_CERTIFICATE_BYTES;
-            Ok(held.is_empty() || is_short && is_certificate(rt.alloc(), &held)?)
-        }
-        Holds::Page => {
-            let held = read(rt, output.path, PAGE.len())?;
-            Ok(held.is_empty() || held.starts_with(PAGE))
-        }
+        Holds::Certificate if held.is_empty() => Ok(true),
+        Holds::Certificate if held.len() > MOST_CERTIFICATE_BYTES => Ok(false),
+        Holds::Certificate => is_certificate(alloc, held),
+        Holds::Page => Ok(held.is_empty() || held.starts_with(PAGE)),
     }
 }
 
+/// Whether the regular file may be replaced, by what it holds. Of a certificate that is too long, and of a page, only the beginning
+/// is read.
+fn may_replace(rt: &HostRuntime, output: Output) -> Result<bool, OutputFault> {
+    let limit = match output.replaces {
+        Holds::Anything => return Ok(true),
+        Holds::Certificate => MOST_CERTIFICATE_BYTES,
+        Holds::Page => PAGE.len(),
+    };
+    let held = read(rt, output.path, limit)?;
+    Ok(may_replace_bytes(rt.alloc(), output.replaces, &held)?)
+}
+
 /// Whether the path leads to one of these files.
-fn is_among(rt: &HostRuntime, path: &str, others: &[&str]) -> Result<bool, FileFault> {
+fn is_among(rt: &HostRuntime, path: &str, others: &[&str]) -> Result<bool, FileFault>
+    ensures { IfOk result (λ is. IsFalse is → All (λ other. other ≢ path.now) (names others.now)) }
+{
     for other in others {
         if is_same_file(rt, other, path)? {
             return Ok(true);
@@ -106,16 +121,18 @@ pub fn check_outputs(
     rt: &HostRuntime,
     inputs: &[&str],
     outputs: &[Option<Output>],
-) -> Result<(), OutputFault> {
+) -> Result<(), OutputFault>
+    ensures { OnOk result (AreApart (names inputs.now) (paths outputs.now)) }
+{
     let mut taken = Vec::new(rt.alloc());
-    for input in inputs {
-        taken.push(*input).map_err(AllocError::from)?;
-    }
-    for output in outputs.iter().flatten() {
-        if is_among(rt, output.path, &taken)? || !is_writable(rt, *output)? {
-            return Err(OutputFault::Refused);
+    taken.extend_from_slice(inputs).map_err(AllocError::from)?;
+    for output in outputs {
+        if let Some(output) = output {
+            if is_among(rt, output.path, &taken)? || !is_writable(rt, *output)? {
+                return Err(OutputFault::Refused);
+            }
+            taken.push(output.path).map_err(AllocError::from)?;
         }
-        taken.push(output.path).map_err(AllocError::from)?;
     }
     Ok(())
 }

@@ -1,12 +1,11 @@
 // What a command answered for one application.
-ghost use Rattle.std.specs.Prelude.{◌≡◌, IfOk};
+ghost use Rattle.std.specs.Prelude.{◌≡◌, IfOk, string_bytes};
+ghost use Rattle.fr_formats.specs.Answers.{IsNew, command_name, failed_rule, greatest_status as greatest, kind_name, side_name, status_of, warning_rule};
 
-use serde::Serialize;
 use std::alloc::{AllocError, Global};
 
 /// The commands whose answers have several formats.
-#[derive(Clone, Copy, Serialize)]
-#[serde(rename_all = "lowercase")]
+#[derive(Clone, Copy)]
 pub enum Command {
     Check,
     Prove,
@@ -22,8 +21,7 @@ pub struct Source<'a> {
 }
 
 /// What a command answers.
-#[derive(Clone, Copy, Serialize)]
-#[serde(rename_all = "kebab-case")]
+#[derive(Clone, Copy)]
 pub enum AnswerKind {
     /// The verdict is yes.
     Yes,
@@ -42,15 +40,14 @@ pub enum AnswerKind {
 }
 
 /// Whether an actor is before its line of code, or inside the call on it.
-#[derive(Clone, Copy, Serialize)]
-#[serde(rename_all = "lowercase")]
+#[derive(Clone, Copy)]
 pub enum SideShown {
     Before,
     Inside,
 }
 
 /// A point of the application: where an actor stands, with its line of code.
-#[derive(Drop, Serialize)]
+#[derive(Drop)]
 pub struct PlaceShown {
     /// The number of the point, from 0.
     pub point: usize,
@@ -60,109 +57,192 @@ pub struct PlaceShown {
     pub side: SideShown,
     /// The line of code.
     pub code: String,
-    /// Where the code stands in the application's file: line and column, from 1, and its length, in characters.
-    #[serde(skip_serializing_if = "Option::is_none")]
+    /// Where the code is in the application's file: line and column, from 1, and its length, in characters.
     pub line: Option<usize>,
-    #[serde(skip_serializing_if = "Option::is_none")]
     pub column: Option<usize>,
-    #[serde(skip_serializing_if = "Option::is_none")]
     pub length: Option<usize>,
 }
 
 /// What fails, and where.
-#[derive(Drop, Serialize)]
+#[derive(Drop)]
 pub struct Failure {
     /// The rule or the part that fails, in a word.
     pub rule: &'static str,
     /// The same as the report says it.
     pub text: String,
-    #[serde(skip_serializing_if = "Option::is_none")]
     pub place: Option<PlaceShown>,
     /// The point that a step leads to, or from which another actor disturbs.
-    #[serde(skip_serializing_if = "Option::is_none")]
     pub other: Option<PlaceShown>,
+    /// The state that shows it, in words; no text where none is known.
+    pub state: String,
+    /// The step from that state, in words; no text where none is known.
+    pub step: String,
 }
 
 /// A step of a run into a breach.
-#[derive(Drop, Serialize)]
+#[derive(Drop)]
 pub struct StepShown {
     /// Where its actor is before it.
-    #[serde(skip_serializing_if = "Option::is_none")]
     pub place: Option<PlaceShown>,
     pub choice: i64,
     /// What it changes, in words.
     pub change: String,
 }
 
-/// What a command answered for one application.
-#[derive(Drop, Serialize)]
-pub struct Answer {
+/// What a warning is about.
+#[derive(Clone, Copy)]
+pub enum WarningKind {
+    /// Lines of code are never reached.
+    NeverReached,
+    /// A variable or an object is never used.
+    NeverUsed,
+    /// There is no task and no interrupt.
+    NoActors,
+}
+
+/// What an answer may hide.
+#[derive(Drop)]
+pub struct WarningShown {
+    pub kind: WarningKind,
+    /// The line that is printed.
+    pub text: String,
+}
+
+/// What a command answered for one application. Its exit status is that of its kind.
+#[derive(Drop)]
+pub struct AnswerShown {
     pub command: Command,
     /// The application's file, as it was named.
     pub application: String,
     /// The certificate's file, where one was named.
-    #[serde(skip_serializing_if = "Option::is_none")]
     pub certificate: Option<String>,
     pub answer: AnswerKind,
-    /// The exit status that the command alone has.
-    pub status: u8,
     /// The first line that is printed.
     pub report: String,
     /// The lines that follow: why it is no, or the steps of a run.
-    #[serde(skip_serializing_if = "Vec::is_empty")]
     pub lines: Vec<String>,
-    #[serde(skip_serializing_if = "Vec::is_empty")]
-    pub warnings: Vec<String>,
-    #[serde(skip_serializing_if = "Option::is_none")]
+    pub warnings: Vec<WarningShown>,
     pub failure: Option<Failure>,
-    #[serde(skip_serializing_if = "Vec::is_empty")]
     pub steps: Vec<StepShown>,
 }
 
-/// The lines of a text, without their ends.
-pub(crate) fn lines_of(alloc: Global, text: &str) -> Result<Vec<String>, AllocError> {
-    let mut lines = Vec::new(alloc);
-    for line in text.lines() {
-        lines.push(String::from_str(alloc, line)?)?;
+impl Command {
+    /// Its name.
+    pub(crate) fn name(self) -> &'static str
+        ensures { result.now ≡ command_name self }
+    {
+        match self {
+            Command::Check => "check",
+            Command::Prove => "prove",
+            Command::Refute => "refute",
+        }
     }
-    Ok(lines)
 }
 
-impl Answer {
-    /// An answer to what is asked, with the text that is printed and the exit status.
-    pub(crate) fn new(
+impl AnswerKind {
+    /// The exit status of a command that answers so: 0 for a yes and for no breach, 1 for a no, for a breach and where
+    /// states are left, 2 where a file is refused, and 3 where the machine failed.
+    pub fn status(self) -> u8
+        ensures { result ≡ status_of self }
+    {
+        match self {
+            AnswerKind::Yes | AnswerKind::NoBreach => 0,
+            AnswerKind::No | AnswerKind::Breach | AnswerKind::StatesLeft => 1,
+            AnswerKind::Refused => 2,
+            AnswerKind::Machine => 3,
+        }
+    }
+
+    /// Its name.
+    pub(crate) fn name(self) -> &'static str
+        ensures { result.now ≡ kind_name self }
+    {
+        match self {
+            AnswerKind::Yes => "yes",
+            AnswerKind::No => "no",
+            AnswerKind::Breach => "breach",
+            AnswerKind::NoBreach => "no-breach",
+            AnswerKind::StatesLeft => "states-left",
+            AnswerKind::Refused => "refused",
+            AnswerKind::Machine => "machine",
+        }
+    }
+}
+
+impl SideShown {
+    /// Its name.
+    pub(crate) fn name(self) -> &'static str
+        ensures { result.now ≡ side_name self }
+    {
+        match self {
+            SideShown::Before => "before",
+            SideShown::Inside => "inside",
+        }
+    }
+}
+
+impl WarningKind {
+    /// The name of the rule that warns so.
+    pub(crate) fn rule(self) -> &'static str
+        ensures { result.now ≡ warning_rule self }
+    {
+        match self {
+            WarningKind::NeverReached => "never-reached",
+            WarningKind::NeverUsed => "never-used",
+            WarningKind::NoActors => "no-actors",
+        }
+    }
+}
+
+impl AnswerShown {
+    /// An answer of this kind to what is asked, with the first line that is printed, and nothing else.
+    ///
+    /// # Errors
+    ///
+    /// Only where memory is refused.
+    pub fn new(
         alloc: Global,
         source: Source,
-        answer: AnswerKind,
-        status: u8,
-        text: &str,
-    ) -> Result<Answer, AllocError>
-        ensures { IfOk result (λ a. a.status ≡ status) }
+        kind: AnswerKind,
+        report: String,
+    ) -> Result<AnswerShown, AllocError>
+        ensures { IfOk result (IsNew source.entry kind (string_bytes report)) }
     {
         let certificate = match source.certificate {
             Some(path) => Some(String::from_str(alloc, path)?),
             None => None,
         };
-        let (report, more) = text.split_once('\n').unwrap_or((text, ""));
-        Ok(Answer {
+        Ok(AnswerShown {
             command: source.command,
             application: String::from_str(alloc, source.application)?,
             certificate,
-            answer,
-            status,
-            report: String::from_str(alloc, report)?,
-            lines: lines_of(alloc, more)?,
+            answer: kind,
+            report,
+            lines: Vec::new(alloc),
             warnings: Vec::new(alloc),
             failure: None,
             steps: Vec::new(alloc),
         })
     }
 
-    /// Adds lines of warnings.
-    pub fn warn(&mut self, alloc: Global, text: &str) -> Result<(), AllocError>
-        ensures { self.new.status ≡ self.old.status }
+    /// The rule or the part that fails, in a word; the name of the answer's kind where none does.
+    pub(crate) fn failed_rule(&self) -> &'static str
+        ensures { result.now ≡ failed_rule self.now }
     {
-        self.warnings = lines_of(alloc, text)?;
-        Ok(())
+        match &self.failure {
+            Some(failure) => failure.rule,
+            None => self.answer.name(),
+        }
     }
+}
+
+/// The exit status of a report: the greatest one of its answers, and 0 where there are none.
+pub fn greatest_status(answers: &[AnswerShown]) -> u8
+    ensures { result ≡ greatest answers.now }
+{
+    let mut status = 0;
+    for answer in answers {
+        status = status.max(answer.answer.status());
+    }
+    status
 }

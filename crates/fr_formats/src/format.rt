@@ -1,6 +1,9 @@
 // Answers in each form that machines read.
-use crate::answer::Answer;
-use crate::json::json_text;
+ghost use Rattle.std.specs.Prelude.{IfOk, string_bytes};
+ghost use Rattle.fr_formats.specs.Reports.{IsReport};
+
+use crate::answer::AnswerShown;
+use crate::as_json::json_text;
 use crate::junit::junit_text;
 use crate::sarif::sarif_text;
 use fr_request::Format;
@@ -8,12 +11,16 @@ use std::alloc::{AllocError, Global};
 
 /// The answers in this form.
 ///
-/// Its error is that an allocation was refused.
+/// # Errors
+///
+/// Only where memory is refused.
 pub fn answers_text(
     alloc: Global,
     format: Format,
-    answers: &[Answer],
-) -> Result<String, AllocError> {
+    answers: &[AnswerShown],
+) -> Result<String, AllocError>
+    ensures { IfOk result (λ text. IsReport format answers.now (string_bytes text)) }
+{
     match format {
         Format::Json => json_text(alloc, answers),
         Format::Sarif => sarif_text(alloc, answers),

@@ -1,4 +1,8 @@
-// The rules and parts that can fail: their names, and what a user is told of them.
+// The rules and parts that can fail: their names, and what a report says of them.
+ghost use Rattle.std.specs.Prelude.{◌≡◌, bytes_eq, map};
+ghost use Rattle.std.specs.List.{position_from};
+ghost use Rattle.fr_formats.specs.Names.{part_name as name_of_part, rule_index as index_of, rule_name as name_of_rule, rule_names};
+
 use fr_calls::Rule;
 use fr_judge::Part;
 
@@ -14,7 +18,7 @@ pub(crate) struct Ident {
 }
 
 /// All of them: the twelve rules, the other parts of a verdict, and what else a report can say.
-pub(crate) const IDENTS: [Ident; 20] = [
+const IDENTS: [Ident; 22] = [
     Ident {
         name: "rule-1",
         short: "Two actors at the writing end of a buffer",
@@ -83,7 +87,7 @@ pub(crate) const IDENTS: [Ident; 20] = [
     Ident {
         name: "goes-to",
         short: "A step leads to a point whose note is not true after it",
-        help: "The note before the step says too little, or the note after it too much. If the firmware can get there, mend the firmware.",
+        help: "The note before the step says too little, or the note after it too much. If the firmware can get there, fix the firmware.",
     },
     Ident {
         name: "guard",
@@ -103,7 +107,7 @@ pub(crate) const IDENTS: [Ident; 20] = [
     Ident {
         name: "refused",
         short: "A file is refused",
-        help: "The application or the certificate cannot be read. The message tells the fault and its place.",
+        help: "The application or the certificate cannot be read. The message says what the fault is, and where.",
     },
     Ident {
         name: "states-left",
@@ -115,19 +119,42 @@ pub(crate) const IDENTS: [Ident; 20] = [
         short: "Lines of code are never reached",
         help: "By the certificate the actor is never at these lines, and nothing is asked there. A wrong target can hide behind that.",
     },
+    Ident {
+        name: "never-used",
+        short: "Variable or object is never used",
+        help: "No line of code names it. A line that names another one in its place can hide behind that.",
+    },
+    Ident {
+        name: "no-actors",
+        short: "There is no task and no interrupt",
+        help: "The application has no code, so nothing in it can break a rule. Add its tasks and interrupts.",
+    },
 ];
 
-/// The name of a rule.
-pub(crate) fn rule_name(rule: Rule) -> &'static str {
-    let place = usize::from(rule.number()).saturating_sub(1);
-    match IDENTS.get(place) {
-        Some(ident) => ident.name,
-        None => "",
+/// The name of a rule, as `rule-7`, which never changes.
+pub fn rule_name(rule: Rule) -> &'static str
+    ensures { result.now ≡ name_of_rule rule }
+{
+    match rule {
+        Rule::OneWriter => "rule-1",
+        Rule::OneReader => "rule-2",
+        Rule::GivenByHolder => "rule-3",
+        Rule::AllowedInCritical => "rule-4",
+        Rule::AllowedSuspended => "rule-5",
+        Rule::AllowedInInterrupt => "rule-6",
+        Rule::IsLive => "rule-7",
+        Rule::LifeInOrder => "rule-8",
+        Rule::SuitsSemaphore => "rule-9",
+        Rule::DepthAboveZero => "rule-10",
+        Rule::EndsInOrder => "rule-11",
+        Rule::InRange => "rule-12",
     }
 }
 
-/// The name of a part of a verdict.
-pub(crate) fn part_name(part: Part) -> &'static str {
+/// The name of a part of a verdict: that of the rule, or a word, as `goes-to`. It never changes.
+pub fn part_name(part: Part) -> &'static str
+    ensures { result.now ≡ name_of_part part }
+{
     match part {
         Part::Rule(rule) => rule_name(rule),
         Part::Entry => "entry",
@@ -138,10 +165,23 @@ pub(crate) fn part_name(part: Part) -> &'static str {
     }
 }
 
-/// The place of the name among all.
-pub(crate) fn place_of(name: &str) -> usize {
-    IDENTS
-        .iter()
-        .position(|ident| ident.name == name)
-        .unwrap_or(0)
+/// All of them, in the order of a report's rules.
+pub(crate) fn idents() -> &'static [Ident]
+    ensures { map (λ ident. ident.name.now) result.now ≡ rule_names }
+{
+    &IDENTS
+}
+
+/// The index of the name among those of these.
+fn index_among(idents: &[Ident], name: &str) -> Option<usize>
+    ensures { result ≡ position_from (λ ident. bytes_eq ident.name.now name.now) 0 idents.now }
+{
+    idents.iter().position(|ident| ident.name == name)
+}
+
+/// The index of the name among all; None where it is none of them.
+pub(crate) fn rule_index(name: &str) -> Option<usize>
+    ensures { result ≡ index_of name.now }
+{
+    index_among(idents(), name)
 }

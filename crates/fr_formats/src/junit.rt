@@ -1,98 +1,198 @@
 // Answers as JUnit's XML, in the form that Jenkins and GitLab read.
-use crate::answer::{Answer, AnswerKind, Command};
+ghost use Rattle.std.specs.Prelude.{◌≡◌, ◌++◌, IfOk, OnOk, flat_map, string_bytes};
+ghost use Rattle.fr_formats.specs.Junit.{bytes_of, case_begins, case_of, failed, head_of, head_with, is_broken as broken, is_failed as fails, junit_of, line_of, lines_of, outcome_of, output_of, warning_lines, warnings_of};
+
+use crate::answer::{AnswerKind, AnswerShown, WarningShown};
+use Part::{Lines, Markup, Number, Text, Warnings};
 use fr_escape::push_xml;
 use std::alloc::{AllocError, Global};
 
-/// How a test came out.
-#[derive(Clone, Copy, PartialEq, Eq)]
-enum Outcome {
-    Passed,
-    Failed,
-    /// There is no verdict.
-    Broken,
-}
-
-/// How the answer comes out as a test: it passes where the exit status is 0.
-fn outcome_of(answer: &Answer) -> Outcome {
-    match answer.answer {
-        AnswerKind::Yes | AnswerKind::NoBreach => Outcome::Passed,
-        AnswerKind::No | AnswerKind::Breach | AnswerKind::StatesLeft => Outcome::Failed,
-        AnswerKind::Refused | AnswerKind::Machine => Outcome::Broken,
-    }
-}
-
-/// How many answers come out so.
-fn count(answers: &[Answer], wanted: Outcome) -> usize {
-    answers
-        .iter()
-        .filter(|answer| outcome_of(answer) == wanted)
-        .count()
-}
-
-/// The command's name.
-fn command_name(command: Command) -> &'static str {
-    match command {
-        Command::Check => "check",
-        Command::Prove => "prove",
-        Command::Refute => "refute",
-    }
-}
-
-/// The kind of a failure in a word.
-fn kind(answer: &Answer) -> &'static str {
-    match (&answer.failure, answer.answer) {
-        (Some(failure), _) => failure.rule,
-        (None, AnswerKind::StatesLeft) => "states-left",
-        (None, AnswerKind::Refused) => "refused",
-        _ => "machine",
-    }
+/// A part of a text in XML: markup that is written in this crate, a text, which is escaped, a number, or texts with a
+/// line for each.
+#[derive(Clone, Copy)]
+enum Part<'a> {
+    Markup(&'a str),
+    Text(&'a str),
+    Number(usize),
+    Lines(&'a [String]),
+    Warnings(&'a [WarningShown]),
 }
 
 /// Appends a line, with its end.
-fn put_line(text: &mut String, line: &str) -> Result<(), AllocError> {
+#[tactic(auto, unfolding(crate::specs::Junit::line_of, crate::specs::Junit::escaped))]
+fn put_line(text: &mut String, line: &str) -> Result<(), AllocError>
+    ensures { OnOk result (string_bytes text.new ≡ string_bytes text.old ++ line_of line.now) }
+{
     push_xml(text, line)?;
     text.push('\n')
 }
 
 /// Appends lines, each with its end.
-fn put_lines(text: &mut String, lines: &[String]) -> Result<(), AllocError> {
+#[tactic(auto, unfolding(crate::specs::Junit::lines_of))]
+fn put_lines(text: &mut String, lines: &[String]) -> Result<(), AllocError>
+    ensures { OnOk result (string_bytes text.new ≡ string_bytes text.old ++ lines_of lines.now) }
+{
     for line in lines {
         put_line(text, line)?;
     }
     Ok(())
 }
 
+/// Appends warnings, a line each.
+#[tactic(auto, unfolding(crate::specs::Junit::warning_lines))]
+fn put_texts(text: &mut String, warnings: &[WarningShown]) -> Result<(), AllocError>
+    ensures { OnOk result (string_bytes text.new ≡ string_bytes text.old ++ warning_lines warnings.now) }
+{
+    for warning in warnings {
+        put_line(text, &warning.text)?;
+    }
+    Ok(())
+}
+
+/// Appends a part.
+#[tactic(auto, unfolding(crate::specs::Junit::escaped))]
+fn put_part(text: &mut String, part: Part) -> Result<(), AllocError>
+    ensures { OnOk result (string_bytes text.new ≡ string_bytes text.old ++ bytes_of part.entry) }
+{
+    match part {
+        Part::Markup(markup) => text.push_str(markup),
+        Part::Text(given) => push_xml(text, given),
+        Part::Number(number) => write!(text, "{number}"),
+        Part::Lines(lines) => put_lines(text, lines),
+        Part::Warnings(warnings) => put_texts(text, warnings),
+    }
+}
+
+/// Appends the parts.
+fn put(text: &mut String, parts: &[Part]) -> Result<(), AllocError>
+    ensures { OnOk result (string_bytes text.new ≡ string_bytes text.old ++ flat_map bytes_of parts.now) }
+{
+    for part in parts {
+        put_part(text, *part)?;
+    }
+    Ok(())
+}
+
+/// Appends parts.
+macro_rules! put {
+    ($text:expr; $part:expr) => { put_part($text, $part) };
+    ($text:expr; $($part:expr),*) => { put($text, &[$($part),*]) };
+}
+
+/// Whether the case fails: a rule or a part does, or that is not known.
+fn is_failed(kind: AnswerKind) -> bool
+    ensures { result ≡ fails kind }
+{
+    matches!(
+        kind,
+        AnswerKind::No | AnswerKind::Breach | AnswerKind::StatesLeft
+    )
+}
+
+/// Whether the case is an error: there is no verdict.
+fn is_broken(kind: AnswerKind) -> bool
+    ensures { result ≡ broken kind }
+{
+    matches!(kind, AnswerKind::Refused | AnswerKind::Machine)
+}
+
 /// Appends what failed, between tags of this name.
-fn put_failure(text: &mut String, tag: &str, answer: &Answer) -> Result<(), AllocError> {
-    let (report, kind) = (&answer.report, kind(answer));
-    write!(text, "      <{tag} type=\"{kind}\" message=\"")?;
-    push_xml(text, report)?;
-    text.push_str("\">")?;
-    put_line(text, report)?;
-    put_lines(text, &answer.lines)?;
-    write!(text, "</{tag}>\n")
+#[tactic(auto, using(std::proofs::Common::append_assoc), unfolding(crate::specs::Junit::failed))]
+fn put_failed<'a>(
+    text: &mut String,
+    tag: &'a str,
+    answer: &'a AnswerShown,
+) -> Result<(), AllocError>
+    ensures { OnOk result (string_bytes text.new ≡ string_bytes text.old ++ failed tag.now answer.now) }
+{
+    put!(text; Markup("      <"), Markup(tag), Markup(" type=\""), Text(answer.failed_rule()),
+        Markup("\" message=\""), Text(&answer.report), Markup("\">"), Text(&answer.report), Markup("\n"),
+        Lines(&answer.lines), Markup("</"), Markup(tag), Markup(">\n"))
+}
+
+/// Appends how the case of an answer came out; nothing where it passed.
+#[tactic(auto, using(std::proofs::Common::append_assoc), unfolding(crate::specs::Junit::outcome_of))]
+fn put_outcome(text: &mut String, answer: &AnswerShown) -> Result<(), AllocError>
+    ensures { OnOk result (string_bytes text.new ≡ string_bytes text.old ++ outcome_of answer.now) }
+{
+    match answer.answer {
+        AnswerKind::Yes | AnswerKind::NoBreach => Ok(()),
+        AnswerKind::No | AnswerKind::Breach | AnswerKind::StatesLeft => {
+            put_failed(text, "failure", answer)
+        }
+        AnswerKind::Refused | AnswerKind::Machine => put_failed(text, "error", answer),
+    }
+}
+
+/// Appends the warnings, as what the test printed.
+#[tactic(auto, unfolding(crate::specs::Junit::output_of))]
+fn put_output(text: &mut String, warnings: &[WarningShown]) -> Result<(), AllocError>
+    ensures { OnOk result (string_bytes text.new ≡ string_bytes text.old ++ output_of warnings.now) }
+{
+    put!(text; Markup("      <system-out>"), Warnings(warnings), Markup("</system-out>\n"))
+}
+
+/// Appends the warnings; nothing where there are none.
+fn put_warnings(text: &mut String, warnings: &[WarningShown]) -> Result<(), AllocError>
+    ensures { OnOk result (string_bytes text.new ≡ string_bytes text.old ++ warnings_of warnings.now) }
+{
+    if warnings.is_empty() {
+        return Ok(());
+    }
+    put_output(text, warnings)
+}
+
+/// Appends the begin of the case of one application.
+fn begin_case(text: &mut String, answer: &AnswerShown) -> Result<(), AllocError>
+    ensures { OnOk result (string_bytes text.new ≡ string_bytes text.old ++ case_begins answer.now) }
+{
+    put!(text; Markup("    <testcase classname=\"fr_check."), Markup(answer.command.name()),
+        Markup("\" name=\""), Text(&answer.application), Markup("\">\n"))
 }
 
 /// Appends the case of one application.
-fn put_case(text: &mut String, answer: &Answer) -> Result<(), AllocError> {
-    let command = command_name(answer.command);
-    write!(
-        text,
-        "    <testcase classname=\"fr_check.{command}\" name=\""
-    )?;
-    push_xml(text, &answer.application)?;
-    text.push_str("\">\n")?;
-    match outcome_of(answer) {
-        Outcome::Passed => {}
-        Outcome::Failed => put_failure(text, "failure", answer)?,
-        Outcome::Broken => put_failure(text, "error", answer)?,
+fn put_case(text: &mut String, answer: &AnswerShown) -> Result<(), AllocError>
+    ensures { OnOk result (string_bytes text.new ≡ string_bytes text.old ++ case_of answer.now) }
+{
+    begin_case(text, answer)?;
+    put_outcome(text, answer)?;
+    put_warnings(text, &answer.warnings)?;
+    put!(text; Markup("    </testcase>\n"))?;
+    Ok(())
+}
+
+/// Appends the cases of all answers.
+fn put_cases(text: &mut String, answers: &[AnswerShown]) -> Result<(), AllocError>
+    ensures { OnOk result (string_bytes text.new ≡ string_bytes text.old ++ flat_map case_of answers.now) }
+{
+    for answer in answers {
+        put_case(text, answer)?;
     }
-    if !answer.warnings.is_empty() {
-        text.push_str("      <system-out>")?;
-        put_lines(text, &answer.warnings)?;
-        text.push_str("</system-out>\n")?;
-    }
-    text.push_str("    </testcase>\n")
+    Ok(())
+}
+
+/// Appends the head of the report, with these counts.
+#[tactic(auto, using(std::proofs::Common::append_assoc), unfolding(crate::specs::Junit::head_with))]
+fn put_head(
+    text: &mut String,
+    tests: usize,
+    failures: usize,
+    errors: usize,
+) -> Result<(), AllocError>
+    ensures { OnOk result (string_bytes text.new ≡ string_bytes text.old ++ head_with tests failures errors) }
+{
+    put!(text; Markup("<?xml version=\"1.0\" encoding=\"UTF-8\"?>\n<testsuites>\n"),
+        Markup("  <testsuite name=\"fr_check\" tests=\""), Number(tests),
+        Markup("\" failures=\""), Number(failures), Markup("\" errors=\""), Number(errors), Markup("\">\n"))
+}
+
+/// Appends the head of the report, with the counts of these answers.
+fn begin_suite(text: &mut String, answers: &[AnswerShown]) -> Result<(), AllocError>
+    ensures { OnOk result (string_bytes text.new ≡ string_bytes text.old ++ head_of answers.now) }
+{
+    let failures = answers.iter().filter(|a| is_failed(a.answer)).count();
+    let errors = answers.iter().filter(|a| is_broken(a.answer)).count();
+    put_head(text, answers.len(), failures, errors)
 }
 
 /// The answers as a test suite in JUnit's XML, with a case for each application. It passes where the command's exit
@@ -100,20 +200,12 @@ fn put_case(text: &mut String, answer: &Answer) -> Result<(), AllocError> {
 /// refused or the machine failed.
 ///
 /// Its error is that an allocation was refused.
-pub(crate) fn junit_text(alloc: Global, answers: &[Answer]) -> Result<String, AllocError> {
-    let (tests, failures) = (answers.len(), count(answers, Outcome::Failed));
-    let errors = count(answers, Outcome::Broken);
-    let mut text = String::from_str(
-        alloc,
-        "<?xml version=\"1.0\" encoding=\"UTF-8\"?>\n<testsuites>\n",
-    )?;
-    write!(
-        &mut text,
-        "  <testsuite name=\"fr_check\" tests=\"{tests}\" failures=\"{failures}\" errors=\"{errors}\">\n"
-    )?;
-    for answer in answers {
-        put_case(&mut text, answer)?;
-    }
-    text.push_str("  </testsuite>\n</testsuites>\n")?;
+pub(crate) fn junit_text(alloc: Global, answers: &[AnswerShown]) -> Result<String, AllocError>
+    ensures { IfOk result (λ text. string_bytes text ≡ junit_of answers.now) }
+{
+    let mut text = String::new(alloc);
+    begin_suite(&mut text, answers)?;
+    put_cases(&mut text, answers)?;
+    put!(&mut text; Markup("  </testsuite>\n</testsuites>\n"))?;
     Ok(text)
 }

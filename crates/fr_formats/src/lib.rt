@@ -1,23 +1,21 @@
-// Reports that machines read. What a command answered for one application is an `Answer`: a plain value, made from a
-// verdict (`answer_of_verdict`), from what a search found (`answer_of_search`) or, where there is a fault, from its text
-// (`answer_of_text`). `answers_text` writes answers as JSON, as SARIF 2.1.0 and as JUnit's XML. They say what the report on
-// a terminal says; their form is held by worked rows, byte by byte, and by schemas.
-#![tactic(auto)]
+// Reports that machines read. What a command answered for one application is an `AnswerShown`: a plain value, which the
+// crate above, fr_answer, fills. `answers_text` writes answers as JSON, as SARIF 2.1.0 and as JUnit's XML. Its contract
+// says to the letter what it writes: each of `specs/Json`, `specs/Sarif` and `specs/Junit` is the text of one form, and
+// no text of an answer gets into a report unescaped. `greatest_status` is the exit status of a report. Below are the
+// escapes (fr_escape), the forms' names (fr_request), and the rules and parts that are named (fr_calls, fr_judge).
+#![tactic(auto, using(std::proofs::Common::append_assoc))]
 
 mod answer;
+mod as_json;
 mod format;
 mod ident;
-mod json;
 mod junit;
-mod place;
+mod piece;
 mod sarif;
-mod search;
-mod text;
-mod verdict;
 
-pub use answer::{Answer, AnswerKind, Command, Failure, PlaceShown, SideShown, Source, StepShown};
+pub use answer::{
+    AnswerKind, AnswerShown, Command, Failure, PlaceShown, SideShown, Source, StepShown,
+    WarningKind, WarningShown, greatest_status,
+};
 pub use format::answers_text;
-pub use place::Places;
-pub use search::answer_of_search;
-pub use text::answer_of_text;
-pub use verdict::answer_of_verdict;
+pub use ident::{part_name, rule_name};

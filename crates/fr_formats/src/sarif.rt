@@ -1,18 +1,18 @@
-// Answers as SARIF 2.1.0, which code hosts and editors read.
+// Answers as SARIF 2.1.0 (OASIS), which code hosts and editors read.
 mod flow;
-mod log;
 mod place;
 
-use crate::answer::{Answer, AnswerKind, Failure};
-use crate::ident::{IDENTS, Ident, place_of};
-use crate::json::status_of;
-use flow::{flow_of_steps, flow_of_witness};
+ghost use Rattle.std.specs.Prelude.{◌≡◌, ◌++◌, IfOk, OnOk, map, nat_lt, string_bytes};
+ghost use Rattle.fr_formats.specs.Answers.{greatest_status as greatest};
+ghost use Rattle.fr_formats.specs.Sarif.{added, all_notifications, artifact, error_begins, failing, files, invocations, is_named, log, log_begins, notification, notification_of, notifications, plain_result, related, result_begins, result_of, results, results_begin, rule_of, rule_tokens, rules, IsSarif, warning_results, whole_result, whole_text};
+
+use crate::answer::{AnswerKind, AnswerShown, Failure, greatest_status};
+use crate::ident::{Ident, idents, rule_index};
+use crate::piece::Piece::{Array, Field, Flag, Marks, MaybeNumber, Message, Number, Object};
+use crate::piece::{Out, put};
+use flow::put_way;
 use fr_request::VERSION;
-use log::{
-    Artifact, Driver, Finding, Invocation, Location, Log, Message, Notification, Rule, Run, Said,
-    Tool,
-};
-use place::{file_place, file_uri, place_at};
+use place::{file_uri, put_file, put_location, put_point};
 use std::alloc::{AllocError, Global};
 
 /// The schema of the form.
@@ -21,74 +21,32 @@ const SCHEMA: &str = "https://json.schemastore.org/sarif-2.1.0.json";
 /// The exit status from which on the machine failed.
 const MACHINE: u8 = 3;
 
-/// A rule, with its help.
-fn rule_of(ident: &Ident) -> Rule {
-    let said = Said { text: ident.short };
-    Rule {
-        id: ident.name,
-        short_description: said,
-        full_description: said,
-        help: Said { text: ident.help },
-    }
+/// Appends a rule, with its help.
+#[tactic(auto, using(std::proofs::Common::append_assoc), unfolding(crate::specs::Sarif::rule_tokens))]
+fn put_rule(out: &mut Out, ident: &Ident) -> Result<(), AllocError>
+    ensures { OnOk result (out.new.tokens ≡ out.old.tokens ++ rule_tokens (rule_of ident.now)) }
+{
+    put!(out; Marks("{"), Field("id", ident.name), Message("shortDescription", ident.short),
+        Message("fullDescription", ident.short), Message("help", ident.help), Marks("}"))
 }
 
-/// All rules and parts that can fail.
-fn rules(alloc: Global) -> Result<Vec<Rule>, AllocError> {
-    let mut rules = Vec::new(alloc);
-    for ident in &IDENTS {
-        rules.push(rule_of(ident))?;
+/// Appends all rules and parts that can fail, and the end of what the program is.
+#[tactic(auto, using(std::proofs::Common::append_assoc), unfolding(crate::specs::Sarif::rules))]
+fn put_rules(out: &mut Out, idents: &[Ident]) -> Result<(), AllocError>
+    ensures { OnOk result (out.new.tokens ≡ out.old.tokens ++ rules (map rule_of idents.now)) }
+{
+    put!(out; Array("rules"))?;
+    for ident in idents {
+        put_rule(out, ident)?;
     }
-    Ok(rules)
-}
-
-/// Something that was found, without related places and ways.
-fn finding(
-    alloc: Global,
-    rule: &'static str,
-    level: &'static str,
-    text: &str,
-    location: Location,
-) -> Result<Finding, AllocError> {
-    let mut locations = Vec::new(alloc);
-    locations.push(location)?;
-    Ok(Finding {
-        rule_id: rule,
-        rule_index: place_of(rule),
-        level,
-        message: Message {
-            text: String::from_str(alloc, text)?,
-        },
-        locations,
-        related_locations: Vec::new(alloc),
-        code_flows: Vec::new(alloc),
-    })
-}
-
-/// What fails, with the other point that it is about, and a way that shows it.
-fn failing(alloc: Global, answer: &Answer, failure: &Failure) -> Result<Finding, AllocError> {
-    let path = &answer.application;
-    let location = match &failure.place {
-        Some(place) => place_at(alloc, path, place, None)?,
-        None => file_place(alloc, path)?,
-    };
-    let mut found = finding(alloc, failure.rule, "error", &answer.report, location)?;
-    if let Some(other) = &failure.other {
-        let related = place_at(alloc, path, other, Some(&failure.text))?;
-        found.related_locations.push(related)?;
-    }
-    let flow = if answer.steps.is_empty() {
-        flow_of_witness(alloc, path, failure, &answer.lines)?
-    } else {
-        flow_of_steps(alloc, path, failure, &answer.steps)?
-    };
-    if let Some(flow) = flow {
-        found.code_flows.push(flow)?;
-    }
-    Ok(found)
+    put!(out; Marks("]}}"))
 }
 
 /// The report's line, and the lines behind it.
-fn whole_text(alloc: Global, answer: &Answer) -> Result<String, AllocError> {
+#[tactic(auto, using(std::proofs::Common::append_assoc), unfolding(crate::specs::Sarif::whole_text))]
+fn text_of(alloc: Global, answer: &AnswerShown) -> Result<String, AllocError>
+    ensures { IfOk result (λ text. string_bytes text ≡ whole_text answer.now) }
+{
     let mut text = String::from_str(alloc, &answer.report)?;
     for line in &answer.lines {
         text.push('\n')?;
@@ -97,117 +55,264 @@ fn whole_text(alloc: Global, answer: &Answer) -> Result<String, AllocError> {
     Ok(text)
 }
 
-/// What the answer says, where it is one on the application: nothing of a yes.
-fn answer_finding(alloc: Global, answer: &Answer) -> Result<Option<Finding>, AllocError> {
-    if let Some(failure) = &answer.failure {
-        return Ok(Some(failing(alloc, answer, failure)?));
-    }
-    let (rule, level) = match answer.answer {
-        AnswerKind::Refused => ("refused", "error"),
-        AnswerKind::StatesLeft => ("states-left", "warning"),
-        _ => return Ok(None),
-    };
-    let text = whole_text(alloc, answer)?;
-    let location = file_place(alloc, &answer.application)?;
-    Ok(Some(finding(alloc, rule, level, &text, location)?))
+/// Appends the begin of a result, up to its places.
+#[tactic(auto, using(std::proofs::Common::append_assoc), unfolding(crate::specs::Sarif::result_begins))]
+fn begin_result<'a>(
+    out: &mut Out,
+    rule: &'a str,
+    level: &'a str,
+    text: &'a str,
+) -> Result<(), AllocError>
+    ensures { OnOk result (out.new.tokens ≡ out.old.tokens ++ result_begins rule.now level.now text.now) }
+{
+    put!(out; Marks("{"), Field("ruleId", rule), MaybeNumber("ruleIndex", rule_index(rule)),
+        Field("level", level), Message("message", text), Array("locations"))
 }
 
-/// Adds a warning for each line of the answer's warnings.
-fn put_warnings(
-    alloc: Global,
-    results: &mut Vec<Finding>,
-    answer: &Answer,
-) -> Result<(), AllocError> {
-    for line in &answer.warnings {
-        let location = file_place(alloc, &answer.application)?;
-        results.push(finding(alloc, "never-reached", "warning", line, location)?)?;
+/// Appends a result about the whole file.
+#[tactic(auto, using(std::proofs::Common::append_assoc), unfolding(crate::specs::Sarif::plain_result))]
+fn put_plain(
+    out: &mut Out,
+    path: &str,
+    rule: &str,
+    level: &str,
+    text: &str,
+) -> Result<(), AllocError>
+    ensures { OnOk result (out.new.tokens ≡ out.old.tokens ++ plain_result path.now rule.now level.now text.now) }
+{
+    begin_result(out, rule, level, text)?;
+    put_file(out, path)?;
+    put!(out; Marks("]}"))
+}
+
+/// Appends the result of an answer about the whole file, which has all that the answer says.
+#[tactic(auto, using(std::proofs::Common::append_assoc), unfolding(crate::specs::Sarif::whole_result))]
+fn put_whole(out: &mut Out, answer: &AnswerShown, level: &str) -> Result<(), AllocError>
+    ensures { OnOk result (out.new.tokens ≡ out.old.tokens ++ whole_result level.now answer.now) }
+{
+    let text = text_of(out.alloc, answer)?;
+    put_plain(out, &answer.application, answer.answer.name(), level, &text)
+}
+
+/// Appends the other point that a failure is about.
+#[tactic(auto, using(std::proofs::Common::append_assoc), unfolding(crate::specs::Sarif::related))]
+fn put_related(out: &mut Out, path: &str, failure: &Failure) -> Result<(), AllocError>
+    ensures { OnOk result (out.new.tokens ≡ out.old.tokens ++ related path.now failure.now) }
+{
+    let Some(other) = &failure.other else {
+        return Ok(());
+    };
+    put!(out; Array("relatedLocations"))?;
+    put_point(out, path, other, &failure.text)?;
+    put!(out; Marks("]"))?;
+    Ok(())
+}
+
+/// Appends the result of what fails, with the other point that it is about, and a way that shows it.
+#[tactic(auto, using(std::proofs::Common::append_assoc), unfolding(crate::specs::Sarif::failing))]
+fn put_failing(out: &mut Out, answer: &AnswerShown, failure: &Failure) -> Result<(), AllocError>
+    ensures { OnOk result (out.new.tokens ≡ out.old.tokens ++ failing answer.now failure.now) }
+{
+    let path = answer.application.as_str();
+    begin_result(out, failure.rule, "error", &answer.report)?;
+    put_location(out, path, &failure.place)?;
+    put!(out; Marks("]"))?;
+    put_related(out, path, failure)?;
+    put_way(out, answer, failure)?;
+    put!(out; Marks("}"))
+}
+
+/// Appends what the answer says of the application: nothing for a yes.
+#[tactic(auto, using(std::proofs::Common::append_assoc), unfolding(crate::specs::Sarif::result_of))]
+fn put_result(out: &mut Out, answer: &AnswerShown) -> Result<(), AllocError>
+    ensures { OnOk result (out.new.tokens ≡ out.old.tokens ++ result_of answer.now) }
+{
+    match answer.answer {
+        AnswerKind::Yes | AnswerKind::NoBreach | AnswerKind::Machine => Ok(()),
+        AnswerKind::No | AnswerKind::Breach => match &answer.failure {
+            Some(failure) => put_failing(out, answer, failure),
+            None => put_whole(out, answer, "error"),
+        },
+        AnswerKind::Refused => put_whole(out, answer, "error"),
+        AnswerKind::StatesLeft => put_whole(out, answer, "warning"),
+    }
+}
+
+/// Appends a result for each warning.
+#[tactic(auto, using(std::proofs::Common::append_assoc), unfolding(crate::specs::Sarif::warning_results))]
+fn put_warnings(out: &mut Out, answer: &AnswerShown) -> Result<(), AllocError>
+    ensures { OnOk result (out.new.tokens ≡ out.old.tokens ++ warning_results answer.now) }
+{
+    for warning in &answer.warnings {
+        let (rule, text) = (warning.kind.rule(), warning.text.as_str());
+        put_plain(out, &answer.application, rule, "warning", text)?;
     }
     Ok(())
 }
 
-/// All that was found.
-fn findings(alloc: Global, answers: &[Answer]) -> Result<Vec<Finding>, AllocError> {
-    let mut results = Vec::new(alloc);
-    for answer in answers {
-        if let Some(found) = answer_finding(alloc, answer)? {
-            results.push(found)?;
-        }
-        put_warnings(alloc, &mut results, answer)?;
-    }
-    Ok(results)
+/// Appends the end of the files, how columns are counted, and the begin of what was found.
+#[tactic(auto, using(std::proofs::Common::append_assoc), unfolding(crate::specs::Sarif::results_begin))]
+fn begin_results(out: &mut Out) -> Result<(), AllocError>
+    ensures { OnOk result (out.new.tokens ≡ out.old.tokens ++ results_begin) }
+{
+    put!(out; Marks("]"), Field("columnKind", "unicodeCodePoints"), Array("results"))
 }
 
-/// The files of the applications.
-fn artifacts(alloc: Global, answers: &[Answer]) -> Result<Vec<Artifact>, AllocError> {
-    let mut files = Vec::new(alloc);
+/// Appends all that was found.
+#[tactic(auto, using(std::proofs::Common::append_assoc), unfolding(crate::specs::Sarif::results))]
+fn put_results(out: &mut Out, answers: &[AnswerShown]) -> Result<(), AllocError>
+    ensures { OnOk result (out.new.tokens ≡ out.old.tokens ++ results answers.now) }
+{
+    begin_results(out)?;
     for answer in answers {
-        let location = file_uri(alloc, &answer.application)?;
-        files.push(Artifact { location })?;
+        put_result(out, answer)?;
+        put_warnings(out, answer)?;
     }
-    Ok(files)
+    put!(out; Marks("]"))
 }
 
-/// What kept the machine from answers.
-fn notifications(alloc: Global, answers: &[Answer]) -> Result<Vec<Notification>, AllocError> {
-    let mut told = Vec::new(alloc);
-    for answer in answers {
-        if let AnswerKind::Machine = answer.answer {
-            let mut locations = Vec::new(alloc);
-            locations.push(file_place(alloc, &answer.application)?)?;
-            told.push(Notification {
-                level: "error",
-                message: Message {
-                    text: whole_text(alloc, answer)?,
-                },
-                locations,
-            })?;
-        }
-    }
-    Ok(told)
+/// Whether one of the answers is on the application in this file.
+fn is_answered(answers: &[AnswerShown], path: &str) -> bool
+    ensures { result ≡ is_named answers.now path.now }
+{
+    answers.iter().any(|a| a.application.as_str() == path)
 }
 
-/// One run of the program, which gave these answers.
-fn run_of(alloc: Global, answers: &[Answer]) -> Result<Run, AllocError> {
-    let status = status_of(answers);
-    let mut invocations = Vec::new(alloc);
-    invocations.push(Invocation {
-        execution_successful: status < MACHINE,
-        exit_code: status,
-        tool_execution_notifications: notifications(alloc, answers)?,
-    })?;
-    Ok(Run {
-        tool: Tool {
-            driver: Driver {
-                name: "fr_check",
-                version: VERSION,
-                rules: rules(alloc)?,
-            },
-        },
-        invocations,
-        artifacts: artifacts(alloc, answers)?,
-        column_kind: "unicodeCodePoints",
-        results: findings(alloc, answers)?,
-    })
+/// Appends the file with this URI.
+#[tactic(auto, using(std::proofs::Common::append_assoc), unfolding(crate::specs::Sarif::artifact))]
+fn put_artifact(out: &mut Out, uri: &str) -> Result<(), AllocError>
+    ensures { OnOk result (out.new.tokens ≡ out.old.tokens ++ artifact uri.now) }
+{
+    put!(out; Marks("{"), Object("location"), Field("uri", uri), Marks("}}"))
+}
+
+/// Appends the file of an answer's application, unless one of the answers before names it.
+#[tactic(auto, using(std::proofs::Common::append_assoc), unfolding(crate::specs::Sarif::added))]
+fn put_new(out: &mut Out, before: &[AnswerShown], answer: &AnswerShown) -> Result<(), AllocError>
+    ensures { OnOk result (out.new.tokens ≡ out.old.tokens ++ added before.now answer.now) }
+{
+    if is_answered(before, &answer.application) {
+        return Ok(());
+    }
+    let uri = file_uri(out.alloc, &answer.application)?;
+    put_artifact(out, &uri)
+}
+
+/// Appends the files of the applications, each once.
+fn put_files(out: &mut Out, answers: &[AnswerShown]) -> Result<(), AllocError>
+    ensures { OnOk result (out.new.tokens ≡ out.old.tokens ++ files answers.now) }
+{
+    put!(out; Array("artifacts"))?;
+    for (index, answer) in answers.iter().enumerate() {
+        put_new(out, &answers[..index], answer)?;
+    }
+    Ok(())
+}
+
+/// Whether the machine gave all answers.
+fn has_verdicts(answers: &[AnswerShown]) -> bool
+    ensures { result ≡ nat_lt (greatest answers.now) 3 }
+{
+    greatest_status(answers) < MACHINE
+}
+
+/// Appends the begin of what kept the machine from an answer, up to its places.
+#[tactic(auto, using(std::proofs::Common::append_assoc), unfolding(crate::specs::Sarif::error_begins))]
+fn begin_error(out: &mut Out, text: &str) -> Result<(), AllocError>
+    ensures { OnOk result (out.new.tokens ≡ out.old.tokens ++ error_begins text.now) }
+{
+    put!(out; Marks("{"), Field("level", "error"), Message("message", text), Array("locations"))
+}
+
+/// Appends what kept the machine from an answer.
+#[tactic(auto, using(std::proofs::Common::append_assoc), unfolding(crate::specs::Sarif::notification))]
+fn put_machine(out: &mut Out, answer: &AnswerShown) -> Result<(), AllocError>
+    ensures { OnOk result (out.new.tokens ≡ out.old.tokens ++ notification answer.now) }
+{
+    let text = text_of(out.alloc, answer)?;
+    begin_error(out, &text)?;
+    put_file(out, &answer.application)?;
+    put!(out; Marks("]}"))
+}
+
+/// Appends what kept the machine from an answer; nothing where it gave one.
+#[tactic(auto, using(std::proofs::Common::append_assoc), unfolding(crate::specs::Sarif::notification_of))]
+fn put_notification(out: &mut Out, answer: &AnswerShown) -> Result<(), AllocError>
+    ensures { OnOk result (out.new.tokens ≡ out.old.tokens ++ notification_of answer.now) }
+{
+    match answer.answer {
+        AnswerKind::Machine => put_machine(out, answer),
+        _ => Ok(()),
+    }
+}
+
+/// Appends what kept the machine from answers.
+fn put_all(out: &mut Out, answers: &[AnswerShown]) -> Result<(), AllocError>
+    ensures { OnOk result (out.new.tokens ≡ out.old.tokens ++ all_notifications answers.now) }
+{
+    put!(out; Array("toolExecutionNotifications"))?;
+    for answer in answers {
+        put_notification(out, answer)?;
+    }
+    put!(out; Marks("]"))?;
+    Ok(())
+}
+
+/// Appends what kept the machine from answers; nothing where it gave all.
+#[tactic(auto, using(std::proofs::Common::append_assoc), unfolding(crate::specs::Sarif::notifications))]
+fn put_notifications(out: &mut Out, answers: &[AnswerShown]) -> Result<(), AllocError>
+    ensures { OnOk result (out.new.tokens ≡ out.old.tokens ++ notifications answers.now) }
+{
+    if has_verdicts(answers) {
+        return Ok(());
+    }
+    put_all(out, answers)
+}
+
+/// Appends how the program ended.
+#[tactic(auto, using(std::proofs::Common::append_assoc), unfolding(crate::specs::Sarif::invocations))]
+fn put_invocations(out: &mut Out, answers: &[AnswerShown]) -> Result<(), AllocError>
+    ensures { OnOk result (out.new.tokens ≡ out.old.tokens ++ invocations answers.now) }
+{
+    let status = usize::from(greatest_status(answers));
+    put!(out; Array("invocations"), Marks("{"), Flag("executionSuccessful", has_verdicts(answers)),
+        Number("exitCode", status))?;
+    put_notifications(out, answers)?;
+    put!(out; Marks("}]"))
+}
+
+/// Appends the begin of the report, up to the program's rules.
+#[tactic(auto, using(std::proofs::Common::append_assoc), unfolding(crate::specs::Sarif::log_begins))]
+fn begin_log(out: &mut Out) -> Result<(), AllocError>
+    ensures { OnOk result (out.new.tokens ≡ out.old.tokens ++ log_begins) }
+{
+    put!(out; Marks("{"), Field("$schema", SCHEMA), Field("version", "2.1.0"), Array("runs"), Marks("{"),
+        Object("tool"), Object("driver"), Field("name", "fr_check"), Field("version", VERSION))
+}
+
+/// Appends the report of one run of the program, which gave these answers.
+#[tactic(auto, using(std::proofs::Common::append_assoc), unfolding(crate::specs::Sarif::log))]
+fn put_log(out: &mut Out, idents: &[Ident], answers: &[AnswerShown]) -> Result<(), AllocError>
+    ensures { OnOk result (out.new.tokens ≡ out.old.tokens ++ log (map rule_of idents.now) answers.now) }
+{
+    begin_log(out)?;
+    put_rules(out, idents)?;
+    put_invocations(out, answers)?;
+    put_files(out, answers)?;
+    put_results(out, answers)?;
+    put!(out; Marks("}]}"))
 }
 
 /// The answers as SARIF 2.1.0: a result for each application that fails or is refused, at the line of code in the
-/// application's file, with the steps that show it as a code flow; no result of a yes. Where the machine failed, the
+/// application's file, with the steps that show it as a code flow; no result for a yes. Where the machine failed, the
 /// run says so.
 ///
 /// Its error is that an allocation was refused.
-pub(crate) fn sarif_text(alloc: Global, answers: &[Answer]) -> Result<String, AllocError> {
-    let mut runs = Vec::new(alloc);
-    runs.push(run_of(alloc, answers)?)?;
-    let log = Log {
-        schema: SCHEMA,
-        version: "2.1.0",
-        runs,
-    };
-    match serde_json::to_string_pretty(alloc, &log) {
-        Ok(mut text) => {
-            text.push('\n')?;
-            Ok(text)
-        }
-        Err(_) => Err(AllocError),
-    }
+pub(crate) fn sarif_text(alloc: Global, answers: &[AnswerShown]) -> Result<String, AllocError>
+    ensures { IfOk result (λ text. IsSarif answers.now (string_bytes text)) }
+{
+    let mut out = Out::new(alloc);
+    put_log(&mut out, idents(), answers)?;
+    let text = out.finish()?;
+    Ok(text)
 }

@@ -7,5 +7,5 @@ pub mod WorkedVerdicts
 pub mod Telling
 pub mod Walks
 pub mod Deletes
-pub mod Judging
+pub mod Points
 pub mod Firsts

@@ -6,3 +6,5 @@ pub mod WorkedVerdicts
 pub mod Told
 pub mod Deleter
 pub mod Approved
+pub mod Lists
+pub mod Judging

@@ -6,16 +6,20 @@
 
 mod approval;
 mod deletion;
+mod judging;
 mod laws;
+mod lists;
 mod part;
 mod verdict;
 mod worked;
 
 pub use approval::Passed;
+pub use judging::Judging;
 pub use laws::{
     a_step_keeps_notes, certified_is_safe, notes_exclude_breaches, only_owed_parts_fail,
     the_start_keeps_notes, the_verdict_is_one,
 };
+pub use lists::Lists;
 pub use part::{Part, Verdict};
-pub use verdict::{job, job_beside, job_by, judge, judge_beside, judge_by};
+pub use verdict::{job, job_by, judge, judge_by};
 pub use worked::verdicts_as_worked;

@@ -71,7 +71,7 @@ fn spoiler_among(
 
 /// The first part that fails at the point with this number: by the index where there is one, else by
 /// all points.
-fn job_among(
+pub(crate) fn job_among(
     app: &App,
     certificate: &Certificate,
     others: Option<&Interference>,
@@ -131,27 +131,12 @@ pub fn job_by(app: &App, certificate: &Certificate, index: &Index, number: usize
     job_among(app, certificate, Some(&others), number)
 }
 
-/// The same as `job_by`, for many points of one application and its certificate: `others` is the
-/// application's interference with the certificate's notes. Takes no memory.
-pub fn job_beside(
+/// The verdict: by the index where there is one, else by all points.
+pub(crate) fn judge_among(
     app: &App,
     certificate: &Certificate,
-    others: &Interference,
-    number: usize,
-) -> Option<Part>
-    requires number { number < length (points_of app.now) }
-    requires fits { CertificateFits app.now certificate.now }
-    requires app { others.now.app ≡ app.now }
-    requires notes { others.now.notes ≡ certificate.now.notes }
-    ensures first { (p : PointOf) → slice_get (points_of app.now) number ≡ Some p →
-        TellsFirst app.now certificate.now p result }
-    ensures speaks { IfSome result (λ part. IsPartOf app.now part) }
-{
-    job_among(app, certificate, Some(others), number)
-}
-
-/// The verdict: by the index where there is one, else by all points.
-fn judge_among(app: &App, certificate: &Certificate, others: Option<&Interference>) -> Verdict
+    others: Option<&Interference>,
+) -> Verdict
     requires fits { CertificateFits app.now certificate.now }
     requires others { ForSome others (λ o. (o.now.app ≡ app.now) × (o.now.notes ≡ certificate.now.notes)) }
     ensures verdict { TellsVerdict app.now certificate.now result }
@@ -194,17 +179,4 @@ pub fn judge_by(app: &App, certificate: &Certificate, index: &Index) -> Verdict
 {
     let others = Interference::of(app, &certificate.notes, index);
     judge_among(app, certificate, Some(&others))
-}
-
-/// The same as `judge_by`, where `others` is the application's interference with the certificate's notes.
-/// Takes no memory.
-pub fn judge_beside(app: &App, certificate: &Certificate, others: &Interference) -> Verdict
-    requires fits { CertificateFits app.now certificate.now }
-    requires app { others.now.app ≡ app.now }
-    requires notes { others.now.notes ≡ certificate.now.notes }
-    ensures verdict { TellsVerdict app.now certificate.now result }
-    ensures safe { result ≡ Verdict.Yes → IsSafe app.now }
-    ensures speaks { Speaks app.now result }
-{
-    judge_among(app, certificate, Some(others))
 }

@@ -1,5 +1,8 @@
 // The actors side by side, each line of code with its points.
-use crate::page::{ActorShown, LineShown, PointShown, Standing};
+ghost use Rattle.std.specs.Prelude.{◌≡◌, ◌++◌, OnOk, codes, string_bytes};
+ghost use Rattle.fr_page.specs.Markup.{each};
+
+use crate::page::{ActorShown, LineShown, PointShown, Reason, Standing};
 use crate::writer::Writer;
 use std::alloc::AllocError;
 
@@ -7,32 +10,30 @@ const NOTES: &str =
     "<p>Below each line are its points, with what the certificate's note says is so there.</p>\n";
 
 /// Writes what the note of a point says, an item for each alternative.
-fn put_notes(page: &mut Writer, notes: &[String]) -> Result<(), AllocError> {
-    for note in notes {
-        page.between("<span class='note'>", note.as_str(), "</span> ")?;
-    }
-    Ok(())
+fn put_notes(page: &mut Writer, notes: &[String]) -> Result<(), AllocError>
+    ensures { OnOk result (string_bytes page.new.out
+        ≡ string_bytes page.old.out ++ each (codes "<span class='note'>") notes.now (codes "</span> ")) }
+{
+    page.each("<span class='note'>", notes, "</span> ")
 }
 
-/// Writes a line of an explanation, whose first words up to a colon say what it is.
-fn put_reason(page: &mut Writer, line: &str) -> Result<(), AllocError> {
-    match line.split_once(": ") {
-        Some((what, more)) => {
-            page.between("<p><b>", what.trim(), ":</b> ")?;
-            page.between("", more, "</p>\n")
-        }
-        None => page.between("<p>", line.trim(), "</p>\n"),
+/// Writes a line of an explanation, with what it is about before a colon.
+fn put_reason(page: &mut Writer, reason: &Reason) -> Result<(), AllocError> {
+    if reason.of.is_empty() {
+        return page.between("<p>", &reason.said, "</p>\n");
     }
+    page.between("<p><b>", &reason.of, ":</b> ")?;
+    page.between("", &reason.said, "</p>\n")
 }
 
-/// Writes why a point fails; nothing where that isn't told.
-fn put_explanation(page: &mut Writer, lines: &[String]) -> Result<(), AllocError> {
-    if lines.is_empty() {
+/// Writes why a point fails; nothing where that isn't known.
+fn put_explanation(page: &mut Writer, reasons: &[Reason]) -> Result<(), AllocError> {
+    if reasons.is_empty() {
         return Ok(());
     }
     page.markup("<div class='why'>\n")?;
-    for line in lines {
-        put_reason(page, line.as_str())?;
+    for reason in reasons {
+        put_reason(page, reason)?;
     }
     page.markup("</div>\n")
 }
@@ -42,11 +43,11 @@ fn put_standing(page: &mut Writer, point: &PointShown) -> Result<(), AllocError>
     match &point.standing {
         Standing::Holds => put_notes(page, &point.notes),
         Standing::Never => page.markup("<span class='note'>never reached</span>"),
-        Standing::Fails(told) => {
+        Standing::Fails(why) => {
             put_notes(page, &point.notes)?;
             page.between(
                 "<p><strong>&#10007; fails:</strong> ",
-                told.as_str(),
+                why.as_str(),
                 "</p>\n",
             )?;
             put_explanation(page, &point.explanation)
@@ -98,7 +99,7 @@ fn put_actor(page: &mut Writer, actor: &ActorShown) -> Result<(), AllocError> {
     page.markup("</table>\n</article>\n")
 }
 
-/// Writes all actors; nothing where there are none. Where notes are shown it is told what they are.
+/// Writes all actors; nothing where there are none. Where notes are shown, a line says what they are.
 pub fn put_code(
     page: &mut Writer,
     actors: &[ActorShown],

@@ -1,6 +1,7 @@
 // A page to look at: plain data in, the text of one HTML file out (`page_text`). It knows nothing of applications and
 // certificates: the crate above, fr_answer, fills a `Page`. Each text of a `Page` is escaped by `push_html` of
-// fr_escape, whose contract says to the letter what it becomes.
+// fr_escape, whose contract says to the letter what it becomes. The contract of `page_text` says to the letter how a page
+// begins (`specs/Whole`): with the mark and the word of its kind, so that it says yes exactly where its kind is `Yes`.
 #![tactic(auto)]
 
 mod code;
@@ -12,7 +13,7 @@ mod whole;
 mod writer;
 
 pub use page::{
-    ActorAfter, ActorShown, Kind, LineShown, Moved, Page, PointShown, Standing, StepShown, Track,
-    TrackKind,
+    ActorAfter, ActorShown, Kind, LineShown, Moved, Page, PointShown, Reason, Standing, StepShown,
+    Track, TrackKind,
 };
 pub use whole::page_text;

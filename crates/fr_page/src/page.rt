@@ -23,7 +23,7 @@ pub struct Page {
     pub command: String,
     /// The line that the command prints.
     pub answer: String,
-    /// More lines that tell of it, as where a file is refused.
+    /// More lines about it, as where a file is refused.
     pub details: Vec<String>,
     /// Numbers in words, as `3 actors`.
     pub counts: Vec<String>,
@@ -67,6 +67,14 @@ pub struct LineShown {
     pub points: Vec<PointShown>,
 }
 
+/// A line that explains why a point fails: what it is about, which is empty where the line is a sentence, and what it says
+/// of that.
+#[derive(Drop)]
+pub struct Reason {
+    pub of: String,
+    pub said: String,
+}
+
 /// A place at which an actor can be.
 #[derive(Drop)]
 pub struct PointShown {
@@ -77,7 +85,7 @@ pub struct PointShown {
     pub notes: Vec<String>,
     pub standing: Standing,
     /// Why it fails: a state that shows it, and the step from there.
-    pub explanation: Vec<String>,
+    pub explanation: Vec<Reason>,
 }
 
 /// How it is with a point.

@@ -238,9 +238,7 @@ fn put_state(page: &mut Writer, actors: &[ActorShown], step: &StepShown) -> Resu
 /// Writes what variables and objects are.
 fn put_facts(page: &mut Writer, facts: &[String]) -> Result<(), AllocError> {
     page.markup("<dt>variables and objects</dt><dd>")?;
-    for fact in facts {
-        page.between("<span>", fact.as_str(), "</span> ")?;
-    }
+    page.each("<span>", facts, "</span> ")?;
     page.markup("</dd>\n")
 }
 

@@ -1,10 +1,13 @@
 // The whole page.
+ghost use Rattle.std.specs.Prelude.{◌≡◌, ◌++◌, ℕ, List, IfOk, OnOk, string_bytes};
+ghost use Rattle.fr_page.specs.Whole.{counts_of, details_of, head_of, heading_of, line_of, meaning_of, start};
+
 use crate::code::put_code;
 use crate::page::{Kind, Page};
 use crate::run::put_run;
 use crate::script::STEPS;
 use crate::style::STYLE;
-use crate::writer::Writer;
+use crate::writer::{Piece, Writer};
 use std::alloc::{AllocError, Global};
 
 const HEAD: &str = "<!DOCTYPE html>
@@ -16,7 +19,9 @@ const HEAD: &str = "<!DOCTYPE html>
 <title>";
 
 /// The answer's mark and word, in its colour.
-fn heading(kind: Kind) -> &'static str {
+fn heading(kind: Kind) -> &'static str
+    ensures { result.now ≡ heading_of kind }
+{
     match kind {
         Kind::Yes => "<h1 class='good'><span aria-hidden='true'>&#10003;</span> yes</h1>\n",
         Kind::No => "<h1 class='bad'><span aria-hidden='true'>&#10007;</span> no</h1>\n",
@@ -28,7 +33,10 @@ fn heading(kind: Kind) -> &'static str {
 }
 
 /// What the answer means.
-fn meaning(kind: Kind) -> &'static str {
+#[tactic(auto, unfolding(crate::specs::Whole::meaning_of))]
+fn meaning(kind: Kind) -> &'static str
+    ensures { result.now ≡ meaning_of kind }
+{
     match kind {
         Kind::Yes | Kind::Safe => {
             "<p>The application in the file breaks none of the twelve rules, in any state of any run.</p>\n"
@@ -44,77 +52,101 @@ fn meaning(kind: Kind) -> &'static str {
     }
 }
 
+/// Writes the begin of the page: the answer's line as its title, and the words of the command.
+fn put_start(page: &mut Writer, shown: &Page) -> Result<(), AllocError>
+    ensures { OnOk result (string_bytes page.new.out ≡ string_bytes page.old.out ++ start shown.now) }
+{
+    page.put(&[
+        Piece::Markup(HEAD),
+        Piece::Text(&shown.answer),
+        Piece::Markup("</title>\n<style>\n"),
+        Piece::Markup(STYLE),
+        Piece::Markup("</style>\n</head>\n<body>\n<header>\n<p>fr_check <code>"),
+        Piece::Text(&shown.command),
+        Piece::Markup("</code></p>\n"),
+        Piece::Markup(heading(shown.kind)),
+    ])
+}
+
+/// Writes the answer's line, which a yes doesn't need.
+fn put_line(page: &mut Writer, kind: Kind, answer: &str) -> Result<(), AllocError>
+    ensures { OnOk result (string_bytes page.new.out ≡ string_bytes page.old.out ++ line_of kind answer.now) }
+{
+    match kind {
+        Kind::Yes => Ok(()),
+        Kind::No | Kind::Breach | Kind::Safe | Kind::Unknown | Kind::Refused => {
+            page.between("<p class='answer'><code>", answer, "</code></p>\n")
+        }
+    }
+}
+
 /// Writes lines of text as they are; nothing where there are none.
-fn put_details(page: &mut Writer, lines: &[String]) -> Result<(), AllocError> {
+fn put_details(page: &mut Writer, lines: &[String]) -> Result<(), AllocError>
+    ensures { OnOk result (string_bytes page.new.out ≡ string_bytes page.old.out ++ details_of lines.now) }
+{
     if lines.is_empty() {
         return Ok(());
     }
-    page.markup("<pre>")?;
-    for line in lines {
-        page.between("", line.as_str(), "\n")?;
-    }
-    page.markup("</pre>\n")
+    page.put(&[
+        Piece::Markup("<pre>"),
+        Piece::Each("", lines, "\n"),
+        Piece::Markup("</pre>\n"),
+    ])
 }
 
-/// Writes a list of short texts.
-fn put_counts(page: &mut Writer, counts: &[String]) -> Result<(), AllocError> {
-    page.markup("<ul>\n")?;
-    for count in counts {
-        page.between("<li>", count.as_str(), "</li>\n")?;
-    }
-    page.markup("</ul>\n")
+/// Writes the end of the answer: numbers in words, and what the page leaves out.
+#[tactic(auto, unfolding(crate::specs::Whole::counts_of))]
+fn put_counts(page: &mut Writer, shown: &Page) -> Result<(), AllocError>
+    ensures { OnOk result (string_bytes page.new.out ≡ string_bytes page.old.out ++ counts_of shown.now) }
+{
+    page.put(&[
+        Piece::Markup("<ul>\n"),
+        Piece::Each("<li>", &shown.counts, "</li>\n"),
+        Piece::Markup("</ul>\n"),
+        Piece::Each("<p class='omitted'>", &shown.omissions, "</p>\n"),
+        Piece::Markup("</header>\n<main>\n"),
+    ])
 }
 
-/// Writes what the page leaves out.
-fn put_omissions(page: &mut Writer, omissions: &[String]) -> Result<(), AllocError> {
-    for omission in omissions {
-        page.between("<p class='omitted'>", omission.as_str(), "</p>\n")?;
-    }
-    Ok(())
-}
-
-/// Writes the answer.
-fn put_answer(page: &mut Writer, shown: &Page) -> Result<(), AllocError> {
-    page.between(
-        "<header>\n<p>fr_check <code>",
-        shown.command.as_str(),
-        "</code></p>\n",
-    )?;
-    page.markup(heading(shown.kind))?;
-    if shown.kind != Kind::Yes {
-        page.between(
-            "<p class='answer'><code>",
-            shown.answer.as_str(),
-            "</code></p>\n",
-        )?;
-    }
+/// Writes the page's head: the answer.
+#[tactic(auto, using(std::proofs::Common::append_assoc), unfolding(crate::specs::Whole::head_of))]
+fn put_head(page: &mut Writer, shown: &Page) -> Result<(), AllocError>
+    ensures { OnOk result (string_bytes page.new.out ≡ string_bytes page.old.out ++ head_of shown.now) }
+{
+    put_start(page, shown)?;
+    put_line(page, shown.kind, &shown.answer)?;
     page.markup(meaning(shown.kind))?;
     put_details(page, &shown.details)?;
-    put_counts(page, &shown.counts)?;
-    put_omissions(page, &shown.omissions)?;
-    page.markup("</header>\n<main>\n")
+    put_counts(page, shown)
+}
+
+/// Writes what is below the answer: the run, if there is one, and the code.
+fn put_rest(alloc: Global, page: &mut Writer, shown: &Page) -> Result<(), AllocError> {
+    if !shown.steps.is_empty() {
+        put_run(alloc, page, &shown.actors, &shown.steps)?;
+    }
+    let has_notes = matches!(shown.kind, Kind::Yes | Kind::No);
+    put_code(page, &shown.actors, has_notes)?;
+    page.markup("</main>\n<script>\n")?;
+    page.markup(STEPS)?;
+    page.markup("</script>\n</body>\n</html>\n")
 }
 
 /// The page as one file in HTML without outside links. It shows the answer, the run where there is one, as lanes, and the actors
 /// side by side with their code. It needs no script; with one it steps through the run. No text of `shown` can end
-/// the place that it stands in, since each is escaped by `push_html`.
+/// the place that it stands in, since each is escaped by `push_html`. To the letter it begins with the answer's line as
+/// its title, the command, and the mark, the word and the meaning of the answer's kind.
 ///
 /// # Errors
 ///
 /// Only where memory is refused.
-pub fn page_text(alloc: Global, shown: &Page) -> Result<String, AllocError> {
+pub fn page_text(alloc: Global, shown: &Page) -> Result<String, AllocError>
+    ensures { IfOk result (λ text. (rest : List ℕ) × (string_bytes text ≡ head_of shown.now ++ rest)) }
+{
     let mut page = Writer::new(alloc);
-    page.between(HEAD, shown.answer.as_str(), "</title>\n<style>\n")?;
-    page.markup(STYLE)?;
-    page.markup("</style>\n</head>\n<body>\n")?;
-    put_answer(&mut page, shown)?;
-    if !shown.steps.is_empty() {
-        put_run(alloc, &mut page, &shown.actors, &shown.steps)?;
-    }
-    let has_notes = matches!(shown.kind, Kind::Yes | Kind::No);
-    put_code(&mut page, &shown.actors, has_notes)?;
-    page.markup("</main>\n<script>\n")?;
-    page.markup(STEPS)?;
-    page.markup("</script>\n</body>\n</html>\n")?;
+    put_head(&mut page, shown)?;
+    let mut rest = Writer::new(alloc);
+    put_rest(alloc, &mut rest, shown)?;
+    page.append(rest)?;
     Ok(page.finish())
 }

@@ -11,7 +11,7 @@ use Rattle.fr_judge.specs.declared.part.Part.{Part as Told}
 use Rattle.fr_judge.specs.declared.part.Verdict.TheVariants.{Yes as TellsYes, No as TellsNo}
 use Rattle.fr_judge.specs.Verdict.{Yes, KeepsAll}
 use Rattle.fr_judge.specs.Told.{TellsFirst, TellsVerdict}
-use Rattle.fr_judge.proofs.Judging.{KeepsBelow, all-keep, first-failure}
+use Rattle.fr_judge.proofs.Points.{KeepsBelow, all-keep, first-failure}
 use Rattle.fr_parallel.specs.Kept.{KeepsAt}
 
 pub listed-point : (P : Program) (n : ℕ) (p : Point) → slice_get (points_of P) n ≡ Some p → IsPoint P p

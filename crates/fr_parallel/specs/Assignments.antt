@@ -2,17 +2,15 @@
 use Rattle.std.specs.Prelude.{ℕ}
 use Rattle.fr_board.specs.Values.{PassValue}
 use Rattle.fr_ends.specs.Fits.{CertificateFits}
-use Rattle.fr_interfere.specs.Index.{IsIndexOf}
-use Rattle.fr_interfere.specs.Rows.{AreHullsOf}
+use Rattle.fr_judge.specs.Lists.{AreListsOf}
 use Rattle.fr_parallel.specs.declared.worker.Assignment.{Assignment}
 use Rattle.fr_parallel.specs.Kept.{IsFor, IsNewFor, IsWorkedBy}
 
--- the board has a job for each point, the certificate fits, and the index and its hulls are of both
+-- the board has a job for each point, the certificate fits, and the lists are of both
 pub record IsReady (t : Assignment) : Type 0 where
   pub jobs : IsFor t.app.now t.board.now
   pub fits : CertificateFits t.app.now t.certificate.now
-  pub index : IsIndexOf t.app.now t.index.now
-  pub hulls : AreHullsOf t.app.now t.certificate.now.notes t.index.now t.hulls.now
+  pub lists : AreListsOf t.app.now t.certificate.now t.lists.now
 
 -- a pass of the assignment's board that has done nothing
 abbrev pub IsNewOf : Assignment → PassValue → Type 0

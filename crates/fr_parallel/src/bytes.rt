@@ -1,10 +1,11 @@
 // From the bytes of an application and of a certificate to the verdict, found by several workers.
 ghost use Rattle.std.specs.Prelude.{◌≡◌, ◌↔◌, IfOk, IfErr, IsErrOf};
 ghost use Rattle.fr_calls.specs.Run.{IsSafe};
+ghost use Rattle.fr_cert.specs.Meaning.{Means as CertMeans};
 ghost use Rattle.fr_ends.specs.Fits.{CertificateFits};
 ghost use Rattle.fr_judge.specs.declared.part.Verdict.TheVariants.{Yes};
 ghost use Rattle.fr_text.specs.Texts.{IsJudged};
-ghost use Rattle.fr_judge.specs.Told.{Speaks};
+ghost use Rattle.fr_judge.specs.Told.{Speaks, TellsVerdict};
 ghost use Rattle.fr_parallel.specs.declared.bytes.BytesFault.TheVariants.{Par};
 ghost use Rattle.fr_parallel.specs.declared.fault.ParFault.TheVariants.{Workers};
 ghost use Rattle.fr_parallel.specs.Bytes.{IsFaultOfBytes};
@@ -77,7 +78,11 @@ pub fn judge_reading<R: Threads + Wait + Sync, G: Gate>(
 ) -> Result<Reading, BytesFault>
     ensures judged { IfOk result
         (λ reading. IsJudged app.now certificate.now reading.app reading.verdict) }
+    ensures means { IfOk result
+        (λ reading. CertMeans reading.app certificate.now reading.certificate) }
     ensures fits { IfOk result (λ reading. CertificateFits reading.app reading.certificate) }
+    ensures verdict { IfOk result
+        (λ reading. TellsVerdict reading.app reading.certificate reading.verdict) }
     ensures safe { IfOk result (λ reading. reading.verdict ≡ Yes → IsSafe reading.app) }
     ensures speaks { IfOk result (λ reading. Speaks reading.app reading.verdict) }
     ensures workers { IsErrOf result (Par Workers) ↔ IsNoCrew workers }

@@ -2,16 +2,15 @@
 ghost use Rattle.std.specs.Prelude.{◌≡◌, ◌≢◌, ◌<◌, length, All, IfOk, IfErr};
 ghost use Rattle.fr_parallel.specs.declared.fault.ParFault.TheVariants.{Workers};
 ghost use Rattle.fr_ends.specs.Fits.{CertificateFits};
-ghost use Rattle.fr_interfere.specs.Index.{IsIndexOf};
-ghost use Rattle.fr_interfere.specs.Rows.{AreHullsOf};
+ghost use Rattle.fr_judge.specs.Lists.{AreListsOf};
 ghost use Rattle.fr_parallel.specs.Kept.{IsFor, IsNewFor, IsWorked, IsWorkedBy};
 ghost use Rattle.fr_parallel.specs.Assignments.{IsDoneBy, IsNewOf, IsReady};
 
 use crate::fault::ParFault;
-use crate::worker::{Assignment, work_beside};
+use crate::worker::{Assignment, work_by};
 use fr_board::{Board, Gate, Pass};
 use fr_ends::Certificate;
-use fr_interfere::{Hulls, Index, Interference};
+use fr_judge::{Judging, Lists};
 use fr_program::App;
 use std::alloc::Global;
 use std::sync::Wait;
@@ -49,8 +48,7 @@ fn start_all<'s, E, R: Threads, G: Gate>(
     let Assignment {
         app,
         certificate,
-        index,
-        hulls,
+        lists,
         board,
     } = assignment;
     let mut handles = Vec::new(alloc);
@@ -61,14 +59,18 @@ fn start_all<'s, E, R: Threads, G: Gate>(
             move || -> Pass
                 requires jobs { IsFor app.now board.now }
                 requires fits { CertificateFits app.now certificate.now }
-                requires index { IsIndexOf app.now index.now }
-                requires hulls { AreHullsOf app.now certificate.now.notes index.now hulls.now }
+                requires lists { AreListsOf app.now certificate.now lists.now }
                 requires new { IsNewFor board.now pass }
                 ensures { IsWorked board.entry.now app.entry.now
                     certificate.entry.now result }
             {
-                let others = Interference::with(app, &certificate.notes, index, hulls);
-                work_beside(app, certificate, &others, board, pass, worker, gate)
+                work_by(
+                    &Judging::with(app, certificate, lists),
+                    board,
+                    pass,
+                    worker,
+                    gate,
+                )
             },
         ) else {
             join_all(rt, handles);
@@ -112,8 +114,7 @@ pub(crate) fn worked_by_all<R: Threads + Wait + Sync, G: Gate>(
     alloc: Global,
     app: &App,
     certificate: &Certificate,
-    index: &Index,
-    hulls: &Hulls,
+    lists: &Lists,
     board: &Board,
     passes: Vec<Pass>,
     gate: &G,
@@ -122,8 +123,7 @@ pub(crate) fn worked_by_all<R: Threads + Wait + Sync, G: Gate>(
     requires new { All (λ p. IsNewFor board.now p) passes.items }
     requires jobs { IsFor app.now board.now }
     requires fits { CertificateFits app.now certificate.now }
-    requires index { IsIndexOf app.now index.now }
-    requires hulls { AreHullsOf app.now certificate.now.notes index.now hulls.now }
+    requires lists { AreListsOf app.now certificate.now lists.now }
     ensures all { IfOk result (λ p. IsWorkedBy board.now app.now
         certificate.now (length passes.items) p) }
     ensures fault { IfErr result (λ e. e ≢ Workers) }
@@ -136,8 +136,7 @@ pub(crate) fn worked_by_all<R: Threads + Wait + Sync, G: Gate>(
             requires new { All (λ p. IsNewFor board.now p) passes.items }
             requires jobs { IsFor app.now board.now }
             requires fits { CertificateFits app.now certificate.now }
-            requires index { IsIndexOf app.now index.now }
-            requires hulls { AreHullsOf app.now certificate.now.notes index.now hulls.now }
+            requires lists { AreListsOf app.now certificate.now lists.now }
             ensures all { IfOk result (λ p. IsWorkedBy board.entry.now app.entry.now
                 certificate.entry.now (length passes.items) p) }
             ensures fault { IfErr result (λ e. e ≢ Workers) }
@@ -145,8 +144,7 @@ pub(crate) fn worked_by_all<R: Threads + Wait + Sync, G: Gate>(
             let assignment = Assignment {
                 app,
                 certificate,
-                index,
-                hulls,
+                lists,
                 board,
             };
             let handles = start_all(rt, scope, alloc, assignment, passes, gate)?;

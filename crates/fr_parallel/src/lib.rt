@@ -1,7 +1,7 @@
 // Workers that judge the points of an application between them: each draws numbers of points from one board, and
 // judges what it draws.
 //
-// It uses `fr_judge`, which judges one point (`job_beside` in the workers, and `job_by` for the point that a No names),
+// It uses `fr_judge`, which judges one point (`Judging::part_at`, in the workers and for the point that a No names),
 // and `fr_board`, which hands out each number once and keeps the least that failed. The judging takes no lock and no
 // memory; only `judge_with` and `judge_bytes` wait, for the threads that they start.
 #![tactic(auto)]
@@ -16,4 +16,4 @@ pub use bytes::{BytesFault, Reading, judge_bytes, judge_reading};
 pub use fault::ParFault;
 pub use fr_board::{Gate, Open};
 pub use verdict::{is_crew, judge_with};
-pub use worker::{work, work_beside};
+pub use worker::work;

@@ -13,8 +13,7 @@ use crate::crew::worked_by_all;
 use crate::fault::ParFault;
 use fr_board::{Board, BoardFault, Gate, Pass};
 use fr_ends::Certificate;
-use fr_interfere::{Hulls, Index, Interference};
-use fr_judge::{Verdict, job_beside};
+use fr_judge::{Judging, Lists, Verdict};
 use fr_program::App;
 use std::alloc::Global;
 use std::sync::Wait;
@@ -43,17 +42,14 @@ fn board_for(alloc: Global, app: &App, workers: usize) -> Result<(Board, Vec<Pas
 }
 
 /// The verdict No at the point with this number, the least that failed.
-fn refused_at(app: &App, certificate: &Certificate, others: &Interference, number: usize) -> Verdict
-    requires fits { CertificateFits app.now certificate.now }
-    requires app { others.now.app ≡ app.now }
-    requires notes { others.now.notes ≡ certificate.now.notes }
-    requires least { IsLeastFailing app.now certificate.now (Some number) }
-    ensures verdict { TellsVerdict app.now certificate.now result }
-    ensures speaks { Speaks app.now result }
+fn refused_at(judging: &Judging, number: usize) -> Verdict
+    requires least { IsLeastFailing judging.now.app judging.now.certificate (Some number) }
+    ensures verdict { TellsVerdict judging.now.app judging.now.certificate result }
+    ensures speaks { Speaks judging.now.app result }
 {
-    match job_beside(app, certificate, others, number) {
+    match judging.part_at(number) {
         Some(part) => Verdict::No {
-            point: app.point(number),
+            point: judging.app().point(number),
             part,
         },
         None => unreachable!(),
@@ -61,22 +57,14 @@ fn refused_at(app: &App, certificate: &Certificate, others: &Interference, numbe
 }
 
 /// The verdict where this number is the least that failed, if one did.
-fn verdict_at(
-    app: &App,
-    certificate: &Certificate,
-    others: &Interference,
-    least: Option<u64>,
-) -> Verdict
-    requires fits { CertificateFits app.now certificate.now }
-    requires app { others.now.app ≡ app.now }
-    requires notes { others.now.notes ≡ certificate.now.notes }
-    requires least { IsLeastFailing app.now certificate.now least }
-    ensures verdict { TellsVerdict app.now certificate.now result }
-    ensures speaks { Speaks app.now result }
+fn verdict_at(judging: &Judging, least: Option<u64>) -> Verdict
+    requires least { IsLeastFailing judging.now.app judging.now.certificate least }
+    ensures verdict { TellsVerdict judging.now.app judging.now.certificate result }
+    ensures speaks { Speaks judging.now.app result }
 {
     match least {
         None => Verdict::Yes,
-        Some(number) => refused_at(app, certificate, others, number as usize),
+        Some(number) => refused_at(judging, number as usize),
     }
 }
 
@@ -96,28 +84,15 @@ pub(crate) fn judge_by_crew<R: Threads + Wait + Sync, G: Gate>(
     ensures speaks { IfOk result (λ v. Speaks app.now v) }
     ensures fault { IfErr result (λ e. e ≢ Workers) }
 {
-    let Ok(index) = Index::build(alloc, app) else {
-        return Err(ParFault::Memory);
-    };
-    let Ok(hulls) = Hulls::build_by(rt, alloc, app, &certificate.notes, &index, workers) else {
+    let Ok(lists) = Lists::build_by(rt, alloc, app, certificate, workers) else {
         return Err(ParFault::Memory);
     };
     let (board, passes) = board_for(alloc, app, workers)?;
-    let all = worked_by_all(
-        rt,
-        alloc,
-        app,
-        certificate,
-        &index,
-        &hulls,
-        &board,
-        passes,
-        gate,
-    )?;
-    let others = Interference::with(app, &certificate.notes, &index, &hulls);
+    let all = worked_by_all(rt, alloc, app, certificate, &lists, &board, passes, gate)?;
+    let judging = Judging::with(app, certificate, &lists);
     app.recall_faultless();
     match board.finish(all) {
-        Ok(tally) => Ok(verdict_at(app, certificate, &others, tally.least)),
+        Ok(tally) => Ok(verdict_at(&judging, tally.least)),
         Err(_) => unreachable!(),
     }
 }

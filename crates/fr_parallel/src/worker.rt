@@ -11,41 +11,35 @@ ghost use Rattle.fr_parallel.specs.Worked.{Settles};
 
 use fr_board::{Board, Claim, Gate, Pass};
 use fr_ends::Certificate;
-use fr_interfere::{Hulls, Index, Interference};
-use fr_judge::job_beside;
+use fr_interfere::Index;
+use fr_judge::{Judging, Lists};
 use fr_program::App;
 
-/// What workers work on: the points of an application, by a certificate that fits it, by its index and the hulls of the points
-/// in that, and the board that hands them out.
+/// What workers work on: the points of an application, by a certificate that fits it and the lists that were made for both, and
+/// the board that hands them out.
 #[derive(Clone, Copy)]
 pub(crate) struct Assignment<'s> {
     pub app: &'s App,
     pub certificate: &'s Certificate,
-    pub index: &'s Index,
-    pub hulls: &'s Hulls,
+    pub lists: &'s Lists,
     pub board: &'s Board,
 }
 
 /// Looks, and then skips the claim where a lower number has failed, or judges its point and marks it.
 fn settle<G: Gate>(
-    app: &App,
-    certificate: &Certificate,
-    others: &Interference,
+    judging: &Judging,
     board: &Board,
     pass: &mut Pass,
     claim: Claim,
     worker: usize,
     gate: &G,
 )
-    requires jobs { IsFor app.now board.now }
-    requires fits { CertificateFits app.now certificate.now }
-    requires app { others.now.app ≡ app.now }
-    requires notes { others.now.notes ≡ certificate.now.notes }
+    requires jobs { IsFor judging.now.app board.now }
     requires own { IsOf board.now pass.old }
     requires number { claim < board.now.jobs }
     requires claim { outcome_of claim pass.old.progress.drawn ≡ Some Open }
     ensures own { IsOf board.now pass.new }
-    ensures settled { Settles (KeepsAt app.now certificate.now) pass.old.progress claim pass.new.progress }
+    ensures settled { Settles (KeepsAt judging.now.app judging.now.certificate) pass.old.progress claim pass.new.progress }
 {
     let number = claim.number();
     if board.look(pass) < number {
@@ -53,7 +47,7 @@ fn settle<G: Gate>(
         return;
     }
     gate.arrive(worker, number);
-    match job_beside(app, certificate, others, number as usize) {
+    match judging.part_at(number as usize) {
         None => board.passed(pass, claim),
         Some(_) => board.failed(pass, claim),
     }
@@ -84,15 +78,18 @@ pub fn work<G: Gate>(
     requires index { IsIndexOf app.now index.now }
     ensures { IsWorked board.now app.now certificate.now result }
 {
-    let others = Interference::of(app, &certificate.notes, index);
-    work_beside(app, certificate, &others, board, pass, worker, gate)
+    work_by(
+        &Judging::by(app, certificate, index),
+        board,
+        pass,
+        worker,
+        gate,
+    )
 }
 
-/// The same as `work`, where `others` is the application's interference with the certificate's notes.
-pub fn work_beside<G: Gate>(
-    app: &App,
-    certificate: &Certificate,
-    others: &Interference,
+/// The same as `work`, for points that are judged so.
+pub(crate) fn work_by<G: Gate>(
+    judging: &Judging,
     board: &Board,
     mut pass: Pass,
     worker: usize,
@@ -100,23 +97,11 @@ pub fn work_beside<G: Gate>(
 ) -> Pass
     requires own { IsOf board.now pass }
     requires new { pass.progress ≡ new_progress board.now.jobs 1 }
-    requires jobs { IsFor app.now board.now }
-    requires fits { CertificateFits app.now certificate.now }
-    requires app { others.now.app ≡ app.now }
-    requires notes { others.now.notes ≡ certificate.now.notes }
-    ensures { IsWorked board.now app.now certificate.now result }
+    requires jobs { IsFor judging.now.app board.now }
+    ensures { IsWorked board.now judging.now.app judging.now.certificate result }
 {
     while let Some(claim) = board.draw(&mut pass) {
-        settle(
-            app,
-            certificate,
-            others,
-            board,
-            &mut pass,
-            claim,
-            worker,
-            gate,
-        );
+        settle(judging, board, &mut pass, claim, worker, gate);
     }
     pass
 }

@@ -8,8 +8,7 @@ use crate::pool::Pool;
 use crate::trial::Trial;
 use fr_ends::{Certificate, Ends};
 use fr_finder::{add, all_ends};
-use fr_interfere::{Hulls, Index, Interference};
-use fr_judge::{Part, job_beside};
+use fr_judge::{Judging, Lists, Part};
 use fr_notes::{Alternative, Note, Notes};
 use fr_program::App;
 use std::alloc::{AllocError, Global};
@@ -119,12 +118,11 @@ pub fn fitting(
 fn failures(alloc: Global, app: &App, certificate: &Certificate) -> Result<Vec<Failure>, AllocError>
     requires { CertificateFits app.now certificate.now }
 {
-    let index = Index::build(alloc, app)?;
-    let hulls = Hulls::build(alloc, app, &certificate.notes, &index)?;
-    let others = Interference::with(app, &certificate.notes, &index, &hulls);
+    let lists = Lists::build(alloc, app, certificate)?;
+    let judging = Judging::with(app, certificate, &lists);
     let mut failures = Vec::new(alloc);
     for number in 0..app.points() {
-        if let Some(part) = job_beside(app, certificate, &others, number) {
+        if let Some(part) = judging.part_at(number) {
             failures.push(Failure { number, part })?;
         }
     }

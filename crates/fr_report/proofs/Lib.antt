@@ -1,3 +1,3 @@
-pub mod Explained
+pub mod Formed
 pub mod ListingLemmas
-pub mod Told
+pub mod RunLemmas

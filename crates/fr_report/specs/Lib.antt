@@ -1,3 +1,4 @@
+pub mod Lines
 pub mod Listing
 pub mod Refuted
 pub mod Report

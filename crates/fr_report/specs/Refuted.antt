@@ -2,14 +2,15 @@
 --
 -- | word             | meaning                                                                             |
 -- |------------------|-------------------------------------------------------------------------------------|
--- | steps_text       | the lines of steps, as those of a run                                               |
--- | breach_line      | the rule, the actor that breaches it, and the number of steps                       |
--- | AreExplained     | the line of each step, and behind it lines that explain it, which are left open      |
+-- | steps_in         | the steps that are explained                                                        |
+-- | breach_text      | the rule, the actor that breaches it, and the number of steps                       |
+-- | found_line       | the line that tells that; or how many states were seen, and whether these are all   |
+-- | IsStepTold       | the line of a step, as one of a run; if it is explained, other lines behind it      |
 -- | AreStepLines     | the lines of steps, explained or not                                                |
--- | IsRefutationText | the first line, those of the steps, and then where the actor is, which is left open  |
--- | IsFindingText    | the same of a breach; else how many states were seen, and whether these are all     |
-use Rattle.std.specs.Prelude.{◌≡◌, ◌++◌, ℕ, Bool, true, false, List, [], ◌∷◌, codes, decimal, length}
-use Rattle.std.specs.List.{flat_map}
+-- | AreRunLines      | the same, and then where the actor is, which is left open                           |
+-- | IsRunText        | those lines of a breach, and otherwise none                                         |
+-- | IsFindingText    | the line of what was found, and behind it those lines                               |
+use Rattle.std.specs.Prelude.{◌≡◌, ◌++◌, ℕ, Bool, true, false, List, [], ◌∷◌, codes, decimal, length, map}
 use Rattle.fr_program.specs.Program.{Program}
 use Rattle.fr_program.specs.Lookup.{actor_at}
 use Rattle.fr_calls.specs.Rule.{number_of}
@@ -18,40 +19,51 @@ use Rattle.fr_refuter.specs.declared.step.StepTaken.{StepTaken}
 use Rattle.fr_refuter.specs.declared.replay.Refutation.{Refutation}
 use Rattle.fr_refuter.specs.declared.answer.Finding.{Finding}
 use Rattle.fr_refuter.specs.declared.answer.Finding.TheVariants.{Breach, Safe, Unknown}
+use Rattle.fr_report.specs.declared.reason.changes.ExplainedStep.{ExplainedStep}
 use Rattle.fr_report.specs.Report.{rule_text}
 use Rattle.fr_report.specs.Trace.{entry_text}
+
+-- the steps that are explained
+abbrev pub steps_in : List ExplainedStep → List StepTaken
+steps_in steps = map (λ step. step.taken) steps
 
 -- the line of a step, with its newline
 abbrev pub step_text : Program → StepTaken → List ℕ
 step_text P step = entry_text P (Stepped step.actor step.choice)
 
--- the lines of all steps, in their order
-abbrev pub steps_text : Program → List StepTaken → List ℕ
-steps_text P steps = flat_map (step_text P) steps
+-- `rule <number>: <what it says>: <actor>, after <number> steps`
+abbrev pub breach_text : Program → Refutation → List ℕ
+breach_text P r =
+    codes "rule " ++ (decimal (number_of r.rule) ++ (codes ": " ++ (rule_text r.rule ++ (codes ": "
+    ++ ((actor_at P r.actor.0).name ++ (codes ", after " ++ (decimal (length r.steps.items) ++ codes " steps")))))))
 
--- `breach: rule <number>: <what it says>: <actor>, after <number> steps`
-abbrev pub breach_line : Program → Refutation → List ℕ
-breach_line P r =
-    codes "breach: rule " ++ (decimal (number_of r.rule) ++ (codes ": " ++ (rule_text r.rule ++ (codes ": "
-    ++ ((actor_at P r.actor.0).name ++ (codes ", after " ++ (decimal (length r.steps.items) ++ codes " steps\n")))))))
+-- the line of what was found, without its newline
+abbrev pub found_line : Program → Finding → List ℕ
+found_line P (Breach r) = codes "breach: " ++ breach_text P r
+found_line P (Safe states) = codes "no breach in " ++ (decimal states ++ codes " states")
+found_line P (Unknown states) = codes "no breach in " ++ (decimal states ++ codes " states, more are left")
 
--- the line of each step in its order, and behind it lines that explain it, which are left open
-abbrev pub AreExplained : Program → List StepTaken → List ℕ → Type 0
-AreExplained P [] text = text ≡ []
-AreExplained P (step ∷ rest) text = (more others : List ℕ) × (text ≡ step_text P step ++ (more ++ others)) × AreExplained P rest others
+-- the line of the step alone, or with lines behind it that explain it, which are left open
+abbrev pub IsStepTold : Bool → Program → StepTaken → List ℕ → Type 0
+IsStepTold false P step text = text ≡ step_text P step
+IsStepTold true P step text = (more : List ℕ) × (text ≡ step_text P step ++ more)
 
--- the lines of the steps alone, or with lines that explain them
+-- the lines of the steps in their order, each told so
 abbrev pub AreStepLines : Bool → Program → List StepTaken → List ℕ → Type 0
-AreStepLines false P steps text = text ≡ steps_text P steps
-AreStepLines true P steps text = AreExplained P steps text
+AreStepLines explains P [] text = text ≡ []
+AreStepLines explains P (step ∷ rest) text =
+    (own others : List ℕ) × IsStepTold explains P step own × (text ≡ own ++ others) × AreStepLines explains P rest others
 
--- what the breach is, the lines of the steps that lead to it, explained or not, and then a text that tells where the actor is
-abbrev pub IsRefutationText : Bool → Program → Refutation → List ℕ → Type 0
-IsRefutationText explains P r text =
-    (lines last : List ℕ) × AreStepLines explains P r.steps.items lines × (text ≡ (breach_line P r ++ lines) ++ last)
+-- the lines of the steps, explained or not, and then a text that tells where the actor is
+abbrev pub AreRunLines : Bool → Program → List StepTaken → List ℕ → Type 0
+AreRunLines explains P steps text = (lines last : List ℕ) × AreStepLines explains P steps lines × (text ≡ lines ++ last)
 
--- what is written for a finding
+-- those lines of the steps that lead to a breach; no text where none was found
+abbrev pub IsRunText : Bool → Program → Finding → List ℕ → Type 0
+IsRunText explains P (Breach r) text = AreRunLines explains P r.steps.items text
+IsRunText explains P (Safe states) text = text ≡ []
+IsRunText explains P (Unknown states) text = text ≡ []
+
+-- what is written for a finding: what was found, and then the run into a breach
 abbrev pub IsFindingText : Bool → Program → Finding → List ℕ → Type 0
-IsFindingText explains P (Breach r) text = IsRefutationText explains P r text
-IsFindingText explains P (Safe states) text = text ≡ codes "no breach in " ++ (decimal states ++ codes " states\n")
-IsFindingText explains P (Unknown states) text = text ≡ codes "no breach in " ++ (decimal states ++ codes " states, more are left\n")
+IsFindingText explains P found text = (run : List ℕ) × IsRunText explains P found run × (text ≡ found_line P found ++ (codes "\n" ++ run))

@@ -6,7 +6,8 @@
 -- | rule_text      | what is said of a breached rule                                                |
 -- | guard_text     | an end of a buffer, by the buffer's name                                       |
 -- | part_text      | what fails at a point                                                          |
--- | report_text    | the whole line, with its newline                                               |
+-- | verdict_text   | the whole line                                                                 |
+-- | report_text    | the same with its newline                                                      |
 use Rattle.std.specs.Prelude.{ℕ, List, ◌++◌, codes, decimal}
 use Rattle.fr_program.specs.declared.ids.Point.{Point}
 use Rattle.fr_program.specs.declared.ids.Side.{Side}
@@ -58,7 +59,11 @@ part_text P (Guard e) = codes "guard " ++ ((object_at P e.buffer.0).name ++ (cod
 part_text P (Near q) = codes "near " ++ point_text P q
 part_text P (Spoiled q) = codes "spoiled by " ++ point_text P q
 
--- the line of a verdict
+-- the line of a verdict, without its newline
+abbrev pub verdict_text : Program → Verdict → List ℕ
+verdict_text P Yes = codes "yes"
+verdict_text P (No p part) = codes "no: " ++ (point_text P p ++ (codes ": " ++ part_text P part))
+
+-- the whole line
 abbrev pub report_text : Program → Verdict → List ℕ
-report_text P Yes = codes "yes\n"
-report_text P (No p part) = codes "no: " ++ (point_text P p ++ (codes ": " ++ (part_text P part ++ codes "\n")))
+report_text P verdict = verdict_text P verdict ++ codes "\n"

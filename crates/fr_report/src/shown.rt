@@ -19,10 +19,9 @@ pub struct ShownPoint<'a> {
 }
 
 impl<'a> ShownPoint<'a> {
-    /// The point, which is one of this application's.
+    /// The point; one that isn't this application's has the number 0.
     pub fn of(app: &'a App, point: Point) -> ShownPoint<'a>
-        requires { IsPoint app.now point }
-        ensures { shown_text result ≡ point_text app.now point }
+        ensures { IsPoint app.now point → shown_text result ≡ point_text app.now point }
     {
         ShownPoint {
             number: number_of(app, point),
@@ -33,10 +32,9 @@ impl<'a> ShownPoint<'a> {
     }
 }
 
-/// The number of a point of the application.
+/// The number of a point of the application; 0 of another one.
 pub(crate) fn number_of(app: &App, point: Point) -> usize
-    requires { IsPoint app.now point }
-    ensures { result ≡ point_number app.now point }
+    ensures { IsPoint app.now point → result ≡ point_number app.now point }
 {
     app.number(point).unwrap_or(0)
 }

@@ -1,13 +1,12 @@
 // The report of a verdict.
 ghost use Rattle.std.specs.Prelude.{◌≡◌, IfOk, string_bytes};
-ghost use Rattle.fr_program.specs.Lookup.{IsPoint};
 ghost use Rattle.fr_judge.specs.Told.{Speaks, IsPartOf};
-ghost use Rattle.fr_report.specs.Report.{report_text, part_text};
+ghost use Rattle.fr_report.specs.Report.{part_text, report_text, verdict_text};
 
 use crate::shown::{ShownPoint, object_name, rule_text};
 use fr_ends::EndName;
 use fr_judge::{Part, Verdict};
-use fr_program::{App, Point};
+use fr_program::App;
 use std::alloc::{AllocError, Global};
 
 /// The line that tells the verdict, with its newline: `yes`, or `no`, the first failing point and
@@ -17,28 +16,32 @@ pub fn report(alloc: Global, app: &App, verdict: &Verdict) -> Result<String, All
     requires { Speaks app.now verdict.now }
     ensures { IfOk result (λ text. string_bytes text ≡ report_text app.now verdict.now) }
 {
+    let mut text = verdict_line(alloc, app, *verdict)?;
+    text.push('\n')?;
+    Ok(text)
+}
+
+/// The line that tells the verdict, without its newline. It is the report's where the verdict is one on this
+/// application. An error says that an allocation was refused.
+pub fn verdict_line(alloc: Global, app: &App, verdict: Verdict) -> Result<String, AllocError>
+    ensures { Speaks app.now verdict → IfOk result
+        (λ line. string_bytes line ≡ verdict_text app.now verdict) }
+{
     match verdict {
-        Verdict::Yes => String::from_str(alloc, "yes\n"),
-        Verdict::No { point, part } => refusal(alloc, app, *point, *part),
+        Verdict::Yes => String::from_str(alloc, "yes"),
+        Verdict::No { point, part } => {
+            let at = ShownPoint::of(app, point);
+            let why = part_text(alloc, app, part)?;
+            format!(in alloc; "no: {at}: {why}")
+        }
     }
 }
 
-/// The line of a No at this point, by this part.
-fn refusal(alloc: Global, app: &App, point: Point, part: Part) -> Result<String, AllocError>
-    requires point { IsPoint app.now point }
-    requires part { IsPartOf app.now part }
-    ensures { IfOk result (λ text. string_bytes text ≡ report_text app.now (Verdict.No point part)) }
-{
-    let at = ShownPoint::of(app, point);
-    let why = part_text(alloc, app, part)?;
-    format!(in alloc; "no: {at}: {why}\n")
-}
-
-/// The text of a part that fails, as a report has it. The part is one on this application. An error says that an
-/// allocation was refused.
+/// The text of a part that fails. It is the one that a report has where the part is one on this application. An error
+/// says that an allocation was refused.
 pub fn part_text(alloc: Global, app: &App, part: Part) -> Result<String, AllocError>
-    requires { IsPartOf app.now part }
-    ensures { IfOk result (λ text. string_bytes text ≡ part_text app.now part) }
+    ensures { IsPartOf app.now part → IfOk result
+        (λ text. string_bytes text ≡ part_text app.now part) }
 {
     match part {
         Part::Entry => String::from_str(alloc, "entry"),

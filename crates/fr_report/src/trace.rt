@@ -1,5 +1,5 @@
 // The text of a trace.
-ghost use Rattle.std.specs.Prelude.{◌≡◌, ◌++◌, IfOk, OnOk, string_bytes};
+ghost use Rattle.std.specs.Prelude.{◌≡◌, ◌++◌, IfOk, OnOk, codes, string_bytes};
 ghost use Rattle.fr_report.specs.Trace.{entry_text, trace_text};
 
 use crate::shown::actor_name;
@@ -7,18 +7,19 @@ use fr_program::App;
 use fr_runner::{Entry, Trace};
 use std::alloc::{AllocError, Global};
 
-/// Appends the line of an entry.
+/// Appends the line of an entry, without its newline.
 pub(crate) fn put_entry(text: &mut String, app: &App, entry: Entry) -> Result<(), AllocError>
-    ensures { OnOk result (string_bytes text.new ≡ string_bytes text.old ++ entry_text app.now entry) }
+    ensures { OnOk result
+        (string_bytes text.new ++ codes "\n" ≡ string_bytes text.old ++ entry_text app.now entry) }
 {
     match entry {
         Entry::Stepped(actor, choice) => {
             let name = actor_name(app, actor);
-            write!(text, "{name} step {choice}\n")
+            write!(text, "{name} step {choice}")
         }
         Entry::Blocked(actor) => {
             let name = actor_name(app, actor);
-            write!(text, "{name} blocked\n")
+            write!(text, "{name} blocked")
         }
     }
 }
@@ -32,6 +33,7 @@ pub fn trace_text(alloc: Global, app: &App, trace: &Trace) -> Result<String, All
     let mut text = String::new(alloc);
     for entry in &trace.entries {
         put_entry(&mut text, app, *entry)?;
+        text.push('\n')?;
     }
     Ok(text)
 }

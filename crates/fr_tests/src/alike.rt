@@ -11,8 +11,8 @@ use crate::applications::{
 };
 use fr_cert::{read_cert, write_cert};
 use fr_ends::Certificate;
-use fr_interfere::{Hulls, Index, Interference, spoiler, spoiler_by};
-use fr_judge::{job, job_beside, job_by, judge, judge_beside, judge_by};
+use fr_interfere::{Index, spoiler, spoiler_by};
+use fr_judge::{Judging, Lists, job, job_by, judge, judge_by};
 use fr_program::App;
 use fr_reader::read_app;
 use std::alloc::Global;
@@ -22,22 +22,19 @@ fn is_point_alike(
     app: &App,
     certificate: &Certificate,
     index: &Index,
-    others: &Interference,
+    judging: &Judging,
     number: usize,
 ) -> bool
     requires number { number < length (points_of app.now) }
     requires fits { CertificateFits app.now certificate.now }
     requires index { IsIndexOf app.now index.now }
-    requires app { others.now.app ≡ app.now }
-    requires notes { others.now.notes ≡ certificate.now.notes }
+    requires app { judging.now.app ≡ app.now }
 {
     let notes = &certificate.notes;
     let part = job(app, certificate, number);
-    let disturbing = spoiler(app, notes, number);
     part == job_by(app, certificate, index, number)
-        && part == job_beside(app, certificate, others, number)
-        && disturbing == spoiler_by(app, notes, index, number)
-        && disturbing == others.spoiler(number)
+        && part == judging.part_at(number)
+        && spoiler(app, notes, number) == spoiler_by(app, notes, index, number)
 }
 
 /// Whether what is written for the certificate is read as a certificate for which the same is written.
@@ -58,19 +55,19 @@ pub fn is_alike(alloc: Global, app: &App, certificate: &Certificate) -> Option<b
     let Ok(index) = Index::build(alloc, app) else {
         return None;
     };
-    let Ok(hulls) = Hulls::build(alloc, app, &certificate.notes, &index) else {
+    let Ok(lists) = Lists::build(alloc, app, certificate) else {
         return None;
     };
-    let others = Interference::with(app, &certificate.notes, &index, &hulls);
+    let judging = Judging::with(app, certificate, &lists);
     for number in 0..app.points() {
-        if !is_point_alike(app, certificate, &index, &others, number) {
+        if !is_point_alike(app, certificate, &index, &judging, number) {
             return Some(false);
         }
     }
     let verdict = judge(app, certificate);
     Some(
         verdict == judge_by(app, certificate, &index)
-            && verdict == judge_beside(app, certificate, &others)
+            && verdict == judging.verdict()
             && is_read_again(alloc, app, certificate)?,
     )
 }

@@ -9,8 +9,7 @@ ghost use Rattle.fr_text.specs.Texts.{IsJudged, IsFaultOfTexts};
 
 use fr_cert::{CertFault, read_cert};
 use fr_ends::Certificate;
-use fr_interfere::{Hulls, Index, Interference};
-use fr_judge::{Verdict, judge_beside};
+use fr_judge::{Judging, Lists, Verdict};
 use fr_program::App;
 use fr_reader::{ReadFault, read_app};
 use std::alloc::{AllocError, Global};
@@ -67,10 +66,8 @@ fn judge_at_once(alloc: Global, app: &App, certificate: &Certificate) -> Result<
     ensures safe { IfOk result (λ v. v ≡ Verdict.Yes → IsSafe app.now) }
     ensures speaks { IfOk result (λ v. Speaks app.now v) }
 {
-    let index = Index::build(alloc, app)?;
-    let hulls = Hulls::build(alloc, app, &certificate.notes, &index)?;
-    let others = Interference::with(app, &certificate.notes, &index, &hulls);
-    Ok(judge_beside(app, certificate, &others))
+    let lists = Lists::build(alloc, app, certificate)?;
+    Ok(Judging::with(app, certificate, &lists).verdict())
 }
 
 /// Reads the application, then the certificate for it, and judges it.

@@ -1,4 +1,9 @@
 // The words of the command `check`.
+ghost use Rattle.std.specs.Prelude.{◌≡◌, IfSome, is_some};
+ghost use Rattle.fr_words.specs.Found.{rows};
+ghost use Rattle.fr_words.specs.Asked.{IsJudged, IsCheck, can_judge, can_check};
+
+use crate::found::{is_given, short_number_at, text_at};
 use crate::shared::{
     EXPLAINS_VERDICT, STATUSES, all_arg, command_of, detail_asked, explain_arg, file_arg,
     format_arg, format_asked, html_arg, text_arg, warn_arg, workers_arg,
@@ -42,22 +47,32 @@ pub fn check_command<'a>(alloc: Global) -> Result<Command<'a>, AllocError> {
     command_of(alloc, "check", about, STATUSES, args)
 }
 
+/// The files that the matched words name.
+fn files_judged<'a>(words: &ArgMatches<'a>) -> Option<Judged<'a>>
+    ensures files { IfSome result (IsJudged (rows words.now)) }
+    ensures whether { is_some result ≡ can_judge (rows words.now) }
+{
+    match text_at(words, "list") {
+        Some(list) => Some(Judged::Listed(list)),
+        None => Some(Judged::One {
+            app: text_at(words, "APP")?,
+            certificate: text_at(words, "CERT")?,
+        }),
+    }
+}
+
 /// The verdict that the matched words ask for. Words that were matched always ask for something, so it is
 /// never None.
-pub fn asked_check<'a>(words: &ArgMatches<'a>) -> Option<CheckRequest<'a>> {
-    let files = match words.get_str("list") {
-        Some(list) => Judged::Listed(list),
-        None => Judged::One {
-            app: words.get_str("APP")?,
-            certificate: words.get_str("CERT")?,
-        },
-    };
+pub fn asked_check<'a>(words: &ArgMatches<'a>) -> Option<CheckRequest<'a>>
+    ensures fields { IfSome result (IsCheck (rows words.now)) }
+    ensures whether { is_some result ≡ can_check (rows words.now) }
+{
     Some(CheckRequest {
-        files,
-        workers: words.get_one::<u16>("workers")?,
-        warns: words.get_flag("warn"),
+        files: files_judged(words)?,
+        workers: short_number_at(words, "workers")?,
+        warns: is_given(words, "warn"),
         detail: detail_asked(words),
         format: format_asked(words),
-        html: words.get_str("html"),
+        html: text_at(words, "html"),
     })
 }

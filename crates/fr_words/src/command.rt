@@ -1,6 +1,11 @@
 // The whole command line, and what it asks for.
+ghost use Rattle.std.specs.Prelude.{◌≡◌, IfSome, is_some};
+ghost use Rattle.fr_words.specs.Found.{rows};
+ghost use Rattle.fr_words.specs.Asked.{IsAsked, Asks, can_ask, can_ask_any};
+
 use crate::check::{asked_check, check_command};
 use crate::find::{asked_find, find_command};
+use crate::found::{is_given, text_at};
 use crate::points::points_command;
 use crate::prove::{asked_prove, prove_command};
 use crate::refute::{asked_refute, refute_command};
@@ -70,19 +75,30 @@ pub fn matched<'a>(alloc: Global, words: &'a [String]) -> Result<ArgMatches<'a>,
     command(alloc)?.try_get_matches_from(words)
 }
 
-/// What the matched words ask for. Words that were matched always ask for something, so it is never None.
-pub fn asked<'a>(matches: &ArgMatches<'a>) -> Option<Request<'a>> {
-    let (name, words) = matches.subcommand()?;
+/// What the matched words of the command with this name ask for.
+fn asked_of<'a>(name: &str, words: &ArgMatches<'a>) -> Option<Request<'a>>
+    ensures fields { IfSome result (IsAsked name.now (rows words.now)) }
+    ensures whether { is_some result ≡ can_ask name.now (rows words.now) }
+{
     match name {
-        "check" => Some(Request::Check(asked_check(&words)?)),
-        "find" => Some(Request::Find(asked_find(&words)?)),
-        "prove" => Some(Request::Prove(asked_prove(&words)?)),
+        "check" => Some(Request::Check(asked_check(words)?)),
+        "find" => Some(Request::Find(asked_find(words)?)),
+        "prove" => Some(Request::Prove(asked_prove(words)?)),
         "points" => Some(Request::Points {
-            app: words.get_str("APP")?,
-            explains: words.get_flag("explain"),
+            app: text_at(words, "APP")?,
+            explains: is_given(words, "explain"),
         }),
-        "refute" => Some(Request::Refute(asked_refute(&words)?)),
-        "run" => Some(Request::Run(asked_run(&words)?)),
+        "refute" => Some(Request::Refute(asked_refute(words)?)),
+        "run" => Some(Request::Run(asked_run(words)?)),
         _ => None,
     }
+}
+
+/// What the matched words ask for. Words that were matched always ask for something, so it is never None.
+pub fn asked<'a>(matches: &ArgMatches<'a>) -> Option<Request<'a>>
+    ensures fields { IfSome result (Asks matches.now) }
+    ensures whether { is_some result ≡ can_ask_any matches.now }
+{
+    let (name, words) = matches.subcommand()?;
+    asked_of(name, &words)
 }

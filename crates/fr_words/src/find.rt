@@ -1,4 +1,9 @@
 // The words of the command `find`.
+ghost use Rattle.std.specs.Prelude.{◌≡◌, IfSome, is_some};
+ghost use Rattle.fr_words.specs.Found.{rows};
+ghost use Rattle.fr_words.specs.Asked.{IsFind, can_find};
+
+use crate::found::{is_given, short_number_at, text_at};
 use crate::shared::{EXPLAINS_REFUSAL, command_of, explain_arg, file_arg};
 use clap::{Arg, ArgMatches, Command, value_parser};
 use fr_request::FindRequest;
@@ -34,11 +39,14 @@ pub fn find_command<'a>(alloc: Global) -> Result<Command<'a>, AllocError> {
 
 /// The certificate that the matched words ask for. Words that were matched always ask for something, so
 /// it is never None.
-pub fn asked_find<'a>(words: &ArgMatches<'a>) -> Option<FindRequest<'a>> {
+pub fn asked_find<'a>(words: &ArgMatches<'a>) -> Option<FindRequest<'a>>
+    ensures fields { IfSome result (IsFind (rows words.now)) }
+    ensures whether { is_some result ≡ can_find (rows words.now) }
+{
     Some(FindRequest {
-        app: words.get_str("APP")?,
-        out: words.get_str("OUT")?,
-        rounds: words.get_one::<u16>("rounds")?,
-        explains: words.get_flag("explain"),
+        app: text_at(words, "APP")?,
+        out: text_at(words, "OUT")?,
+        rounds: short_number_at(words, "rounds")?,
+        explains: is_given(words, "explain"),
     })
 }

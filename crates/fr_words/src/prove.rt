@@ -1,4 +1,9 @@
 // The words of the command `prove`.
+ghost use Rattle.std.specs.Prelude.{◌≡◌, IfSome, is_some};
+ghost use Rattle.fr_words.specs.Found.{rows};
+ghost use Rattle.fr_words.specs.Asked.{IsProve, can_prove};
+
+use crate::found::{is_given, short_number_at, text_at};
 use crate::shared::{
     all_arg, command_of, detail_asked, explain_arg, file_arg, flag_arg, format_arg, format_asked,
     html_arg, text_arg, warn_arg, workers_arg,
@@ -48,15 +53,18 @@ pub fn prove_command<'a>(alloc: Global) -> Result<Command<'a>, AllocError> {
 
 /// The proof that the matched words ask for. Words that were matched always ask for something, so it is
 /// never None.
-pub fn asked_prove<'a>(words: &ArgMatches<'a>) -> Option<ProveRequest<'a>> {
+pub fn asked_prove<'a>(words: &ArgMatches<'a>) -> Option<ProveRequest<'a>>
+    ensures fields { IfSome result (IsProve (rows words.now)) }
+    ensures whether { is_some result ≡ can_prove (rows words.now) }
+{
     Some(ProveRequest {
-        app: words.get_str("APP")?,
-        out: words.get_str("certificate"),
-        workers: words.get_one::<u16>("workers")?,
-        warns: words.get_flag("warn"),
+        app: text_at(words, "APP")?,
+        out: text_at(words, "certificate"),
+        workers: short_number_at(words, "workers")?,
+        warns: is_given(words, "warn"),
         detail: detail_asked(words),
-        searches: !words.get_flag("no-search"),
+        searches: !is_given(words, "no-search"),
         format: format_asked(words),
-        html: words.get_str("html"),
+        html: text_at(words, "html"),
     })
 }

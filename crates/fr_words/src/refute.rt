@@ -1,4 +1,9 @@
 // The words of the command `refute`.
+ghost use Rattle.std.specs.Prelude.{◌≡◌, IfSome, is_some};
+ghost use Rattle.fr_words.specs.Found.{rows};
+ghost use Rattle.fr_words.specs.Asked.{IsRefute, can_refute};
+
+use crate::found::{is_given, number_at, short_number_at, text_at};
 use crate::shared::{
     command_of, explain_arg, file_arg, format_arg, format_asked, html_arg, workers_arg,
 };
@@ -42,13 +47,16 @@ pub fn refute_command<'a>(alloc: Global) -> Result<Command<'a>, AllocError> {
 
 /// The search that the matched words ask for. Words that were matched always ask for something, so it is
 /// never None.
-pub fn asked_refute<'a>(words: &ArgMatches<'a>) -> Option<RefuteRequest<'a>> {
+pub fn asked_refute<'a>(words: &ArgMatches<'a>) -> Option<RefuteRequest<'a>>
+    ensures fields { IfSome result (IsRefute (rows words.now)) }
+    ensures whether { is_some result ≡ can_refute (rows words.now) }
+{
     Some(RefuteRequest {
-        app: words.get_str("APP")?,
-        states: words.get_one::<u32>("states")?,
-        workers: words.get_one::<u16>("workers")?,
-        explains: words.get_flag("explain"),
+        app: text_at(words, "APP")?,
+        states: number_at(words, "states")?,
+        workers: short_number_at(words, "workers")?,
+        explains: is_given(words, "explain"),
         format: format_asked(words),
-        html: words.get_str("html"),
+        html: text_at(words, "html"),
     })
 }

@@ -1,4 +1,9 @@
 // The words of the command `run`.
+ghost use Rattle.std.specs.Prelude.{◌≡◌, IfSome, is_some};
+ghost use Rattle.fr_words.specs.Found.{rows};
+ghost use Rattle.fr_words.specs.Asked.{IsRun, can_run};
+
+use crate::found::{number_at, text_at};
 use crate::shared::{
     EXPLAINS_VERDICT, all_arg, command_of, detail_asked, explain_arg, file_arg, text_arg,
 };
@@ -44,12 +49,15 @@ pub fn run_command<'a>(alloc: Global) -> Result<Command<'a>, AllocError> {
 
 /// The run that the matched words ask for. Words that were matched always ask for something, so it is
 /// never None.
-pub fn asked_run<'a>(words: &ArgMatches<'a>) -> Option<RunRequest<'a>> {
+pub fn asked_run<'a>(words: &ArgMatches<'a>) -> Option<RunRequest<'a>>
+    ensures fields { IfSome result (IsRun (rows words.now)) }
+    ensures whether { is_some result ≡ can_run (rows words.now) }
+{
     Some(RunRequest {
-        app: words.get_str("APP")?,
-        certificate: words.get_str("CERT")?,
-        polls: words.get_one::<u32>("polls")?,
-        words: words.get_str("words"),
+        app: text_at(words, "APP")?,
+        certificate: text_at(words, "CERT")?,
+        polls: number_at(words, "polls")?,
+        words: text_at(words, "words"),
         detail: detail_asked(words),
     })
 }

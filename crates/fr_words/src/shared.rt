@@ -1,4 +1,8 @@
 // The words that several commands have.
+ghost use Rattle.std.specs.Prelude.{◌≡◌};
+ghost use Rattle.fr_words.specs.Found.{rows, detail_at, format_at, format_named};
+
+use crate::found::{is_given, text_at};
 use clap::{Arg, ArgAction, ArgMatches, Command, value_parser};
 use fr_request::{Detail, Format};
 use std::alloc::{AllocError, Global};
@@ -90,9 +94,23 @@ pub fn format_arg<'a>(alloc: Global) -> Arg<'a> {
     arg.value_parser(NAMES.as_slice()).default_value("text")
 }
 
+/// The form with this name.
+fn format_named(name: &str) -> Option<Format>
+    ensures { result ≡ format_named name.now }
+{
+    match name {
+        "json" => Some(Format::Json),
+        "sarif" => Some(Format::Sarif),
+        "junit" => Some(Format::Junit),
+        _ => None,
+    }
+}
+
 /// The form that the matched words ask for; None where it is a text for a person.
-pub fn format_asked(words: &ArgMatches) -> Option<Format> {
-    Format::named(words.get_str("format")?)
+pub fn format_asked(words: &ArgMatches) -> Option<Format>
+    ensures { result ≡ format_at (rows words.now) }
+{
+    format_named(text_at(words, "format")?)
 }
 
 /// The word `--html` with its file: for one application, whose answer is printed as a text.
@@ -105,10 +123,12 @@ pub fn html_arg<'a>(alloc: Global) -> Result<Arg<'a>, AllocError> {
 
 /// How much is told of why a verdict is no: with `--all` everything, with `--explain` what matters, and
 /// nothing without either.
-pub fn detail_asked(words: &ArgMatches) -> Option<Detail> {
-    if words.get_flag("all") {
+pub fn detail_asked(words: &ArgMatches) -> Option<Detail>
+    ensures { result ≡ detail_at (rows words.now) }
+{
+    if is_given(words, "all") {
         Some(Detail::Whole)
-    } else if words.get_flag("explain") {
+    } else if is_given(words, "explain") {
         Some(Detail::Told)
     } else {
         None

@@ -1,81 +1,138 @@
 // Places in files, and in words.
-use super::log::{ArtifactLocation, Location, LogicalLocation, Message, PhysicalLocation, Region};
-use crate::answer::{PlaceShown, SideShown};
+ghost use Rattle.std.specs.Prelude.{◌≡◌, ◌++◌, IfOk, OnOk, string_bytes};
+ghost use Rattle.fr_formats.specs.Sarif.{file_begins, file_location, location, named, point_location, point_words, range, region, said, uri_of};
+
+use crate::answer::PlaceShown;
+use crate::piece::Piece::{Array, Field, Marks, Message, Number, Object};
+use crate::piece::{Out, put};
 use fr_escape::push_uri;
 use std::alloc::{AllocError, Global};
 
 /// The file at this path, as a URI: `file:` before one from the root on, and else relative.
-pub(super) fn file_uri(alloc: Global, path: &str) -> Result<ArtifactLocation, AllocError> {
-    let start = if path.starts_with('/') { "file://" } else { "" };
+#[tactic(auto, using(std::proofs::Common::append_assoc), unfolding(crate::specs::Sarif::uri_of))]
+pub(super) fn file_uri(alloc: Global, path: &str) -> Result<String, AllocError>
+    ensures { IfOk result (λ uri. string_bytes uri ≡ uri_of path.now) }
+{
+    let start = if path.starts_with("/") { "file://" } else { "" };
     let mut uri = String::from_str(alloc, start)?;
     push_uri(&mut uri, path)?;
-    Ok(ArtifactLocation { uri })
+    Ok(uri)
 }
 
-/// A message with this text, where there is one.
-fn message_of(alloc: Global, text: Option<&str>) -> Result<Option<Message>, AllocError> {
-    match text {
-        Some(text) => Ok(Some(Message {
-            text: String::from_str(alloc, text)?,
-        })),
-        None => Ok(None),
+/// Appends the begin of a place in the file with this URI.
+#[tactic(auto, using(std::proofs::Common::append_assoc), unfolding(crate::specs::Sarif::file_begins))]
+fn put_uri(out: &mut Out, uri: &str) -> Result<(), AllocError>
+    ensures { OnOk result (out.new.tokens ≡ out.old.tokens ++ file_begins uri.now) }
+{
+    put!(out; Marks("{"), Object("physicalLocation"), Object("artifactLocation"), Field("uri", uri),
+        Marks("}"))
+}
+
+/// Appends the begin of a place in the file at this path.
+fn begin_place(out: &mut Out, path: &str) -> Result<(), AllocError>
+    ensures { OnOk result (out.new.tokens ≡ out.old.tokens ++ file_begins (uri_of path.now)) }
+{
+    let uri = file_uri(out.alloc, path)?;
+    put_uri(out, &uri)
+}
+
+/// Appends the whole file at this path.
+#[tactic(auto, using(std::proofs::Common::append_assoc), unfolding(crate::specs::Sarif::file_location))]
+pub(super) fn put_file(out: &mut Out, path: &str) -> Result<(), AllocError>
+    ensures { OnOk result (out.new.tokens ≡ out.old.tokens ++ file_location path.now) }
+{
+    begin_place(out, path)?;
+    put!(out; Marks("}}"))
+}
+
+/// Appends a place on a line of the file.
+#[tactic(auto, using(std::proofs::Common::append_assoc), unfolding(crate::specs::Sarif::range))]
+fn put_range(out: &mut Out, line: usize, start: usize, end: usize) -> Result<(), AllocError>
+    ensures { OnOk result (out.new.tokens ≡ out.old.tokens ++ range line start end) }
+{
+    put!(out; Object("region"), Number("startLine", line), Number("startColumn", start),
+        Number("endColumn", end), Marks("}"))
+}
+
+/// Appends where the line of code is in the file, if that is known.
+fn put_region(out: &mut Out, place: &PlaceShown) -> Result<(), AllocError>
+    ensures { OnOk result (out.new.tokens
+        ≡ out.old.tokens ++ region place.now.line place.now.column place.now.length) }
+{
+    match (place.line, place.column, place.length) {
+        (Some(line), Some(column), Some(length)) => {
+            put_range(out, line, column, column.saturating_add(length))
+        }
+        _ => Ok(()),
     }
 }
 
-/// A place in the file at this path, with what is said of it.
-fn location_of(
-    alloc: Global,
-    path: &str,
-    region: Option<Region>,
-    logical_locations: Vec<LogicalLocation>,
-    text: Option<&str>,
-) -> Result<Location, AllocError> {
-    Ok(Location {
-        physical_location: PhysicalLocation {
-            artifact_location: file_uri(alloc, path)?,
-            region,
-        },
-        logical_locations,
-        message: message_of(alloc, text)?,
-    })
-}
-
-/// The whole file at this path.
-pub(super) fn file_place(alloc: Global, path: &str) -> Result<Location, AllocError> {
-    location_of(alloc, path, None, Vec::new(alloc), None)
-}
-
-/// Where the line of code stands in the file, if that is known.
-fn region_of(place: &PlaceShown) -> Option<Region> {
-    let (start_line, start_column) = (place.line?, place.column?);
-    Some(Region {
-        start_line,
-        start_column,
-        end_column: start_column.saturating_add(place.length?),
-    })
-}
-
 /// The point in words.
-pub(super) fn point_words(alloc: Global, place: &PlaceShown) -> Result<String, AllocError> {
-    let side = match place.side {
-        SideShown::Before => "before",
-        SideShown::Inside => "inside",
-    };
-    format!(in alloc; "{} {} {side}", place.actor, place.index)
+#[tactic(auto, using(std::proofs::Common::append_assoc), unfolding(crate::specs::Sarif::point_words))]
+pub(super) fn words_of(alloc: Global, place: &PlaceShown) -> Result<String, AllocError>
+    ensures { IfOk result (λ words. string_bytes words ≡ point_words place.now) }
+{
+    let (actor, index, side) = (place.actor.as_str(), place.index, place.side.name());
+    format!(in alloc; "{actor} {index} {side}")
 }
 
-/// A point of the application in the file at this path, with what is said of it.
-pub(super) fn place_at(
-    alloc: Global,
+/// Appends the names of an actor and of its point, behind its place in the file.
+#[tactic(auto, using(std::proofs::Common::append_assoc), unfolding(crate::specs::Sarif::named))]
+fn put_named<'a>(out: &mut Out, actor: &'a str, words: &'a str) -> Result<(), AllocError>
+    ensures { OnOk result (out.new.tokens ≡ out.old.tokens ++ named actor.now words.now) }
+{
+    put!(out; Marks("}"), Array("logicalLocations"), Marks("{"), Field("name", actor),
+        Field("fullyQualifiedName", words), Field("kind", "function"), Marks("}]"))
+}
+
+/// Appends the names of a point, behind its place in the file.
+fn put_names(out: &mut Out, place: &PlaceShown) -> Result<(), AllocError>
+    ensures { OnOk result (out.new.tokens
+        ≡ out.old.tokens ++ named (string_bytes place.now.actor) (point_words place.now)) }
+{
+    let words = words_of(out.alloc, place)?;
+    put_named(out, &place.actor, &words)
+}
+
+/// Appends what is said of a place; nothing where that is no text.
+fn put_said(out: &mut Out, text: &str) -> Result<(), AllocError>
+    ensures { OnOk result (out.new.tokens ≡ out.old.tokens ++ said text.now) }
+{
+    if text.is_empty() {
+        return Ok(());
+    }
+    put!(out; Message("message", text))
+}
+
+/// Appends a point of the application in the file at this path, with what is said of it.
+#[tactic(auto, using(std::proofs::Common::append_assoc), unfolding(crate::specs::Sarif::point_location))]
+pub(super) fn put_point(
+    out: &mut Out,
     path: &str,
     place: &PlaceShown,
-    text: Option<&str>,
-) -> Result<Location, AllocError> {
-    let mut logical = Vec::new(alloc);
-    logical.push(LogicalLocation {
-        name: String::from_str(alloc, &place.actor)?,
-        fully_qualified_name: point_words(alloc, place)?,
-        kind: "function",
-    })?;
-    location_of(alloc, path, region_of(place), logical, text)
+    text: &str,
+) -> Result<(), AllocError>
+    ensures { OnOk result (out.new.tokens
+        ≡ out.old.tokens ++ point_location path.now place.now text.now) }
+{
+    begin_place(out, path)?;
+    put_region(out, place)?;
+    put_names(out, place)?;
+    put_said(out, text)?;
+    put!(out; Marks("}"))
+}
+
+/// Appends the point, or the whole file where none is known.
+#[tactic(auto, using(std::proofs::Common::append_assoc), unfolding(crate::specs::Sarif::location))]
+pub(super) fn put_location(
+    out: &mut Out,
+    path: &str,
+    place: &Option<PlaceShown>,
+) -> Result<(), AllocError>
+    ensures { OnOk result (out.new.tokens ≡ out.old.tokens ++ location path.now place.now) }
+{
+    match place {
+        Some(place) => put_point(out, path, place, ""),
+        None => put_file(out, path),
+    }
 }

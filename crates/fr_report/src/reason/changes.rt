@@ -1,11 +1,14 @@
 // What a step of a run changed, in words.
+ghost use Rattle.std.specs.Prelude.{◌≡◌, IfOk};
 ghost use Rattle.fr_calls.specs.State.{IsWellFormed};
 
-use super::places::{actor_place, put_standing};
-use super::scene::{put_item, subjects};
+use super::places::{actor_place, standing_in};
+use super::scene::subjects;
 use super::steps::outcome_text;
 use super::words::{content_in, fact, put_held, put_stock, value_in, variable_name};
+use crate::lines::put_listed;
 use crate::shown::{actor_name, object_name};
+use crate::told::Standing;
 use fr_calls::{Content, Place, State, Stock};
 use fr_program::{ActorId, App, ObjId, Point, VarId};
 use fr_refuter::StepTaken;
@@ -91,95 +94,92 @@ fn change_text(
     }
 }
 
-/// What a step of this actor changed: a list, without an item where it changed nothing but the actor's
-/// place.
-fn changes_text(
+/// What a step of this actor changed, an item each; no item where it changed nothing but the actor's place.
+fn changes_of(
     alloc: Global,
     app: &App,
     actor: ActorId,
     before: &State,
     after: &State,
-) -> Result<String, AllocError>
+) -> Result<Vec<String>, AllocError>
     requires before { IsWellFormed app.now before.now }
     requires after { IsWellFormed app.now after.now }
 {
-    let mut text = String::new(alloc);
+    let mut changes = Vec::new(alloc);
     for subject in &subjects(alloc, app)? {
         let change = change_text(alloc, app, actor, before, after, *subject)?;
         if !change.is_empty() {
-            put_item(&mut text, &change)?;
+            changes.push(change)?;
         }
     }
     if let Place::Done = actor_place(app, after, actor) {
-        let mut end = String::new(alloc);
-        put_standing(alloc, &mut end, app, actor, after)?;
-        put_item(&mut text, &end)?;
+        changes.push(format!(in alloc; "{} is done", actor_name(app, actor))?)?;
     }
-    Ok(text)
+    Ok(changes)
 }
 
-/// How the call of a step went, where the step is one of a call that can go one way or another, or that
+/// How the call at a point went, where the step is one of a call that can go one way or another, or that
 /// begins; no text of any other.
 fn call_text(
     alloc: Global,
     app: &App,
-    step: StepTaken,
-    before: &State,
-) -> Result<String, AllocError>
-    requires { IsWellFormed app.now before.now }
-{
-    let actor = step.actor;
-    let Place::At { pc, side } = actor_place(app, before, actor) else {
+    point: Option<Point>,
+    choice: i64,
+) -> Result<String, AllocError> {
+    let Some(point) = point else {
         return Ok(String::new(alloc));
     };
-    match app.instr(Point { actor, pc, side }) {
-        Some(instr) => outcome_text(alloc, side, instr, step.choice),
+    match app.instr(point) {
+        Some(instr) => outcome_text(alloc, point.side, instr, choice),
         None => Ok(String::new(alloc)),
     }
 }
 
-/// What a step of a run changed, in words; where it changed nothing but the actor's place, how the call went,
-/// if it is a step of one. The step leads from the one state to the other.
-///
-/// # Errors
-///
-/// Only where memory is refused. The words are this project's own.
-pub fn change_told(
-    alloc: Global,
-    app: &App,
-    step: StepTaken,
-    before: &State,
-    after: &State,
-) -> Result<String, AllocError>
-    requires before { IsWellFormed app.now before.now }
-    requires after { IsWellFormed app.now after.now }
-{
-    let changes = changes_text(alloc, app, step.actor, before, after)?;
-    if changes.is_empty() {
-        call_text(alloc, app, step, before)
-    } else {
-        Ok(changes)
+/// A step of a run into a breach.
+#[derive(Drop)]
+pub struct ExplainedStep {
+    pub taken: StepTaken,
+    /// Where its actor is before it.
+    pub before: Standing,
+    /// What it changes, an item each; no item where it changes nothing but the actor's place.
+    pub changes: Vec<String>,
+    /// How its call went, where it is a step of one that can go one way or another, or that begins.
+    pub outcome: String,
+}
+
+impl ExplainedStep {
+    /// What it changes, in words; where it changes nothing but the actor's place, how the call went.
+    ///
+    /// # Errors
+    ///
+    /// Only where memory is refused. The words are this project's own.
+    pub fn change(&self, alloc: Global) -> Result<String, AllocError> {
+        let mut text = String::new(alloc);
+        put_listed(&mut text, &self.changes, "; ", &self.outcome)?;
+        Ok(text)
     }
 }
 
-/// The lines that explain a step of a run: where its actor was before it, with the line of code, and what it
-/// changed; where it changed nothing but the actor's place, how the call went, if it is a step of one.
+/// The step, which leads from the one state to the other.
 pub(crate) fn step_explained(
     alloc: Global,
     app: &App,
-    step: StepTaken,
+    taken: StepTaken,
     before: &State,
     after: &State,
-) -> Result<String, AllocError>
+) -> Result<ExplainedStep, AllocError>
     requires before { IsWellFormed app.now before.now }
     requires after { IsWellFormed app.now after.now }
+    ensures { IfOk result (λ step. step.taken ≡ taken) }
 {
-    let mut text = String::from_str(alloc, "  ")?;
-    put_standing(alloc, &mut text, app, step.actor, before)?;
-    text.push('\n')?;
-    let more = change_told(alloc, app, step, before, after)?;
-    if !more.is_empty() {
-        write!(text, "  {more}\n")?;
-    }
-    Ok(text)
+    let (actor, choice) = (taken.actor, taken.choice);
+    let changes = changes_of(alloc, app, actor, before, after)?;
+    let before = standing_in(alloc, app, actor, before)?;
+    let outcome = call_text(alloc, app, before.point, choice)?;
+    Ok(ExplainedStep {
+        taken,
+        before,
+        changes,
+        outcome,
+    })
 }

@@ -4,7 +4,7 @@ ghost use Rattle.fr_calls.specs.State.{IsWellFormed};
 use super::words::{put_critical, value_in, variable_name};
 use crate::shown::{actor_name, object_name};
 use fr_calls::State;
-use fr_ends::{EndName, Guard};
+use fr_ends::Guard;
 use fr_program::{ActorId, App, VarId};
 use fr_witness::Subject;
 use std::alloc::AllocError;
@@ -72,10 +72,4 @@ pub(super) fn put_unguarded(
             write!(text, "{of} is {value}, so that it isn't the turn of {name}")
         }
     }
-}
-
-/// Appends an end of a buffer.
-pub(super) fn put_end(text: &mut String, app: &App, end: EndName) -> Result<(), AllocError> {
-    let (buffer, side) = (object_name(app, end.buffer), end.end.text());
-    write!(text, "{buffer} {side}")
 }

@@ -1,16 +1,17 @@
 // What notes say, and what of it isn't so in a state.
 ghost use Rattle.std.specs.Prelude.{◌≡◌, ◌<◌, IfSome, length};
 ghost use Rattle.fr_calls.specs.State.{IsWellFormed};
-ghost use Rattle.fr_notes.specs.Fits.{AlternativeFits, NoteFits};
+ghost use Rattle.fr_notes.specs.Fits.{AlternativeFits};
 ghost use Rattle.fr_ends.specs.Fits.{CertificateFits};
 ghost use Rattle.fr_report.specs.Told.{IsSite};
 
-use super::scene::{Site, put_item, says_of, subjects};
+use super::scene::{Scene, Site, says_of, subjects};
 use super::words::{put_otherwise, put_said};
-use crate::shown::actor_name;
+use crate::lines::put_listed;
+use crate::told::{Explained, ShownState};
 use fr_calls::{State, is_at_end};
 use fr_ends::{Certificate, EndName};
-use fr_notes::{Alternative, Note};
+use fr_notes::Alternative;
 use fr_program::{ActorId, App, Call, Instr, Point, Side};
 use fr_witness::claim_broken;
 use std::alloc::{AllocError, Global};
@@ -33,49 +34,51 @@ pub(super) fn site_of<'a>(
     })
 }
 
-/// Appends what an alternative says that isn't so in the state, and what is.
-fn put_broken_by(
-    text: &mut String,
-    app: &App,
-    whose: &str,
+/// Adds what an alternative says that isn't so in the state, and what is.
+fn add_broken_by(
+    items: &mut Vec<Explained>,
+    scene: &Scene,
+    of: ShownState,
     actor: ActorId,
     says: &Alternative,
     state: &State,
 ) -> Result<(), AllocError>
-    requires formed { IsWellFormed app.now state.now }
-    requires fits { AlternativeFits app.now says.now }
-    requires actor { actor.0 < length app.now.actors }
+    requires formed { IsWellFormed scene.now.app.now state.now }
+    requires fits { AlternativeFits scene.now.app.now says.now }
+    requires actor { actor.0 < length scene.now.app.now.actors }
 {
+    let (alloc, app) = (scene.alloc, scene.app);
     let Some(subject) = claim_broken(app, says, actor, state) else {
         return Ok(());
     };
-    write!(text, "  {whose} says: ")?;
-    put_said(text, app, actor, says, subject)?;
-    text.push_str("\n  but: ")?;
-    put_otherwise(text, app, actor, says, state, subject)?;
-    text.push('\n')
+    let (mut claim, mut so) = (String::new(alloc), String::new(alloc));
+    put_said(&mut claim, app, actor, says, subject)?;
+    put_otherwise(&mut so, app, actor, says, state, subject)?;
+    let mut claims = Vec::new(alloc);
+    claims.push(claim)?;
+    items.push(Explained::Says { of, actor, claims })?;
+    Ok(items.push(Explained::But(so))?)
 }
 
-/// Appends for each alternative of the actor's note that doesn't hold in the state what it says, and what is
-/// so.
-pub(super) fn put_broken(
-    text: &mut String,
-    app: &App,
-    whose: &str,
-    actor: ActorId,
-    note: &Note,
+/// Adds for each alternative of the actor's note that doesn't hold in a state of this kind what it says, and
+/// what is so.
+pub(super) fn add_broken(
+    items: &mut Vec<Explained>,
+    scene: &Scene,
+    of: ShownState,
+    site: Site,
     state: &State,
 ) -> Result<(), AllocError>
-    requires formed { IsWellFormed app.now state.now }
-    requires fits { NoteFits app.now note.now }
-    requires actor { actor.0 < length app.now.actors }
+    requires formed { IsWellFormed scene.now.app.now state.now }
+    requires site { IsSite scene.now.app.now site }
 {
-    let name = actor_name(app, actor);
-    if note.alternatives().is_empty() {
-        return write!(text, "  {whose} says: {name} is never there\n");
+    let (actor, alternatives) = (site.point.actor, site.note.alternatives());
+    if alternatives.is_empty() {
+        let claims = Vec::new(scene.alloc);
+        return Ok(items.push(Explained::Says { of, actor, claims })?);
     }
-    for says in note.alternatives() {
-        put_broken_by(text, app, whose, actor, says, state)?;
+    for says in alternatives {
+        add_broken_by(items, scene, of, actor, says, state)?;
     }
     Ok(())
 }
@@ -87,18 +90,25 @@ fn alternative_text(
     actor: ActorId,
     says: &Alternative,
 ) -> Result<String, AllocError> {
-    let mut text = String::new(alloc);
+    let (mut text, mut claims) = (String::new(alloc), Vec::new(alloc));
     for subject in &subjects(alloc, app)? {
         if says_of(app, says, *subject) {
-            let mut said = String::new(alloc);
-            put_said(&mut said, app, actor, says, *subject)?;
-            put_item(&mut text, said.as_str())?;
+            let mut claim = String::new(alloc);
+            put_said(&mut claim, app, actor, says, *subject)?;
+            claims.push(claim)?;
         }
     }
-    if text.is_empty() {
-        text.push_str("nothing")?;
-    }
+    put_listed(&mut text, &claims, "; ", "nothing")?;
     Ok(text)
+}
+
+/// What the note of a site says, an item for each alternative.
+pub(super) fn claims_of(alloc: Global, app: &App, site: Site) -> Result<Vec<String>, AllocError> {
+    let mut claims = Vec::new(alloc);
+    for says in site.note.alternatives() {
+        claims.push(alternative_text(alloc, app, site.point.actor, says)?)?;
+    }
+    Ok(claims)
 }
 
 /// What the note of a point says in words, an item for each alternative; no item where the actor is never
@@ -115,35 +125,10 @@ pub fn note_told(
 ) -> Result<Vec<String>, AllocError>
     requires { CertificateFits app.now certificate.now }
 {
-    let mut told = Vec::new(alloc);
-    if let Some(site) = site_of(app, certificate, point) {
-        for says in site.note.alternatives() {
-            told.push(alternative_text(alloc, app, point.actor, says)?)?;
-        }
+    match site_of(app, certificate, point) {
+        Some(site) => claims_of(alloc, app, site),
+        None => Ok(Vec::new(alloc)),
     }
-    Ok(told)
-}
-
-/// Appends what a note says, each alternative after the other; of a note without one that the actor is never
-/// there.
-pub(super) fn put_note(
-    alloc: Global,
-    text: &mut String,
-    app: &App,
-    site: Site,
-) -> Result<(), AllocError> {
-    let (actor, mut said) = (site.point.actor, String::new(alloc));
-    for says in site.note.alternatives() {
-        if !said.is_empty() {
-            said.push_str(" or ")?;
-        }
-        said.push_str(&alternative_text(alloc, app, actor, says)?)?;
-    }
-    if said.is_empty() {
-        let name = actor_name(app, actor);
-        write!(&mut said, "{name} is never there")?;
-    }
-    write!(text, "  its note says: {said}\n")
 }
 
 /// Whether another actor is at the end of a buffer at this site, which its note doesn't say it never reaches.

@@ -1,31 +1,21 @@
 // Where actors stand, with their lines of code.
-ghost use Rattle.std.specs.Prelude.{◌≡◌, IfOk, string_bytes};
 ghost use Rattle.fr_calls.specs.State.{IsWellFormed};
-ghost use Rattle.fr_report.specs.Listing.{code_text};
 
 use super::words::{put_critical, put_suspended, suspension_in};
-use crate::listing::code_text;
+use crate::listing::line_of_code;
 use crate::shown::{actor_name, side_name};
+use crate::told::{Explained, Standing};
 use fr_calls::{Place, State};
-use fr_instr::names_of;
 use fr_program::{ActorId, App, Point};
 use std::alloc::{AllocError, Global};
 
-/// Appends a point with its line of code.
-pub(super) fn put_place(
-    alloc: Global,
-    text: &mut String,
-    app: &App,
-    point: Point,
-) -> Result<(), AllocError> {
-    let names = names_of(alloc, app)?;
-    let code = code_text(alloc, app, &names, point)?;
-    let (actor, pc, side) = (
-        actor_name(app, point.actor),
-        point.pc,
-        side_name(point.side),
-    );
-    write!(text, "{actor} {pc} {side}: {code}")
+/// An actor at a point.
+pub(super) fn standing_at(alloc: Global, app: &App, point: Point) -> Result<Standing, AllocError> {
+    Ok(Standing {
+        actor: point.actor,
+        point: Some(point),
+        code: line_of_code(alloc, app, point)?,
+    })
 }
 
 /// Where the actor stands in the state; done where the application has no such actor.
@@ -39,32 +29,23 @@ pub fn actor_place(app: &App, state: &State, actor: ActorId) -> Place
     }
 }
 
-/// Appends where the actor stands in the state, with its line of code.
-pub(crate) fn put_standing(
+/// Where the actor is in the state, with its line of code.
+pub(crate) fn standing_in(
     alloc: Global,
-    text: &mut String,
     app: &App,
     actor: ActorId,
     state: &State,
-) -> Result<(), AllocError>
+) -> Result<Standing, AllocError>
     requires { IsWellFormed app.now state.now }
 {
     match actor_place(app, state, actor) {
-        Place::At { pc, side } => put_place(alloc, text, app, Point { actor, pc, side }),
-        Place::Done => write!(text, "{} is done", actor_name(app, actor)),
+        Place::At { pc, side } => standing_at(alloc, app, Point { actor, pc, side }),
+        Place::Done => Ok(Standing {
+            actor,
+            point: None,
+            code: String::new(alloc),
+        }),
     }
-}
-
-/// The line of code at a point, as it is written; no text where the application has no such point.
-///
-/// # Errors
-///
-/// Only where memory is refused.
-pub fn code_told(alloc: Global, app: &App, point: Point) -> Result<String, AllocError>
-    ensures { IfOk result (λ text. string_bytes text ≡ code_text app.now point) }
-{
-    let names = names_of(alloc, app)?;
-    code_text(alloc, app, &names, point)
 }
 
 /// Where the actor stands in the state, without its name: the line by its number, the side and the code, or
@@ -83,7 +64,7 @@ pub fn place_told(
 {
     match actor_place(app, state, actor) {
         Place::At { pc, side } => {
-            let code = code_told(alloc, app, Point { actor, pc, side })?;
+            let code = line_of_code(alloc, app, Point { actor, pc, side })?;
             format!(in alloc; "{pc} {}: {code}", side_name(side))
         }
         Place::Done => String::from_str(alloc, "done"),
@@ -96,8 +77,8 @@ fn put_actor(text: &mut String, app: &App, actor: ActorId, state: &State) -> Res
 {
     let name = actor_name(app, actor);
     match actor_place(app, state, actor) {
-        Place::At { pc, side } => write!(text, "  {name} {pc} {}", side_name(side))?,
-        Place::Done => write!(text, "  {name} is done")?,
+        Place::At { pc, side } => write!(text, "{name} {pc} {}", side_name(side))?,
+        Place::Done => write!(text, "{name} is done")?,
     }
     let (depth, suspended) = (state.depth(actor), suspension_in(app, state, actor));
     if depth > 0 {
@@ -108,15 +89,22 @@ fn put_actor(text: &mut String, app: &App, actor: ActorId, state: &State) -> Res
         text.push_str("; ")?;
         put_suspended(text, name, suspended)?;
     }
-    text.push('\n')
+    Ok(())
 }
 
-/// Appends where each actor stands, with its depths, a line for each.
-pub(super) fn put_places(text: &mut String, app: &App, state: &State) -> Result<(), AllocError>
+/// Adds where each actor stands, with its depths, an item for each.
+pub(super) fn add_actors(
+    alloc: Global,
+    items: &mut Vec<Explained>,
+    app: &App,
+    state: &State,
+) -> Result<(), AllocError>
     requires { IsWellFormed app.now state.now }
 {
     for number in 0..app.actors().len() {
-        put_actor(text, app, ActorId(number), state)?;
+        let mut text = String::new(alloc);
+        put_actor(&mut text, app, ActorId(number), state)?;
+        items.push(Explained::Actor(text))?;
     }
     Ok(())
 }

@@ -2,7 +2,9 @@
 ghost use Rattle.std.specs.Prelude.{◌<◌, length};
 ghost use Rattle.fr_calls.specs.State.{IsWellFormed};
 
+use super::places::standing_at;
 use super::words::{fact, suspension_in};
+use crate::told::Standing;
 use fr_calls::State;
 use fr_notes::{Alternative, Claim, Note};
 use fr_program::{
@@ -23,6 +25,7 @@ pub(super) struct Site<'a> {
 /// What states are shown for: one or two points, and perhaps a thing that a guard names.
 #[derive(Clone, Copy)]
 pub(super) struct Scene<'a> {
+    pub alloc: Global,
     pub app: &'a App,
     pub detail: Detail,
     pub site: Site<'a>,
@@ -124,15 +127,12 @@ pub(super) fn subjects(alloc: Global, app: &App) -> Result<Vec<Subject>, AllocEr
     Ok(subjects)
 }
 
-/// Appends an item of a list.
-pub(super) fn put_item(text: &mut String, item: &str) -> Result<(), AllocError> {
-    if !text.is_empty() {
-        text.push_str("; ")?;
-    }
-    text.push_str(item)
-}
-
 impl Scene<'_> {
+    /// An actor at a point.
+    pub(super) fn standing_at(&self, point: Point) -> Result<Standing, AllocError> {
+        standing_at(self.alloc, self.app, point)
+    }
+
     /// Whether the subject is shown, for the actor of this site.
     fn shows(&self, site: Site, state: &State, subject: Subject) -> bool
         requires { IsWellFormed self.now.app.now state.now }
@@ -152,67 +152,58 @@ impl Scene<'_> {
             || site.speaks_of(app, subject)
     }
 
-    /// What is shown of a state for the actor of this site: its depths, and where `things` says so
-    /// objects and variables. An item of a list after the other.
-    fn put_shown(
+    /// Adds what is shown of a state for the actor of this site: its depths, and where `things` says so
+    /// objects and variables.
+    fn add_shown(
         &self,
-        alloc: Global,
-        text: &mut String,
+        facts: &mut Vec<String>,
         site: Site,
         state: &State,
         things: bool,
     ) -> Result<(), AllocError>
         requires { IsWellFormed self.now.app.now state.now }
     {
-        for subject in &subjects(alloc, self.app)? {
+        for subject in &subjects(self.alloc, self.app)? {
             let is_thing = matches!(*subject, Subject::Object(_) | Subject::Variable(_));
             if (things || !is_thing) && self.shows(site, state, *subject) {
-                put_item(
-                    text,
-                    &fact(alloc, self.app, site.point.actor, state, *subject)?,
-                )?;
+                facts.push(fact(self.alloc, self.app, site.point.actor, state, *subject)?)?;
             }
         }
         Ok(())
     }
 
-    /// What is shown of a state: a list, or `any` where nothing in it matters.
-    pub(super) fn shown(&self, alloc: Global, state: &State) -> Result<String, AllocError>
+    /// What is shown of a state; no fact where nothing in it matters.
+    pub(super) fn shown(&self, state: &State) -> Result<Vec<String>, AllocError>
         requires { IsWellFormed self.now.app.now state.now }
     {
-        let mut text = String::new(alloc);
+        let mut facts = Vec::new(self.alloc);
         if let Some(other) = self.other {
             if other.point.actor.0 != self.site.point.actor.0 {
-                self.put_shown(alloc, &mut text, other, state, false)?;
+                self.add_shown(&mut facts, other, state, false)?;
             }
         }
-        self.put_shown(alloc, &mut text, self.site, state, true)?;
-        if text.is_empty() {
-            text.push_str("any")?;
-        }
-        Ok(text)
+        self.add_shown(&mut facts, self.site, state, true)?;
+        Ok(facts)
     }
 
-    /// What a step of this actor changed: a list of what is otherwise after it, with no item where it
-    /// changed nothing but the actor's place.
+    /// What is otherwise after a step of this actor; no fact where it changed nothing but the actor's place.
     pub(super) fn changed(
         &self,
-        alloc: Global,
         actor: ActorId,
         before: &State,
         after: &State,
-    ) -> Result<String, AllocError>
+    ) -> Result<Vec<String>, AllocError>
         requires before { IsWellFormed self.now.app.now before.now }
         requires after { IsWellFormed self.now.app.now after.now }
     {
-        let mut text = String::new(alloc);
-        for subject in &subjects(alloc, self.app)? {
-            let was = fact(alloc, self.app, actor, before, *subject)?;
-            let is = fact(alloc, self.app, actor, after, *subject)?;
+        let mut facts = Vec::new(self.alloc);
+        for subject in &subjects(self.alloc, self.app)? {
+            let was = fact(self.alloc, self.app, actor, before, *subject)?;
+            let is = fact(self.alloc, self.app, actor, after, *subject)?;
             if was != is {
-                put_item(&mut text, &is)?;
+                facts.push(is)?;
             }
         }
-        Ok(text)
+        Ok(facts)
     }
 }

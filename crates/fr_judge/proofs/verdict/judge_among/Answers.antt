@@ -2,7 +2,7 @@
 -- loop ends, all keep.
 use Rattle.std.proofs.Common.{refl, arith}
 use Rattle.fr_judge.specs.Verdict.{Yes, KeepsAll}
-use Rattle.fr_judge.proofs.Judging.{all-keep, first-failure, yes-safe}
+use Rattle.fr_judge.proofs.Points.{all-keep, first-failure, yes-safe}
 use Rattle.fr_judge.proofs.Walks.{one-more}
 use Rattle.fr_judge.proofs.verdict.judge_among.Goals as goal
 

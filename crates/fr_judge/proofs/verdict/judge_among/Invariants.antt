@@ -1,4 +1,4 @@
-use Rattle.fr_judge.proofs.Judging.{KeepsBelow}
+use Rattle.fr_judge.proofs.Points.{KeepsBelow}
 use Rattle.fr_judge.proofs.verdict.judge_among.Given as goal
 
 -- the points so far keep every part

@@ -2,20 +2,22 @@ use Rattle.std.proofs.Common.{ℕ, sym, ◌∙◌, subst, arith}
 use Rattle.fr_board.specs.Tally.{IsTallyOf}
 use Rattle.fr_judge.specs.declared.part.Verdict.{Verdict}
 use Rattle.fr_judge.specs.Told.{TellsVerdict}
-use Rattle.fr_judge.proofs.Judging.{yes-safe}
+use Rattle.fr_judge.proofs.Points.{yes-safe}
 use Rattle.fr_parallel.specs.Kept.{KeepsAt}
 use Rattle.fr_parallel.proofs.Least.{all-done, tally-least}
 use Rattle.fr_parallel.proofs.verdict.judge_by_crew.Goals as goal
 
-pub verdict_at-requires-clause-least : goal.verdict_at-requires-clause-least
-verdict_at-requires-clause-least g c =
+pub verdict_at-requires : goal.verdict_at-requires
+verdict_at-requires g c =
     let made = c.in_ok-board.ensures.new in
     let all = c.in_ok-all.ensures.all in
     let heavy = all.weight ∙ made.count ∙ sym made.seats_are in
     let tally = (c.in-Ok-finish.ensures.whole heavy).1 in
     let Keeps : ℕ → Type 0 = KeepsAt c.args.app.now c.args.certificate.now in
-    tally-least Keeps _ c.in-Ok-finish.tally.least c.in_ok-all.all.progress all.right
-    (subst (λ (n : ℕ). IsTallyOf n c.in-Ok-finish.tally.least c.in_ok-all.all.progress) made.jobs_are tally)
+    let least = tally-least Keeps _ c.in-Ok-finish.tally.least c.in_ok-all.all.progress all.right
+    (subst (λ (n : ℕ). IsTallyOf n c.in-Ok-finish.tally.least c.in_ok-all.all.progress) made.jobs_are tally) in
+    let J = c.with-judging.ensures in
+    record { least = rw (J.app, J.certificate) least }
 
 pub unreachable-requires : goal.unreachable-requires
 unreachable-requires g c =
@@ -31,4 +33,6 @@ pub returns-clause-safe : goal.returns-clause-safe
 returns-clause-safe g c is_yes =
     let P = c.args.app.now in
     let C = c.args.certificate.now in
-    yes-safe P C c.recall_faultless.ensures c.requires.fits (subst (λ (v : Verdict). TellsVerdict P C v) is_yes c.verdict_at.ensures.verdict)
+    let J = c.with-judging.ensures in
+    let verdict : TellsVerdict P C c.verdict_at.result = rw (J.app, J.certificate) at c.verdict_at.ensures.verdict in
+    yes-safe P C c.recall_faultless.ensures c.requires.fits (subst (λ (v : Verdict). TellsVerdict P C v) is_yes verdict)

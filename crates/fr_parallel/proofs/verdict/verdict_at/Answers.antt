@@ -6,6 +6,5 @@ use Rattle.fr_parallel.proofs.verdict.verdict_at.Goals as goal
 
 pub returns-in-None-clause-verdict : goal.returns-in-None-clause-verdict
 returns-in-None-clause-verdict c =
-    let P = c.args.app.now in
-    let C = c.args.certificate.now in
-    tells-yes P C (subst (λ (least : Option ℕ). IsLeastFailing P C least) c.in-None.is c.requires.least)
+    let J = c.args.judging.now in
+    tells-yes J.app J.certificate (subst (λ (least : Option ℕ). IsLeastFailing J.app J.certificate least) c.in-None.is c.requires.least)

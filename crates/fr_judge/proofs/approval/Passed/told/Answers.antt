@@ -1,6 +1,6 @@
 use Rattle.std.proofs.Common.{subst}
 use Rattle.fr_judge.specs.Told.{TellsVerdict}
-use Rattle.fr_judge.proofs.Judging.{yes-certified}
+use Rattle.fr_judge.proofs.Points.{yes-certified}
 use Rattle.fr_judge.proofs.approval.Passed.told.Goals as goal
 
 pub invariant_of-result : goal.invariant_of-result

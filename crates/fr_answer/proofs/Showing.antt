@@ -1,0 +1,110 @@
+-- What a command shows is what it found.
+use Rattle.std.proofs.Common.{◌≡◌, ◌≤◌, ◌⊎◌, inl, inr, ℕ, List, Bool, Option, None, Some, Result, Ok, Err, IfOk, IfErr, String, string_bytes, refl, sym, subst, ap, ◌∙◌, arith}
+use Rattle.std.proofs.lemmas.Bool.{false≢true}
+use Rattle.std.proofs.lemmas.Option.{same_Some}
+use Rattle.std.specs.Prelude.{IsErr, option_map}
+use Rattle.std.specs.declared.alloc.Global.{Global}
+use Rattle.fr_files.specs.declared.outputs.Output.{Output}
+use Rattle.fr_judge.specs.Told.{TellsVerdict}
+use Rattle.fr_judge.specs.declared.part.Verdict.TheVariants.{Yes}
+use Rattle.fr_program.specs.Program.{Program}
+use Rattle.fr_text.specs.Texts.{IsJudged}
+use Rattle.fr_request.specs.declared.format.Format.{Format}
+use Rattle.fr_answer.specs.declared.answer.Answer.{Answer}
+use Rattle.fr_answer.specs.declared.answer.Refusal.{Refusal}
+use Rattle.fr_answer.specs.declared.answer.What.{What}
+use Rattle.fr_answer.specs.declared.answer.What.TheVariants.{Judged, Searched, Refused}
+use Rattle.fr_answer.specs.Answers.{HasFound, IsProofOf, IsVerdictOn, what_status}
+use Rattle.fr_answer.specs.Commands.{IsGiven, IsKept, IsLineStatus, IsPaged, IsProofAt, IsShown, IsStatusBy, IsPrinted}
+use Rattle.fr_answer.proofs.Safe.{breach-status, zero-yes}
+
+-- what holds of all that is found holds of what was
+pub from-found : {X E : Type 0} (Is : What → Type 0) (found : Result (X × What) E) (what : What) → IfOk found (λ r. Is r.1) → HasFound found what → Is what
+from-found Is (Ok r) what h is = subst Is (sym is) h
+from-found Is (Err e) what h is = absurd is
+
+-- so it does of what is shown
+pub shown-of : {X E Y : Type 0} (Is : What → Type 0) (found : Result (X × What) E) (format : Option Format) (old new : Option (List ℕ)) (r : Result ℕ Y) → IfOk found (λ x. Is x.1)
+    → IfOk r (λ status. status ≤ 1 → IsShown (HasFound found) format status old new) → IfOk r (λ status. status ≤ 1 → IsShown Is format status old new)
+shown-of Is found format old new (Ok status) h shown = λ le. let s = shown le in (s.0, from-found Is found s.0 h s.1, s.2, s.3)
+shown-of Is found format old new (Err e) h shown = tt
+
+-- an output that is looked at is the one that is asked for
+pub may-of : (May : List ℕ → Type 0) (output : Option Output) (path : Option (List ℕ)) → option_map (λ o. o.path.now) output ≡ path → ((o : Output) → output ≡ Some o → May o.path.now)
+    → (p : List ℕ) → path ≡ Some p → May p
+may-of May None path e h p is = let no : ⊥ = cc in absurd no
+may-of May (Some o) path e h p is = subst May (same_Some o.path.now p (e ∙ is)) (h o refl)
+
+-- the answer to a line is what was found
+pub line-status : {X E Y : Type 0} (Is : What → Type 0) (found : Result (X × What) E) (r : Result Answer Y) → IfOk r (λ a. what_status a.what ≤ 1 → HasFound found a.what)
+    → IfOk found (λ x. Is x.1) → IfOk r (λ a. what_status a.what ≤ 1 → (w : What) × Is w × (what_status a.what ≡ what_status w))
+line-status Is found (Ok a) has h = λ le. (a.what, from-found Is found a.what h (has le), refl)
+line-status Is found (Err e) has h = tt
+
+-- an answer that is shown: its exit status, what is printed, and that nothing is where there is no verdict
+pub shown-found : {Y : Type 0} (Has : What → Type 0) (format : Option Format) (old new : Option (List ℕ)) (r : Result ℕ Y) (what : What) → (what_status what ≤ 1 → Has what)
+    → IfOk r (λ s. s ≡ what_status what) → IfOk r (λ s. format ≡ None → IsPrinted what old new) → IfOk r (λ s. s ≤ 1 → IsShown Has format s old new)
+shown-found Has format old new (Ok s) what has status text = λ le. (what, has (subst (λ n. n ≤ 1) status le), status, text)
+shown-found Has format old new (Err e) what has status text = tt
+
+pub refused-found : {X E Y : Type 0} (found : Result X E) (r : Result ℕ Y) (n : ℕ) → IfErr found (λ _. 2 ≤ n) → IfOk r (λ s. s ≡ n) → IfErr found (λ _. IfOk r (λ s. 2 ≤ s))
+refused-found (Ok x) r n h status = tt
+refused-found (Err e) (Ok s) n h status = subst (λ m. 2 ≤ m) (sym status) h
+refused-found (Err e) (Err y) n h status = tt
+
+pub kept-found : {Y : Type 0} (A B : Type 0) (r : Result ℕ Y) (n : ℕ) → IfOk r (λ s. s ≡ n) → (A → 2 ≤ n → B) → IfOk r (λ s. 2 ≤ s → A → B)
+kept-found A B (Ok s) n status h = λ least a. h a (subst (λ m. 2 ≤ m) status least)
+kept-found A B (Err e) n status h = tt
+
+pub most-found : {Y : Type 0} (r : Result ℕ Y) (n : ℕ) → IfOk r (λ s. s ≡ n) → n ≤ 3 → IfOk r (λ s. s ≤ 3)
+most-found (Ok s) n status h = subst (λ m. m ≤ 3) (sym status) h
+most-found (Err e) n status h = tt
+
+-- files that are as they were
+pub paged-same : {Z : Type 0} (puts : Z → List ℕ → List ℕ → Z → Type 0) (path : Option (List ℕ)) (old new : Z) → new ≡ old → IsPaged puts path old new
+paged-same puts None old new same = same
+paged-same puts (Some p) old new same = inl same
+
+module _ (gives : List ℕ → ℕ → List ℕ → Type 0) where
+  -- a line of a list
+  pub line-by : {Y : Type 0} (list app : List ℕ) (certificate : Option (List ℕ)) (r : Result Answer Y) → IfOk r (λ a. IsStatusBy gives list app certificate (what_status a.what))
+      → IfOk r (λ a. IsLineStatus gives list (record { application = app; certificate = certificate }) (what_status a.what))
+  line-by list app certificate (Ok a) h = record { by = h }
+  line-by list app certificate (Err e) h = tt
+
+  -- a certificate that is kept has a yes
+  pub kept-yes : {Z : Type 0} (puts : Z → List ℕ → List ℕ → Z → Type 0) (app : List ℕ) (searches : Bool) (path : Option (List ℕ)) (what : What) (text : List ℕ) (old new : Z)
+      → IsProofAt gives app searches text what → IsGiven puts path what text old new → IsKept gives puts app path old new
+  kept-yes puts app searches None what text old new proof (inl same) = same
+  kept-yes puts app searches None what text old new proof (inr given) = let no : ⊥ = (let e = given.1 in cc) in absurd no
+  kept-yes puts app searches (Some path) what text old new proof (inl same) = inl same
+  kept-yes puts app searches (Some path) what text old new proof (inr given) =
+      let same : path ≡ given.0 = same_Some path given.0 given.1 in
+      inr (proof.0, text, proof.1, yes proof.0 what proof.2 given.2, subst (λ p. puts old p text new) (sym same) given.3)
+    where
+      by-verdict : (a : List ℕ) (what : What) → IsVerdictOn a text what → what_status what ≡ 0 → (P : Program) × IsJudged a text P Yes
+      by-verdict a (Judged j) h e = (j.app, (h.0, j.certificate, h.1, subst (λ v. TellsVerdict j.app j.certificate v) (zero-yes j.verdict e) h.2))
+      by-verdict a (Searched P found explains) h e = absurd h
+      by-verdict a (Refused r) h e = absurd h
+
+      yes : (a : List ℕ) (what : What) → IsProofOf a searches text what → what_status what ≡ 0 → (P : Program) × IsJudged a text P Yes
+      yes a what (inl h) e = by-verdict a what h e
+      yes a what (inr h) e = let one = breach-status a what h.4 in absurd (omega (arith, one, e))
+
+  pub kept-same : {Z : Type 0} (puts : Z → List ℕ → List ℕ → Z → Type 0) (app : List ℕ) (path : Option (List ℕ)) (old : Z) → IsKept gives puts app path old old
+  kept-same puts app None old = refl
+  kept-same puts app (Some p) old = inl refl
+
+  pub kept-by : {Z V : Type 0} (puts : Z → List ℕ → List ℕ → Z → Type 0) (app : List ℕ) (searches : Bool) (path : Option (List ℕ)) (proof : Result (V × What × String Global) Refusal) (old new : Z)
+      → IfOk proof (λ all. IsProofAt gives app searches (string_bytes all.2) all.1) → IfOk proof (λ all. IsGiven puts path all.1 (string_bytes all.2) old new)
+      → IfErr proof (λ _. new ≡ old) → IsKept gives puts app path old new
+  kept-by puts app searches path (Ok all) old new h given same = kept-yes puts app searches path all.1 (string_bytes all.2) old new h given
+  kept-by puts app searches path (Err e) old new h given same = subst (λ z. IsKept gives puts app path old z) (sym same) (kept-same puts app path old)
+
+  -- what is found of a proof is what was proved, with or without the certificate's text
+  pub proof-found : {V : Type 0} (app : List ℕ) (searches : Bool) (proof : Result (V × What × String Global) Refusal) (found : Result (V × What) Refusal)
+      → IfOk proof (λ all. IsProofAt gives app searches (string_bytes all.2) all.1) → IfOk found (λ r. IfOk proof (λ all. r.1 ≡ all.1)) → IfErr proof (λ refusal. IsErr found)
+      → IfOk found (λ r. (certificate : List ℕ) × IsProofAt gives app searches certificate r.1)
+  proof-found app searches (Ok all) (Ok r) h same none = (string_bytes all.2, subst (λ w. IsProofAt gives app searches (string_bytes all.2) w) (sym same) h)
+  proof-found app searches (Err e) (Ok r) h same none = absurd (false≢true none)
+  proof-found app searches proof (Err e) h same none = tt

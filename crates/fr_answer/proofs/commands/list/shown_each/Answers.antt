@@ -1,0 +1,22 @@
+-- One line more is answered.
+use Rattle.std.proofs.Common.{◌≡◌, ◌≤◌, ◌⊎◌, ◌∙◌, ap, arith, inl, inr, map, subst, sym, take}
+use Rattle.std.proofs.lemmas.List.{map-append, take_more}
+use Rattle.fr_list.specs.Means.{shown}
+use Rattle.fr_answer.specs.Answers.{kind_of, what_status}
+use Rattle.fr_answer.specs.Commands.{AreLinesAnswered}
+use Rattle.fr_answer.proofs.Safe.{one-more, status-most}
+use Rattle.fr_answer.proofs.commands.list.shown_each.Goals as goal
+
+pub loop-listed-preserved : goal.loop-listed-preserved
+loop-listed-preserved g c =
+    let gives = g.F.Files.Gives c.args.files.now in
+    let list = c.args.list.now in
+    let before = take c.loop-listed.listed-index c.args.entries.now in
+    let next = c.greater-status.result in
+    let high = subst (λ s. s ≤ next) c.status.ensures c.greater-status.ensures.high in
+    let either = subst (λ s. (next ≡ c.loop-listed.status) ⊎ (next ≡ s)) c.status.ensures c.greater-status.ensures.either in
+    let least = status-most (kind_of c.in_ok-answer.answer.what) in
+    let more = one-more gives list (map shown before) _ c.loop-listed.status (what_status c.in_ok-answer.answer.what) next c.loop-listed.invariant.0 c.in_ok-answer.ensures c.greater-status.ensures.low high either in
+    let on = ap (map shown) (take_more c.args.entries.now c.loop-listed.listed-index _ c.loop-listed-test.true) ∙ map-append shown before _ in
+    let most : next ≤ 3 = elim either [ inl same ↦ (let was = c.loop-listed.invariant.1 in omega (arith, same, was)) | inr same ↦ omega (arith, same, least) ] in
+    (subst (λ entries. AreLinesAnswered gives list entries next) (sym on) more, most)

@@ -1,0 +1,19 @@
+-- Both outputs passed.
+use Rattle.std.proofs.Common.{refl, rules}
+use Rattle.std.specs.Prelude.{option_copied}
+use Rattle.fr_answer.proofs.Showing.{kept-same, may-of, paged-same}
+use Rattle.fr_answer.proofs.commands.prove.prove.Goals as goal
+
+pub prove_looked-requires : goal.prove_looked-requires
+prove_looked-requires g c =
+    let out = may-of (λ p. g.F.Files.May c.args.files.now p) c.output_at-certificate.result (option_copied c.args.asked.now.out) c.output_at-certificate.ensures (λ o is. c.in_default.ensures 0 o (rw is refl)) in
+    let html = may-of (λ p. g.F.Files.May c.args.files.now p) c.output_at-html.result (option_copied c.args.asked.now.html) c.output_at-html.ensures (λ o is. c.in_default.ensures 1 o (rw is refl)) in
+    search rules
+
+pub returns-in-Err-clause-files : goal.returns-in-Err-clause-files
+returns-in-Err-clause-files g c =
+    let same = c.show_outputs_refused.ensures.same in (
+      c.args.files.now,
+      kept-same (g.F.Files.Gives c.args.files.now) g.F.Files.Puts c.args.asked.now.app.now (option_copied c.args.asked.now.out) c.args.files.now,
+      paged-same g.F.Files.Puts (option_copied c.args.asked.now.html) c.args.files.now _ same,
+    )

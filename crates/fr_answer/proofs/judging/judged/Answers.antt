@@ -1,0 +1,16 @@
+-- A fault of the bytes is handed on as it comes.
+use Rattle.std.proofs.Common.{ap, Err}
+use Rattle.std.proofs.lemmas.Result.{err_from_is_err_and}
+use Rattle.fr_answer.proofs.Refusals.{refused-by}
+use Rattle.fr_answer.proofs.judging.judged.Goals as goal
+
+pub returns-in_err-reading-clause-refused : goal.returns-in_err-reading-clause-refused
+returns-in_err-reading-clause-refused g c =
+    let p = err_from_is_err_and c.from_residual.result c.from_residual.ensures.1 in
+    rw (p.1, p.2) (refused-by c.args.app.now c.args.certificate.now c.args.workers c.in_err-reading.field-0.0 c.in_err-reading.ensures.fault
+    (λ e. c.in_err-reading.ensures.workers.0 (ap Err e)))
+
+pub returns-clause-judged : goal.returns-clause-judged
+returns-clause-judged g c =
+    rw (c.new-judged.ensures.app, c.new-judged.ensures.certificate, c.new-judged.ensures.verdict)
+    (c.in_ok-reading.ensures.judged.0, c.in_ok-reading.ensures.means, c.in_ok-reading.ensures.verdict)

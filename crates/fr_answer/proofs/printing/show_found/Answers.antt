@@ -1,0 +1,18 @@
+-- What is shown is what was found.
+use Rattle.std.proofs.Common.{None, ◌≡◌}
+use Rattle.fr_answer.specs.Answers.{HasFound, what_status}
+use Rattle.fr_answer.proofs.Showing.{kept-found, most-found, refused-found, shown-found}
+use Rattle.fr_answer.proofs.printing.show_found.Goals as goal
+
+pub returns-clause-answered : goal.returns-clause-answered
+returns-clause-answered g c =
+    shown-found (HasFound c.args.found) c.args.asked.format _ _ c.show.result c.in_ok-answer.answer.what c.in_ok-answer.ensures.found c.show.ensures.status c.show.ensures.text
+
+pub returns-clause-refused : goal.returns-clause-refused
+returns-clause-refused g c = refused-found c.args.found c.show.result (what_status c.in_ok-answer.answer.what) c.in_ok-answer.ensures.refused c.show.ensures.status
+
+pub returns-clause-kept : goal.returns-clause-kept
+returns-clause-kept g c = kept-found _ _ c.show.result (what_status c.in_ok-answer.answer.what) c.show.ensures.status c.show.ensures.kept
+
+pub returns-clause-most : goal.returns-clause-most
+returns-clause-most g c = most-found c.show.result (what_status c.in_ok-answer.answer.what) c.show.ensures.status c.in_ok-answer.ensures.most

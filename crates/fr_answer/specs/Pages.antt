@@ -1,0 +1,31 @@
+-- The page of an answer.
+--
+-- | word       | meaning                                                                        |
+-- |------------|--------------------------------------------------------------------------------|
+-- | page_kind  | the heading of a page for an answer of this kind                               |
+-- | IsPageOf   | a page that begins with that heading and with the answer's first line          |
+use Rattle.std.specs.Prelude.{◌≡◌, ◌++◌, ℕ, List, string_bytes}
+use Rattle.fr_formats.specs.declared.answer.AnswerKind.{AnswerKind}
+use Rattle.fr_formats.specs.declared.answer.AnswerKind.TheVariants.{Yes, No, Breach, NoBreach, StatesLeft, Refused, Machine}
+use Rattle.fr_page.specs.declared.page.Kind.{Kind}
+use Rattle.fr_page.specs.declared.page.Page.{Page}
+use Rattle.fr_page.specs.Whole.{head_of}
+use Rattle.fr_answer.specs.declared.answer.Answer.{Answer}
+use Rattle.fr_answer.specs.Answers.{first_line, kind_of}
+use Rattle.fr_page.specs.declared.page.Kind.TheVariants.{Yes as YesPage, No as NoPage, Breach as BreachPage, Safe as SafePage, Unknown as UnknownPage, Refused as RefusedPage}
+
+-- the heading of a page for an answer of this kind
+abbrev pub page_kind : AnswerKind → Kind
+page_kind Yes = YesPage
+page_kind No = NoPage
+page_kind Breach = BreachPage
+page_kind NoBreach = SafePage
+page_kind StatesLeft = UnknownPage
+page_kind Refused = RefusedPage
+page_kind Machine = RefusedPage
+
+-- the text begins with the heading of the answer's kind and with its first line
+abbrev pub IsPageOf : Answer → List ℕ → Type 0
+IsPageOf answer text =
+    (page : Page) × (page.kind ≡ page_kind (kind_of answer.what)) × (string_bytes page.answer ≡ first_line answer.what)
+    × (rest : List ℕ) × (text ≡ head_of page ++ rest)

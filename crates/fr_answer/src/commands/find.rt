@@ -1,0 +1,49 @@
+// The command `find`.
+ghost use Rattle.std.specs.Prelude.{◌≡◌, ◌≤◌, IfErr, IfOk};
+ghost use Rattle.fr_answer.specs.Checked.{fault_status};
+ghost use Rattle.fr_answer.specs.Commands.{IsAnswered, IsWritten};
+
+use crate::answer::Refusal;
+use crate::files::Files;
+use crate::found::{Found, find_bytes};
+use crate::printing::put;
+use crate::reading::application;
+use fr_files::{Holds, Output};
+use fr_request::{FindRequest, Request};
+use std::alloc::Global;
+use std::io::Write;
+use std::thread::Threads;
+
+/// Finds a certificate for the application in the file, writes it to the other file, whatever that held, prints whether one was
+/// found, and gives the exit status. Where none is found, the other file stays as it is.
+pub(crate) fn find<R: Threads + Sync, F: Files, O: Write>(
+    rt: &R,
+    alloc: Global,
+    asked: &FindRequest,
+    files: &mut F,
+    out: &mut O,
+) -> Result<u8, Refusal>
+    ensures answered { IfOk result (λ status. IsAnswered (F.Gives files.old)
+        (Request.Find asked.now) status (O.contents out.old) (O.contents out.new)) }
+    ensures most { IfOk result (λ status. status ≤ 1) }
+    ensures refused { IfErr result (λ refusal. fault_status refusal.fault ≡ 2 → out.new ≡ out.old) }
+    ensures files { IsWritten (F.Gives files.old) F.Puts (Request.Find asked.now) files.old files.new }
+{
+    let (path, explains) = (asked.out, asked.explains);
+    let replaces = Holds::Anything;
+    if let Err(fault) = files.check_outputs(&[asked.app], &[Some(Output { path, replaces })]) {
+        return Err(Refusal::of_outputs(alloc, &fault, explains));
+    }
+    let app = application(alloc, files, asked.app, explains)?;
+    let found = match find_bytes(rt, alloc, &app, usize::from(asked.rounds)) {
+        Ok(found) => found,
+        Err(fault) => return Err(Refusal::of_texts(alloc, &app, None, fault, explains)),
+    };
+    if let Found::Text(text) = &found {
+        if let Err(fault) = files.replace(path, text.as_bytes()) {
+            return Err(Refusal::of_file(alloc, &fault, explains));
+        }
+    }
+    put(found.line(), out)?;
+    Ok(found.status())
+}

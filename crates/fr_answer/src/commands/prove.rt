@@ -1,0 +1,144 @@
+// The command `prove`.
+ghost use Rattle.std.specs.Prelude.{◌≡◌, ◌≤◌, ℕ, List, IfErr, IfOk, IsErr, None, Some, option_copied, string_bytes};
+ghost use Rattle.fr_answer.specs.Checked.{fault_status};
+ghost use Rattle.fr_answer.specs.Commands.{IsAnswered, IsGiven, IsWritten};
+
+use crate::answer::{Refusal, What};
+use crate::exit::DONE;
+use crate::files::Files;
+use crate::printing::{show_found, show_outputs_refused};
+use crate::reading::proved_file;
+use crate::ways::{Asked, Warns, Ways, detail_in, output_at};
+use fr_files::Holds;
+use fr_formats::{Command, Source};
+use fr_request::{ProveRequest, Request};
+use std::alloc::Global;
+use std::io::Write;
+use std::sync::Wait;
+use std::thread::Threads;
+
+/// What was found out, after the certificate of a yes was written to the file that is asked for; or that it can't be written.
+fn kept<F: Files>(
+    alloc: Global,
+    found: Result<(Vec<u8>, What, String), Refusal>,
+    out: Option<&str>,
+    files: &mut F,
+) -> Result<(Vec<u8>, What), Refusal>
+    requires may { (path : List ℕ) → option_copied out ≡ Some path → F.May files.old path }
+    ensures may { (path : List ℕ) → F.May files.old path → F.May files.new path }
+    ensures found { IfOk result (λ r. IfOk found (λ all. r.1 ≡ all.1)) }
+    ensures none { IfErr found (λ refusal. IsErr result) }
+    ensures fault { IfErr found (λ refusal. 2 ≤ fault_status refusal.fault)
+        → IfErr result (λ refusal. 2 ≤ fault_status refusal.fault) }
+    ensures files { IfOk found
+        (λ all. IsGiven F.Puts (option_copied out.entry) all.1 (string_bytes all.2) files.old files.new) }
+    ensures same { IfErr found (λ _. files.new ≡ files.old) }
+{
+    let (text, what, certificate) = found?;
+    if what.status() == DONE
+        && let Some(path) = out
+    {
+        if let Err(fault) = files.replace(path, certificate.as_bytes()) {
+            return Err(Refusal::of_file(alloc, &fault, true));
+        }
+    }
+    Ok((text, what))
+}
+
+/// How `prove` does its work.
+fn ways_of(asked: &ProveRequest) -> Ways {
+    let detail = detail_in(asked.format, asked.detail);
+    Ways {
+        workers: usize::from(asked.workers),
+        detail,
+        places: detail.is_some() || asked.html.is_some(),
+        names: true,
+        warns: if asked.warns {
+            Warns::OfAll
+        } else {
+            Warns::OfNoActors
+        },
+    }
+}
+
+/// How the answer is to be printed.
+fn asked_of<'a>(asked: &ProveRequest<'a>) -> Asked<'a>
+    ensures format { result.format ≡ asked.now.format }
+    ensures html { result.html ≡ asked.now.html }
+{
+    Asked {
+        format: asked.format,
+        html: asked.html,
+        explains: asked.detail.is_some(),
+        names: true,
+    }
+}
+
+/// The files that are named, as reports show them.
+fn source_of<'a>(asked: &ProveRequest<'a>) -> Source<'a> {
+    Source {
+        command: Command::Prove,
+        application: asked.app,
+        certificate: asked.out,
+    }
+}
+
+/// The same as `prove`, after the outputs were looked at.
+fn prove_looked<R: Threads + Wait + Sync, F: Files, O: Write, E: Write>(
+    rt: &R,
+    alloc: Global,
+    asked: &ProveRequest,
+    files: &mut F,
+    out: &mut O,
+    err: &mut E,
+) -> Result<u8, Refusal>
+    requires out { (path : List ℕ) → option_copied asked.now.out ≡ Some path → F.May files.old path }
+    requires html { (path : List ℕ) → option_copied asked.now.html ≡ Some path → F.May files.old path }
+    ensures answered { IfOk result (λ status. status ≤ 1 → IsAnswered (F.Gives files.old)
+        (Request.Prove asked.now) status (O.contents out.old) (O.contents out.new)) }
+    ensures kept { IfOk result
+        (λ status. 2 ≤ status → asked.now.format ≡ None → out.new ≡ out.old) }
+    ensures refused { IfErr result (λ refusal. fault_status refusal.fault ≡ 3) }
+    ensures most { IfOk result (λ status. status ≤ 3) }
+    ensures files { IsWritten (F.Gives files.old) F.Puts (Request.Prove asked.now) files.old files.new }
+{
+    let ways = ways_of(asked);
+    let proof = proved_file(rt, alloc, files, asked.app, asked.searches, ways);
+    let found = kept(alloc, proof, asked.out, files);
+    let shown = Asked {
+        format: asked.format,
+        html: asked.html,
+        explains: asked.detail.is_some(),
+        names: true,
+    };
+    let source = source_of(asked);
+    show_found(alloc, source, found, ways.warns, shown, files, out, err)
+}
+
+/// Prints the verdict on the application in the file by a certificate that is worked out, or a run into a breach, in the form that is
+/// asked for, and gives the exit status. The outputs are looked at before anything is read, and the certificate is written before
+/// anything is printed, where the verdict is yes.
+pub(crate) fn prove<R: Threads + Wait + Sync, F: Files, O: Write, E: Write>(
+    rt: &R,
+    alloc: Global,
+    asked: &ProveRequest,
+    files: &mut F,
+    out: &mut O,
+    err: &mut E,
+) -> Result<u8, Refusal>
+    ensures answered { IfOk result (λ status. status ≤ 1 → IsAnswered (F.Gives files.old)
+        (Request.Prove asked.now) status (O.contents out.old) (O.contents out.new)) }
+    ensures kept { IfOk result
+        (λ status. 2 ≤ status → asked.now.format ≡ None → out.new ≡ out.old) }
+    ensures refused { IfErr result (λ refusal. fault_status refusal.fault ≡ 3) }
+    ensures most { IfOk result (λ status. status ≤ 3) }
+    ensures files { IsWritten (F.Gives files.old) F.Puts (Request.Prove asked.now) files.old files.new }
+{
+    let certificate = output_at(asked.out, Holds::Certificate);
+    let html = output_at(asked.html, Holds::Page);
+    if let Err(fault) = files.check_outputs(&[asked.app], &[certificate, html]) {
+        let (source, shown) = (source_of(asked), asked_of(asked));
+        return show_outputs_refused(alloc, source, &fault, shown, files, out, err);
+    }
+    prove_looked(rt, alloc, asked, files, out, err)
+}

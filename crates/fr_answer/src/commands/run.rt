@@ -1,0 +1,74 @@
+// The command `run`.
+ghost use Rattle.std.specs.Prelude.{◌≡◌, ◌≤◌, IfErr, IfOk, option_copied};
+ghost use Rattle.fr_answer.specs.Checked.{fault_status};
+ghost use Rattle.fr_answer.specs.Commands.{AreRunWords, IsAnswered, IsSafeAt};
+
+use crate::answer::Refusal;
+use crate::fault::CheckFault;
+use crate::files::Files;
+use crate::printing::put;
+use crate::reading::{application, input};
+use crate::running::ran;
+use crate::words::{WordsFault, words_of};
+use fr_cert::MOST_BYTES as MOST_CERTIFICATE_BYTES;
+use fr_parallel::Open;
+use fr_request::{Request, RunRequest};
+use std::alloc::Global;
+use std::io::Write;
+use std::sync::Wait;
+use std::thread::Threads;
+
+/// The words that are asked for; none where none are given.
+fn words_asked(alloc: Global, asked: &RunRequest) -> Result<Vec<u64>, WordsFault>
+    ensures { IfOk result (λ words. AreRunWords (option_copied asked.now.words) words.items) }
+{
+    match asked.words {
+        None => Ok(Vec::new(alloc)),
+        Some(text) => words_of(alloc, text),
+    }
+}
+
+/// Runs the application in the file where it passes with the certificate in the other one, prints the lines of the run or the report,
+/// and gives the exit status. The list of words is refused before a file is read.
+pub(crate) fn run_files<R: Threads + Wait + Sync, F: Files, O: Write>(
+    rt: &R,
+    alloc: Global,
+    asked: &RunRequest,
+    files: &F,
+    out: &mut O,
+) -> Result<u8, Refusal>
+    ensures answered { IfOk result (λ status. IsAnswered (F.Gives files.now)
+        (Request.Run asked.now) status (O.contents out.old) (O.contents out.new)) }
+    ensures safe { IfOk result (λ status. status ≡ 0 → IsSafeAt (F.Gives files.now) asked.now.app.now) }
+    ensures most { IfOk result (λ status. status ≤ 1) }
+    ensures refused { IfErr result (λ refusal. fault_status refusal.fault ≡ 2 → out.new ≡ out.old) }
+{
+    let words = match words_asked(alloc, asked) {
+        Ok(words) => words,
+        Err(fault) => return Err(Refusal::from(CheckFault::from(fault))),
+    };
+    let explains = asked.detail.is_some();
+    let app = application(alloc, files, asked.app, explains)?;
+    let path = asked.certificate;
+    let certificate = input(alloc, files, path, MOST_CERTIFICATE_BYTES, explains)?;
+    let polls = u64::from(asked.polls);
+    match ran(
+        rt,
+        alloc,
+        &app,
+        &certificate,
+        polls,
+        &words,
+        &Open,
+        asked.detail,
+    ) {
+        Ok((status, text)) => {
+            put(&text, out)?;
+            Ok(status)
+        }
+        Err(fault) => {
+            let certificate = Some(certificate.as_slice());
+            Err(Refusal::of_texts(alloc, &app, certificate, fault, explains))
+        }
+    }
+}

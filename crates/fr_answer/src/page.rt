@@ -1,0 +1,113 @@
+// An answer as a page to look at.
+ghost use Rattle.std.specs.Prelude.{◌≡◌, IfOk, string_bytes};
+ghost use Rattle.fr_answer.specs.Answers.{first_line, kind_of};
+ghost use Rattle.fr_answer.specs.Pages.{IsPageOf, page_kind};
+
+mod actors;
+mod points;
+mod steps;
+
+use crate::answer::{Answer, What};
+use actors::put_actors;
+use fr_formats::{AnswerKind, Command};
+use fr_page::{ActorShown, Kind, Page, StepShown, page_text};
+use fr_refuter::Finding;
+use points::put_judged;
+use std::alloc::{AllocError, Global};
+use steps::put_run;
+
+/// The heading of a page for an answer of this kind.
+fn page_kind(kind: AnswerKind) -> Kind
+    ensures { result ≡ page_kind kind }
+{
+    match kind {
+        AnswerKind::Yes => Kind::Yes,
+        AnswerKind::No => Kind::No,
+        AnswerKind::Breach => Kind::Breach,
+        AnswerKind::NoBreach => Kind::Safe,
+        AnswerKind::StatesLeft => Kind::Unknown,
+        AnswerKind::Refused | AnswerKind::Machine => Kind::Refused,
+    }
+}
+
+/// The words of the command with its files.
+fn command_text(alloc: Global, answer: &Answer) -> Result<String, AllocError> {
+    let app = &answer.application;
+    match (answer.command, &answer.certificate) {
+        (Command::Check, Some(certificate)) => format!(in alloc; "check {app} {certificate}"),
+        (Command::Check, None) => format!(in alloc; "check {app}"),
+        (Command::Prove, _) => format!(in alloc; "prove {app}"),
+        (Command::Refute, _) => format!(in alloc; "refute {app}"),
+    }
+}
+
+/// What a page shows below the answer.
+#[derive(Drop)]
+struct Body {
+    /// Lines that say where a text is refused.
+    details: Vec<String>,
+    /// Numbers in words.
+    counts: Vec<String>,
+    /// What is left out.
+    omissions: Vec<String>,
+    actors: Vec<ActorShown>,
+    steps: Vec<StepShown>,
+}
+
+/// Nothing below the answer.
+fn empty_body(alloc: Global) -> Body {
+    Body {
+        details: Vec::new(alloc),
+        counts: Vec::new(alloc),
+        omissions: Vec::new(alloc),
+        actors: Vec::new(alloc),
+        steps: Vec::new(alloc),
+    }
+}
+
+/// What the page shows below the answer: the actors side by side, with a certificate what each note says, which points fail and
+/// which are never reached; with a run into a breach the run, step by step; and where a text is refused, where.
+fn body_of(alloc: Global, what: &What) -> Result<Body, AllocError> {
+    let mut body = empty_body(alloc);
+    match what {
+        What::Judged(judged) => {
+            put_actors(alloc, &mut body, judged.app())?;
+            put_judged(alloc, &mut body, judged)?;
+        }
+        What::Searched { app, found, .. } => {
+            put_actors(alloc, &mut body, app)?;
+            if let Finding::Breach(run) = found {
+                put_run(alloc, &mut body, app, run)?;
+            }
+        }
+        What::Refused(_) => body.details = what.lines(alloc)?,
+    }
+    Ok(body)
+}
+
+/// The page with this below the heading of the answer's kind and its first line.
+fn headed(alloc: Global, answer: &Answer, body: Body) -> Result<Page, AllocError>
+    ensures kind { IfOk result (λ page. page.kind ≡ page_kind (kind_of answer.now.what)) }
+    ensures line { IfOk result (λ page. string_bytes page.answer ≡ first_line answer.now.what) }
+{
+    Ok(Page {
+        kind: page_kind(answer.what.kind()),
+        command: command_text(alloc, answer)?,
+        answer: answer.what.line(alloc)?,
+        details: body.details,
+        counts: body.counts,
+        omissions: body.omissions,
+        actors: body.actors,
+        steps: body.steps,
+    })
+}
+
+/// The page of an answer, as one HTML file. Its heading is that of the answer's kind, and the line below it is the answer's first
+/// line. Its error is that an allocation was refused.
+pub fn page_of(alloc: Global, answer: &Answer) -> Result<String, AllocError>
+    ensures { IfOk result (λ text. IsPageOf answer.now (string_bytes text)) }
+{
+    let body = body_of(alloc, &answer.what)?;
+    let page = headed(alloc, answer, body)?;
+    page_text(alloc, &page)
+}

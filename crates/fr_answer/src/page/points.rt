@@ -1,0 +1,165 @@
+// What a certificate says of each point, and which of them fail.
+ghost use Rattle.std.specs.Prelude.{◌≡◌, ◌<◌, length};
+ghost use Rattle.fr_program.specs.Points.{points_of};
+ghost use Rattle.fr_ends.specs.Fits.{CertificateFits};
+
+use super::Body;
+use super::actors::{count_text, put_point};
+use crate::judged::Judged;
+use fr_ends::Certificate;
+use fr_judge::{Judging, Lists, Part, Verdict};
+use fr_page::{PointShown, Reason, Standing};
+use fr_program::{App, Point};
+use fr_report::{Line, explain, note_told, part_text, side_name};
+use fr_request::Detail;
+use std::alloc::{AllocError, Global};
+
+/// The most points that a page shows.
+const MOST_POINTS: usize = 2000;
+
+/// How many of the points that are shown fail, and how many are never reached.
+#[derive(Clone, Copy)]
+struct Tally {
+    failing: usize,
+    never: usize,
+}
+
+impl Tally {
+    /// The tally with one more point.
+    fn with(self, standing: &Standing) -> Tally {
+        match standing {
+            Standing::Holds => self,
+            Standing::Fails(_) => Tally {
+                failing: self.failing.saturating_add(1),
+                ..self
+            },
+            Standing::Never => Tally {
+                never: self.never.saturating_add(1),
+                ..self
+            },
+        }
+    }
+}
+
+/// Why a point fails, as a command explains it.
+fn reasons(
+    alloc: Global,
+    app: &App,
+    certificate: &Certificate,
+    point: Point,
+    part: Part,
+) -> Result<Vec<Reason>, AllocError>
+    requires { CertificateFits app.now certificate.now }
+{
+    let mut reasons = Vec::new(alloc);
+    let verdict = Verdict::No { point, part };
+    if let Some(found) = explain(alloc, app, certificate, verdict, Detail::Told)? {
+        for item in &found.items {
+            let Line { of, said } = item.line(alloc, app)?;
+            reasons.push(Reason { of, said })?;
+        }
+    }
+    Ok(reasons)
+}
+
+/// A point of the application with what its note says and how it is with it. Why it fails is told where
+/// `explains` asks for it.
+fn point_shown(
+    alloc: Global,
+    app: &App,
+    certificate: &Certificate,
+    judging: &Judging,
+    number: usize,
+    explains: bool,
+) -> Result<PointShown, AllocError>
+    requires number { number < length (points_of app.now) }
+    requires fits { CertificateFits app.now certificate.now }
+    requires app { judging.now.app ≡ app.now }
+{
+    app.recall_numbered();
+    let point = app.point(number);
+    let notes = note_told(alloc, app, certificate, point)?;
+    let (mut standing, mut explanation) = (Standing::Holds, Vec::new(alloc));
+    match judging.part_at(number) {
+        Some(part) => {
+            standing = Standing::Fails(part_text(alloc, app, part)?);
+            if explains {
+                explanation = reasons(alloc, app, certificate, point, part)?;
+            }
+        }
+        None if notes.is_empty() => standing = Standing::Never,
+        None => {}
+    }
+    let side = String::from_str(alloc, side_name(point.side))?;
+    Ok(PointShown {
+        number,
+        side,
+        notes,
+        standing,
+        explanation,
+    })
+}
+
+/// Adds the points to the page: the first 2,000, and the first that fails if it comes later.
+fn put_points(
+    alloc: Global,
+    body: &mut Body,
+    app: &App,
+    certificate: &Certificate,
+    judging: &Judging,
+) -> Result<Tally, AllocError>
+    requires fits { CertificateFits app.now certificate.now }
+    requires app { judging.now.app ≡ app.now }
+{
+    let mut tally = Tally {
+        failing: 0,
+        never: 0,
+    };
+    for number in 0..app.points() {
+        if number >= MOST_POINTS && tally.failing > 0 {
+            break;
+        }
+        let shown = point_shown(alloc, app, certificate, judging, number, tally.failing == 0)?;
+        if number < MOST_POINTS || matches!(&shown.standing, Standing::Fails(_)) {
+            tally = tally.with(&shown.standing);
+            put_point(body, app.point(number), shown)?;
+        }
+    }
+    Ok(tally)
+}
+
+/// Adds how many points there are, and how many of them fail or are never reached.
+fn put_counts(
+    alloc: Global,
+    body: &mut Body,
+    points: usize,
+    tally: Tally,
+) -> Result<(), AllocError> {
+    body.counts
+        .push(count_text(alloc, points, "point", "points")?)?;
+    let (failing, never) = (tally.failing, tally.never);
+    body.counts
+        .push(count_text(alloc, failing, "fails", "fail")?)?;
+    body.counts
+        .push(format!(in alloc; "{never} never reached")?)?;
+    if points > MOST_POINTS {
+        body.omissions.push(format!(in alloc;
+            "The page shows the first {MOST_POINTS} points and the first that fails, and counts these alone."
+        )?)?;
+    }
+    Ok(())
+}
+
+/// Adds to the page what the certificate says of each point, and whether it is so.
+pub(super) fn put_judged(
+    alloc: Global,
+    body: &mut Body,
+    judged: &Judged,
+) -> Result<(), AllocError> {
+    judged.recall_verdict();
+    let (app, certificate) = (judged.app(), judged.certificate());
+    let lists = Lists::build(alloc, app, certificate)?;
+    let judging = Judging::with(app, certificate, &lists);
+    let tally = put_points(alloc, body, app, certificate, &judging)?;
+    put_counts(alloc, body, app.points(), tally)
+}

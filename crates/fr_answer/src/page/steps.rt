@@ -1,0 +1,245 @@
+// A run into a breach, step by step.
+ghost use Rattle.std.specs.Prelude.{IfOk};
+ghost use Rattle.fr_calls.specs.State.{IsWellFormed};
+
+use super::Body;
+use super::actors::{count_text, put_point};
+use fr_calls::{Rule, State, the_start_is_well_formed};
+use fr_page::{ActorAfter, Moved, PointShown, StepShown, Track, TrackKind};
+use fr_program::{ActorId, App, Point, Side};
+use fr_refuter::{Refutation, take_step};
+use fr_report::{
+    Depth, ExplainedStep, Standing, depth_in, depths_of, explain_run, place_told, rule_text,
+    side_name, state_told,
+};
+use std::alloc::{AllocError, Global};
+
+/// How many steps are shown at the beginning of a run, and how many at its end.
+const FIRST_STEPS: usize = 100;
+
+const LAST_STEPS: usize = 400;
+
+/// The point at which an actor is; its first line where it is done.
+fn point_of(at: &Standing) -> Point {
+    at.point.unwrap_or(Point {
+        actor: at.actor,
+        pc: 0,
+        side: Side::Before,
+    })
+}
+
+/// What a bar of a lane is about.
+fn track_of(alloc: Global, app: &App, depth: Depth) -> Result<Track, AllocError> {
+    let (kind, name) = match depth {
+        Depth::Critical => (
+            TrackKind::Critical,
+            String::from_str(alloc, "critical section")?,
+        ),
+        Depth::Suspended => (
+            TrackKind::Suspended,
+            String::from_str(alloc, "scheduler suspended")?,
+        ),
+        Depth::Held(object) => {
+            let name = match app.objects().get(object.0) {
+                Some(object) => object.name.as_str(),
+                None => "",
+            };
+            (TrackKind::Held, format!(in alloc; "holds {name}")?)
+        }
+    };
+    Ok(Track { name, kind })
+}
+
+/// Adds to each actor of the page what its bars can be about.
+fn put_tracks(
+    alloc: Global,
+    body: &mut Body,
+    app: &App,
+    depths: &[Depth],
+) -> Result<(), AllocError> {
+    for actor in &mut body.actors {
+        for depth in depths {
+            actor.tracks.push(track_of(alloc, app, *depth)?)?;
+        }
+    }
+    Ok(())
+}
+
+/// An actor in a state.
+fn actor_after(
+    alloc: Global,
+    app: &App,
+    depths: &[Depth],
+    actor: ActorId,
+    state: &State,
+) -> Result<ActorAfter, AllocError>
+    requires { IsWellFormed app.now state.now }
+{
+    let mut shown = Vec::new(alloc);
+    for depth in depths {
+        shown.push(depth_in(app, state, actor, *depth))?;
+    }
+    Ok(ActorAfter {
+        place: place_told(alloc, app, actor, state)?,
+        depths: shown,
+    })
+}
+
+/// A row of the run with the state behind it, in which an actor did something.
+fn row_of(
+    alloc: Global,
+    app: &App,
+    depths: &[Depth],
+    name: String,
+    moved: Option<Moved>,
+    state: &State,
+) -> Result<StepShown, AllocError>
+    requires { IsWellFormed app.now state.now }
+{
+    let mut after = Vec::new(alloc);
+    for number in 0..app.actors().len() {
+        after.push(actor_after(alloc, app, depths, ActorId(number), state)?)?;
+    }
+    Ok(StepShown {
+        name,
+        omitted: 0,
+        moved,
+        after,
+        facts: state_told(alloc, app, state)?,
+    })
+}
+
+/// What an actor does in a step.
+fn move_of(alloc: Global, step: &ExplainedStep) -> Result<Moved, AllocError> {
+    let choice = match step.taken.choice {
+        0 => String::new(alloc),
+        choice => format!(in alloc; "choice {choice}")?,
+    };
+    Ok(Moved {
+        actor: step.taken.actor.0,
+        line: point_of(&step.before).pc,
+        code: step.before.code.clone()?,
+        choice,
+        change: step.change(alloc)?,
+        is_breach: false,
+    })
+}
+
+/// Whether the page shows the step with this number of so many: the first 100 and the last 400.
+fn is_shown(number: usize, count: usize) -> bool {
+    number < FIRST_STEPS || number >= count.saturating_sub(LAST_STEPS)
+}
+
+/// How many steps the page leaves out right before the one with this number of so many.
+fn omitted_before(number: usize, count: usize) -> usize {
+    let last = count.saturating_sub(LAST_STEPS);
+    if number == last {
+        last.saturating_sub(FIRST_STEPS)
+    } else {
+        0
+    }
+}
+
+/// Takes the step with this number of so many, and adds its row where the page shows it. Nothing changes where the
+/// actor has no such step.
+fn put_step(
+    alloc: Global,
+    body: &mut Body,
+    app: &App,
+    depths: &[Depth],
+    place: (usize, usize),
+    step: &ExplainedStep,
+    state: &mut State,
+) -> Result<(), AllocError>
+    requires { IsWellFormed app.now state.old }
+    ensures { IfOk result (λ _. IsWellFormed app.now state.new) }
+{
+    let (number, count) = place;
+    if !take_step(app, state, step.taken)? || !is_shown(number, count) {
+        return Ok(());
+    }
+    let moved = move_of(alloc, step)?;
+    let name = format!(in alloc; "step {}", number.saturating_add(1))?;
+    let mut row = row_of(alloc, app, depths, name, Some(moved), state)?;
+    row.omitted = omitted_before(number, count);
+    Ok(body.steps.push(row)?)
+}
+
+/// Adds the rows of the steps from the start on, and gives the state behind them.
+fn put_steps(
+    alloc: Global,
+    body: &mut Body,
+    app: &App,
+    depths: &[Depth],
+    steps: &[ExplainedStep],
+) -> Result<State, AllocError>
+    ensures { IfOk result (λ state. IsWellFormed app.now state) }
+{
+    app.recall_faultless();
+    the_start_is_well_formed();
+    let mut state = State::start(alloc, app)?;
+    let name = String::from_str(alloc, "start")?;
+    body.steps
+        .push(row_of(alloc, app, depths, name, None, &state)?)?;
+    for (number, step) in steps.iter().enumerate() {
+        let place = (number, steps.len());
+        put_step(alloc, body, app, depths, place, step, &mut state)?;
+    }
+    Ok(state)
+}
+
+/// What a report says of a breach of this rule.
+fn rule_told(alloc: Global, rule: Rule) -> Result<String, AllocError> {
+    let (number, text) = (rule.number(), rule_text(rule));
+    format!(in alloc; "rule {number}: {text}")
+}
+
+/// Adds the breach behind the run: to the run, and to the actor's line of code.
+fn put_breach(
+    alloc: Global,
+    body: &mut Body,
+    app: &App,
+    depths: &[Depth],
+    at: &Standing,
+    rule: Rule,
+    last: &State,
+) -> Result<(), AllocError>
+    requires { IsWellFormed app.now last.now }
+{
+    let point = point_of(at);
+    let moved = Moved {
+        actor: at.actor.0,
+        line: point.pc,
+        code: at.code.clone()?,
+        choice: String::new(alloc),
+        change: rule_told(alloc, rule)?,
+        is_breach: true,
+    };
+    let name = String::from_str(alloc, "breach")?;
+    body.steps
+        .push(row_of(alloc, app, depths, name, Some(moved), last)?)?;
+    let shown = PointShown {
+        number: app.number(point).unwrap_or(0),
+        side: String::from_str(alloc, side_name(point.side))?,
+        notes: Vec::new(alloc),
+        standing: fr_page::Standing::Fails(rule_told(alloc, rule)?),
+        explanation: Vec::new(alloc),
+    };
+    put_point(body, point, shown)
+}
+
+/// Adds the run to the body.
+pub(super) fn put_run(
+    alloc: Global,
+    body: &mut Body,
+    app: &App,
+    run: &Refutation,
+) -> Result<(), AllocError> {
+    let (depths, told) = (depths_of(alloc, app)?, explain_run(alloc, app, run)?);
+    put_tracks(alloc, body, app, &depths)?;
+    let count = run.steps.len();
+    body.counts
+        .push(count_text(alloc, count, "step", "steps")?)?;
+    let last = put_steps(alloc, body, app, &depths, &told.steps)?;
+    put_breach(alloc, body, app, &depths, &told.last, run.rule, &last)
+}

@@ -1,0 +1,210 @@
+// How an answer is printed, and shown as a page.
+ghost use Rattle.std.specs.Prelude.{◌≡◌, ◌≤◌, ℕ, List, IfOk, IfErr, None, Some, option_copied};
+ghost use Rattle.std.specs.Io.KnownBytes.{Appends};
+ghost use Rattle.fr_answer.specs.Answers.{HasFound, IsTextOf, what_status};
+ghost use Rattle.fr_answer.specs.Checked.{fault_status};
+ghost use Rattle.fr_answer.specs.Commands.{IsPaged, IsPrinted, IsShown};
+
+use crate::answer::{Answer, Refusal, What};
+use crate::exit::{MACHINE, NO, REFUSED};
+use crate::fault::CheckFault;
+use crate::files::Files;
+use crate::page::page_of;
+use crate::shown::shown_of;
+use crate::ways::{Asked, Warns};
+use fr_files::OutputFault;
+use fr_formats::{Source, answers_text};
+use fr_request::Format;
+use std::alloc::{AllocError, Global};
+use std::io::Write;
+use std::slice;
+
+/// Writes a text, whole.
+pub(crate) fn put<W: Write>(text: &str, writer: &mut W) -> Result<(), CheckFault>
+    ensures put { IfOk result (λ _. Appends (W.contents writer.old) (W.contents writer.new) text.now) }
+    ensures fault { IfErr result (λ fault. fault ≡ CheckFault.Write) }
+{
+    match writer.write_all(text.as_bytes()) {
+        Ok(()) => Ok(()),
+        Err(_) => Err(CheckFault::Write),
+    }
+}
+
+/// Prints a refusal on standard error, its line first, and gives its exit status. Where there is no memory for its text it prints
+/// `machine: memory`, and the status is 3; it is 3 too where the writer failed.
+pub(crate) fn refuse<E: Write>(alloc: Global, refusal: Refusal, err: &mut E) -> u8
+    ensures refused { result ≡ 2 → fault_status refusal.fault ≡ 2 }
+    ensures printed { result ≡ 2 → (text : List ℕ) × IsTextOf (What.Refused refusal) text × Appends (E.contents err.old) (E.contents err.new) text }
+    ensures least { 2 ≤ result }
+    ensures most { result ≤ 3 }
+{
+    let what = What::Refused(refusal);
+    let Ok(text) = what.text(alloc) else {
+        let _written = err.write_all(b"machine: memory\n");
+        return MACHINE;
+    };
+    match err.write_all(text.as_bytes()) {
+        Ok(()) => what.status(),
+        Err(_) => MACHINE,
+    }
+}
+
+/// What is printed of an answer without a verdict: the fault's line, and where it is, which is always said of a file.
+fn refusal_text(alloc: Global, what: &What, explains: bool) -> Result<String, AllocError> {
+    match what {
+        What::Refused(refusal) if !explains && !matches!(refusal.fault, CheckFault::File) => {
+            let line = what.line(alloc)?;
+            format!(in alloc; "{line}\n")
+        }
+        _ => what.text(alloc),
+    }
+}
+
+/// Prints the answer as a text for a person: a verdict on standard output, and why there is none on standard error.
+fn print_text<O: Write, E: Write>(
+    alloc: Global,
+    what: &What,
+    explains: bool,
+    out: &mut O,
+    err: &mut E,
+) -> Result<(), CheckFault>
+    ensures text { IfOk result (λ _. IsPrinted what.now (O.contents out.old) (O.contents out.new)) }
+    ensures kept { 2 ≤ what_status what.now → out.new ≡ out.old }
+    ensures fault { IfErr result (λ fault. fault_status fault ≡ 3) }
+{
+    if what.status() <= NO {
+        put(&what.text(alloc)?, out)
+    } else {
+        put(&refusal_text(alloc, what, explains)?, err)
+    }
+}
+
+/// Prints the answer in a form that machines read.
+fn print_formed<O: Write>(
+    alloc: Global,
+    answer: &Answer,
+    format: Format,
+    out: &mut O,
+) -> Result<(), CheckFault>
+    ensures { IfErr result (λ fault. fault_status fault ≡ 3) }
+{
+    let shown = shown_of(alloc, answer)?;
+    put(&answers_text(alloc, format, slice::from_ref(&shown))?, out)
+}
+
+/// Writes the page of an answer that isn't the machine's failure to the file that is asked for, if one is.
+fn put_page<F: Files>(
+    alloc: Global,
+    answer: &Answer,
+    asked: Asked,
+    files: &mut F,
+) -> Result<(), Refusal>
+    requires may { (path : List ℕ) → option_copied asked.html ≡ Some path → F.May files.old path }
+    ensures paged { IsPaged F.Puts (option_copied asked.entry.html) files.old files.new }
+    ensures fault { IfErr result (λ refusal. fault_status refusal.fault ≡ 3) }
+{
+    let Some(path) = asked.html else {
+        return Ok(());
+    };
+    if answer.what.status() > REFUSED {
+        return Ok(());
+    }
+    let text = page_of(alloc, answer)?;
+    match files.replace(path, text.as_bytes()) {
+        Ok(()) => Ok(()),
+        Err(fault) => Err(Refusal::of_file(alloc, &fault, asked.names)),
+    }
+}
+
+/// Prints the warnings on standard error, each after this text.
+pub(crate) fn warn<E: Write>(
+    alloc: Global,
+    answer: &Answer,
+    before: &str,
+    err: &mut E,
+) -> Result<(), CheckFault>
+    ensures { IfErr result (λ fault. fault_status fault ≡ 3) }
+{
+    for warning in &answer.warnings {
+        let line = format!(in alloc; "{before}{}\n", warning.text)?;
+        put(&line, err)?;
+    }
+    Ok(())
+}
+
+/// Prints an answer as it is asked for, writes its page where one is wanted, and gives the exit status.
+pub(crate) fn show<F: Files, O: Write, E: Write>(
+    alloc: Global,
+    answer: &Answer,
+    asked: Asked,
+    files: &mut F,
+    out: &mut O,
+    err: &mut E,
+) -> Result<u8, Refusal>
+    requires may { (path : List ℕ) → option_copied asked.html ≡ Some path → F.May files.old path }
+    ensures status { IfOk result (λ status. status ≡ what_status answer.now.what) }
+    ensures text { IfOk result
+        (λ status. asked.entry.format ≡ None → IsPrinted answer.now.what (O.contents out.old) (O.contents out.new)) }
+    ensures kept { asked.entry.format ≡ None → 2 ≤ what_status answer.now.what → out.new ≡ out.old }
+    ensures paged { IsPaged F.Puts (option_copied asked.entry.html) files.old files.new }
+    ensures fault { IfErr result (λ refusal. fault_status refusal.fault ≡ 3) }
+{
+    match asked.format {
+        Some(format) => print_formed(alloc, answer, format, out)?,
+        None => print_text(alloc, &answer.what, asked.explains, out, err)?,
+    }
+    put_page(alloc, answer, asked, files)?;
+    if asked.format.is_none() {
+        warn(alloc, answer, "", err)?;
+    }
+    Ok(answer.what.status())
+}
+
+/// Prints what a command found out for these files as it is asked for, writes its page where one is wanted, and gives the exit status.
+pub(crate) fn show_found<F: Files, O: Write, E: Write>(
+    alloc: Global,
+    source: Source,
+    found: Result<(Vec<u8>, What), Refusal>,
+    warns: Warns,
+    asked: Asked,
+    files: &mut F,
+    out: &mut O,
+    err: &mut E,
+) -> Result<u8, Refusal>
+    requires may { (path : List ℕ) → option_copied asked.html ≡ Some path → F.May files.old path }
+    ensures answered { IfOk result (λ status. status ≤ 1
+        → IsShown (HasFound found) asked.entry.format status (O.contents out.old) (O.contents out.new)) }
+    ensures refused { IfErr found (λ _. IfOk result (λ status. 2 ≤ status)) }
+    ensures kept { IfOk result
+        (λ status. 2 ≤ status → asked.entry.format ≡ None → out.new ≡ out.old) }
+    ensures most { IfOk result (λ status. status ≤ 3) }
+    ensures paged { IsPaged F.Puts (option_copied asked.entry.html) files.old files.new }
+    ensures fault { IfErr result (λ refusal. fault_status refusal.fault ≡ 3) }
+{
+    let answer = Answer::new(alloc, source, found, warns)?;
+    show(alloc, &answer, asked, files, out, err)
+}
+
+/// Prints that the outputs of a command are refused, and writes no page; gives the exit status.
+pub(crate) fn show_outputs_refused<F: Files, O: Write, E: Write>(
+    alloc: Global,
+    source: Source,
+    fault: &OutputFault,
+    asked: Asked,
+    files: &mut F,
+    out: &mut O,
+    err: &mut E,
+) -> Result<u8, Refusal>
+    ensures refused { IfOk result (λ status. 2 ≤ status) }
+    ensures kept { IfOk result (λ status. asked.entry.format ≡ None → out.new ≡ out.old) }
+    ensures most { IfOk result (λ status. status ≤ 3) }
+    ensures same { files.new ≡ files.old }
+    ensures fault { IfErr result (λ refusal. fault_status refusal.fault ≡ 3) }
+{
+    let found = Err(Refusal::of_outputs(alloc, fault, asked.names));
+    let asked = Asked {
+        html: None,
+        ..asked
+    };
+    show_found(alloc, source, found, Warns::Never, asked, files, out, err)
+}

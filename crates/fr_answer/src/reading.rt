@@ -1,0 +1,175 @@
+// From files to an answer.
+ghost use Rattle.std.specs.Prelude.{◌≡◌, ◌≤◌, ◌<◌, ◌^◌, ℕ, List, true, IfOk, IfErr, string_bytes};
+ghost use Rattle.fr_answer.specs.Answers.{HasFound, what_status};
+ghost use Rattle.fr_answer.specs.Checked.{fault_status};
+ghost use Rattle.fr_answer.specs.Commands.{IsCheckOf, IsProofAt, IsSearchAt, most_app_bytes, most_certificate_bytes};
+
+use crate::answer::{Answer, Refusal, What};
+use crate::files::Files;
+use crate::judging::judged;
+use crate::proving::proved;
+use crate::refuting::searched;
+use crate::warning::warnings_of;
+use crate::ways::{Warns, Ways};
+use fr_cert::MOST_BYTES as MOST_CERTIFICATE_BYTES;
+use fr_formats::Source;
+use fr_parallel::Open;
+use fr_reader::MOST_BYTES as MOST_APP_BYTES;
+use std::alloc::{AllocError, Global};
+use std::sync::Wait;
+use std::thread::Threads;
+
+/// The bytes of a file that a command reads, at most one more than the limit.
+pub(crate) fn input<F: Files>(
+    alloc: Global,
+    files: &F,
+    path: &str,
+    limit: usize,
+    names: bool,
+) -> Result<Vec<u8>, Refusal>
+    requires { limit < 2 ^ 32 }
+    ensures gives { IfOk result (λ bytes. F.Gives files.now path.now limit bytes.items) }
+    ensures fault { IfErr result (λ refusal. fault_status refusal.fault ≡ 3) }
+{
+    match files.read(path, limit) {
+        Ok(bytes) => Ok(bytes),
+        Err(fault) => Err(Refusal::of_file(alloc, &fault, names)),
+    }
+}
+
+/// The bytes of an application's file.
+pub(crate) fn application<F: Files>(
+    alloc: Global,
+    files: &F,
+    path: &str,
+    names: bool,
+) -> Result<Vec<u8>, Refusal>
+    ensures gives { IfOk result (λ bytes. F.Gives files.now path.now most_app_bytes bytes.items) }
+    ensures fault { IfErr result (λ refusal. fault_status refusal.fault ≡ 3) }
+{
+    input(alloc, files, path, MOST_APP_BYTES, names)
+}
+
+/// The verdict on the application and the certificate in these files, with the application's text.
+pub(crate) fn checked_files<R: Threads + Wait + Sync, F: Files>(
+    rt: &R,
+    alloc: Global,
+    files: &F,
+    app: &str,
+    certificate: &str,
+    ways: Ways,
+) -> Result<(Vec<u8>, What), Refusal>
+    ensures verdict { IfOk result (λ r. IsCheckOf (F.Gives files.now) app.now certificate.now r.1) }
+    ensures fault { IfErr result (λ refusal. 2 ≤ fault_status refusal.fault) }
+{
+    let app = application(alloc, files, app, ways.names)?;
+    let certificate = input(
+        alloc,
+        files,
+        certificate,
+        MOST_CERTIFICATE_BYTES,
+        ways.names,
+    )?;
+    match judged(
+        rt,
+        alloc,
+        &app,
+        &certificate,
+        ways.workers,
+        &Open,
+        ways.detail,
+    ) {
+        Ok(what) => Ok((app, what)),
+        Err(fault) => {
+            let certificate = Some(certificate.as_slice());
+            Err(Refusal::of_texts(alloc, &app, certificate, fault, ways.places))
+        }
+    }
+}
+
+/// The verdict on the application in this file by a certificate that is worked out, or a run into a breach, with the certificate's
+/// text and the application's.
+pub(crate) fn proved_file<R: Threads + Wait + Sync, F: Files>(
+    rt: &R,
+    alloc: Global,
+    files: &F,
+    app: &str,
+    searches: bool,
+    ways: Ways,
+) -> Result<(Vec<u8>, What, String), Refusal>
+    ensures proof { IfOk result (λ r. IsProofAt (F.Gives files.now) app.now searches (string_bytes r.2) r.1) }
+    ensures fault { IfErr result (λ refusal. 2 ≤ fault_status refusal.fault) }
+{
+    let app = application(alloc, files, app, ways.names)?;
+    match proved(rt, alloc, &app, ways.workers, &Open, searches, ways.detail) {
+        Ok((what, certificate)) => Ok((app, what, certificate)),
+        Err(fault) => Err(Refusal::of_texts(alloc, &app, None, fault, ways.places)),
+    }
+}
+
+/// The same without the certificate's text; a run into a breach is looked for.
+pub(crate) fn proved_alone<R: Threads + Wait + Sync, F: Files>(
+    rt: &R,
+    alloc: Global,
+    files: &F,
+    app: &str,
+    ways: Ways,
+) -> Result<(Vec<u8>, What), Refusal>
+    ensures proof { IfOk result (λ r. (certificate : List ℕ) × IsProofAt (F.Gives files.now) app.now true certificate r.1) }
+    ensures fault { IfErr result (λ refusal. 2 ≤ fault_status refusal.fault) }
+{
+    let (text, what, _certificate) = proved_file(rt, alloc, files, app, true, ways)?;
+    Ok((text, what))
+}
+
+/// What a search for a breach finds in the application in this file, with its text.
+pub(crate) fn searched_file<R: Threads + Sync, F: Files>(
+    rt: &R,
+    alloc: Global,
+    files: &F,
+    app: &str,
+    most_states: usize,
+    ways: Ways,
+) -> Result<(Vec<u8>, What), Refusal>
+    ensures found { IfOk result (λ r. IsSearchAt (F.Gives files.now) app.now r.1) }
+    ensures fault { IfErr result (λ refusal. 2 ≤ fault_status refusal.fault) }
+{
+    let app = application(alloc, files, app, ways.names)?;
+    let explains = ways.detail.is_some();
+    match searched(rt, alloc, &app, most_states, ways.workers, explains) {
+        Ok(what) => Ok((app, what)),
+        Err(fault) => Err(Refusal::of_texts(alloc, &app, None, fault, ways.places)),
+    }
+}
+
+impl Answer {
+    /// The answer of a command for these files: what was found out, with the application's text, or why there is no verdict.
+    pub(crate) fn new(
+        alloc: Global,
+        source: Source,
+        found: Result<(Vec<u8>, What), Refusal>,
+        warns: Warns,
+    ) -> Result<Answer, AllocError>
+        ensures found { IfOk result (λ a. what_status a.what ≤ 1 → HasFound found a.what) }
+        ensures refused { IfErr found (λ _. IfOk result (λ a. 2 ≤ what_status a.what)) }
+        ensures most { IfOk result (λ a. what_status a.what ≤ 3) }
+    {
+        let (text, what) = match found {
+            Ok(found) => found,
+            Err(refusal) => (Vec::new(alloc), What::Refused(refusal)),
+        };
+        let certificate = match source.certificate {
+            Some(path) => Some(String::from_str(alloc, path)?),
+            None => None,
+        };
+        let warnings = warnings_of(alloc, &what, warns)?;
+        Ok(Answer {
+            command: source.command,
+            application: String::from_str(alloc, source.application)?,
+            certificate,
+            text,
+            what,
+            warnings,
+        })
+    }
+}

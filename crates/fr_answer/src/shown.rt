@@ -1,0 +1,70 @@
+// An answer as reports for machines show it.
+ghost use Rattle.std.specs.Prelude.{◌≡◌, IfOk, string_bytes};
+ghost use Rattle.fr_answer.specs.Answers.{first_line, kind_of};
+
+mod failure;
+mod places;
+mod steps;
+
+use crate::answer::{Answer, What};
+use failure::failure_of;
+use fr_formats::{AnswerShown, Failure, Source, StepShown, WarningShown};
+use fr_refuter::Finding;
+use places::Places;
+use std::alloc::{AllocError, Global};
+use steps::run_shown;
+
+/// What fails, and the steps of a run, each with its place in the application's text.
+fn details_of(
+    alloc: Global,
+    answer: &Answer,
+) -> Result<(Option<Failure>, Vec<StepShown>), AllocError> {
+    match &answer.what {
+        What::Judged(judged) => {
+            let places = Places::build(alloc, judged.app(), &answer.text)?;
+            Ok((failure_of(alloc, &places, judged)?, Vec::new(alloc)))
+        }
+        What::Searched {
+            app,
+            found: Finding::Breach(run),
+            ..
+        } => {
+            let places = Places::build(alloc, app, &answer.text)?;
+            run_shown(alloc, &places, run)
+        }
+        _ => Ok((None, Vec::new(alloc))),
+    }
+}
+
+/// The warnings.
+fn warnings_shown(
+    alloc: Global,
+    warnings: &[WarningShown],
+) -> Result<Vec<WarningShown>, AllocError> {
+    let mut shown = Vec::new(alloc);
+    for WarningShown { kind, text } in warnings {
+        let (kind, text) = (*kind, text.clone()?);
+        shown.push(WarningShown { kind, text })?;
+    }
+    Ok(shown)
+}
+
+/// The answer as JSON, SARIF and JUnit show it. Its error is that an allocation was refused.
+pub fn shown_of(alloc: Global, answer: &Answer) -> Result<AnswerShown, AllocError>
+    ensures kind { IfOk result (λ shown. shown.answer ≡ kind_of answer.now.what) }
+    ensures report { IfOk result (λ shown. string_bytes shown.report ≡ first_line answer.now.what) }
+{
+    let source = Source {
+        command: answer.command,
+        application: &answer.application,
+        certificate: answer.certificate.as_deref(),
+    };
+    let report = answer.what.line(alloc)?;
+    let mut shown = AnswerShown::new(alloc, source, answer.what.kind(), report)?;
+    shown.lines = answer.what.lines(alloc)?;
+    shown.warnings = warnings_shown(alloc, &answer.warnings)?;
+    let (failure, steps) = details_of(alloc, answer)?;
+    shown.failure = failure;
+    shown.steps = steps;
+    Ok(shown)
+}

@@ -1,0 +1,64 @@
+// How a command does its work.
+ghost use Rattle.std.specs.Prelude.{◌≡◌, option_copied, option_map};
+ghost use Rattle.fr_answer.specs.Commands.{detail_in};
+
+use fr_files::{Holds, Output};
+use fr_request::{Detail, Format};
+
+/// Of which things that a verdict may hide a command warns.
+#[derive(Clone, Copy, PartialEq, Eq)]
+pub(crate) enum Warns {
+    /// Of nothing.
+    Never,
+    /// That there is no task or interrupt.
+    OfNoActors,
+    /// Of all.
+    OfAll,
+}
+
+/// How a command does its work, and what it says besides the verdict.
+#[derive(Clone, Copy)]
+pub(crate) struct Ways {
+    /// How many threads judge or search.
+    pub workers: usize,
+    /// Whether it is explained why it is no and where a refusal is, and how much of a state.
+    pub detail: Option<Detail>,
+    /// Whether it is found out where a text is refused.
+    pub places: bool,
+    /// Whether a file that can't be read or written is named.
+    pub names: bool,
+    pub warns: Warns,
+}
+
+/// How an answer is to be printed.
+#[derive(Clone, Copy)]
+pub(crate) struct Asked<'a> {
+    /// The form; None where it is a text for a person.
+    pub format: Option<Format>,
+    /// The file for the page, where one is wanted.
+    pub html: Option<&'a str>,
+    /// Whether the text says where a text is refused.
+    pub explains: bool,
+    /// Whether the page's file is named where it can't be written.
+    pub names: bool,
+}
+
+/// How much is explained: where a machine reads the answer, never less than what matters.
+pub(crate) fn detail_in(format: Option<Format>, detail: Option<Detail>) -> Option<Detail>
+    ensures { result ≡ detail_in format detail }
+{
+    match (format, detail) {
+        (Some(_), None) => Some(Detail::Told),
+        _ => detail,
+    }
+}
+
+/// The file at this path as an output that replaces what is told; None where no file is asked for.
+pub(crate) fn output_at(path: Option<&str>, replaces: Holds) -> Option<Output<'_>>
+    ensures { option_map (λ output. output.path.now) result ≡ option_copied path.entry }
+{
+    match path {
+        Some(path) => Some(Output { path, replaces }),
+        None => None,
+    }
+}

@@ -1,0 +1,2 @@
+pub mod ApartLemmas
+pub mod TreeLemmas

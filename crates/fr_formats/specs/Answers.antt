@@ -1,0 +1,75 @@
+-- What answers are, in words and numbers.
+--
+-- | word                              | meaning                                                                 |
+-- |-----------------------------------|-------------------------------------------------------------------------|
+-- | command_name, kind_name, side_name | the names of commands, of kinds of answers, and of sides of a line     |
+-- | warning_rule                      | the name of the rule that warns so                                      |
+-- | status_of                         | the exit status of a command that answers so                            |
+-- | greatest_status                   | the greatest status of all answers; 0 where there are none              |
+-- | failed_rule                       | the rule or the part that fails; the kind's name where none does        |
+-- | IsNew                             | an answer to what is asked, of this kind, with this line, and no more   |
+use Rattle.std.specs.Prelude.{◌≡◌, ℕ, max, fold, List, [], Option, Some, None, codes, option_map, string_bytes}
+use Rattle.fr_formats.specs.declared.answer.Command.{Command}
+use Rattle.fr_formats.specs.declared.answer.Command.TheVariants.{Check, Prove, Refute}
+use Rattle.fr_formats.specs.declared.answer.AnswerKind.{AnswerKind}
+use Rattle.fr_formats.specs.declared.answer.AnswerKind.TheVariants.{Yes, No, Breach, NoBreach, StatesLeft, Refused, Machine}
+use Rattle.fr_formats.specs.declared.answer.SideShown.{SideShown}
+use Rattle.fr_formats.specs.declared.answer.SideShown.TheVariants.{Before, Inside}
+use Rattle.fr_formats.specs.declared.answer.WarningKind.{WarningKind}
+use Rattle.fr_formats.specs.declared.answer.WarningKind.TheVariants.{NeverReached, NeverUsed, NoActors}
+use Rattle.fr_formats.specs.declared.answer.Source.{Source}
+use Rattle.fr_formats.specs.declared.answer.AnswerShown.{AnswerShown}
+use Rattle.fr_formats.specs.declared.answer.Failure.{Failure}
+
+abbrev pub command_name : Command → List ℕ
+command_name Check = codes "check"
+command_name Prove = codes "prove"
+command_name Refute = codes "refute"
+
+abbrev pub kind_name : AnswerKind → List ℕ
+kind_name Yes = codes "yes"
+kind_name No = codes "no"
+kind_name Breach = codes "breach"
+kind_name NoBreach = codes "no-breach"
+kind_name StatesLeft = codes "states-left"
+kind_name Refused = codes "refused"
+kind_name Machine = codes "machine"
+
+abbrev pub side_name : SideShown → List ℕ
+side_name Before = codes "before"
+side_name Inside = codes "inside"
+
+abbrev pub warning_rule : WarningKind → List ℕ
+warning_rule NeverReached = codes "never-reached"
+warning_rule NeverUsed = codes "never-used"
+warning_rule NoActors = codes "no-actors"
+
+abbrev pub status_of : AnswerKind → ℕ
+status_of Yes = 0
+status_of NoBreach = 0
+status_of No = 1
+status_of Breach = 1
+status_of StatesLeft = 1
+status_of Refused = 2
+status_of Machine = 3
+
+abbrev pub greatest_status : List AnswerShown → ℕ
+greatest_status answers = fold (λ status a. max status (status_of a.answer)) 0 answers
+
+abbrev pub rule_of : Option Failure → AnswerKind → List ℕ
+rule_of None kind = kind_name kind
+rule_of (Some failure) kind = failure.rule.now
+
+abbrev pub failed_rule : AnswerShown → List ℕ
+failed_rule a = rule_of a.failure a.answer
+
+pub record IsNew (source : Source) (kind : AnswerKind) (report : List ℕ) (a : AnswerShown) : Type 0 where
+  pub command : a.command ≡ source.command
+  pub application : string_bytes a.application ≡ source.application.now
+  pub certificate : option_map string_bytes a.certificate ≡ option_map (λ path. path.now) source.certificate
+  pub answer : a.answer ≡ kind
+  pub report_line : string_bytes a.report ≡ report
+  pub lines : a.lines.items ≡ []
+  pub warnings : a.warnings.items ≡ []
+  pub failure : a.failure ≡ None
+  pub steps : a.steps.items ≡ []

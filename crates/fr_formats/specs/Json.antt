@@ -1,0 +1,66 @@
+-- Answers as JSON, in this project's own form.
+--
+-- | word                              | meaning                                                                 |
+-- |-----------------------------------|-------------------------------------------------------------------------|
+-- | place_tokens, failure_tokens, step_tokens, lines_tokens, warnings_tokens | parts of an answer               |
+-- | answer_begins, answer_tokens      | an answer: its kind in a word, its status, and what it says             |
+-- | report_begins                     | the report up to its answers                                            |
+-- | json_of                           | the whole report                                                        |
+use Rattle.std.specs.Prelude.{ℕ, List, [], ◌∷◌, ◌++◌, codes, flat_map, option_map, string_bytes}
+use Rattle.std.specs.declared.string.String.{String}
+use Rattle.json.specs.Token.{Token, begin_object, end_object, end_array, key, string}
+use Rattle.json.specs.Layout.{pretty}
+use Rattle.fr_request.specs.declared.format.TheConstants.{VERSION}
+use Rattle.fr_formats.specs.declared.answer.AnswerShown.{AnswerShown}
+use Rattle.fr_formats.specs.declared.answer.Failure.{Failure}
+use Rattle.fr_formats.specs.declared.answer.PlaceShown.{PlaceShown}
+use Rattle.fr_formats.specs.declared.answer.StepShown.{StepShown}
+use Rattle.fr_formats.specs.declared.answer.WarningShown.{WarningShown}
+use Rattle.fr_formats.specs.Answers.{command_name, kind_name, side_name, status_of, greatest_status}
+use Rattle.fr_formats.specs.Tokens.{array, field, integer, number, maybe, listed, object}
+
+unfoldable pub place_tokens : PlaceShown → List Token
+place_tokens p =
+    begin_object ∷ number (codes "point") p.point ++ field (codes "actor") (string_bytes p.actor)
+    ++ number (codes "index") p.index ++ field (codes "side") (side_name p.side) ++ field (codes "code") (string_bytes p.code)
+    ++ maybe (number (codes "line")) p.line ++ maybe (number (codes "column")) p.column ++ maybe (number (codes "length")) p.length
+    ++ end_object ∷ []
+
+abbrev pub member_place : List ℕ → PlaceShown → List Token
+member_place name p = key name ∷ place_tokens p
+
+unfoldable pub failure_tokens : Failure → List Token
+failure_tokens f =
+    object (codes "failure") ++ field (codes "rule") f.rule.now ++ field (codes "text") (string_bytes f.text)
+    ++ maybe (member_place (codes "place")) f.place ++ maybe (member_place (codes "other")) f.other ++ end_object ∷ []
+
+unfoldable pub step_tokens : StepShown → List Token
+step_tokens s =
+    begin_object ∷ maybe (member_place (codes "place")) s.place ++ integer (codes "choice") s.choice
+    ++ field (codes "change") (string_bytes s.change) ++ end_object ∷ []
+
+unfoldable pub lines_tokens : {Z : Type 0} → List (String Z) → List Token
+lines_tokens lines = listed (codes "lines") (λ line. string (string_bytes line) ∷ []) lines
+
+unfoldable pub warnings_tokens : List WarningShown → List Token
+warnings_tokens warnings = listed (codes "warnings") (λ warning. string (string_bytes warning.text) ∷ []) warnings
+
+unfoldable pub answer_begins : AnswerShown → List Token
+answer_begins a =
+    begin_object ∷ field (codes "command") (command_name a.command) ++ field (codes "application") (string_bytes a.application)
+    ++ maybe (field (codes "certificate")) (option_map string_bytes a.certificate)
+    ++ field (codes "answer") (kind_name a.answer) ++ number (codes "status") (status_of a.answer)
+    ++ field (codes "report") (string_bytes a.report)
+
+unfoldable pub answer_tokens : AnswerShown → List Token
+answer_tokens a =
+    answer_begins a ++ lines_tokens a.lines.items ++ warnings_tokens a.warnings.items ++ maybe failure_tokens a.failure
+    ++ listed (codes "steps") step_tokens a.steps.items ++ end_object ∷ []
+
+unfoldable pub report_begins : ℕ → List Token
+report_begins status =
+    begin_object ∷ field (codes "tool") (codes "fr_check") ++ field (codes "version") VERSION.now
+    ++ number (codes "form") 1 ++ number (codes "status") status ++ array (codes "answers")
+
+abbrev pub json_of : List AnswerShown → List ℕ
+json_of answers = pretty (report_begins (greatest_status answers) ++ flat_map answer_tokens answers ++ end_array ∷ end_object ∷ []) ++ codes "\n"

@@ -1,0 +1,7 @@
+pub mod Answers
+pub mod Json
+pub mod Junit
+pub mod Names
+pub mod Reports
+pub mod Sarif
+pub mod Tokens

@@ -1,0 +1,2 @@
+pub mod Markup
+pub mod Whole

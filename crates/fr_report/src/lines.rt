@@ -1,0 +1,36 @@
+// Lists and lines as text.
+ghost use Rattle.std.specs.Prelude.{◌≡◌, IfOk, string_bytes};
+ghost use Rattle.fr_report.specs.Lines.{lines_text};
+
+use std::alloc::{AllocError, Global};
+
+/// Appends the items, with a text between each two; without items what is said then.
+pub(crate) fn put_listed(
+    text: &mut String,
+    items: &[String],
+    between: &str,
+    none: &str,
+) -> Result<(), AllocError> {
+    if items.is_empty() {
+        return text.push_str(none);
+    }
+    for (number, item) in items.iter().enumerate() {
+        if number > 0 {
+            text.push_str(between)?;
+        }
+        text.push_str(item)?;
+    }
+    Ok(())
+}
+
+/// The lines, each with its newline. An error says that an allocation was refused.
+pub fn text_of(alloc: Global, lines: &[String]) -> Result<String, AllocError>
+    ensures { IfOk result (λ text. string_bytes text ≡ lines_text lines.now) }
+{
+    let mut text = String::new(alloc);
+    for line in lines {
+        text.push_str(line)?;
+        text.push('\n')?;
+    }
+    Ok(text)
+}

@@ -1,0 +1,290 @@
+// Why a verdict is no, as values, and the lines that tell it.
+ghost use Rattle.std.specs.Prelude.{◌≡◌, [], IfOk, None, string_bytes};
+
+use crate::lines::{put_listed, text_of};
+use crate::shown::{actor_name, object_name, side_name};
+use fr_ends::EndName;
+use fr_program::{ActorId, App, Point};
+use std::alloc::{AllocError, Global};
+
+/// What is said below a state or a step of one note.
+const ALLOWED: &str =
+    "this state is one that the note allows; whether a run gets there, the note doesn't say";
+
+/// The same, of two notes.
+const BOTH_ALLOWED: &str =
+    "this state is one that both notes allow; whether a run gets there, they don't say";
+
+/// Where an actor is.
+#[derive(Drop)]
+pub struct Standing {
+    pub actor: ActorId,
+    /// The point at which it is; None where it is done.
+    pub point: Option<Point>,
+    /// The line of code there.
+    pub code: String,
+}
+
+/// Which state is shown.
+#[derive(Clone, Copy)]
+pub enum ShownState {
+    Start,
+    /// A state that the note of one point allows.
+    OneNote,
+    /// A state that the notes of both points allow.
+    BothNotes,
+}
+
+/// One thing that explains a verdict: a line of text.
+#[derive(Drop)]
+pub enum Explained {
+    /// A point that the failing part is about.
+    Place(Standing),
+    /// A state, by what is so in it; no fact where nothing in it matters.
+    State {
+        of: ShownState,
+        facts: Vec<String>,
+    },
+    /// Where an actor is in the state, and how deep in the critical section and in suspension.
+    Actor(String),
+    /// A step from the state, and how its call went; without a choice the step that can't be taken, and why.
+    Step {
+        actor: ActorId,
+        choice: Option<i64>,
+        outcome: String,
+    },
+    /// What is otherwise after the step.
+    Changed(Vec<String>),
+    /// Where the step leads.
+    Then(Standing),
+    /// What an actor's note says, a claim for each alternative, beside a state of this kind; no claim where it says that the
+    /// actor is never there.
+    Says {
+        of: ShownState,
+        actor: ActorId,
+        claims: Vec<String>,
+    },
+    /// What is so in place of what a note or a guard says, or what a rule forbids.
+    But(String),
+    /// Who may be at the end of a buffer.
+    Guard {
+        end: EndName,
+        who: String,
+    },
+    /// No guard is listed for the end of a buffer.
+    Unguarded(EndName),
+    /// The point of another actor that can be at the same end.
+    Beside(Standing),
+    /// The notes allow such a state, and don't say whether a run gets there.
+    Allowed(ShownState),
+    /// No state that shows it was found.
+    NotFound,
+    /// Another point that fails, with the line that reports it.
+    Other {
+        point: Point,
+        report: String,
+    },
+    /// How many more points fail.
+    More(u64),
+}
+
+/// Why a verdict is no, in the order in which it is told.
+#[derive(Drop)]
+pub struct Explanation {
+    pub items: Vec<Explained>,
+}
+
+/// A line that explains, without blanks before it: what it tells of, which is empty where the line is a sentence, and
+/// what it says of that.
+#[derive(Drop)]
+pub struct Line {
+    pub of: String,
+    pub said: String,
+}
+
+impl Standing {
+    /// The line that tells it, behind a word. An error says that an allocation was refused.
+    pub fn line(&self, alloc: Global, app: &App, word: &str) -> Result<Line, AllocError> {
+        let name = actor_name(app, self.actor);
+        match self.point {
+            Some(Point { pc, side, .. }) => Ok(Line {
+                of: format!(in alloc; "{word}{name} {pc} {}", side_name(side))?,
+                said: self.code.clone()?,
+            }),
+            None => Ok(Line {
+                of: String::new(alloc),
+                said: format!(in alloc; "{word}{name} is done")?,
+            }),
+        }
+    }
+}
+
+impl Line {
+    /// The whole line: both parts with a colon between them, or the second one alone.
+    pub fn text(&self, alloc: Global) -> Result<String, AllocError> {
+        if self.of.is_empty() {
+            String::from_str(alloc, &self.said)
+        } else {
+            format!(in alloc; "{}: {}", self.of, self.said)
+        }
+    }
+}
+
+impl ShownState {
+    /// What is shown, whose note isn't so then, and what is known of the state.
+    fn words(self) -> (&'static str, &'static str, &'static str) {
+        match self {
+            ShownState::Start => ("the start", "its note says", ""),
+            ShownState::OneNote => ("a state with its note", "its note says", ALLOWED),
+            ShownState::BothNotes => {
+                (
+                    "a state with both notes",
+                    "the first note says",
+                    BOTH_ALLOWED,
+                )
+            }
+        }
+    }
+}
+
+/// Appends an end of a buffer.
+fn put_end(text: &mut String, app: &App, end: EndName) -> Result<(), AllocError> {
+    let (buffer, side) = (object_name(app, end.buffer), end.end.text());
+    write!(text, "{buffer} {side}")
+}
+
+/// Appends a step.
+fn put_step(
+    text: &mut String,
+    app: &App,
+    actor: ActorId,
+    choice: Option<i64>,
+    outcome: &str,
+) -> Result<(), AllocError> {
+    text.push_str(actor_name(app, actor))?;
+    if let Some(choice) = choice {
+        write!(text, ", choice {choice}")?;
+    }
+    if !outcome.is_empty() {
+        write!(text, ": {outcome}")?;
+    }
+    Ok(())
+}
+
+/// Appends what a note says.
+fn put_claims(
+    text: &mut String,
+    app: &App,
+    actor: ActorId,
+    claims: &[String],
+) -> Result<(), AllocError> {
+    if claims.is_empty() {
+        return write!(text, "{} is never there", actor_name(app, actor));
+    }
+    put_listed(text, claims, " or ", "")
+}
+
+impl Explained {
+    /// What the line tells of, where it has a name.
+    fn put_name(&self, text: &mut String, app: &App) -> Result<(), AllocError> {
+        match self {
+            Explained::State { of, .. } => text.push_str(of.words().0),
+            Explained::Says { of, .. } => text.push_str(of.words().1),
+            Explained::Step { .. } => text.push_str("step"),
+            Explained::Changed(_) => text.push_str("after it"),
+            Explained::But(_) => text.push_str("but"),
+            Explained::Guard { end, .. } => {
+                text.push_str("the guard of ")?;
+                put_end(text, app, *end)
+            }
+            _ => Ok(()),
+        }
+    }
+
+    /// What the line says.
+    fn put_said(&self, text: &mut String, app: &App) -> Result<(), AllocError> {
+        match self {
+            Explained::State { facts, .. } => put_listed(text, facts, "; ", "any"),
+            Explained::Step {
+                actor,
+                choice,
+                outcome,
+            } => put_step(text, app, *actor, *choice, outcome),
+            Explained::Changed(facts) => put_listed(text, facts, "; ", ""),
+            Explained::Says { actor, claims, .. } => put_claims(text, app, *actor, claims),
+            Explained::Actor(said)
+            | Explained::But(said)
+            | Explained::Guard { who: said, .. }
+            | Explained::Other { report: said, .. } => text.push_str(said),
+            Explained::Unguarded(end) => {
+                text.push_str("no guard is listed for ")?;
+                put_end(text, app, *end)
+            }
+            Explained::Allowed(of) => text.push_str(of.words().2),
+            Explained::NotFound => text.push_str("no state that shows it was found"),
+            Explained::More(count) => write!(text, "and {count} more"),
+            Explained::Place(_) | Explained::Then(_) | Explained::Beside(_) => Ok(()),
+        }
+    }
+
+    /// The line in its two parts.
+    ///
+    /// # Errors
+    ///
+    /// Only where memory is refused. The words are this project's own.
+    pub fn line(&self, alloc: Global, app: &App) -> Result<Line, AllocError> {
+        let (mut of, mut said) = (String::new(alloc), String::new(alloc));
+        match self {
+            Explained::Place(at) => return at.line(alloc, app, ""),
+            Explained::Then(at) => return at.line(alloc, app, "then "),
+            Explained::Beside(at) => return at.line(alloc, app, "beside "),
+            _ => {}
+        }
+        self.put_name(&mut of, app)?;
+        self.put_said(&mut said, app)?;
+        Ok(Line { of, said })
+    }
+
+    /// Whether the line stands by itself: the other lines have blanks before them.
+    fn is_apart(&self) -> bool {
+        matches!(
+            self,
+            Explained::Allowed(_) | Explained::Other { .. } | Explained::More(_)
+        )
+    }
+}
+
+impl Explanation {
+    /// The lines that tell it, a line for each item.
+    ///
+    /// # Errors
+    ///
+    /// Only where memory is refused. The lines' form is this project's own.
+    pub fn lines(&self, alloc: Global, app: &App) -> Result<Vec<String>, AllocError> {
+        let mut lines = Vec::new(alloc);
+        for item in &self.items {
+            let start = if item.is_apart() { "" } else { "  " };
+            let text = item.line(alloc, app)?.text(alloc)?;
+            lines.push(format!(in alloc; "{start}{text}")?)?;
+        }
+        Ok(lines)
+    }
+}
+
+/// The lines of an explanation, each with its newline; no text where there is none.
+///
+/// # Errors
+///
+/// Only where memory is refused.
+pub fn explanation_text(
+    alloc: Global,
+    app: &App,
+    found: &Option<Explanation>,
+) -> Result<String, AllocError>
+    ensures { IfOk result (λ text. found.now ≡ None → string_bytes text ≡ []) }
+{
+    match found {
+        Some(explanation) => text_of(alloc, &explanation.lines(alloc, app)?),
+        None => Ok(String::new(alloc)),
+    }
+}
