@@ -24,8 +24,9 @@ fn answer<R: Threads + Wait + Sync>(rt: &HostRuntime, threads: &R) -> u8 {
     let Ok(words) = words.collect::<Vec<String>>(rt.alloc()) else {
         return no_memory(rt);
     };
-    let Ok(matches) = matched(rt.alloc(), &words) else {
-        return explain(rt, &words);
+    let matches = match matched(rt.alloc(), &words) {
+        Ok(matches) => matches,
+        Err(error) => return explain(rt, &words, &error),
     };
     match asked(&matches) {
         Some(request) => {

@@ -36,8 +36,12 @@ fn plain_words(alloc: Global, words: &[String]) -> Result<Vec<String>, AllocErro
     Ok(plain)
 }
 
-/// Prints the usage message for words that were not matched, or the help or the version, and gives the exit status.
-pub fn explain(rt: &HostRuntime, words: &[String]) -> u8 {
+/// Prints the usage message for words that were not matched, or the help or the version, and gives the exit status. Where the words
+/// were not matched for want of memory, it prints that.
+pub fn explain(rt: &HostRuntime, words: &[String], unmatched: &clap::Error) -> u8 {
+    if matches!(unmatched.kind(), ErrorKind::OutOfMemory) {
+        return no_memory(rt);
+    }
     let Ok(words) = plain_words(rt.alloc(), words) else {
         return no_memory(rt);
     };
