@@ -1,6 +1,7 @@
 -- The exit status 0 is that of safe applications.
-use Rattle.std.proofs.Common.{◌≡◌, ◌≤◌, ◌⊎◌, inl, inr, ℕ, List, [], ◌∷◌, ◌++◌, Bool, Option, None, Some, Result, Ok, Err, IfOk, refl, sym, subst, arith, ◌∙◌, ap}
-use Rattle.std.proofs.lemmas.Bool.{cases_lt}
+use Rattle.std.proofs.Common.{◌≡◌, ◌≤◌, inl, inr, ℕ, List, [], ◌∷◌, All, Bool, Option, None, Some, Result, Ok, Err, IfOk, refl, sym, subst, arith, map, ◌∙◌, ap}
+use Rattle.std.proofs.lemmas.List.Elements.{All-head, All-tail}
+use Rattle.std.specs.Prelude.{fold}
 use Rattle.fr_program.specs.Program.{Program}
 use Rattle.fr_calls.specs.Run.{IsSafe}
 use Rattle.fr_judge.specs.declared.part.Verdict.{Verdict}
@@ -22,8 +23,8 @@ use Rattle.fr_request.specs.declared.request.Judged.TheVariants.{One, Listed}
 use Rattle.fr_answer.specs.declared.answer.What.{What}
 use Rattle.fr_answer.specs.declared.answer.What.TheVariants.{Judged, Searched, Refused}
 use Rattle.fr_answer.specs.Checked.{IsSafeText}
-use Rattle.fr_answer.specs.Answers.{kind_of, kind_of_verdict, kind_of_finding, what_status, IsBreachIn, IsProofOf, IsSearchOf, IsVerdictOn}
-use Rattle.fr_answer.specs.Commands.{AreEachSafe, AreLinesAnswered, AreNamedSafe, IsAnswerBy, IsCheckAnswered, IsCheckOf, IsLineStatus, IsProofAt, IsSafeAt, IsSearchAt, IsShown}
+use Rattle.fr_answer.specs.Answers.{kind_of_verdict, kind_of_finding, what_status, IsBreachIn, IsProofOf, IsSearchOf, IsVerdictOn}
+use Rattle.fr_answer.specs.Commands.{AreAnswered, AreEachSafe, AreLinesPrinted, AreNamedSafe, IsAnswerBy, IsCheckAnswered, IsCheckOf, IsLineAnswer, IsProofAt, IsSafeAt, IsSearchAt, IsShown, LineAnswer, greater_status}
 
 -- the status 0 is that of a yes
 pub zero-yes : (v : Verdict) → kind_status (kind_of_verdict v) ≡ 0 → v ≡ TellsYes
@@ -88,50 +89,34 @@ module _ (gives : List ℕ → ℕ → List ℕ → Type 0) where
   answer-by-safe list app (Some path) what h e = check-safe app (beside list path) what h e
   answer-by-safe list app None what h e = proof-at-safe app _ h.0 what h.1 e
 
-  line-safe : (list : List ℕ) (entry : Entry) (status : ℕ) → IsLineStatus gives list entry status → status ≡ 0 → IsSafeAt gives (beside list entry.application)
-  line-safe list entry status h e =
-      let le : status ≤ 1 = omega (arith, e) in
-      let found = h.by le in
-      answer-by-safe list (beside list entry.application) entry.certificate found.0 found.1 (sym found.2 ∙ e)
+  line-safe : (list : List ℕ) (line : LineAnswer) → IsLineAnswer gives list line → what_status line.what ≡ 0 → IsSafeAt gives (beside list line.entry.application)
+  line-safe list line h e =
+      let le : what_status line.what ≤ 1 = omega (arith, e) in
+      answer-by-safe list (beside list line.entry.application) line.entry.certificate line.what (h.by le) e
 
-  pub lines-safe : (list : List ℕ) (entries : List Entry) (status : ℕ) → AreLinesAnswered gives list entries status → status ≡ 0 → AreEachSafe gives list entries
-  lines-safe list [] status h e = tt
-  lines-safe list (entry ∷ entries) status h e =
-      let own : h.0 ≡ 0 = omega (arith, e, h.4) in
-      let others : h.1 ≡ 0 = omega (arith, e, h.5) in
-      (line-safe list entry h.0 h.2 own, lines-safe list entries h.1 h.3 others)
+  -- so it is of lines of which the greatest exit status is 0
+  from-start : (start : ℕ) (lines : List LineAnswer) → start ≤ fold greater_status start lines
+  from-start start [] = omega arith
+  from-start start (line ∷ lines) = let rest = from-start (greater_status start line) lines in omega (arith, rest)
+
+  lines-safe : (list : List ℕ) (start : ℕ) (lines : List LineAnswer) → All (IsLineAnswer gives list) lines → fold greater_status start lines ≡ 0
+      → AreEachSafe gives list (map (λ line. line.entry) lines)
+  lines-safe list start [] h e = tt
+  lines-safe list start (line ∷ lines) h e =
+      let least = from-start (greater_status start line) lines in
+      let zero : what_status line.what ≡ 0 = omega (arith, e, least) in
+      (line-safe list line (All-head (IsLineAnswer gives list) line lines h) zero, lines-safe list (greater_status start line) lines (All-tail (IsLineAnswer gives list) line lines h) e)
+
+  answered-safe : (list : List ℕ) (entries : List Entry) (s : ℕ) (Is : List LineAnswer → Type 0) → s ≡ 0 → AreAnswered gives list entries s Is → AreEachSafe gives list entries
+  answered-safe list entries s Is e h = subst (λ es. AreEachSafe gives list es) h.1 (lines-safe list 0 h.0 h.2 (sym h.3 ∙ e))
 
   -- the same of what a request asks for
-  pub named-safe : (named : Named) (format : Option Format) (s : ℕ) (old new : Option (List ℕ)) → s ≡ 0 → IsCheckAnswered gives named format s old new → AreNamedSafe gives named
-  named-safe (One app certificate) format s old new e h = check-safe app.now certificate.now h.0 h.1 (sym h.2 ∙ e)
-  named-safe (Listed list) format s old new e h = (h.0, h.1, h.2, h.3, lines-safe list.now h.2 s h.4 e)
+  pub named-safe : (named : Named) (format : Option Format) (explains : Bool) (s : ℕ) (old new : Option (List ℕ)) → s ≡ 0 → IsCheckAnswered gives named format explains s old new
+      → AreNamedSafe gives named
+  named-safe (One app certificate) format explains s old new e h = check-safe app.now certificate.now h.0 h.1 (sym h.2 ∙ e)
+  named-safe (Listed list) format explains s old new e h =
+      (h.0, h.1, h.2, h.3, answered-safe list.now h.2 s (λ lines. AreLinesPrinted format explains list.now lines old new) e h.4)
 
   pub proof-shown-safe : (app : List ℕ) (searches : Bool) (format : Option Format) (s : ℕ) (old new : Option (List ℕ)) → s ≡ 0
       → IsShown (λ what. (certificate : List ℕ) × IsProofAt gives app searches certificate what) format s old new → IsSafeAt gives app
   proof-shown-safe app searches format s old new e h = proof-at-safe app searches h.1.0 h.0 h.1.1 (sym h.2 ∙ e)
-
-  -- one line more
-  greater : (a b : ℕ) → (m : ℕ) × (a ≤ m) × (b ≤ m) × ((m ≡ a) ⊎ (m ≡ b))
-  greater a b = elim (cases_lt a b) [ inl less ↦ (b, omega (arith, less), omega arith, inr refl) | inr least ↦ (a, omega arith, least, inl refl) ]
-
-  pub one-more : (list : List ℕ) (entries : List Entry) (e : Entry) (greatest status next : ℕ) → AreLinesAnswered gives list entries greatest → IsLineStatus gives list e status
-      → greatest ≤ next → status ≤ next → (next ≡ greatest) ⊎ (next ≡ status) → AreLinesAnswered gives list (entries ++ e ∷ []) next
-  one-more list [] e greatest status next h own low high either =
-      let zero : greatest ≡ 0 = h in
-      (status, 0, own, refl, high, omega arith, elim either [ inl same ↦ inr (omega (arith, same, zero)) | inr same ↦ inl same ])
-  one-more list (x ∷ entries) e greatest status next h own low high either =
-      let others = greater h.1 status in
-      let more = one-more list entries e h.1 status others.0 h.3 own others.1 others.2 others.3 in
-      let own-low : h.0 ≤ next = omega (arith, low, h.4) in
-      let others-low : others.0 ≤ next = elim others.3 [ inl same ↦ omega (arith, same, h.5, low) | inr same ↦ omega (arith, same, high) ] in (
-        h.0,
-        others.0,
-        h.2,
-        more,
-        own-low,
-        others-low,
-        elim either [
-          | inl same ↦ elim h.6 [ inl first ↦ inl (omega (arith, same, first)) | inr rest ↦ inr (omega (arith, same, rest, others.1, others-low)) ]
-          | inr same ↦ inr (omega (arith, same, others.2, others-low))
-        ],
-      )

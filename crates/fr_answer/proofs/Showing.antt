@@ -1,5 +1,5 @@
 -- What a command shows is what it found.
-use Rattle.std.proofs.Common.{◌≡◌, ◌≤◌, ◌⊎◌, inl, inr, ℕ, List, Bool, Option, None, Some, Result, Ok, Err, IfOk, IfErr, String, string_bytes, refl, sym, subst, ap, ◌∙◌, arith}
+use Rattle.std.proofs.Common.{◌≡◌, ◌≤◌, inl, inr, ℕ, List, Bool, Option, None, Some, Result, Ok, Err, IfOk, IfErr, String, string_bytes, refl, sym, subst, ◌∙◌, arith}
 use Rattle.std.proofs.lemmas.Bool.{false≢true}
 use Rattle.std.proofs.lemmas.Option.{same_Some}
 use Rattle.std.specs.Prelude.{IsErr, option_map}
@@ -9,13 +9,14 @@ use Rattle.fr_judge.specs.Told.{TellsVerdict}
 use Rattle.fr_judge.specs.declared.part.Verdict.TheVariants.{Yes}
 use Rattle.fr_program.specs.Program.{Program}
 use Rattle.fr_text.specs.Texts.{IsJudged}
+use Rattle.fr_list.specs.Beside.{beside}
 use Rattle.fr_request.specs.declared.format.Format.{Format}
 use Rattle.fr_answer.specs.declared.answer.Answer.{Answer}
 use Rattle.fr_answer.specs.declared.answer.Refusal.{Refusal}
 use Rattle.fr_answer.specs.declared.answer.What.{What}
 use Rattle.fr_answer.specs.declared.answer.What.TheVariants.{Judged, Searched, Refused}
 use Rattle.fr_answer.specs.Answers.{HasFound, IsProofOf, IsVerdictOn, what_status}
-use Rattle.fr_answer.specs.Commands.{IsGiven, IsKept, IsLineStatus, IsPaged, IsProofAt, IsShown, IsStatusBy, IsPrinted}
+use Rattle.fr_answer.specs.Commands.{IsAnswerBy, IsGiven, IsKept, IsLineAnswer, IsPaged, IsPrinted, IsProofAt, IsShown}
 use Rattle.fr_answer.proofs.Safe.{breach-status, zero-yes}
 
 -- what holds of all that is found holds of what was
@@ -36,14 +37,14 @@ may-of May None path e h p is = let no : ⊥ = cc in absurd no
 may-of May (Some o) path e h p is = subst May (same_Some o.path.now p (e ∙ is)) (h o refl)
 
 -- the answer to a line is what was found
-pub line-status : {X E Y : Type 0} (Is : What → Type 0) (found : Result (X × What) E) (r : Result Answer Y) → IfOk r (λ a. what_status a.what ≤ 1 → HasFound found a.what)
-    → IfOk found (λ x. Is x.1) → IfOk r (λ a. what_status a.what ≤ 1 → (w : What) × Is w × (what_status a.what ≡ what_status w))
-line-status Is found (Ok a) has h = λ le. (a.what, from-found Is found a.what h (has le), refl)
-line-status Is found (Err e) has h = tt
+pub line-found : {X E Y : Type 0} (Is : What → Type 0) (found : Result (X × What) E) (r : Result Answer Y) → IfOk r (λ a. what_status a.what ≤ 1 → HasFound found a.what)
+    → IfOk found (λ x. Is x.1) → IfOk r (λ a. what_status a.what ≤ 1 → Is a.what)
+line-found Is found (Ok a) has h = λ le. from-found Is found a.what h (has le)
+line-found Is found (Err e) has h = tt
 
 -- an answer that is shown: its exit status, what is printed, and that nothing is where there is no verdict
 pub shown-found : {Y : Type 0} (Has : What → Type 0) (format : Option Format) (old new : Option (List ℕ)) (r : Result ℕ Y) (what : What) → (what_status what ≤ 1 → Has what)
-    → IfOk r (λ s. s ≡ what_status what) → IfOk r (λ s. format ≡ None → IsPrinted what old new) → IfOk r (λ s. s ≤ 1 → IsShown Has format s old new)
+    → IfOk r (λ s. s ≡ what_status what) → IfOk r (λ s. IsPrinted format what old new) → IfOk r (λ s. s ≤ 1 → IsShown Has format s old new)
 shown-found Has format old new (Ok s) what has status text = λ le. (what, has (subst (λ n. n ≤ 1) status le), status, text)
 shown-found Has format old new (Err e) what has status text = tt
 
@@ -61,14 +62,26 @@ most-found (Ok s) n status h = subst (λ m. m ≤ 3) (sym status) h
 most-found (Err e) n status h = tt
 
 -- files that are as they were
-pub paged-same : {Z : Type 0} (puts : Z → List ℕ → List ℕ → Z → Type 0) (path : Option (List ℕ)) (old new : Z) → new ≡ old → IsPaged puts path old new
-paged-same puts None old new same = same
-paged-same puts (Some p) old new same = inl same
+pub paged-same : {Z : Type 0} (puts : Z → List ℕ → List ℕ → Z → Type 0) (Is : What → Type 0) (path : Option (List ℕ)) (old new : Z) → new ≡ old → IsPaged puts Is path old new
+paged-same puts Is None old new same = same
+paged-same puts Is (Some p) old new same = inl same
+
+-- a page of an answer of which more is known
+pub paged-as : {Z : Type 0} (puts : Z → List ℕ → List ℕ → Z → Type 0) (Was Is : What → Type 0) (path : Option (List ℕ)) (old new : Z) → ((w : What) → what_status w ≤ 1 → Was w → Is w)
+    → IsPaged puts Was path old new → IsPaged puts Is path old new
+paged-as puts Was Is None old new on same = same
+paged-as puts Was Is (Some p) old new on (inl same) = inl same
+paged-as puts Was Is (Some p) old new on (inr h) = inr (h.0, h.1, (λ le. on h.0 le (h.2 le)), h.3, h.4)
+
+-- the page of an answer that is shown is that of what was found
+pub paged-found : {X E Z : Type 0} (puts : Z → List ℕ → List ℕ → Z → Type 0) (Is : What → Type 0) (found : Result (X × What) E) (path : Option (List ℕ)) (old new : Z)
+    → IfOk found (λ x. Is x.1) → IsPaged puts (HasFound found) path old new → IsPaged puts Is path old new
+paged-found puts Is found path old new h paged = paged-as puts (HasFound found) Is path old new (λ w le has. from-found Is found w h has) paged
 
 module _ (gives : List ℕ → ℕ → List ℕ → Type 0) where
   -- a line of a list
-  pub line-by : {Y : Type 0} (list app : List ℕ) (certificate : Option (List ℕ)) (r : Result Answer Y) → IfOk r (λ a. IsStatusBy gives list app certificate (what_status a.what))
-      → IfOk r (λ a. IsLineStatus gives list (record { application = app; certificate = certificate }) (what_status a.what))
+  pub line-by : {Y : Type 0} (list app : List ℕ) (certificate : Option (List ℕ)) (r : Result Answer Y) → IfOk r (λ a. what_status a.what ≤ 1 → IsAnswerBy gives list (beside list app) certificate a.what)
+      → IfOk r (λ a. IsLineAnswer gives list (record { entry = record { application = app; certificate = certificate }; what = a.what }))
   line-by list app certificate (Ok a) h = record { by = h }
   line-by list app certificate (Err e) h = tt
 

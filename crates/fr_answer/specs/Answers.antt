@@ -13,10 +13,8 @@
 -- | IsProofOf                       | the verdict by this certificate, or a run into a breach in place of a no         |
 -- | HasFound                        | what was found, where something was                                              |
 -- | CanRefuseSearch, CanRefuseProof | this fault can be the answer to the bytes and the number of workers              |
-use Rattle.std.specs.Prelude.{◌≡◌, ◌≢◌, ◌⊎◌, ◌++◌, ◌==◌, ℕ, Bool, IsTrue, List, [], codes, Option, None, Some, Result, Ok, Err, Vec, String, string_bytes, if◌then◌else◌}
+use Rattle.std.specs.Prelude.{◌≡◌, ◌⊎◌, ◌++◌, ◌==◌, ℕ, Bool, IsTrue, List, [], codes, Option, None, Some, Result, Ok, Err, String, if◌then◌else◌}
 use Rattle.std.specs.declared.alloc.Global.{Global}
-use Rattle.fr_program.specs.Program.{Program}
-use Rattle.fr_calls.specs.Run.{IsSafe}
 use Rattle.fr_reader.specs.Meaning.{Means as AppMeans}
 use Rattle.fr_cert.specs.Meaning.{Means as CertMeans}
 use Rattle.fr_judge.specs.declared.part.Verdict.{Verdict}
@@ -24,8 +22,7 @@ use Rattle.fr_judge.specs.declared.part.Verdict.TheVariants.{Yes as TellsYes, No
 use Rattle.fr_judge.specs.Told.{TellsVerdict}
 use Rattle.fr_refuter.specs.declared.answer.Finding.{Finding}
 use Rattle.fr_refuter.specs.declared.answer.Finding.TheVariants.{Breach as FoundBreach, Safe, Unknown}
-use Rattle.fr_refuter.specs.declared.replay.Refutation.{Refutation}
-use Rattle.fr_refuter.specs.Refutes.{IsFound, Refutes}
+use Rattle.fr_refuter.specs.Refutes.{IsFound}
 use Rattle.fr_report.specs.Lines.{lines_text}
 use Rattle.fr_report.specs.Report.{verdict_text}
 use Rattle.fr_report.specs.Refuted.{IsRunText, found_line}
@@ -35,10 +32,8 @@ use Rattle.fr_formats.specs.Answers.{status_of as kind_status}
 use Rattle.fr_parallel.specs.Kept.{IsNoCrew}
 use Rattle.fr_answer.specs.declared.fault.CheckFault.{CheckFault}
 use Rattle.fr_answer.specs.declared.fault.CheckFault.TheVariants.{App, Cert, Workers, Memory, Thread}
-use Rattle.fr_answer.specs.declared.answer.Refusal.{Refusal}
 use Rattle.fr_answer.specs.declared.answer.What.{What}
 use Rattle.fr_answer.specs.declared.answer.What.TheVariants.{Judged, Searched, Refused as NoAnswer}
-use Rattle.fr_answer.specs.Judged.{JudgedOf}
 use Rattle.fr_answer.specs.Checked.{IsAppRefused, IsCertRefused, fault_status, line_of}
 
 -- yes exactly where the verdict is
@@ -67,9 +62,9 @@ abbrev pub what_status : What → ℕ
 what_status what = kind_status (kind_of what)
 
 -- the lines that say where a fault is, where they are there
-abbrev pub place_text : Option (Vec (String Global) Global) → List ℕ
+abbrev pub place_text : Option (List (String Global)) → List ℕ
 place_text None = []
-place_text (Some lines) = lines_text lines.items
+place_text (Some lines) = lines_text lines
 
 -- the line of a verdict, of what was found, or of a fault
 abbrev pub first_line : What → List ℕ

@@ -7,22 +7,29 @@
 -- | IsCheckOf                         | the verdict on the application and the certificate in two files                |
 -- | IsProofAt                         | the verdict on the application in a file by a certificate, or a run instead    |
 -- | IsSearchAt                        | what a search found in the application in a file                               |
--- | IsPrinted                         | the text of an answer was written, where it isn't refused                      |
--- | IsShown                           | such an answer has this exit status, and was printed where it is a text        |
--- | IsAnswerBy, IsStatusBy, IsLineStatus | the answer to a line of a list, and its exit status                         |
--- | AreLinesAnswered, IsListAnswered  | the lines of a list, each answered, and the greatest of their exit statuses    |
+-- | Shows                             | a report shows an answer: its kind and its first line                          |
+-- | IsPrinted                         | an answer was written: its text, or a report that shows it                     |
+-- | IsShown                           | such an answer has this exit status, and was printed                           |
+-- | IsAnswerBy, LineAnswer, IsLineAnswer | the answer to a line of a list                                              |
+-- | heading, IsLineText               | what is printed of a line: the path, and the answer's lines                    |
+-- | AreLinesPrinted, IsListAnswered   | the lines of a list, each answered and printed, in their order                 |
 -- | AreRunWords                       | the words of a run that are asked for                                          |
 -- | IsListing                         | the points of the application in a file were written                           |
 -- | IsAnswered                        | the exit status, and what was written, are those of the request                |
 -- | IsSafeAt, AreSafe                 | the application in a file is safe; each that a verdict is asked for on         |
 -- | IsText                            | the answer is a text about one application                                     |
 -- | IsPaged, IsKept, IsWritten        | the files are as they were, but for a page, for a certificate with a yes; for what the request names |
-use Rattle.std.specs.Prelude.{◌≡◌, ◌≤◌, ◌⊎◌, ℕ, Bool, true, List, [], ◌∷◌, Option, None, Some, option_copied}
+use Rattle.std.specs.Prelude.{◌≡◌, ◌≤◌, ◌⊎◌, ◌++◌, ℕ, Bool, true, false, List, [], ◌∷◌, All, Option, None, Some, codes, encode_utf8_all, fold, if◌then◌else◌, map, max, nat_eq, option_copied, string_bytes}
+use Rattle.std.specs.List.{concat, starts_with}
+use Rattle.std.specs.Option.{is_some}
 use Rattle.std.specs.Io.KnownBytes.{Appends}
 use Rattle.fr_program.specs.Program.{Program}
 use Rattle.fr_reader.specs.Meaning.{Means as AppMeans}
 use Rattle.fr_text.specs.Texts.{IsJudged}
 use Rattle.fr_judge.specs.declared.part.Verdict.TheVariants.{Yes}
+use Rattle.fr_escape.specs.Plain.{plain}
+use Rattle.fr_formats.specs.declared.answer.AnswerShown.{AnswerShown}
+use Rattle.fr_formats.specs.Reports.{IsReport}
 use Rattle.fr_list.specs.Means.{Entry, ListMeans}
 use Rattle.fr_list.specs.Beside.{beside}
 use Rattle.fr_report.specs.Listing.{points_text}
@@ -35,8 +42,9 @@ use Rattle.fr_request.specs.declared.request.Request.{Request}
 use Rattle.fr_request.specs.declared.request.Request.TheVariants.{Check, Find, Prove, Points, Refute, Run}
 use Rattle.fr_answer.specs.declared.answer.What.{What}
 use Rattle.fr_answer.specs.declared.found.Found.{Found}
-use Rattle.fr_answer.specs.Answers.{IsProofOf, IsSearchOf, IsTextOf, IsVerdictOn, what_status}
+use Rattle.fr_answer.specs.Answers.{AreLinesOf, IsProofOf, IsSearchOf, IsTextOf, IsVerdictOn, first_line, kind_of, what_status}
 use Rattle.fr_answer.specs.Checked.{IsSafeText}
+use Rattle.fr_answer.specs.Pages.{IsPageOf}
 use Rattle.fr_answer.specs.Found.{IsCertificateFor, IsFound, found_line, found_status}
 use Rattle.fr_answer.specs.Ran.{IsRunText}
 use Rattle.fr_answer.specs.Words.{AreWords}
@@ -70,13 +78,21 @@ IsProofAt gives app searches certificate what = (a : List ℕ) × gives app most
 abbrev pub IsSearchAt : (List ℕ → ℕ → List ℕ → Type 0) → List ℕ → What → Type 0
 IsSearchAt gives app what = (a : List ℕ) × gives app most_app_bytes a × IsSearchOf a what
 
--- where the answer isn't refused, its text was written after what the writer had, and nothing else
-abbrev pub IsPrinted : What → Option (List ℕ) → Option (List ℕ) → Type 0
-IsPrinted what old new = what_status what ≤ 1 → (text : List ℕ) × IsTextOf what text × Appends old new text
+-- what a report shows of an answer: its kind and its first line
+pub record Shows (what : What) (shown : AnswerShown) : Type 0 where
+  pub kind : shown.answer ≡ kind_of what
+  pub first : string_bytes shown.report ≡ first_line what
 
--- there is such an answer with this exit status, and it was printed where it is a text for a person
+-- the answer's text was written after what the writer had, and nothing else, where it isn't refused; in a form that machines read a
+-- report that shows the answer was
+abbrev pub IsPrinted : Option Format → What → Option (List ℕ) → Option (List ℕ) → Type 0
+IsPrinted None what old new = what_status what ≤ 1 → (text : List ℕ) × IsTextOf what text × Appends old new text
+IsPrinted (Some format) what old new =
+    (shown : AnswerShown) × (text : List ℕ) × Shows what shown × IsReport format (shown ∷ []) text × Appends old new text
+
+-- there is such an answer with this exit status, and it was printed
 abbrev pub IsShown : (What → Type 0) → Option Format → ℕ → Option (List ℕ) → Option (List ℕ) → Type 0
-IsShown Is format status old new = (what : What) × Is what × (status ≡ what_status what) × (format ≡ None → IsPrinted what old new)
+IsShown Is format status old new = (what : What) × Is what × (status ≡ what_status what) × IsPrinted format what old new
 
 -- the verdict on the application in a file, by the certificate in another one that the list names, or by one that was worked out; or
 -- a run into a breach instead
@@ -84,26 +100,60 @@ abbrev pub IsAnswerBy : (List ℕ → ℕ → List ℕ → Type 0) → List ℕ 
 IsAnswerBy gives list app (Some path) what = IsCheckOf gives app (beside list path) what
 IsAnswerBy gives list app None what = (certificate : List ℕ) × IsProofAt gives app true certificate what
 
--- the answer to such a line has this exit status; nothing is said of it where there is no verdict
-abbrev pub IsStatusBy : (List ℕ → ℕ → List ℕ → Type 0) → List ℕ → List ℕ → Option (List ℕ) → ℕ → Type 0
-IsStatusBy gives list app certificate status =
-    status ≤ 1 → (what : What) × IsAnswerBy gives list (beside list app) certificate what × (status ≡ what_status what)
+-- a line of a list with the answer to it
+pub record LineAnswer : Type 0 where
+  pub entry : Entry
+  pub what : What
 
--- the same of a line of the list
-pub record IsLineStatus (gives : List ℕ → ℕ → List ℕ → Type 0) (list : List ℕ) (e : Entry) (status : ℕ) : Type 0 where
-  pub by : IsStatusBy gives list e.application e.certificate status
+-- where it is a verdict, it is that on the files that the line names
+pub record IsLineAnswer (gives : List ℕ → ℕ → List ℕ → Type 0) (list : List ℕ) (line : LineAnswer) : Type 0 where
+  pub by : what_status line.what ≤ 1 → IsAnswerBy gives list (beside list line.entry.application) line.entry.certificate line.what
 
--- each line is answered, and this is the greatest of their exit statuses, 0 where there is none
-abbrev pub AreLinesAnswered : (List ℕ → ℕ → List ℕ → Type 0) → List ℕ → List Entry → ℕ → Type 0
-AreLinesAnswered gives list [] greatest = greatest ≡ 0
-AreLinesAnswered gives list (e ∷ entries) greatest =
-    (own others : ℕ) × IsLineStatus gives list e own × AreLinesAnswered gives list entries others
-    × (own ≤ greatest) × (others ≤ greatest) × ((greatest ≡ own) ⊎ (greatest ≡ others))
+-- the greatest of their exit statuses, 0 where there is no line
+abbrev pub greater_status : ℕ → LineAnswer → ℕ
+greater_status status line = max status (what_status line.what)
 
--- the file has a list, of which each line is answered
-abbrev pub IsListAnswered : (List ℕ → ℕ → List ℕ → Type 0) → List ℕ → ℕ → Type 0
-IsListAnswered gives list status =
-    (text : List ℕ) × gives list most_list_bytes text × (entries : List Entry) × ListMeans text entries × AreLinesAnswered gives list entries status
+abbrev pub greatest_status : List LineAnswer → ℕ
+greatest_status lines = fold greater_status 0 lines
+
+-- the two lists are as long, and this is so of each two that have the same place
+abbrev pub Each : {A B : Type 0} → (A → B → Type 0) → List A → List B → Type 0
+Each Is [] [] = Unit {0}
+Each Is [] (y ∷ ys) = ⊥
+Each Is (x ∷ xs) [] = ⊥
+Each Is (x ∷ xs) (y ∷ ys) = Is x y × Each Is xs ys
+
+-- how a path begins a line: without what steers a terminal, and never as `::`, which build servers take for a command
+abbrev pub heading : List ℕ → List ℕ
+heading path = (if starts_with nat_eq path (codes "::") then codes "./" else []) ++ (encode_utf8_all (plain path) ++ codes ": ")
+
+-- what is printed of the answer to an application with this path: its first line, and the others where they are asked for
+abbrev pub AreMore : Bool → What → List ℕ → Type 0
+AreMore true what more = AreLinesOf what more
+AreMore false what more = more ≡ []
+
+abbrev pub IsLineText : Bool → List ℕ → What → List ℕ → Type 0
+IsLineText explains path what text =
+    (more : List ℕ) × AreMore explains what more × (text ≡ heading path ++ (first_line what ++ (codes "\n" ++ more)))
+
+-- the lines' texts were written in their order after what the writer had, and nothing else; or a report that shows their answers
+abbrev pub AreLinesPrinted : Option Format → Bool → List ℕ → List LineAnswer → Option (List ℕ) → Option (List ℕ) → Type 0
+AreLinesPrinted None explains list lines old new =
+    (texts : List (List ℕ)) × Each (λ line text. IsLineText explains (beside list line.entry.application) line.what text) lines texts
+    × Appends old new (concat texts)
+AreLinesPrinted (Some format) explains list lines old new =
+    (shown : List AnswerShown) × (text : List ℕ) × Each (λ line s. Shows line.what s) lines shown × IsReport format shown text × Appends old new text
+
+-- these lines are answered, this is the greatest exit status, and this is so of the answers
+abbrev pub AreAnswered : (List ℕ → ℕ → List ℕ → Type 0) → List ℕ → List Entry → ℕ → (List LineAnswer → Type 0) → Type 0
+AreAnswered gives list entries status Is =
+    (lines : List LineAnswer) × (map (λ line. line.entry) lines ≡ entries) × All (IsLineAnswer gives list) lines × (status ≡ greatest_status lines) × Is lines
+
+-- the file has a list, of which each line is answered and printed
+abbrev pub IsListAnswered : (List ℕ → ℕ → List ℕ → Type 0) → List ℕ → Option Format → Bool → ℕ → Option (List ℕ) → Option (List ℕ) → Type 0
+IsListAnswered gives list format explains status old new =
+    (text : List ℕ) × gives list most_list_bytes text × (entries : List Entry) × ListMeans text entries
+    × AreAnswered gives list entries status (λ lines. AreLinesPrinted format explains list lines old new)
 
 -- no words where none are given, and else those of the text
 abbrev pub AreRunWords : Option (List ℕ) → List ℕ → Type 0
@@ -111,9 +161,9 @@ AreRunWords None words = words ≡ []
 AreRunWords (Some text) words = AreWords text words
 
 -- the verdict on two files, or on each line of a list
-abbrev pub IsCheckAnswered : (List ℕ → ℕ → List ℕ → Type 0) → Named → Option Format → ℕ → Option (List ℕ) → Option (List ℕ) → Type 0
-IsCheckAnswered gives (One app certificate) format status old new = IsShown (IsCheckOf gives app.now certificate.now) format status old new
-IsCheckAnswered gives (Listed list) format status old new = IsListAnswered gives list.now status
+abbrev pub IsCheckAnswered : (List ℕ → ℕ → List ℕ → Type 0) → Named → Option Format → Bool → ℕ → Option (List ℕ) → Option (List ℕ) → Type 0
+IsCheckAnswered gives (One app certificate) format explains status old new = IsShown (IsCheckOf gives app.now certificate.now) format status old new
+IsCheckAnswered gives (Listed list) format explains status old new = IsListAnswered gives list.now format explains status old new
 
 -- the points of the application in a file
 abbrev pub IsListing : (List ℕ → ℕ → List ℕ → Type 0) → List ℕ → ℕ → Option (List ℕ) → Option (List ℕ) → Type 0
@@ -122,7 +172,7 @@ IsListing gives app status old new =
 
 -- the exit status, and what was written after what the writer had, are those of the request
 abbrev pub IsAnswered : (List ℕ → ℕ → List ℕ → Type 0) → Request → ℕ → Option (List ℕ) → Option (List ℕ) → Type 0
-IsAnswered gives (Check asked) status old new = IsCheckAnswered gives asked.files asked.format status old new
+IsAnswered gives (Check asked) status old new = IsCheckAnswered gives asked.files asked.format (is_some asked.detail) status old new
 IsAnswered gives (Prove asked) status old new =
     IsShown (λ what. (certificate : List ℕ) × IsProofAt gives asked.app.now asked.searches certificate what) asked.format status old new
 IsAnswered gives (Refute asked) status old new = IsShown (IsSearchAt gives asked.app.now) asked.format status old new
@@ -174,10 +224,17 @@ IsText (Find asked) = Unit {0}
 IsText (Points app explains) = Unit {0}
 IsText (Run asked) = Unit {0}
 
--- the files are as they were, but that the one for the page may have been given a text
-abbrev pub IsPaged : {Z : Type 0} → (Z → List ℕ → List ℕ → Z → Type 0) → Option (List ℕ) → Z → Z → Type 0
-IsPaged puts None old new = new ≡ old
-IsPaged puts (Some path) old new = (new ≡ old) ⊎ ((text : List ℕ) × puts old path text new)
+-- the files are as they were, but that the one for the page may have been given a page, which begins with the heading and the first
+-- line of an answer; where that is a verdict, this is so of it
+abbrev pub IsPaged : {Z : Type 0} → (Z → List ℕ → List ℕ → Z → Type 0) → (What → Type 0) → Option (List ℕ) → Z → Z → Type 0
+IsPaged puts Is None old new = new ≡ old
+IsPaged puts Is (Some path) old new =
+    (new ≡ old) ⊎ ((what : What) × (text : List ℕ) × (what_status what ≤ 1 → Is what) × IsPageOf what text × puts old path text new)
+
+-- an answer of which a page may be asked for: the verdict on two files, which a list doesn't have
+abbrev pub IsNamedAnswer : (List ℕ → ℕ → List ℕ → Type 0) → Named → What → Type 0
+IsNamedAnswer gives (One app certificate) what = IsCheckOf gives app.now certificate.now what
+IsNamedAnswer gives (Listed list) what = ⊥
 
 -- the files are as they were, but that the one at the path, if there is one, may have been given this text where the answer has the
 -- exit status 0
@@ -192,10 +249,11 @@ IsKept gives puts app (Some path) old new =
 
 -- the files are as they were, but that those that the request names were given what it asks for
 abbrev pub IsWritten : {Z : Type 0} → (List ℕ → ℕ → List ℕ → Type 0) → (Z → List ℕ → List ℕ → Z → Type 0) → Request → Z → Z → Type 0
-IsWritten gives puts (Check asked) old new = IsPaged puts (option_copied asked.html) old new
+IsWritten gives puts (Check asked) old new = IsPaged puts (IsNamedAnswer gives asked.files) (option_copied asked.html) old new
 IsWritten {Z} gives puts (Prove asked) old new =
-    (mid : Z) × IsKept gives puts asked.app.now (option_copied asked.out) old mid × IsPaged puts (option_copied asked.html) mid new
-IsWritten gives puts (Refute asked) old new = IsPaged puts (option_copied asked.html) old new
+    (mid : Z) × IsKept gives puts asked.app.now (option_copied asked.out) old mid
+    × IsPaged puts (λ what. (certificate : List ℕ) × IsProofAt gives asked.app.now asked.searches certificate what) (option_copied asked.html) mid new
+IsWritten gives puts (Refute asked) old new = IsPaged puts (IsSearchAt gives asked.app.now) (option_copied asked.html) old new
 IsWritten gives puts (Find asked) old new =
     (new ≡ old) ⊎ ((a text : List ℕ) × gives asked.app.now most_app_bytes a × ((P : Program) × AppMeans a P × IsCertificateFor P text) × puts old asked.out.now text new)
 IsWritten gives puts (Points app explains) old new = new ≡ old

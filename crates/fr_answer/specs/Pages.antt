@@ -10,7 +10,7 @@ use Rattle.fr_formats.specs.declared.answer.AnswerKind.TheVariants.{Yes, No, Bre
 use Rattle.fr_page.specs.declared.page.Kind.{Kind}
 use Rattle.fr_page.specs.declared.page.Page.{Page}
 use Rattle.fr_page.specs.Whole.{head_of}
-use Rattle.fr_answer.specs.declared.answer.Answer.{Answer}
+use Rattle.fr_answer.specs.declared.answer.What.{What}
 use Rattle.fr_answer.specs.Answers.{first_line, kind_of}
 use Rattle.fr_page.specs.declared.page.Kind.TheVariants.{Yes as YesPage, No as NoPage, Breach as BreachPage, Safe as SafePage, Unknown as UnknownPage, Refused as RefusedPage}
 
@@ -25,7 +25,7 @@ page_kind Refused = RefusedPage
 page_kind Machine = RefusedPage
 
 -- the text begins with the heading of the answer's kind and with its first line
-abbrev pub IsPageOf : Answer → List ℕ → Type 0
-IsPageOf answer text =
-    (page : Page) × (page.kind ≡ page_kind (kind_of answer.what)) × (string_bytes page.answer ≡ first_line answer.what)
+abbrev pub IsPageOf : What → List ℕ → Type 0
+IsPageOf what text =
+    (page : Page) × (page.kind ≡ page_kind (kind_of what)) × (string_bytes page.answer ≡ first_line what)
     × (rest : List ℕ) × (text ≡ head_of page ++ rest)

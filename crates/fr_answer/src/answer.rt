@@ -19,6 +19,7 @@ use crate::fault::{CheckFault, fault_line, status};
 use crate::judged::Judged;
 use fr_formats::{AnswerKind, Command, WarningShown};
 use fr_judge::Verdict;
+use fr_place::Place;
 use fr_program::App;
 use fr_refuter::Finding;
 use fr_report::{explain_run, finding_line, text_of, verdict_line};
@@ -28,8 +29,8 @@ use std::alloc::{AllocError, Global};
 #[derive(Drop)]
 pub struct Refusal {
     pub fault: CheckFault,
-    /// The lines that say where it is, where that is asked for.
-    pub place: Option<Vec<String>>,
+    /// Where it is, where that is asked for.
+    pub place: Option<Place>,
 }
 
 /// What was found out.
@@ -135,7 +136,7 @@ fn place_lines(alloc: Global, refusal: &Refusal) -> Result<Vec<String>, AllocErr
     ensures { IfOk result (λ lines. lines_text lines.items ≡ place_text refusal.now.place) }
 {
     match &refusal.place {
-        Some(lines) => copied(alloc, lines),
+        Some(place) => copied(alloc, place.lines()),
         None => Ok(Vec::new(alloc)),
     }
 }

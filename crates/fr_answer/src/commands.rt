@@ -1,15 +1,84 @@
-// The commands, each from the files that it names to its exit status.
+// The one entry, and the commands: from what the words ask for to the exit status.
+ghost use Rattle.std.specs.Prelude.{◌≡◌, ◌≤◌, IfErr, IfOk};
+ghost use Rattle.fr_answer.specs.Checked.{fault_status};
+ghost use Rattle.fr_answer.specs.Commands.{AreSafe, IsAnswered, IsText, IsWritten};
+
 mod check;
 mod find;
 mod list;
 mod points;
 mod prove;
 mod refute;
-mod run;
+mod run_files;
 
-pub(crate) use check::check;
-pub(crate) use find::find;
-pub(crate) use points::points;
-pub(crate) use prove::prove;
-pub(crate) use refute::refute;
-pub(crate) use run::run_files;
+use crate::answer::Refusal;
+use crate::files::Files;
+use crate::printing::refuse;
+use check::check;
+use find::find;
+use fr_request::Request;
+use points::points;
+use prove::prove;
+use refute::refute;
+use run_files::run_files;
+use std::alloc::Global;
+use std::io::Write;
+use std::sync::Wait;
+use std::thread::Threads;
+
+/// Does what is asked for, and gives the exit status; or why that can't be done.
+fn answered<R: Threads + Wait + Sync, F: Files, O: Write, E: Write>(
+    rt: &R,
+    alloc: Global,
+    request: &Request,
+    files: &mut F,
+    out: &mut O,
+    err: &mut E,
+) -> Result<u8, Refusal>
+    ensures answered { IfOk result (λ status. status ≤ 1
+        → IsAnswered (F.Gives files.old) request.now status (O.contents out.old) (O.contents out.new)) }
+    ensures safe { IfOk result (λ status. status ≡ 0 → AreSafe (F.Gives files.old) request.now) }
+    ensures kept { IfOk result (λ status. 2 ≤ status → IsText request.now → out.new ≡ out.old) }
+    ensures refused { IfErr result (λ refusal. fault_status refusal.fault ≡ 2 → out.new ≡ out.old) }
+    ensures most { IfOk result (λ status. status ≤ 3) }
+    ensures files { IsWritten (F.Gives files.old) F.Puts request.now files.old files.new }
+{
+    match request {
+        Request::Check(asked) => check(rt, alloc, asked, files, out, err),
+        Request::Find(asked) => find(rt, alloc, asked, files, out),
+        Request::Prove(asked) => prove(rt, alloc, asked, files, out, err),
+        Request::Points { app, explains } => points(alloc, app, *explains, files, out),
+        Request::Refute(asked) => refute(rt, alloc, asked, files, out, err),
+        Request::Run(asked) => run_files(rt, alloc, asked, files, out),
+    }
+}
+
+/// Does what is asked for: reads the files that the request names, prints the answer to `out` and what goes beside it to `err`, writes
+/// the files that are asked for, and gives the exit status.
+///
+/// It is 0 for `check`, `prove`, `refute` and `run` only where each application that is named breaks none of the twelve rules in any
+/// state of any run: for a list, each of its lines. It is 1 where that isn't shown; for `find`, where no certificate was found. It
+/// is 2 where the words, a file or an output is refused: then `err` says why, and where the answer is a text for a person about one
+/// application, nothing is written to `out`. It is 3 where the machine failed; what was written then is open.
+///
+/// A file is replaced only by a certificate on which the verdict is yes, by a page, or by the certificate that `find` was asked for.
+pub fn run<R: Threads + Wait + Sync, F: Files, O: Write, E: Write>(
+    rt: &R,
+    alloc: Global,
+    request: &Request,
+    files: &mut F,
+    out: &mut O,
+    err: &mut E,
+) -> u8
+    ensures answered { result ≤ 1
+        → IsAnswered (F.Gives files.old) request.now result (O.contents out.old) (O.contents out.new) }
+    ensures safe { result ≡ 0 → AreSafe (F.Gives files.old) request.now }
+    ensures kept { result ≡ 2 → IsText request.now → out.new ≡ out.old }
+    ensures most { result ≤ 3 }
+    ensures files { IsWritten (F.Gives files.old) F.Puts request.now files.old files.new }
+{
+    match answered(rt, alloc, request, files, out, err) {
+        Ok(status) => status,
+        Err(refusal) => refuse(alloc, refusal, err),
+    }
+}

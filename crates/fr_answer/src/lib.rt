@@ -8,7 +8,6 @@
 mod answer;
 mod check;
 mod commands;
-mod entry;
 mod exit;
 mod fault;
 mod files;
@@ -30,7 +29,7 @@ mod words;
 
 pub use answer::{Answer, Refusal, What};
 pub use check::{check_to, check_with};
-pub use entry::run;
+pub use commands::run;
 pub use exit::{DONE, MACHINE, NO, REFUSED};
 pub use fault::{CheckFault, fault_line, status};
 pub use files::Files;

@@ -105,7 +105,7 @@ fn headed(alloc: Global, answer: &Answer, body: Body) -> Result<Page, AllocError
 /// The page of an answer, as one HTML file. Its heading is that of the answer's kind, and the line below it is the answer's first
 /// line. Its error is that an allocation was refused.
 pub fn page_of(alloc: Global, answer: &Answer) -> Result<String, AllocError>
-    ensures { IfOk result (λ text. IsPageOf answer.now (string_bytes text)) }
+    ensures { IfOk result (λ text. IsPageOf answer.now.what (string_bytes text)) }
 {
     let body = body_of(alloc, &answer.what)?;
     let page = headed(alloc, answer, body)?;

@@ -4,57 +4,38 @@ ghost use Rattle.fr_answer.specs.Checked.{fault_status};
 
 use crate::answer::Refusal;
 use crate::fault::CheckFault;
-use fr_escape::push_plain;
 use fr_files::{FileFault, OutputFault};
-use fr_place::{SWAPPED, place_of_app, place_of_certificate, seem_swapped};
+use fr_place::{
+    Place, place_of_app, place_of_certificate, place_of_swapped, place_of_text, seem_swapped,
+};
 use fr_reader::read_app;
 use std::alloc::{AllocError, Global};
 
-/// The lines that say where the texts are at fault: line and column, table and key, the line of code with a mark, the path to a
-/// note, the nearest name that is known; or that the two seem to be swapped. No text where neither is at fault.
-fn place_text(
+/// Where the texts are at fault: line and column, table and key, the line of code with a mark, the path to a note, the nearest name
+/// that is known; or that the two seem to be swapped. None where neither is at fault.
+fn place_in(
     alloc: Global,
     app: &[u8],
     certificate: Option<&[u8]>,
     fault: &CheckFault,
-) -> Result<String, AllocError> {
-    match (fault, certificate) {
+) -> Result<Option<Place>, AllocError> {
+    let place = match (fault, certificate) {
         (CheckFault::App(_) | CheckFault::Cert(_), Some(certificate))
-            if seem_swapped(app, certificate) => { String::from_str(alloc, SWAPPED) }
-        (CheckFault::App(fault), _) => place_of_app(alloc, app, fault),
+            if seem_swapped(app, certificate) => { place_of_swapped(alloc)? }
+        (CheckFault::App(fault), _) => place_of_app(alloc, app, fault)?,
         (CheckFault::Cert(fault), Some(certificate)) => match read_app(alloc, app) {
-            Ok(read) => place_of_certificate(alloc, &read, certificate, fault),
-            Err(_) => Ok(String::new(alloc)),
+            Ok(read) => place_of_certificate(alloc, &read, certificate, fault)?,
+            Err(_) => return Ok(None),
         },
-        _ => Ok(String::new(alloc)),
-    }
+        _ => return Ok(None),
+    };
+    Ok(Some(place))
 }
 
-/// The same, a line each.
-fn place_lines(
-    alloc: Global,
-    app: &[u8],
-    certificate: Option<&[u8]>,
-    fault: &CheckFault,
-) -> Result<Vec<String>, AllocError> {
-    let text = place_text(alloc, app, certificate, fault)?;
-    let mut lines = Vec::new(alloc);
-    for line in text.lines() {
-        lines.push(String::from_str(alloc, line)?)?;
-    }
-    Ok(lines)
-}
-
-/// The line that names a file, and why it can't be read or written, without control characters.
-fn file_lines(alloc: Global, fault: &FileFault) -> Result<Vec<String>, AllocError> {
-    let (text, mut line) = (
-        format!(in alloc; "{fault}")?,
-        String::from_str(alloc, "  ")?,
-    );
-    push_plain(&mut line, &text)?;
-    let mut lines = Vec::new(alloc);
-    lines.push(line)?;
-    Ok(lines)
+/// The file that can't be read or written, and why.
+fn file_place(alloc: Global, fault: &FileFault) -> Result<Place, AllocError> {
+    let text = format!(in alloc; "{fault}")?;
+    place_of_text(alloc, &text)
 }
 
 /// A fault alone.
@@ -90,11 +71,8 @@ impl Refusal {
         if !places {
             return Refusal::from(fault);
         }
-        match place_lines(alloc, app, certificate, &fault) {
-            Ok(lines) => Refusal {
-                fault,
-                place: Some(lines),
-            },
+        match place_in(alloc, app, certificate, &fault) {
+            Ok(place) => Refusal { fault, place },
             Err(_) => Refusal::from(CheckFault::Memory),
         }
     }
@@ -106,10 +84,10 @@ impl Refusal {
         match fault {
             FileFault::Memory => Refusal::from(CheckFault::Memory),
             FileFault::Failed { .. } if !names => Refusal::from(CheckFault::File),
-            FileFault::Failed { .. } => match file_lines(alloc, fault) {
-                Ok(lines) => Refusal {
+            FileFault::Failed { .. } => match file_place(alloc, fault) {
+                Ok(place) => Refusal {
                     fault: CheckFault::File,
-                    place: Some(lines),
+                    place: Some(place),
                 },
                 Err(_) => Refusal::from(CheckFault::Memory),
             },

@@ -68,7 +68,7 @@ fn print_text<O: Write, E: Write>(
     out: &mut O,
     err: &mut E,
 ) -> Result<(), CheckFault>
-    ensures text { IfOk result (λ _. IsPrinted what.now (O.contents out.old) (O.contents out.new)) }
+    ensures text { IfOk result (λ _. IsPrinted None what.now (O.contents out.old) (O.contents out.new)) }
     ensures kept { 2 ≤ what_status what.now → out.new ≡ out.old }
     ensures fault { IfErr result (λ fault. fault_status fault ≡ 3) }
 {
@@ -86,10 +86,31 @@ fn print_formed<O: Write>(
     format: Format,
     out: &mut O,
 ) -> Result<(), CheckFault>
-    ensures { IfErr result (λ fault. fault_status fault ≡ 3) }
+    ensures text { IfOk result
+        (λ _. IsPrinted (Some format) answer.now.what (O.contents out.old) (O.contents out.new)) }
+    ensures fault { IfErr result (λ fault. fault_status fault ≡ 3) }
 {
     let shown = shown_of(alloc, answer)?;
     put(&answers_text(alloc, format, slice::from_ref(&shown))?, out)
+}
+
+/// Prints the answer as it is asked for.
+fn print<O: Write, E: Write>(
+    alloc: Global,
+    answer: &Answer,
+    asked: Asked,
+    out: &mut O,
+    err: &mut E,
+) -> Result<(), CheckFault>
+    ensures text { IfOk result
+        (λ _. IsPrinted asked.entry.format answer.now.what (O.contents out.old) (O.contents out.new)) }
+    ensures kept { asked.entry.format ≡ None → 2 ≤ what_status answer.now.what → out.new ≡ out.old }
+    ensures fault { IfErr result (λ fault. fault_status fault ≡ 3) }
+{
+    match asked.format {
+        Some(format) => print_formed(alloc, answer, format, out),
+        None => print_text(alloc, &answer.what, asked.explains, out, err),
+    }
 }
 
 /// Writes the page of an answer that isn't the machine's failure to the file that is asked for, if one is.
@@ -100,7 +121,7 @@ fn put_page<F: Files>(
     files: &mut F,
 ) -> Result<(), Refusal>
     requires may { (path : List ℕ) → option_copied asked.html ≡ Some path → F.May files.old path }
-    ensures paged { IsPaged F.Puts (option_copied asked.entry.html) files.old files.new }
+    ensures paged { IsPaged F.Puts (λ what. what ≡ answer.now.what) (option_copied asked.entry.html) files.old files.new }
     ensures fault { IfErr result (λ refusal. fault_status refusal.fault ≡ 3) }
 {
     let Some(path) = asked.html else {
@@ -144,15 +165,12 @@ pub(crate) fn show<F: Files, O: Write, E: Write>(
     requires may { (path : List ℕ) → option_copied asked.html ≡ Some path → F.May files.old path }
     ensures status { IfOk result (λ status. status ≡ what_status answer.now.what) }
     ensures text { IfOk result
-        (λ status. asked.entry.format ≡ None → IsPrinted answer.now.what (O.contents out.old) (O.contents out.new)) }
+        (λ status. IsPrinted asked.entry.format answer.now.what (O.contents out.old) (O.contents out.new)) }
     ensures kept { asked.entry.format ≡ None → 2 ≤ what_status answer.now.what → out.new ≡ out.old }
-    ensures paged { IsPaged F.Puts (option_copied asked.entry.html) files.old files.new }
+    ensures paged { IsPaged F.Puts (λ what. what ≡ answer.now.what) (option_copied asked.entry.html) files.old files.new }
     ensures fault { IfErr result (λ refusal. fault_status refusal.fault ≡ 3) }
 {
-    match asked.format {
-        Some(format) => print_formed(alloc, answer, format, out)?,
-        None => print_text(alloc, &answer.what, asked.explains, out, err)?,
-    }
+    print(alloc, answer, asked, out, err)?;
     put_page(alloc, answer, asked, files)?;
     if asked.format.is_none() {
         warn(alloc, answer, "", err)?;
@@ -178,7 +196,7 @@ pub(crate) fn show_found<F: Files, O: Write, E: Write>(
     ensures kept { IfOk result
         (λ status. 2 ≤ status → asked.entry.format ≡ None → out.new ≡ out.old) }
     ensures most { IfOk result (λ status. status ≤ 3) }
-    ensures paged { IsPaged F.Puts (option_copied asked.entry.html) files.old files.new }
+    ensures paged { IsPaged F.Puts (HasFound found) (option_copied asked.entry.html) files.old files.new }
     ensures fault { IfErr result (λ refusal. fault_status refusal.fault ≡ 3) }
 {
     let answer = Answer::new(alloc, source, found, warns)?;

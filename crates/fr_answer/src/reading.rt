@@ -150,6 +150,7 @@ impl Answer {
         found: Result<(Vec<u8>, What), Refusal>,
         warns: Warns,
     ) -> Result<Answer, AllocError>
+        ensures path { IfOk result (λ a. string_bytes a.application ≡ source.entry.application.now) }
         ensures found { IfOk result (λ a. what_status a.what ≤ 1 → HasFound found a.what) }
         ensures refused { IfErr found (λ _. IfOk result (λ a. 2 ≤ what_status a.what)) }
         ensures most { IfOk result (λ a. what_status a.what ≤ 3) }

@@ -14,7 +14,7 @@
 -- | notifications, invocations        | what kept the machine from answers, and how the program ended           |
 -- | Rule, rules                       | what can fail: its name, and words about it                             |
 -- | log, IsSarif                      | the whole report                                                        |
-use Rattle.std.specs.Prelude.{◌≡◌, ℕ, zero, ℤ, pos, ◌+◌, ◌-◌, ◌^◌, ◌==◌, min, nat_lt, nat_eq, Bool, true, false, ◌&&◌, if◌then◌else◌, List, [], ◌∷◌, ◌++◌, Option, Some, None, bytes_eq, codes, decimal, flat_map, is_some, map, string_bytes}
+use Rattle.std.specs.Prelude.{◌≡◌, ℕ, zero, ℤ, pos, ◌+◌, ◌-◌, ◌^◌, min, nat_lt, nat_eq, Bool, true, false, ◌&&◌, if◌then◌else◌, List, [], ◌∷◌, ◌++◌, Option, Some, None, bytes_eq, codes, decimal, flat_map, is_some, map, string_bytes}
 use Rattle.std.specs.Fmt.{signed_decimal}
 use Rattle.std.specs.List.{list_any, starts_with}
 use Rattle.json.specs.Token.{Token, begin_object, end_object, end_array, key}

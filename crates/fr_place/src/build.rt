@@ -1,5 +1,6 @@
 // What stands against what, where the parts are no application.
 use crate::declared::app_of_names;
+use crate::lines::Lines;
 use crate::scope::Scope;
 use crate::shown::{listed, push_start};
 use crate::table::{entries_at, entry_at, line_at, lines_of, number_at, push_table, text_at};
@@ -66,28 +67,24 @@ fn range_of(whole: &Table, key: Key, index: usize) -> Option<(i64, i64)> {
 }
 
 /// Appends each shared variable of the instruction, place by place.
-fn push_shared(
-    alloc: Global,
-    out: &mut String,
-    whole: &Table,
-    instr: Instr,
-) -> Result<(), AllocError> {
-    let mut names = Vec::new(alloc);
+fn push_shared(out: &mut Lines, whole: &Table, instr: Instr) -> Result<(), AllocError> {
+    let mut names = Vec::new(out.alloc);
     for x in variables_of(instr).into_iter().flatten() {
         if owner_of(whole, x).is_none() {
             names.push(name_at(whole, Key::Variable, x.0))?;
         }
     }
-    let names = listed(alloc, &names)?;
-    writeln!(
-        out,
-        "  shared here: {names}; a line has one shared variable at most, in one place"
-    )
+    let names = listed(out.alloc, &names)?;
+    write!(
+        out.open,
+        "shared here: {names}; a line has one shared variable at most, in one place"
+    )?;
+    out.end()
 }
 
 /// Appends each variable of the instruction that belongs to another actor.
 fn push_owners(
-    out: &mut String,
+    out: &mut Lines,
     whole: &Table,
     actor: &str,
     instr: Instr,
@@ -97,14 +94,15 @@ fn push_owners(
             && owner != actor
         {
             let name = name_at(whole, Key::Variable, x.0);
-            writeln!(out, "  {name} is owned by {owner}")?;
+            write!(out.open, "{name} is owned by {owner}")?;
+            out.end()?;
         }
     }
     Ok(())
 }
 
 /// Appends the object of the instruction with its kind.
-fn push_kind(out: &mut String, whole: &Table, instr: Instr) -> Result<(), AllocError> {
+fn push_kind(out: &mut Lines, whole: &Table, instr: Instr) -> Result<(), AllocError> {
     let Instr::Call(call) = instr else {
         return Ok(());
     };
@@ -115,10 +113,11 @@ fn push_kind(out: &mut String, whole: &Table, instr: Instr) -> Result<(), AllocE
         Some(object) => {
             let name = text_at(object, Key::Name).unwrap_or("");
             let kind = text_at(object, Key::Kind).unwrap_or("");
-            writeln!(
-                out,
-                "  {name} has the kind {kind}, which this call isn't for"
-            )
+            write!(
+                out.open,
+                "{name} has the kind {kind}, which this call isn't for"
+            )?;
+            out.end()
         }
         None => Ok(()),
     }
@@ -137,7 +136,7 @@ fn range_given(whole: &Table, instr: Instr) -> Option<(i64, i64)> {
 }
 
 /// Appends the range of the instruction's variable, and of what it is given.
-fn push_ranges(out: &mut String, whole: &Table, instr: Instr) -> Result<(), AllocError> {
+fn push_ranges(out: &mut Lines, whole: &Table, instr: Instr) -> Result<(), AllocError> {
     let [Some(x), _, _] = variables_of(instr) else {
         return Ok(());
     };
@@ -148,17 +147,19 @@ fn push_ranges(out: &mut String, whole: &Table, instr: Instr) -> Result<(), Allo
         return Ok(());
     };
     let name = name_at(whole, Key::Variable, x.0);
-    writeln!(
-        out,
-        "  {name} is declared from {lo} to {hi}, and is given {least} to {most}"
-    )
+    write!(
+        out.open,
+        "{name} is declared from {lo} to {hi}, and is given {least} to {most}"
+    )?;
+    out.end()
 }
 
 /// Appends how many lines the actor has.
-fn push_length(out: &mut String, actor: &Table, name: &str) -> Result<(), AllocError> {
+fn push_length(out: &mut Lines, actor: &Table, name: &str) -> Result<(), AllocError> {
     let lines = lines_of(actor).len();
     let last = lines.saturating_sub(1);
-    writeln!(out, "  lines of {name}: {lines}, from 0 to {last}")
+    write!(out.open, "lines of {name}: {lines}, from 0 to {last}")?;
+    out.end()
 }
 
 /// The instruction that the line is.
@@ -177,8 +178,7 @@ fn instr_of(alloc: Global, whole: &Table, line: &str) -> Result<Option<Instr>, A
 
 /// Appends what stands against what in this line of this actor.
 fn push_reason(
-    alloc: Global,
-    out: &mut String,
+    out: &mut Lines,
     whole: &Table,
     actor: &Table,
     instr: Instr,
@@ -186,26 +186,29 @@ fn push_reason(
 ) -> Result<(), AllocError> {
     let name = text_at(actor, Key::Name).unwrap_or("");
     match fault {
-        BuildFault::BadRange(_) => out.push_str("  the first number is above the second\n"),
+        BuildFault::BadRange(_) => out.say("the first number is above the second"),
         BuildFault::BadTarget(_) => push_length(out, actor, name),
-        BuildFault::TwoShared(_) => push_shared(alloc, out, whole, instr),
+        BuildFault::TwoShared(_) => push_shared(out, whole, instr),
         BuildFault::NotOwner(_) => push_owners(out, whole, name, instr),
         BuildFault::KindMismatch(_) => push_kind(out, whole, instr),
         BuildFault::FromIsrInTask(_) => {
-            writeln!(out, "  {name} is a task, and this call is for interrupts")
+            write!(
+                out.open,
+                "{name} is a task, and this call is for interrupts"
+            )?;
+            out.end()
         }
         BuildFault::ResultRange(_) => push_ranges(out, whole, instr),
-        BuildFault::Operands(_) => {
-            out.push_str("  its operands are one variable twice, or two variables of a product\n")
-        }
+        BuildFault::Operands(_) => out.say(
+            "its operands are one variable twice, or two variables of a product",
+        ),
         _ => Ok(()),
     }
 }
 
 /// Appends the line at which the parts have the fault, and what stands against what.
 fn push_at_line(
-    alloc: Global,
-    out: &mut String,
+    out: &mut Lines,
     whole: &Table,
     at: CodeLine,
     fault: BuildFault,
@@ -217,17 +220,17 @@ fn push_at_line(
         return Ok(());
     };
     let (name, pc) = (text_at(actor, Key::Name).unwrap_or(""), at.pc);
-    write!(out, "  {name} {pc}: ")?;
+    write!(out.open, "{name} {pc}: ")?;
     push_start(out, line.as_bytes())?;
-    out.push('\n')?;
-    match instr_of(alloc, whole, line)? {
-        Some(instr) => push_reason(alloc, out, whole, actor, instr, fault),
+    out.end()?;
+    match instr_of(out.alloc, whole, line)? {
+        Some(instr) => push_reason(out, whole, actor, instr, fault),
         None => Ok(()),
     }
 }
 
 /// Appends that an actor's code has no end.
-fn push_falling_off(out: &mut String, whole: &Table, actor: ActorId) -> Result<(), AllocError> {
+fn push_falling_off(out: &mut Lines, whole: &Table, actor: ActorId) -> Result<(), AllocError> {
     let Some(table) = entry_at(whole, Key::Actor, actor.0) else {
         return Ok(());
     };
@@ -235,16 +238,20 @@ fn push_falling_off(out: &mut String, whole: &Table, actor: ActorId) -> Result<(
     let last = lines_of(table).len().saturating_sub(1);
     match line_at(table, last) {
         Some(line) => {
-            write!(out, "  {name} {last}: ")?;
+            write!(out.open, "{name} {last}: ")?;
             push_start(out, line.as_bytes())?;
-            out.push_str("\n  the last line has to be a goto, a return or vTaskDelete(NULL)\n")
+            out.end()?;
+            out.say("the last line has to be a goto, a return or vTaskDelete(NULL)")
         }
-        None => writeln!(out, "  {name} has no line"),
+        None => {
+            write!(out.open, "{name} has no line")?;
+            out.end()
+        }
     }
 }
 
 /// Appends how many things there are of each sort.
-fn push_counts(out: &mut String, whole: &Table) -> Result<(), AllocError> {
+fn push_counts(out: &mut Lines, whole: &Table) -> Result<(), AllocError> {
     let variables = entries_at(whole, Key::Variable).len();
     let objects = entries_at(whole, Key::Object).len();
     let actors = entries_at(whole, Key::Actor);
@@ -253,14 +260,16 @@ fn push_counts(out: &mut String, whole: &Table) -> Result<(), AllocError> {
         None => 0,
     });
     let (actors, most) = (actors.len(), lines.max().unwrap_or(0));
-    writeln!(
-        out,
-        "  actors: {actors}, at most 32; variables: {variables}, at most 64"
+    write!(
+        out.open,
+        "actors: {actors}, at most 32; variables: {variables}, at most 64"
     )?;
-    writeln!(
-        out,
-        "  objects: {objects}, at most 64; lines of an actor: {most}, at most 512"
-    )
+    out.end()?;
+    write!(
+        out.open,
+        "objects: {objects}, at most 64; lines of an actor: {most}, at most 512"
+    )?;
+    out.end()
 }
 
 /// Whether a variable's initial value is in its range.
@@ -285,11 +294,11 @@ fn is_made_well(object: &Table) -> bool {
 }
 
 /// Appends the number at the key of a table, if there is one.
-fn push_number(out: &mut String, table: &Table, key: Key) -> Result<(), AllocError> {
+fn push_number(out: &mut Lines, table: &Table, key: Key) -> Result<(), AllocError> {
     match number_at(table, key) {
         Some(number) => {
             let key = key.text();
-            write!(out, ", {key} = {number}")
+            write!(out.open, ", {key} = {number}")
         }
         None => Ok(()),
     }
@@ -297,23 +306,22 @@ fn push_number(out: &mut String, table: &Table, key: Key) -> Result<(), AllocErr
 
 /// Appends the numbers of a table.
 fn push_numbers(
-    out: &mut String,
+    out: &mut Lines,
     whole: &Table,
     name: TableName,
     table: &Table,
 ) -> Result<(), AllocError> {
-    out.push_str("  ")?;
     push_table(out, whole, name)?;
     push_number(out, table, Key::Size)?;
     push_number(out, table, Key::First)?;
     push_number(out, table, Key::Lo)?;
     push_number(out, table, Key::Hi)?;
     push_number(out, table, Key::Init)?;
-    out.push('\n')
+    out.end()
 }
 
 /// Appends each variable whose initial value isn't in its range.
-fn push_bad_variables(out: &mut String, whole: &Table) -> Result<(), AllocError> {
+fn push_bad_variables(out: &mut Lines, whole: &Table) -> Result<(), AllocError> {
     for (index, value) in entries_at(whole, Key::Variable).iter().enumerate() {
         if let Some(table) = value.as_table()
             && !is_declared_well(table)
@@ -325,7 +333,7 @@ fn push_bad_variables(out: &mut String, whole: &Table) -> Result<(), AllocError>
 }
 
 /// Appends each object whose numbers are out of their limits.
-fn push_bad_objects(out: &mut String, whole: &Table) -> Result<(), AllocError> {
+fn push_bad_objects(out: &mut Lines, whole: &Table) -> Result<(), AllocError> {
     for (index, value) in entries_at(whole, Key::Object).iter().enumerate() {
         if let Some(table) = value.as_table()
             && !is_made_well(table)
@@ -337,19 +345,19 @@ fn push_bad_objects(out: &mut String, whole: &Table) -> Result<(), AllocError> {
 }
 
 /// Appends each declaration with a number out of its limits, and the limits.
-fn push_declarations(out: &mut String, whole: &Table) -> Result<(), AllocError> {
+fn push_declarations(out: &mut Lines, whole: &Table) -> Result<(), AllocError> {
     push_bad_variables(out, whole)?;
     push_bad_objects(out, whole)?;
-    writeln!(
-        out,
-        "  init is from lo to hi, first from 0 to size, and size from 1 to {MOST_SIZE}"
-    )
+    write!(
+        out.open,
+        "init is from lo to hi, first from 0 to size, and size from 1 to {MOST_SIZE}"
+    )?;
+    out.end()
 }
 
 /// Appends what stands against what, where the parts in this table are no application.
 pub(crate) fn push_build(
-    alloc: Global,
-    out: &mut String,
+    out: &mut Lines,
     whole: &Table,
     fault: BuildFault,
 ) -> Result<(), AllocError> {
@@ -366,6 +374,6 @@ pub(crate) fn push_build(
         | BuildFault::FromIsrInTask(at)
         | BuildFault::ResultRange(at)
         | BuildFault::Operands(at)
-        | BuildFault::Names(Some(at)) => push_at_line(alloc, out, whole, at, fault),
+        | BuildFault::Names(Some(at)) => push_at_line(out, whole, at, fault),
     }
 }

@@ -1,14 +1,13 @@
 // The place of a certificate's refusal.
-ghost use Rattle.std.specs.Prelude.{All, IfOk, string_bytes};
-ghost use Rattle.fr_place.specs.Told.{IsPlain};
-
 use crate::guard::push_guard;
+use crate::lines::Lines;
 use crate::nearness::push_nearest;
 use crate::note::push_note;
 use crate::path::{inner_key, key_of, keys_behind, last_key, push_path, value_at};
+use crate::place::Place;
 use crate::position::{position_in, push_marked, push_position};
 use crate::scope::{Scope, Thing};
-use crate::shown::{printed, push_quoted, push_start};
+use crate::shown::{push_quoted, push_start};
 use fr_cert::{CertFault, MOST_BYTES, Path, Step};
 use fr_instr::names_of;
 use fr_program::App;
@@ -16,40 +15,31 @@ use serde_json::Value;
 use std::alloc::{AllocError, Global};
 
 /// Appends where the text is no JSON.
-fn push_json(
-    alloc: Global,
-    out: &mut String,
-    bytes: &[u8],
-    error: &serde_json::Error,
-) -> Result<(), AllocError> {
+fn push_json(out: &mut Lines, bytes: &[u8], error: &serde_json::Error) -> Result<(), AllocError> {
     if error.is_memory() {
         return Err(AllocError);
     }
     let position = position_in(bytes, error.line(), error.column());
     push_position(out, position)?;
-    out.push_str(if error.is_eof() {
-        ": the text ends too soon\n"
+    out.say(if error.is_eof() {
+        ": the text ends too soon"
     } else {
-        ": no JSON\n"
+        ": no JSON"
     })?;
-    push_marked(alloc, out, position.before, position.behind)
+    push_marked(out, position.before, position.behind)
 }
 
 /// Appends a value: a text, a number or a word as it is written, else what it is.
-pub(crate) fn push_json_value(
-    alloc: Global,
-    out: &mut String,
-    value: &Value,
-) -> Result<(), AllocError> {
+pub(crate) fn push_json_value(out: &mut Lines, value: &Value) -> Result<(), AllocError> {
     match value {
         Value::String(text) => push_quoted(out, text.as_str()),
         Value::Array(list) => {
             let entries = list.len();
-            write!(out, "a list of {entries}")
+            write!(out.open, "a list of {entries}")
         }
-        Value::Object(_) => out.push_str("an object"),
+        Value::Object(_) => out.open.push_str("an object"),
         _ => {
-            let text = format!(in alloc; "{value}")?;
+            let text = format!(in out.alloc; "{value}")?;
             push_start(out, text.as_bytes())
         }
     }
@@ -74,7 +64,7 @@ fn wanted_at(key: &str) -> &'static str {
 }
 
 /// Appends what has to be where the steps lead.
-fn push_wanted(out: &mut String, steps: &[Step]) -> Result<(), AllocError> {
+fn push_wanted(out: &mut Lines, steps: &[Step]) -> Result<(), AllocError> {
     let wanted = match (steps.last(), inner_key(steps)) {
         (None, _) => "an object",
         (Some(Step::Key(key)), _) if is_among(keys_around(steps), key.as_str()) => {
@@ -87,9 +77,10 @@ fn push_wanted(out: &mut String, steps: &[Step]) -> Result<(), AllocError> {
         _ => "",
     };
     if wanted.is_empty() {
-        out.push('\n')
+        out.end()
     } else {
-        writeln!(out, "; wanted: {wanted}")
+        write!(out.open, "; wanted: {wanted}")?;
+        out.end()
     }
 }
 
@@ -138,23 +129,23 @@ fn is_beside_another(tree: &Value, steps: &[Step]) -> bool {
 /// Appends why the value isn't one that a certificate has there.
 fn push_shape(
     scope: &Scope,
-    out: &mut String,
+    out: &mut Lines,
     tree: &Value,
     steps: &[Step],
 ) -> Result<(), AllocError> {
     if let Some(key) = unknown_key(steps) {
-        out.push_str(": no such key here")?;
-        return push_nearest(scope.alloc, out, key, keys_around(steps));
+        out.open.push_str(": no such key here")?;
+        return push_nearest(out, key, keys_around(steps));
     }
     if is_beside_another(tree, steps) {
-        return out.push_str(": a guard has either sole, or mutex, or turn and values\n");
+        return out.say(": a guard has either sole, or mutex, or turn and values");
     }
     match value_at(tree, steps) {
         Some(value) => {
-            out.push_str(": ")?;
-            push_json_value(scope.alloc, out, value)?;
+            out.open.push_str(": ")?;
+            push_json_value(out, value)?;
         }
-        None => out.push_str(": missing")?,
+        None => out.open.push_str(": missing")?,
     }
     push_wanted(out, steps)
 }
@@ -172,49 +163,54 @@ fn thing_behind(key: &str) -> Option<Thing> {
 /// Appends that nothing of the sort has the name.
 fn push_unknown(
     scope: &Scope,
-    out: &mut String,
+    out: &mut Lines,
     steps: &[Step],
     name: &str,
 ) -> Result<(), AllocError> {
-    out.push_str(": ")?;
+    out.open.push_str(": ")?;
     push_quoted(out, name)?;
     let Some(thing) = thing_behind(last_key(steps).unwrap_or("")) else {
-        return out.push('\n');
+        return out.end();
     };
     let kind = thing.text();
-    write!(out, " is the name of no {kind}")?;
-    push_nearest(scope.alloc, out, name, &scope.names_of(thing)?)
+    write!(out.open, " is the name of no {kind}")?;
+    push_nearest(out, name, &scope.names_of(thing)?)
 }
 
 /// Appends the version that the text has.
-fn push_version(alloc: Global, out: &mut String, tree: &Value) -> Result<(), AllocError> {
+fn push_version(out: &mut Lines, tree: &Value) -> Result<(), AllocError> {
     match tree.get("version") {
         Some(value) => {
-            out.push_str("  version: ")?;
-            push_json_value(alloc, out, value)?;
-            out.push_str("; wanted: 1 or 2\n")
+            out.open.push_str("version: ")?;
+            push_json_value(out, value)?;
+            out.say("; wanted: 1 or 2")
         }
         None => Ok(()),
     }
 }
 
 /// Appends how many notes and how many points there are.
-fn push_point_count(out: &mut String, app: &App, tree: &Value) -> Result<(), AllocError> {
+fn push_point_count(out: &mut Lines, app: &App, tree: &Value) -> Result<(), AllocError> {
     let Some(Value::Array(notes)) = tree.get("notes") else {
         return Ok(());
     };
     let (notes, points) = (notes.len(), app.points());
-    writeln!(out, "  notes: {notes}; points of the application: {points}")
+    write!(
+        out.open,
+        "notes: {notes}; points of the application: {points}"
+    )?;
+    out.end()
 }
 
 /// Appends how many alternatives there are.
-fn push_alternatives(out: &mut String, tree: &Value, steps: &[Step]) -> Result<(), AllocError> {
+fn push_alternatives(out: &mut Lines, tree: &Value, steps: &[Step]) -> Result<(), AllocError> {
     match value_at(tree, steps) {
         Some(Value::Array(list)) => {
             let entries = list.len();
-            writeln!(out, ": {entries} alternatives; 1 to 4 are allowed")
+            write!(out.open, ": {entries} alternatives; 1 to 4 are allowed")?;
+            out.end()
         }
-        _ => out.push('\n'),
+        _ => out.end(),
     }
 }
 
@@ -234,14 +230,13 @@ fn path_of(fault: &CertFault) -> Option<&Path> {
 /// Appends what is wrong at the place to which the steps lead.
 fn push_at_path(
     scope: &Scope,
-    out: &mut String,
+    out: &mut Lines,
     tree: &Value,
     steps: &[Step],
     fault: &CertFault,
 ) -> Result<(), AllocError> {
-    out.push_str("  ")?;
     if steps.is_empty() {
-        out.push_str("the whole text")?;
+        out.open.push_str("the whole text")?;
     }
     push_path(out, scope.app, steps)?;
     match fault {
@@ -249,41 +244,38 @@ fn push_at_path(
         CertFault::UnknownName(_, name) => push_unknown(scope, out, steps, name.as_str()),
         CertFault::Note(_) => push_note(scope, out, tree, steps),
         CertFault::Guard(_) => push_guard(scope, out, tree, steps),
-        CertFault::EndTwice(_) => out.push_str(": this end is listed before\n"),
+        CertFault::EndTwice(_) => out.say(": this end is listed before"),
         CertFault::Alternatives(_) => push_alternatives(out, tree, steps),
-        _ => out.push('\n'),
+        _ => out.end(),
     }
 }
 
 /// Appends the place of a fault that is present in this value.
 fn push_fault(
-    alloc: Global,
-    out: &mut String,
+    out: &mut Lines,
     app: &App,
     tree: &Value,
     fault: &CertFault,
 ) -> Result<(), AllocError> {
     match path_of(fault) {
         Some(path) => {
-            let names = names_of(alloc, app)?;
+            let names = names_of(out.alloc, app)?;
             let scope = Scope {
-                alloc,
+                alloc: out.alloc,
                 app,
                 names: &names,
             };
             push_at_path(&scope, out, tree, path.steps(), fault)
         }
-        None if matches!(fault, CertFault::Version) => push_version(alloc, out, tree),
+        None if matches!(fault, CertFault::Version) => push_version(out, tree),
         None if matches!(fault, CertFault::PointCount) => push_point_count(out, app, tree),
         None => Ok(()),
     }
 }
 
-/// Where the certificate's bytes are refused for this fault, in a few lines of plain words. The text is empty where there
-/// is nothing to tell, and ends with a newline where it isn't. It has printable ASCII and newlines alone.
+/// Where the certificate's bytes are refused for this fault, in a few lines of plain words; none where there is nothing to say.
 ///
-/// The fault is one that `read_cert` gave for these bytes and this application. For another one the text tells less, or
-/// nothing.
+/// The fault is one that `read_cert` gave for these bytes and this application. For another one the lines say less, or nothing.
 ///
 /// Its error is that an allocation was refused.
 pub fn place_of_certificate(
@@ -291,17 +283,16 @@ pub fn place_of_certificate(
     app: &App,
     bytes: &[u8],
     fault: &CertFault,
-) -> Result<String, AllocError>
-    ensures { IfOk result (λ text. All IsPlain (string_bytes text)) }
-{
-    let mut out = String::new(alloc);
+) -> Result<Place, AllocError> {
+    let mut out = Lines::new(alloc);
     if matches!(fault, CertFault::TooLong) {
-        writeln!(out, "  the file has over {MOST_BYTES} bytes")?;
+        write!(out.open, "the file has over {MOST_BYTES} bytes")?;
+        out.end()?;
     } else {
         match Value::from_slice(alloc, bytes) {
-            Ok(tree) => push_fault(alloc, &mut out, app, &tree, fault)?,
-            Err(error) => push_json(alloc, &mut out, bytes, &error)?,
+            Ok(tree) => push_fault(&mut out, app, &tree, fault)?,
+            Err(error) => push_json(&mut out, bytes, &error)?,
         }
     }
-    printed(alloc, out.as_str())
+    out.place()
 }

@@ -1,4 +1,5 @@
 // What is wrong with a table of an application's text.
+use crate::lines::Lines;
 use crate::nearness::push_nearest;
 use crate::shown::{listed, push_quoted};
 use crate::table::{
@@ -63,8 +64,7 @@ fn wanted_at(name: TableName, key: Key) -> &'static str {
 /// Appends the nearest of the words of which one has to be at the key of a table, if there are such words, and ends
 /// the line.
 fn push_nearest_word(
-    alloc: Global,
-    out: &mut String,
+    out: &mut Lines,
     whole: &Table,
     name: TableName,
     key: Key,
@@ -72,26 +72,26 @@ fn push_nearest_word(
 ) -> Result<(), AllocError> {
     match (key, name) {
         (Key::Owner, _) => {
-            let actors = names_at(alloc, whole, Key::Actor)?;
-            push_nearest(alloc, out, word, &actors)
+            let actors = names_at(out.alloc, whole, Key::Actor)?;
+            push_nearest(out, word, &actors)
         }
-        (Key::Kind, TableName::Actor(_)) => push_nearest(alloc, out, word, &ACTOR_KINDS),
-        (Key::Kind, _) => push_nearest(alloc, out, word, &OBJECT_KINDS),
-        _ => out.push('\n'),
+        (Key::Kind, TableName::Actor(_)) => push_nearest(out, word, &ACTOR_KINDS),
+        (Key::Kind, _) => push_nearest(out, word, &OBJECT_KINDS),
+        _ => out.end(),
     }
 }
 
 /// Appends that the table lacks the key.
 pub(crate) fn push_missing(
-    out: &mut String,
+    out: &mut Lines,
     whole: &Table,
     name: TableName,
     key: Key,
 ) -> Result<(), AllocError> {
-    out.push_str("  ")?;
     push_table(out, whole, name)?;
     let (key, wanted) = (key.text(), wanted_at(name, key));
-    writeln!(out, ": {key} is missing; it is {wanted}")
+    write!(out.open, ": {key} is missing; it is {wanted}")?;
+    out.end()
 }
 
 /// The value in an actor's code that is no text.
@@ -102,16 +102,16 @@ fn line_that_is_none(code: &[Value]) -> Option<(usize, &Value)> {
 }
 
 /// Appends the value at the key of the table, or the entry of code that is no text.
-fn push_found(alloc: Global, out: &mut String, table: &Table, key: Key) -> Result<(), AllocError> {
+fn push_found(out: &mut Lines, table: &Table, key: Key) -> Result<(), AllocError> {
     let text = key.text();
     match (line_that_is_none(lines_of(table)), table.get(text)) {
         (Some((index, value)), _) if matches!(key, Key::Code) => {
-            write!(out, ": entry {index} of {text} is ")?;
-            push_value(alloc, out, value)
+            write!(out.open, ": entry {index} of {text} is ")?;
+            push_value(out, value)
         }
         (_, Some(value)) => {
-            write!(out, ": {text} = ")?;
-            push_value(alloc, out, value)
+            write!(out.open, ": {text} = ")?;
+            push_value(out, value)
         }
         _ => Ok(()),
     }
@@ -119,60 +119,58 @@ fn push_found(alloc: Global, out: &mut String, table: &Table, key: Key) -> Resul
 
 /// Appends that the table has a wrong value at the key, and what it has to be.
 pub(crate) fn push_wrong_type(
-    alloc: Global,
-    out: &mut String,
+    out: &mut Lines,
     whole: &Table,
     name: TableName,
     key: Key,
 ) -> Result<(), AllocError> {
-    out.push_str("  ")?;
     push_table(out, whole, name)?;
     let wanted = wanted_at(name, key);
     let Some(table) = table_named(whole, name) else {
-        return writeln!(out, ": it has to be {wanted}");
+        write!(out.open, ": it has to be {wanted}")?;
+        return out.end();
     };
-    push_found(alloc, out, table, key)?;
-    write!(out, "; it has to be {wanted}")?;
+    push_found(out, table, key)?;
+    write!(out.open, "; it has to be {wanted}")?;
     let word = text_at(table, key).unwrap_or("");
-    push_nearest_word(alloc, out, whole, name, key, word)
+    push_nearest_word(out, whole, name, key, word)
 }
 
 /// Appends that the table has a key that is none there.
 pub(crate) fn push_unknown_key(
-    alloc: Global,
-    out: &mut String,
+    out: &mut Lines,
     whole: &Table,
     name: TableName,
     key: &str,
 ) -> Result<(), AllocError> {
-    out.push_str("  ")?;
     push_table(out, whole, name)?;
-    out.push_str(": ")?;
+    out.open.push_str(": ")?;
     push_quoted(out, key)?;
-    out.push_str(" is none of its keys")?;
+    out.open.push_str(" is none of its keys")?;
     let keys = keys_of(whole, name);
-    push_nearest(alloc, out, key, keys)?;
-    let listed = listed(alloc, keys)?;
-    writeln!(out, "  its keys: {listed}")
+    push_nearest(out, key, keys)?;
+    let listed = listed(out.alloc, keys)?;
+    write!(out.open, "its keys: {listed}")?;
+    out.end()
 }
 
 /// Appends each table of a list that has the name.
-fn push_holders(out: &mut String, whole: &Table, key: Key, name: &str) -> Result<(), AllocError> {
+fn push_holders(out: &mut Lines, whole: &Table, key: Key, name: &str) -> Result<(), AllocError> {
     let list = key.text();
     for (index, value) in entries_at(whole, key).iter().enumerate() {
         if let Some(table) = value.as_table()
             && text_at(table, Key::Name) == Some(name)
         {
-            write!(out, "  {list} {index} has the name ")?;
+            write!(out.open, "{list} {index} has the name ")?;
             push_quoted(out, name)?;
-            out.push('\n')?;
+            out.end()?;
         }
     }
     Ok(())
 }
 
 /// Appends each table that has the name.
-pub(crate) fn push_named(out: &mut String, whole: &Table, name: &str) -> Result<(), AllocError> {
+pub(crate) fn push_named(out: &mut Lines, whole: &Table, name: &str) -> Result<(), AllocError> {
     push_holders(out, whole, Key::Variable, name)?;
     push_holders(out, whole, Key::Object, name)?;
     push_holders(out, whole, Key::Actor, name)

@@ -1,5 +1,6 @@
 // Why a guard doesn't fit an application.
 use crate::certificate::push_json_value;
+use crate::lines::Lines;
 use crate::note::{kind_named, kind_text};
 use crate::path::{inner_key, value_at};
 use crate::scope::Scope;
@@ -9,11 +10,12 @@ use serde_json::Value;
 use std::alloc::AllocError;
 
 /// Appends the kind of the object with this name.
-fn push_kind(scope: &Scope, out: &mut String, name: &str, wanted: &str) -> Result<(), AllocError> {
+fn push_kind(scope: &Scope, out: &mut Lines, name: &str, wanted: &str) -> Result<(), AllocError> {
     match kind_named(scope, name) {
         Some(kind) => {
             let kind = kind_text(kind);
-            writeln!(out, "  {name} has the kind {kind}; wanted: {wanted}")
+            write!(out.open, "{name} has the kind {kind}; wanted: {wanted}")?;
+            out.end()
         }
         None => Ok(()),
     }
@@ -41,7 +43,7 @@ fn text_at<'a>(value: &'a Value, key: &str) -> &'a str {
 }
 
 /// Appends why the guard of an end doesn't fit.
-fn push_reason(scope: &Scope, out: &mut String, end: &Value) -> Result<(), AllocError> {
+fn push_reason(scope: &Scope, out: &mut Lines, end: &Value) -> Result<(), AllocError> {
     let buffer = text_at(end, "buffer");
     if !is_buffer(scope, buffer) {
         return push_kind(scope, out, buffer, "stream or message");
@@ -54,7 +56,7 @@ fn push_reason(scope: &Scope, out: &mut String, end: &Value) -> Result<(), Alloc
         return push_kind(scope, out, mutex, "mutex or recursive");
     }
     if guard.get("values").is_some() {
-        return out.push_str("  two actors have one value\n");
+        return out.say("two actors have one value");
     }
     Ok(())
 }
@@ -62,18 +64,18 @@ fn push_reason(scope: &Scope, out: &mut String, end: &Value) -> Result<(), Alloc
 /// Appends why the guard to which the steps lead, or the value in it, isn't one of this application.
 pub(crate) fn push_guard(
     scope: &Scope,
-    out: &mut String,
+    out: &mut Lines,
     tree: &Value,
     steps: &[Step],
 ) -> Result<(), AllocError> {
     let Some(value) = value_at(tree, steps) else {
-        return out.push('\n');
+        return out.end();
     };
     if inner_key(steps).is_some() {
-        out.push_str(": ")?;
-        push_json_value(scope.alloc, out, value)?;
-        return out.push_str("; wanted: a number of 64 bits with a sign\n");
+        out.open.push_str(": ")?;
+        push_json_value(out, value)?;
+        return out.say("; wanted: a number of 64 bits with a sign");
     }
-    out.push_str(": the guard doesn't fit the application\n")?;
+    out.say(": the guard doesn't fit the application")?;
     push_reason(scope, out, value)
 }

@@ -1,5 +1,6 @@
 // A line of code that can't be read: where it goes wrong, and what is wrong there.
 use crate::calls::{arguments_of, call_names};
+use crate::lines::Lines;
 use crate::nearness::push_nearest;
 use crate::piece::{Piece, pieces_of};
 use crate::position::push_marked;
@@ -178,7 +179,7 @@ fn piece_at_fault(
 /// Appends what is wrong with a name: what else it names, or which name is nearest.
 fn push_unknown_name(
     scope: &Scope,
-    out: &mut String,
+    out: &mut Lines,
     word: &str,
     wanted: Thing,
 ) -> Result<(), AllocError> {
@@ -186,11 +187,12 @@ fn push_unknown_name(
     match scope.thing_named(word) {
         Some(thing) => {
             let other = thing.one();
-            writeln!(out, "  {word} is {other}, and {one} is wanted here")
+            write!(out.open, "{word} is {other}, and {one} is wanted here")?;
+            out.end()
         }
         None => {
-            write!(out, "  no {kind} has the name {word}")?;
-            push_nearest(scope.alloc, out, word, &scope.names_of(wanted)?)
+            write!(out.open, "no {kind} has the name {word}")?;
+            push_nearest(out, word, &scope.names_of(wanted)?)
         }
     }
 }
@@ -208,12 +210,18 @@ fn arguments_given(pieces: &[Piece<'_>], index: usize) -> usize {
 /// Appends how many arguments a call has, and how many it is given.
 fn push_arguments(
     scope: &Scope,
-    out: &mut String,
+    out: &mut Lines,
     word: &str,
     given: usize,
 ) -> Result<(), AllocError> {
     match arguments_of(scope, word)? {
-        Some(wanted) => writeln!(out, "  arguments of {word}: {wanted} wanted, {given} given"),
+        Some(wanted) => {
+            write!(
+                out.open,
+                "arguments of {word}: {wanted} wanted, {given} given"
+            )?;
+            out.end()
+        }
         None => Ok(()),
     }
 }
@@ -221,31 +229,31 @@ fn push_arguments(
 /// Appends what is wrong with the piece at fault.
 fn push_reason(
     scope: &Scope,
-    out: &mut String,
+    out: &mut Lines,
     pieces: &[Piece<'_>],
     index: usize,
     fault: LineFault,
 ) -> Result<(), AllocError> {
     let Some(piece) = pieces.get(index) else {
-        return out.push_str("  the line ends too soon\n");
+        return out.say("the line ends too soon");
     };
     let word = piece.word();
     match fault {
         LineFault::Memory => Ok(()),
-        LineFault::Syntax => out.push_str("  this doesn't fit here\n"),
+        LineFault::Syntax => out.say("this doesn't fit here"),
         LineFault::UnknownName => match thing_wanted(pieces, index, *piece) {
             Some(wanted) => push_unknown_name(scope, out, word, wanted),
             None => Ok(()),
         },
         LineFault::UnknownCall => {
-            write!(out, "  no call has the name {word}")?;
-            push_nearest(scope.alloc, out, word, &call_names(scope)?)
+            write!(out.open, "no call has the name {word}")?;
+            push_nearest(out, word, &call_names(scope)?)
         }
         LineFault::ArgCount => push_arguments(scope, out, word, arguments_given(pieces, index)),
-        LineFault::BadNumber if has_leading_zero(piece.text) => {
-            out.push_str("  a number has no leading zero, and 0 no sign\n")
-        }
-        LineFault::BadNumber => out.push_str("  this number is out of the limits of its place\n"),
+        LineFault::BadNumber if has_leading_zero(piece.text) => out.say(
+            "a number has no leading zero, and 0 no sign",
+        ),
+        LineFault::BadNumber => out.say("this number is out of the limits of its place"),
     }
 }
 
@@ -261,7 +269,7 @@ fn has_leading_zero(number: &[u8]) -> bool {
 /// Appends the line with a mark under what is at fault, and what is wrong there.
 pub(crate) fn push_line(
     scope: &Scope,
-    out: &mut String,
+    out: &mut Lines,
     line: &[u8],
     fault: LineFault,
 ) -> Result<(), AllocError> {
@@ -277,13 +285,12 @@ pub(crate) fn push_line(
         None => line.len(),
     };
     let (before, behind) = line.split_at(at.min(line.len()));
-    push_marked(scope.alloc, out, before, behind)?;
+    push_marked(out, before, behind)?;
     push_reason(scope, out, &pieces, index, fault)
 }
 
 /// Appends the start of the line.
-pub(crate) fn push_plain(out: &mut String, line: &[u8]) -> Result<(), AllocError> {
-    out.push_str("  ")?;
+pub(crate) fn push_plain(out: &mut Lines, line: &[u8]) -> Result<(), AllocError> {
     push_start(out, line)?;
-    out.push('\n')
+    out.end()
 }

@@ -2,6 +2,7 @@
 ghost use Rattle.std.specs.Prelude.{◌≤◌, ◌<◌, All, IfNone, IfOk, IfSome, length};
 ghost use Rattle.fr_place.specs.Told.{IsNearest, edits, too_many};
 
+use crate::lines::Lines;
 use std::alloc::{AllocError, Global};
 use strsim::levenshtein;
 
@@ -41,15 +42,10 @@ pub fn nearest<'a>(
 }
 
 /// Appends that the name is nearest, if there is one, and ends the line.
-pub(crate) fn push_nearest(
-    alloc: Global,
-    out: &mut String,
-    word: &str,
-    names: &[&str],
-) -> Result<(), AllocError> {
-    if let Some(name) = nearest(alloc, word, names)? {
-        out.push_str("; the nearest is ")?;
-        out.push_str(name)?;
+pub(crate) fn push_nearest(out: &mut Lines, word: &str, names: &[&str]) -> Result<(), AllocError> {
+    if let Some(name) = nearest(out.alloc, word, names)? {
+        out.open.push_str("; the nearest is ")?;
+        out.open.push_str(name)?;
     }
-    out.push('\n')
+    out.end()
 }

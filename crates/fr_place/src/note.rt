@@ -1,5 +1,6 @@
 // Why a note can't be true of an application.
 use crate::certificate::push_json_value;
+use crate::lines::Lines;
 use crate::path::{inner_key, value_at};
 use crate::scope::Scope;
 use fr_cert::Step;
@@ -13,12 +14,7 @@ fn end_at(list: &Value, index: usize) -> Option<i128> {
 }
 
 /// Appends the declared range of a variable, where this one isn't inside it.
-fn push_range(
-    scope: &Scope,
-    out: &mut String,
-    name: &str,
-    range: &Value,
-) -> Result<(), AllocError> {
+fn push_range(scope: &Scope, out: &mut Lines, name: &str, range: &Value) -> Result<(), AllocError> {
     let (Some(lo), Some(hi)) = (end_at(range, 0), end_at(range, 1)) else {
         return Ok(());
     };
@@ -33,14 +29,15 @@ fn push_range(
     if i128::from(least) <= lo && hi <= i128::from(most) {
         return Ok(());
     }
-    writeln!(
-        out,
-        "  range of {name}: {lo} to {hi}; declared: {least} to {most}"
-    )
+    write!(
+        out.open,
+        "range of {name}: {lo} to {hi}; declared: {least} to {most}"
+    )?;
+    out.end()
 }
 
 /// Appends each range that isn't inside the declared one.
-fn push_ranges(scope: &Scope, out: &mut String, note: &Value) -> Result<(), AllocError> {
+fn push_ranges(scope: &Scope, out: &mut Lines, note: &Value) -> Result<(), AllocError> {
     let Some(Value::Object(ranges)) = note.get("range") else {
         return Ok(());
     };
@@ -71,29 +68,33 @@ pub(crate) fn kind_text(kind: Kind) -> &'static str {
 }
 
 /// Appends why an object can't be held so often.
-fn push_count(
-    scope: &Scope,
-    out: &mut String,
-    name: &str,
-    count: &Value,
-) -> Result<(), AllocError> {
+fn push_count(scope: &Scope, out: &mut Lines, name: &str, count: &Value) -> Result<(), AllocError> {
     let Some(kind) = kind_named(scope, name) else {
         return Ok(());
     };
     let (text, count) = (kind_text(kind), count.as_u64().unwrap_or(0));
     match (kind, count) {
-        (Kind::Mutex | Kind::Recursive, 0) => writeln!(out, "  held {name}: 0; leave it out"),
+        (Kind::Mutex | Kind::Recursive, 0) => {
+            write!(out.open, "held {name}: 0; leave it out")?;
+            out.end()
+        }
         (Kind::Mutex, 1) | (Kind::Recursive, _) => Ok(()),
-        (Kind::Mutex, _) => writeln!(out, "  held {name}: {count}; a plain mutex is held once"),
-        _ => writeln!(
-            out,
-            "  held {name}: it has the kind {text}, which isn't held"
-        ),
+        (Kind::Mutex, _) => {
+            write!(out.open, "held {name}: {count}; a plain mutex is held once")?;
+            out.end()
+        }
+        _ => {
+            write!(
+                out.open,
+                "held {name}: it has the kind {text}, which isn't held"
+            )?;
+            out.end()
+        }
     }
 }
 
 /// Appends each object that can't be held so often.
-fn push_counts(scope: &Scope, out: &mut String, note: &Value) -> Result<(), AllocError> {
+fn push_counts(scope: &Scope, out: &mut Lines, note: &Value) -> Result<(), AllocError> {
     let Some(Value::Object(held)) = note.get("held") else {
         return Ok(());
     };
@@ -120,15 +121,15 @@ fn is_held(note: &Value, name: &Value) -> bool {
 }
 
 /// Appends each object that is dead and live, or dead and held.
-fn push_dead(scope: &Scope, out: &mut String, note: &Value) -> Result<(), AllocError> {
+fn push_dead(scope: &Scope, out: &mut Lines, note: &Value) -> Result<(), AllocError> {
     let Some(Value::Array(dead)) = note.get("dead") else {
         return Ok(());
     };
     for name in dead {
         if is_listed(note, "live", name) || is_held(note, name) {
-            out.push_str("  dead, and live or held: ")?;
-            push_json_value(scope.alloc, out, name)?;
-            out.push('\n')?;
+            out.open.push_str("dead, and live or held: ")?;
+            push_json_value(out, name)?;
+            out.end()?;
         }
     }
     Ok(())
@@ -148,20 +149,21 @@ fn reason_behind(key: &str) -> &'static str {
 /// Appends why the note to which the steps lead, or the value in it, can't be of this application.
 pub(crate) fn push_note(
     scope: &Scope,
-    out: &mut String,
+    out: &mut Lines,
     tree: &Value,
     steps: &[Step],
 ) -> Result<(), AllocError> {
-    out.push_str(": ")?;
+    out.open.push_str(": ")?;
     let Some(value) = value_at(tree, steps) else {
-        return out.push('\n');
+        return out.end();
     };
     if let Some(key) = inner_key(steps) {
-        push_json_value(scope.alloc, out, value)?;
+        push_json_value(out, value)?;
         let reason = reason_behind(key);
-        return writeln!(out, "{reason}");
+        write!(out.open, "{reason}")?;
+        return out.end();
     }
-    out.push_str("can't be true of this application\n")?;
+    out.say("can't be true of this application")?;
     push_ranges(scope, out, value)?;
     push_counts(scope, out, value)?;
     push_dead(scope, out, value)

@@ -1,4 +1,5 @@
 // Paths in a certificate's text, with the names of points.
+use crate::lines::Lines;
 use crate::shown::push_start;
 use fr_cert::Step;
 use fr_program::{App, Side};
@@ -6,7 +7,7 @@ use serde_json::Value;
 use std::alloc::AllocError;
 
 /// Appends the actor, the line and the side of the point with this number, if there is one.
-pub(crate) fn push_point(out: &mut String, app: &App, number: usize) -> Result<(), AllocError> {
+pub(crate) fn push_point(out: &mut Lines, app: &App, number: usize) -> Result<(), AllocError> {
     if number >= app.points() {
         return Ok(());
     }
@@ -16,8 +17,8 @@ pub(crate) fn push_point(out: &mut String, app: &App, number: usize) -> Result<(
     };
     let (name, pc) = (actor.name.as_str(), point.pc);
     match point.side {
-        Side::Before => write!(out, " ({name} {pc} before)"),
-        Side::Inside => write!(out, " ({name} {pc} inside)"),
+        Side::Before => write!(out.open, " ({name} {pc} before)"),
+        Side::Inside => write!(out.open, " ({name} {pc} inside)"),
     }
 }
 
@@ -38,15 +39,15 @@ fn is_in_notes(steps: &[Step]) -> bool {
 }
 
 /// Appends the steps with a `/` between two, and behind the number of a note its point.
-pub(crate) fn push_path(out: &mut String, app: &App, steps: &[Step]) -> Result<(), AllocError> {
+pub(crate) fn push_path(out: &mut Lines, app: &App, steps: &[Step]) -> Result<(), AllocError> {
     for (index, step) in steps.iter().enumerate() {
         if index > 0 {
-            out.push('/')?;
+            out.open.push('/')?;
         }
         match step {
             Step::Key(key) => push_start(out, key.as_bytes())?,
             Step::At(number) => {
-                write!(out, "{number}")?;
+                write!(out.open, "{number}")?;
                 if index == 1 && is_in_notes(steps) {
                     push_point(out, app, *number)?;
                 }

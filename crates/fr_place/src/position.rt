@@ -1,4 +1,5 @@
 // Places in a text by line and column, and a line with a mark below it.
+use crate::lines::Lines;
 use crate::shown::{push_blanks, push_shown};
 use std::alloc::{AllocError, Global};
 
@@ -65,25 +66,19 @@ pub(crate) fn position_in(text: &[u8], line: usize, column: usize) -> Position<'
 }
 
 /// Appends the line and the column of a place.
-pub(crate) fn push_position(out: &mut String, position: Position<'_>) -> Result<(), AllocError> {
+pub(crate) fn push_position(out: &mut Lines, position: Position<'_>) -> Result<(), AllocError> {
     let (line, column) = (position.line, position.before.len().saturating_add(1));
-    write!(out, "  line {line}, column {column}")
+    write!(out.open, "line {line}, column {column}")
 }
 
 /// Appends the line of a place and, below it, a mark under the place.
-pub(crate) fn push_marked(
-    alloc: Global,
-    out: &mut String,
-    before: &[u8],
-    behind: &[u8],
-) -> Result<(), AllocError> {
+pub(crate) fn push_marked(out: &mut Lines, before: &[u8], behind: &[u8]) -> Result<(), AllocError> {
     let (_, before) = before.split_at(before.len().saturating_sub(MOST_BEFORE));
     let (behind, _) = behind.split_at(behind.len().min(MOST_BEHIND));
-    let mut shown = String::new(alloc);
-    push_shown(&mut shown, before)?;
-    let blanks = shown.len();
-    push_shown(&mut shown, behind)?;
-    writeln!(out, "  {shown}")?;
+    push_shown(out, before)?;
+    let blanks = out.open.len();
+    push_shown(out, behind)?;
+    out.end()?;
     push_blanks(out, blanks)?;
-    out.push_str("  ^\n")
+    out.say("^")
 }

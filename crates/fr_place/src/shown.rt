@@ -1,7 +1,5 @@
 // Text of a file as a terminal may have it.
-ghost use Rattle.std.specs.Prelude.{All, IfOk, string_bytes};
-ghost use Rattle.fr_place.specs.Told.{IsPlain};
-
+use crate::lines::Lines;
 use std::alloc::{AllocError, Global};
 
 /// How many bytes of a text are shown.
@@ -13,16 +11,16 @@ fn is_printable(byte: u8) -> bool {
 }
 
 /// Appends the byte, by `\x` and its two digits where it isn't printable.
-fn push_byte(out: &mut String, byte: u8) -> Result<(), AllocError> {
+fn push_byte(out: &mut Lines, byte: u8) -> Result<(), AllocError> {
     if is_printable(byte) {
-        out.push(char::from(byte))
+        out.open.push(char::from(byte))
     } else {
-        write!(out, "\\x{byte:02x}")
+        write!(out.open, "\\x{byte:02x}")
     }
 }
 
 /// Appends the bytes, each that isn't printable ASCII by its number.
-pub(crate) fn push_shown(out: &mut String, bytes: &[u8]) -> Result<(), AllocError> {
+pub(crate) fn push_shown(out: &mut Lines, bytes: &[u8]) -> Result<(), AllocError> {
     for byte in bytes {
         push_byte(out, *byte)?;
     }
@@ -30,27 +28,27 @@ pub(crate) fn push_shown(out: &mut String, bytes: &[u8]) -> Result<(), AllocErro
 }
 
 /// Appends the first bytes of a text, and two dots where there are more.
-pub(crate) fn push_start(out: &mut String, bytes: &[u8]) -> Result<(), AllocError> {
+pub(crate) fn push_start(out: &mut Lines, bytes: &[u8]) -> Result<(), AllocError> {
     match bytes.get(..MOST_SHOWN) {
         Some(first) => {
             push_shown(out, first)?;
-            out.push_str(" ..")
+            out.open.push_str(" ..")
         }
         None => push_shown(out, bytes),
     }
 }
 
 /// Appends the text in quotes.
-pub(crate) fn push_quoted(out: &mut String, text: &str) -> Result<(), AllocError> {
-    out.push('"')?;
+pub(crate) fn push_quoted(out: &mut Lines, text: &str) -> Result<(), AllocError> {
+    out.open.push('"')?;
     push_start(out, text.as_bytes())?;
-    out.push('"')
+    out.open.push('"')
 }
 
 /// Appends so many blanks.
-pub(crate) fn push_blanks(out: &mut String, count: usize) -> Result<(), AllocError> {
+pub(crate) fn push_blanks(out: &mut Lines, count: usize) -> Result<(), AllocError> {
     for _ in 0..count {
-        out.push(' ')?;
+        out.open.push(' ')?;
     }
     Ok(())
 }
@@ -63,28 +61,6 @@ pub(crate) fn listed(alloc: Global, texts: &[&str]) -> Result<String, AllocError
             out.push_str(", ")?;
         }
         out.push_str(text)?;
-    }
-    Ok(out)
-}
-
-/// The byte, or a question mark in place of one that is neither printable ASCII nor a newline.
-fn plain_byte(byte: u8) -> u8
-    ensures { IsPlain result }
-{
-    if byte == b'\n' || (b' ' <= byte && byte <= b'~') {
-        byte
-    } else {
-        b'?'
-    }
-}
-
-/// The text, with a question mark in place of each byte that is neither printable ASCII nor a newline.
-pub(crate) fn printed(alloc: Global, text: &str) -> Result<String, AllocError>
-    ensures { IfOk result (λ s. All IsPlain (string_bytes s)) }
-{
-    let mut out = String::new(alloc);
-    for byte in text.as_bytes() {
-        out.push(char::from(plain_byte(*byte)))?;
     }
     Ok(out)
 }

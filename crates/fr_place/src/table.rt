@@ -1,4 +1,5 @@
 // The tables of an application's text.
+use crate::lines::Lines;
 use crate::shown::{push_quoted, push_start};
 use fr_reader::{Key, TableName};
 use std::alloc::{AllocError, Global};
@@ -57,32 +58,32 @@ pub(crate) fn table_named(whole: &Table, name: TableName) -> Option<&Table> {
 
 /// Appends the name of the table: its list, its place there from 0, and the name that it gives itself.
 pub(crate) fn push_table(
-    out: &mut String,
+    out: &mut Lines,
     whole: &Table,
     name: TableName,
 ) -> Result<(), AllocError> {
     let Some((key, index)) = entry_of(name) else {
-        return out.push_str("the file");
+        return out.open.push_str("the file");
     };
     let list = key.text();
-    write!(out, "{list} {index} ")?;
+    write!(out.open, "{list} {index} ")?;
     match entry_at(whole, key, index) {
         Some(table) => match text_at(table, Key::Name) {
             Some(text) => push_quoted(out, text),
-            None => out.push_str("(counted from 0)"),
+            None => out.open.push_str("(counted from 0)"),
         },
-        None => out.push_str("(counted from 0)"),
+        None => out.open.push_str("(counted from 0)"),
     }
 }
 
 /// Appends a value: a text, a number or a truth value as it is written, else what it is.
-pub(crate) fn push_value(alloc: Global, out: &mut String, value: &Value) -> Result<(), AllocError> {
+pub(crate) fn push_value(out: &mut Lines, value: &Value) -> Result<(), AllocError> {
     match value {
         Value::String(text) => push_quoted(out, text.as_str()),
-        Value::Array(_) => out.push_str("a list"),
-        Value::Table(_) => out.push_str("a table"),
+        Value::Array(_) => out.open.push_str("a list"),
+        Value::Table(_) => out.open.push_str("a table"),
         _ => {
-            let text = format!(in alloc; "{value}")?;
+            let text = format!(in out.alloc; "{value}")?;
             push_start(out, text.as_bytes())
         }
     }

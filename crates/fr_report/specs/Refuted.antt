@@ -5,12 +5,16 @@
 -- | steps_in         | the steps that are explained                                                        |
 -- | breach_text      | the rule, the actor that breaches it, and the number of steps                       |
 -- | found_line       | the line that tells that; or how many states were seen, and whether these are all   |
--- | IsStepTold       | the line of a step, as one of a run; if it is explained, other lines behind it      |
+-- | IsBelow          | a line that explains a step, and looks like none                                    |
+-- | IsStepTold       | the line of a step, as one of a run; if it is explained, other lines below it       |
 -- | AreStepLines     | the lines of steps, explained or not                                                |
--- | AreRunLines      | the same, and then where the actor is, which is left open                           |
+-- | standing_text, IsPlaced | where an actor is, with its line of code                                     |
+-- | AreRunLines      | the lines of steps, and then where the actor is                                     |
 -- | IsRunText        | those lines of a breach, and otherwise none                                         |
--- | IsFindingText    | the line of what was found, and behind it those lines                               |
-use Rattle.std.specs.Prelude.{◌≡◌, ◌++◌, ℕ, Bool, true, false, List, [], ◌∷◌, codes, decimal, length, map}
+use Rattle.std.specs.Prelude.{◌≡◌, ◌++◌, ℕ, Bool, true, false, List, [], ◌∷◌, All, None, Some, codes, decimal, encode_utf8_all, length, map, String, string_bytes}
+use Rattle.std.specs.declared.alloc.Global.{Global}
+use Rattle.fr_escape.specs.Plain.{plain}
+use Rattle.fr_program.specs.declared.ids.ActorId.{ActorId}
 use Rattle.fr_program.specs.Program.{Program}
 use Rattle.fr_program.specs.Lookup.{actor_at}
 use Rattle.fr_calls.specs.Rule.{number_of}
@@ -20,7 +24,10 @@ use Rattle.fr_refuter.specs.declared.replay.Refutation.{Refutation}
 use Rattle.fr_refuter.specs.declared.answer.Finding.{Finding}
 use Rattle.fr_refuter.specs.declared.answer.Finding.TheVariants.{Breach, Safe, Unknown}
 use Rattle.fr_report.specs.declared.reason.changes.ExplainedStep.{ExplainedStep}
-use Rattle.fr_report.specs.Report.{rule_text}
+use Rattle.fr_report.specs.declared.told.Standing.{Standing}
+use Rattle.fr_report.specs.Lines.{lines_text}
+use Rattle.fr_report.specs.Listing.{code_text}
+use Rattle.fr_report.specs.Report.{rule_text, side_text}
 use Rattle.fr_report.specs.Trace.{entry_text}
 
 -- the steps that are explained
@@ -43,10 +50,15 @@ found_line P (Breach r) = codes "breach: " ++ breach_text P r
 found_line P (Safe states) = codes "no breach in " ++ (decimal states ++ codes " states")
 found_line P (Unknown states) = codes "no breach in " ++ (decimal states ++ codes " states, more are left")
 
--- the line of the step alone, or with lines behind it that explain it, which are left open
+-- a line that looks like no step: two blanks, and a text with what steers a terminal, and what ends a line, written as in a literal
+abbrev pub IsBelow : List ℕ → Type 0
+IsBelow line = (text : List ℕ) × (line ≡ codes "  " ++ encode_utf8_all (plain text))
+
+-- the line of the step alone, or with such lines below it that explain it
 abbrev pub IsStepTold : Bool → Program → StepTaken → List ℕ → Type 0
 IsStepTold false P step text = text ≡ step_text P step
-IsStepTold true P step text = (more : List ℕ) × (text ≡ step_text P step ++ more)
+IsStepTold true P step text =
+    (more : List (String Global)) × All (λ line. IsBelow (string_bytes line)) more × (text ≡ step_text P step ++ lines_text more)
 
 -- the lines of the steps in their order, each told so
 abbrev pub AreStepLines : Bool → Program → List StepTaken → List ℕ → Type 0
@@ -54,16 +66,25 @@ AreStepLines explains P [] text = text ≡ []
 AreStepLines explains P (step ∷ rest) text =
     (own others : List ℕ) × IsStepTold explains P step own × (text ≡ own ++ others) × AreStepLines explains P rest others
 
--- the lines of the steps, explained or not, and then a text that tells where the actor is
-abbrev pub AreRunLines : Bool → Program → List StepTaken → List ℕ → Type 0
-AreRunLines explains P steps text = (lines last : List ℕ) × AreStepLines explains P steps lines × (text ≡ lines ++ last)
+-- where an actor is: `<actor> <instruction> <side>: <line>`, or `<actor> is done`
+abbrev pub standing_text : Program → Standing → List ℕ
+standing_text P s = elim s.point [
+  | None ↦ (actor_at P s.actor.0).name ++ codes " is done"
+  | Some p ↦ (actor_at P s.actor.0).name
+      ++ (codes " " ++ (decimal p.pc ++ (codes " " ++ (side_text p.side ++ (codes ": " ++ string_bytes s.code)))))
+]
 
--- those lines of the steps that lead to a breach; no text where none was found
+-- it is this actor, and the line of code is that of its point
+abbrev pub IsPlaced : Program → ActorId → Standing → Type 0
+IsPlaced P actor s = (s.actor ≡ actor) × elim s.point [ None ↦ Unit {0} | Some p ↦ (p.actor ≡ actor) × (string_bytes s.code ≡ code_text P p) ]
+
+-- the lines of the steps, explained or not, and then the line that says where the actor is
+abbrev pub AreRunLines : Bool → Program → List StepTaken → Standing → List ℕ → Type 0
+AreRunLines explains P steps last text =
+    (lines : List ℕ) × AreStepLines explains P steps lines × (text ≡ lines ++ (standing_text P last ++ codes "\n"))
+
+-- those lines of the steps that lead to a breach, and where the actor is that breaches the rule; no text where none was found
 abbrev pub IsRunText : Bool → Program → Finding → List ℕ → Type 0
-IsRunText explains P (Breach r) text = AreRunLines explains P r.steps.items text
+IsRunText explains P (Breach r) text = (last : Standing) × IsPlaced P r.actor last × AreRunLines explains P r.steps.items last text
 IsRunText explains P (Safe states) text = text ≡ []
 IsRunText explains P (Unknown states) text = text ≡ []
-
--- what is written for a finding: what was found, and then the run into a breach
-abbrev pub IsFindingText : Bool → Program → Finding → List ℕ → Type 0
-IsFindingText explains P found text = (run : List ℕ) × IsRunText explains P found run × (text ≡ found_line P found ++ (codes "\n" ++ run))

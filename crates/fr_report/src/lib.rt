@@ -1,11 +1,11 @@
 // What a person reads, first as values and then as texts. Why a verdict is no is an `Explanation` (`explain`), and a run
 // into a breach an `ExplainedRun` (`explain_run`): pages and reports for machines are made from these, and no text is read
 // again. The texts are the report of a verdict (`report`) with its explanation (`explanation_text`), the lines of a trace
-// (`trace_text`), the listing of an application's points (`points_text`), what a search found (`finding_text`), and
-// warnings (`never_reached`, `never_used`). What a page shows of a note and a state is `note_told` and `state_told`. Below it are
+// (`trace_text`), the listing of an application's points (`points_text`), what a search found (`finding_line` and
+// the lines of an `ExplainedRun`), and warnings (`never_reached`, `never_used`). What a page shows of a note and a state is `note_told` and `state_told`. Below it are
 // verdicts (fr_judge), states that show why (fr_witness), traces (fr_runner), runs into a breach (fr_refuter) and the
-// writing of a line (fr_instr). The crate above, fr_answer, prints what these give; but for the explanations, the warnings
-// and the last line of a run into a breach their contracts say the text to the letter.
+// writing of a line (fr_instr). The crate above, fr_answer, prints what these give; but for the explanations and the warnings
+// their contracts say the text to the letter.
 #![tactic(auto)]
 
 mod lines;
@@ -23,7 +23,7 @@ pub use listing::{line_of_code, points_text};
 pub use reason::{
     Depth, ExplainedStep, depth_in, depths_of, explain, note_told, place_told, state_told,
 };
-pub use refuting::{ExplainedRun, breach_text, explain_run, finding_line, finding_text};
+pub use refuting::{ExplainedRun, breach_text, explain_run, finding_line};
 pub use shown::{actor_name, rule_text, side_name};
 pub use text::{part_text, report, verdict_line};
 pub use told::{Explained, Explanation, Line, ShownState, Standing, explanation_text};

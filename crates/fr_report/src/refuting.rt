@@ -1,5 +1,5 @@
 // What is found of an application that is searched for a breach.
-ghost use Rattle.std.specs.Prelude.{◌≡◌, IfOk, string_bytes};
+ghost use Rattle.std.specs.Prelude.{◌≡◌, All, IfOk, string_bytes};
 ghost use Rattle.fr_calls.specs.State.{IsWellFormed};
 ghost use Rattle.fr_report.specs.Lines.{lines_text};
 ghost use Rattle.fr_report.specs.Refuted.{
@@ -7,17 +7,17 @@ ghost use Rattle.fr_report.specs.Refuted.{
   found_line,
   steps_in,
   AreRunLines,
-  IsFindingText,
-  IsRunText,
+  IsBelow,
+  IsPlaced,
   IsStepTold,
 };
 
-use crate::lines::text_of;
 use crate::reason::{ExplainedStep, standing_in, step_explained};
 use crate::shown::{actor_name, rule_text};
 use crate::told::Standing;
 use crate::trace::put_entry;
 use fr_calls::{State, the_start_is_well_formed};
+use fr_escape::push_plain;
 use fr_program::App;
 use fr_refuter::{Finding, Refutation, StepTaken, take_step};
 use fr_runner::Entry;
@@ -54,7 +54,8 @@ fn step_told(
 ///
 /// Only where memory is refused.
 pub fn explain_run(alloc: Global, app: &App, found: &Refutation) -> Result<ExplainedRun, AllocError>
-    ensures { IfOk result (λ run. steps_in run.steps.items ≡ found.now.steps.items) }
+    ensures steps { IfOk result (λ run. steps_in run.steps.items ≡ found.now.steps.items) }
+    ensures last { IfOk result (λ run. IsPlaced app.now found.now.actor run.last) }
 {
     app.recall_faultless();
     the_start_is_well_formed();
@@ -67,19 +68,31 @@ pub fn explain_run(alloc: Global, app: &App, found: &Refutation) -> Result<Expla
     Ok(ExplainedRun { steps, last })
 }
 
+/// The text as a line below a step.
+fn line_below(alloc: Global, text: &str) -> Result<String, AllocError>
+    ensures { IfOk result (λ line. IsBelow (string_bytes line)) }
+{
+    let mut line = String::from_str(alloc, "  ")?;
+    push_plain(&mut line, text)?;
+    Ok(line)
+}
+
 /// The lines that explain a step: where its actor was before it, with the line of code, and what it changed;
 /// where it changed nothing but the actor's place, how the call went, if it is a step of one.
 fn explaining_lines(
     alloc: Global,
     app: &App,
     step: &ExplainedStep,
-) -> Result<Vec<String>, AllocError> {
+) -> Result<Vec<String>, AllocError>
+    ensures { IfOk result (λ lines. All (λ line. IsBelow (string_bytes line)) lines.items) }
+{
+    let (at, change) = (step.before.text(alloc, app)?, step.change(alloc)?);
     let mut lines = Vec::new(alloc);
-    let (at, change) = (step.before.line(alloc, app, "")?, step.change(alloc)?);
-    lines.push(format!(in alloc; "  {}", at.text(alloc)?)?)?;
-    if !change.is_empty() {
-        lines.push(format!(in alloc; "  {change}")?)?;
+    lines.push(line_below(alloc, &at)?)?;
+    if change.is_empty() {
+        return Ok(lines);
     }
+    lines.push(line_below(alloc, &change)?)?;
     Ok(lines)
 }
 
@@ -97,9 +110,11 @@ fn step_lines(
     let StepTaken { actor, choice } = step.taken;
     put_entry(&mut line, app, Entry::Stepped(actor, choice))?;
     lines.push(line)?;
-    if explains {
-        lines.append(&mut explaining_lines(alloc, app, step)?)?;
+    if !explains {
+        return Ok(lines);
     }
+    let mut below = explaining_lines(alloc, app, step)?;
+    lines.append(&mut below)?;
     Ok(lines)
 }
 
@@ -112,14 +127,14 @@ impl ExplainedRun {
     /// Only where memory is refused. The lines' form is this project's own.
     pub fn lines(&self, alloc: Global, app: &App, explains: bool) -> Result<Vec<String>, AllocError>
         ensures { IfOk result (λ lines.
-            AreRunLines explains app.now (steps_in self.now.steps.items) (lines_text lines.items)) }
+            AreRunLines explains app.now (steps_in self.now.steps.items) self.now.last (lines_text lines.items)) }
     {
         let mut lines = Vec::new(alloc);
         for step in &self.steps {
             let mut more = step_lines(alloc, app, step, explains)?;
             lines.append(&mut more)?;
         }
-        lines.push(self.last.line(alloc, app, "")?.text(alloc)?)?;
+        lines.push(self.last.text(alloc, app)?)?;
         Ok(lines)
     }
 }
@@ -148,35 +163,4 @@ pub fn finding_line(alloc: Global, app: &App, found: &Finding) -> Result<String,
             format!(in alloc; "no breach in {states} states, more are left")
         }
     }
-}
-
-/// The lines of a run into a breach, each with its newline; no text where none was found.
-fn run_text(alloc: Global, app: &App, found: &Finding, explains: bool) -> Result<String, AllocError>
-    ensures { IfOk result (λ text. IsRunText explains app.now found.now (string_bytes text)) }
-{
-    match found {
-        Finding::Breach(refutation) => {
-            let run = explain_run(alloc, app, refutation)?;
-            text_of(alloc, &run.lines(alloc, app, explains)?)
-        }
-        Finding::Safe { .. } | Finding::Unknown { .. } => Ok(String::new(alloc)),
-    }
-}
-
-/// What is told of what was found of the application: a run into a breach, as the lines of a run behind a
-/// line that tells the breach, and at last where the actor is that breaches the rule; or how many states
-/// were seen without one, and whether these are all. Where it is asked for, lines below each step explain
-/// it: where its actor was, with the line of code, and what the step changed. An error says that an
-/// allocation was refused. The lines' form is this project's own.
-pub fn finding_text(
-    alloc: Global,
-    app: &App,
-    found: &Finding,
-    explains: bool,
-) -> Result<String, AllocError>
-    ensures { IfOk result (λ text. IsFindingText explains app.now found.now (string_bytes text)) }
-{
-    let line = finding_line(alloc, app, found)?;
-    let run = run_text(alloc, app, found, explains)?;
-    format!(in alloc; "{line}\n{run}")
 }

@@ -1,5 +1,6 @@
 // Why a verdict is no, as values, and the lines that tell it.
 ghost use Rattle.std.specs.Prelude.{◌≡◌, [], IfOk, None, string_bytes};
+ghost use Rattle.fr_report.specs.Refuted.{standing_text};
 
 use crate::lines::{put_listed, text_of};
 use crate::shown::{actor_name, object_name, side_name};
@@ -103,6 +104,19 @@ pub struct Line {
 }
 
 impl Standing {
+    /// The whole line that says it. An error says that an allocation was refused.
+    pub fn text(&self, alloc: Global, app: &App) -> Result<String, AllocError>
+        ensures { IfOk result (λ text. string_bytes text ≡ standing_text app.now self.now) }
+    {
+        let name = actor_name(app, self.actor);
+        match self.point {
+            Some(Point { pc, side, .. }) => {
+                format!(in alloc; "{name} {pc} {}: {}", side_name(side), self.code)
+            }
+            None => format!(in alloc; "{name} is done"),
+        }
+    }
+
     /// The line that tells it, behind a word. An error says that an allocation was refused.
     pub fn line(&self, alloc: Global, app: &App, word: &str) -> Result<Line, AllocError> {
         let name = actor_name(app, self.actor);

@@ -13,15 +13,3 @@ pub enum Format {
     /// JUnit's XML, which build servers read.
     Junit,
 }
-
-impl Format {
-    /// The form with this name: `json`, `sarif` or `junit`.
-    pub fn named(name: &str) -> Option<Format> {
-        match name {
-            "json" => Some(Format::Json),
-            "sarif" => Some(Format::Sarif),
-            "junit" => Some(Format::Junit),
-            _ => None,
-        }
-    }
-}

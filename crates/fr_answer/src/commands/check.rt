@@ -1,9 +1,11 @@
 // The command `check`.
 ghost use Rattle.std.specs.Prelude.{◌≡◌, ◌≤◌, ℕ, List, IfErr, IfOk, None, Some, option_copied};
+ghost use Rattle.std.specs.Option.{is_some};
 ghost use Rattle.fr_answer.specs.Checked.{fault_status};
 ghost use Rattle.fr_answer.specs.Commands.{
   IsCheckAnswered,
   IsCheckOf,
+  IsNamedAnswer,
   IsNamedText,
   IsPaged,
   IsShown,
@@ -70,7 +72,8 @@ fn check_looked<R: Threads + Wait + Sync, F: Files, O: Write, E: Write>(
         (λ status. 2 ≤ status → asked.now.format ≡ None → out.new ≡ out.old) }
     ensures most { IfOk result (λ status. status ≤ 3) }
     ensures fault { IfErr result (λ refusal. fault_status refusal.fault ≡ 3) }
-    ensures files { IsPaged F.Puts (option_copied asked.now.html) files.old files.new }
+    ensures files { IsPaged F.Puts (IsCheckOf (F.Gives files.old) app.now certificate.now)
+        (option_copied asked.now.html) files.old files.new }
 {
     let ways = ways_of(asked);
     let found = checked_files(rt, alloc, files, app, certificate, ways);
@@ -105,7 +108,8 @@ fn check_one<R: Threads + Wait + Sync, F: Files, O: Write, E: Write>(
         (λ status. 2 ≤ status → asked.now.format ≡ None → out.new ≡ out.old) }
     ensures most { IfOk result (λ status. status ≤ 3) }
     ensures fault { IfErr result (λ refusal. fault_status refusal.fault ≡ 3) }
-    ensures files { IsPaged F.Puts (option_copied asked.now.html) files.old files.new }
+    ensures files { IsPaged F.Puts (IsCheckOf (F.Gives files.old) app.now certificate.now)
+        (option_copied asked.now.html) files.old files.new }
 {
     let output = output_at(asked.html, Holds::Page);
     if let Err(fault) = files.check_outputs(&[app, certificate], &[output]) {
@@ -130,11 +134,13 @@ pub(crate) fn check<R: Threads + Wait + Sync, F: Files, O: Write, E: Write>(
     err: &mut E,
 ) -> Result<u8, Refusal>
     ensures answered { IfOk result
-        (λ status. status ≤ 1 → IsCheckAnswered (F.Gives files.old) asked.now.files asked.now.format status (O.contents out.old) (O.contents out.new)) }
+        (λ status. status ≤ 1 → IsCheckAnswered (F.Gives files.old) asked.now.files asked.now.format
+        (is_some asked.now.detail) status (O.contents out.old) (O.contents out.new)) }
     ensures kept { IfOk result (λ status. 2 ≤ status → IsNamedText asked.now.files asked.now.format → out.new ≡ out.old) }
     ensures refused { IfErr result (λ refusal. fault_status refusal.fault ≡ 2 → out.new ≡ out.old) }
     ensures most { IfOk result (λ status. status ≤ 3) }
-    ensures files { IsPaged F.Puts (option_copied asked.now.html) files.old files.new }
+    ensures files { IsPaged F.Puts (IsNamedAnswer (F.Gives files.old) asked.now.files)
+        (option_copied asked.now.html) files.old files.new }
 {
     match asked.files {
         Judged::Listed(list) => check_list(rt, alloc, list, asked, files, out, err),

@@ -1,13 +1,26 @@
 // The command `check --list`: several applications, each judged as if alone.
-ghost use Rattle.std.specs.Prelude.{◌≡◌, ◌≤◌, ◌⊎◌, IfErr, IfOk, None, Some, map};
+ghost use Rattle.std.specs.Prelude.{◌≡◌, ◌≤◌, ◌++◌, ℕ, List, IfErr, IfOk, None, Some, codes, map, string_bytes};
+ghost use Rattle.std.specs.Io.KnownBytes.{Appends};
+ghost use Rattle.std.specs.Option.{is_some};
+ghost use Rattle.fr_list.specs.Beside.{beside};
 ghost use Rattle.fr_list.specs.Means.{shown as entry_of};
-ghost use Rattle.fr_answer.specs.Answers.{what_status};
+ghost use Rattle.fr_answer.specs.Answers.{first_line, what_status};
 ghost use Rattle.fr_answer.specs.Checked.{fault_status};
-ghost use Rattle.fr_answer.specs.Commands.{AreLinesAnswered, IsLineStatus, IsListAnswered, IsStatusBy};
+ghost use Rattle.fr_answer.specs.Commands.{
+  AreAnswered,
+  AreLinesPrinted,
+  AreMore,
+  Each,
+  IsAnswerBy,
+  IsLineAnswer,
+  IsLineText,
+  IsListAnswered,
+  Shows,
+  heading,
+};
 
-use crate::answer::{Answer, Refusal};
-use crate::exit::REFUSED;
-use crate::fault::{CheckFault, fault_line};
+use crate::answer::{Answer, Refusal, What};
+use crate::fault::CheckFault;
 use crate::files::Files;
 use crate::printing::{put, warn};
 use crate::reading::{checked_files, input, proved_alone};
@@ -17,7 +30,7 @@ use fr_escape::push_plain;
 use fr_formats::{AnswerShown, Command, Source, answers_text};
 use fr_list::{Listed, MOST_LIST_BYTES, listed_in, path_beside};
 use fr_report::text_of;
-use fr_request::CheckRequest;
+use fr_request::{CheckRequest, Format};
 use std::alloc::{AllocError, Global};
 use std::io::Write;
 use std::sync::Wait;
@@ -32,7 +45,9 @@ fn proved_line<R: Threads + Wait + Sync, F: Files>(
     ways: Ways,
     files: &F,
 ) -> Result<Answer, AllocError>
-    ensures { IfOk result (λ a. IsStatusBy (F.Gives files.now) list.now app.now None (what_status a.what)) }
+    ensures by { IfOk result
+        (λ a. what_status a.what ≤ 1 → IsAnswerBy (F.Gives files.now) list.now (beside list.now app.now) None a.what) }
+    ensures path { IfOk result (λ a. string_bytes a.application ≡ beside list.now app.now) }
 {
     let app = path_beside(alloc, list, app)?;
     let found = proved_alone(rt, alloc, files, &app, ways);
@@ -54,8 +69,9 @@ fn checked_line<R: Threads + Wait + Sync, F: Files>(
     ways: Ways,
     files: &F,
 ) -> Result<Answer, AllocError>
-    ensures { IfOk result
-        (λ a. IsStatusBy (F.Gives files.now) list.now app.now (Some certificate.now) (what_status a.what)) }
+    ensures by { IfOk result
+        (λ a. what_status a.what ≤ 1 → IsAnswerBy (F.Gives files.now) list.now (beside list.now app.now) (Some certificate.now) a.what) }
+    ensures path { IfOk result (λ a. string_bytes a.application ≡ beside list.now app.now) }
 {
     let (app, certificate) = (
         path_beside(alloc, list, app)?,
@@ -79,8 +95,9 @@ fn answer_line<R: Threads + Wait + Sync, F: Files>(
     ways: Ways,
     files: &F,
 ) -> Result<Answer, AllocError>
-    ensures { IfOk result
-        (λ a. IsLineStatus (F.Gives files.now) list.now (entry_of listed.entry) (what_status a.what)) }
+    ensures by { IfOk result (λ a. IsLineAnswer (F.Gives files.now) list.now
+        (record { entry = entry_of listed.entry; what = a.what })) }
+    ensures path { IfOk result (λ a. string_bytes a.application ≡ beside list.now listed.entry.application.now) }
 {
     match listed.certificate {
         Some(certificate) => {
@@ -99,15 +116,35 @@ fn answer_line<R: Threads + Wait + Sync, F: Files>(
 }
 
 /// How a path begins a line: as a text without control characters, and never as `::`, which build servers take for a command.
-fn named(alloc: Global, path: &str) -> Result<String, AllocError> {
-    let mut text = String::from_str(alloc, if path.starts_with("::") { "./" } else { "" })?;
+fn heading(alloc: Global, path: &str) -> Result<String, AllocError>
+    ensures { IfOk result (λ text. string_bytes text ≡ heading path.now) }
+{
+    let is_command = path.as_bytes().starts_with(b"::");
+    let mut text = String::from_str(alloc, if is_command { "./" } else { "" })?;
     push_plain(&mut text, path)?;
     text.push_str(": ")?;
     Ok(text)
 }
 
-/// Prints the answer for one line: the application's name with the first line, the others where they are asked for, and warnings on
-/// standard error.
+/// The answer for one line: the application's name with the first line, and the others where they are asked for.
+fn line_text(
+    alloc: Global,
+    heading: &str,
+    what: &What,
+    explains: bool,
+) -> Result<String, AllocError>
+    ensures { IfOk result (λ text. (more : List ℕ) × AreMore explains what.now more
+        × (string_bytes text ≡ heading.now ++ (first_line what.now ++ (codes "\n" ++ more)))) }
+{
+    let line = what.line(alloc)?;
+    if !explains {
+        return format!(in alloc; "{heading}{line}\n");
+    }
+    let more = text_of(alloc, &what.lines(alloc)?)?;
+    format!(in alloc; "{heading}{line}\n{more}")
+}
+
+/// Prints the answer for one line, and warnings on standard error.
 fn print_line<O: Write, E: Write>(
     alloc: Global,
     answer: &Answer,
@@ -115,24 +152,14 @@ fn print_line<O: Write, E: Write>(
     out: &mut O,
     err: &mut E,
 ) -> Result<(), CheckFault>
-    ensures { IfErr result (λ fault. fault_status fault ≡ 3) }
+    ensures text { IfOk result (λ _. (text : List ℕ)
+        × IsLineText explains (string_bytes answer.now.application) answer.now.what text
+        × Appends (O.contents out.old) (O.contents out.new) text) }
+    ensures fault { IfErr result (λ fault. fault_status fault ≡ 3) }
 {
-    let (name, line) = (named(alloc, &answer.application)?, answer.what.line(alloc)?);
-    put(&format!(in alloc; "{name}{line}\n")?, out)?;
-    if explains {
-        let lines = answer.what.lines(alloc)?;
-        put(&text_of(alloc, &lines)?, out)?;
-    }
-    warn(alloc, answer, &name, err)
-}
-
-/// The greater one of two exit statuses.
-fn greater(a: u8, b: u8) -> u8
-    ensures low { a ≤ result }
-    ensures high { b ≤ result }
-    ensures either { (result ≡ a) ⊎ (result ≡ b) }
-{
-    if a < b { b } else { a }
+    let heading = heading(alloc, &answer.application)?;
+    put(&line_text(alloc, &heading, &answer.what, explains)?, out)?;
+    warn(alloc, answer, &heading, err)
 }
 
 /// Answers each line and prints it when it is answered; gives the greatest exit status.
@@ -146,8 +173,8 @@ fn print_each<R: Threads + Wait + Sync, F: Files, O: Write, E: Write>(
     out: &mut O,
     err: &mut E,
 ) -> Result<u8, CheckFault>
-    ensures answered { IfOk result
-        (AreLinesAnswered (F.Gives files.now) list.now (map entry_of entries.now)) }
+    ensures answered { IfOk result (λ status. AreAnswered (F.Gives files.now) list.now (map entry_of entries.now) status
+        (λ lines. AreLinesPrinted None (is_some ways.detail) list.now lines (O.contents out.old) (O.contents out.new))) }
     ensures most { IfOk result (λ status. status ≤ 3) }
     ensures fault { IfErr result (λ fault. fault_status fault ≡ 3) }
 {
@@ -155,7 +182,7 @@ fn print_each<R: Threads + Wait + Sync, F: Files, O: Write, E: Write>(
     for entry in entries {
         let answer = answer_line(rt, alloc, list, *entry, ways, files)?;
         print_line(alloc, &answer, ways.detail.is_some(), out, err)?;
-        greatest = greater(greatest, answer.what.status());
+        greatest = greatest.max(answer.what.status());
     }
     Ok(greatest)
 }
@@ -169,17 +196,38 @@ fn shown_each<R: Threads + Wait + Sync, F: Files>(
     ways: Ways,
     files: &F,
 ) -> Result<(Vec<AnswerShown>, u8), AllocError>
-    ensures answered { IfOk result
-        (λ r. AreLinesAnswered (F.Gives files.now) list.now (map entry_of entries.now) r.1) }
+    ensures answered { IfOk result (λ r. AreAnswered (F.Gives files.now) list.now (map entry_of entries.now) r.1
+        (λ lines. Each (λ line shown. Shows line.what shown) lines r.0.items)) }
     ensures most { IfOk result (λ r. r.1 ≤ 3) }
 {
     let (mut answers, mut status) = (Vec::new(alloc), 0u8);
     for listed in entries {
         let answer = answer_line(rt, alloc, list, *listed, ways, files)?;
         answers.push(shown_of(alloc, &answer)?)?;
-        status = greater(status, answer.what.status());
+        status = status.max(answer.what.status());
     }
     Ok((answers, status))
+}
+
+/// Answers each line, and prints a report of all answers in this form; gives the greatest exit status.
+fn report_each<R: Threads + Wait + Sync, F: Files, O: Write>(
+    rt: &R,
+    alloc: Global,
+    list: &str,
+    entries: &[Listed],
+    ways: Ways,
+    format: Format,
+    files: &F,
+    out: &mut O,
+) -> Result<u8, CheckFault>
+    ensures answered { IfOk result (λ status. AreAnswered (F.Gives files.now) list.now (map entry_of entries.now) status
+        (λ lines. AreLinesPrinted (Some format) (is_some ways.detail) list.now lines (O.contents out.old) (O.contents out.new))) }
+    ensures most { IfOk result (λ status. status ≤ 3) }
+    ensures fault { IfErr result (λ fault. fault_status fault ≡ 3) }
+{
+    let (answers, status) = shown_each(rt, alloc, list, entries, ways, files)?;
+    put(&answers_text(alloc, format, &answers)?, out)?;
+    Ok(status)
 }
 
 /// Judges the applications that the list names, each as if alone, prints the answers in the list's order, and gives the greatest exit
@@ -193,7 +241,8 @@ pub(super) fn check_list<R: Threads + Wait + Sync, F: Files, O: Write, E: Write>
     out: &mut O,
     err: &mut E,
 ) -> Result<u8, Refusal>
-    ensures answered { IfOk result (IsListAnswered (F.Gives files.now) list.now) }
+    ensures answered { IfOk result (λ status. IsListAnswered (F.Gives files.now) list.now asked.now.format
+        (is_some asked.now.detail) status (O.contents out.old) (O.contents out.new)) }
     ensures most { IfOk result (λ status. status ≤ 3) }
     ensures refused { IfErr result (λ refusal. fault_status refusal.fault ≡ 2 → out.new ≡ out.old) }
 {
@@ -214,10 +263,8 @@ pub(super) fn check_list<R: Threads + Wait + Sync, F: Files, O: Write, E: Write>
         Ok(entries) => entries,
         Err(fault) => return Err(Refusal::from(CheckFault::from(fault))),
     };
-    let Some(format) = asked.format else {
-        return Ok(print_each(rt, alloc, list, &entries, ways, files, out, err)?);
-    };
-    let (answers, status) = shown_each(rt, alloc, list, &entries, ways, files)?;
-    put(&answers_text(alloc, format, &answers)?, out)?;
-    Ok(status)
+    match asked.format {
+        None => Ok(print_each(rt, alloc, list, &entries, ways, files, out, err)?),
+        Some(format) => Ok(report_each(rt, alloc, list, &entries, ways, format, files, out)?),
+    }
 }

@@ -1,7 +1,7 @@
 // The command `refute`.
 ghost use Rattle.std.specs.Prelude.{◌≡◌, ◌≤◌, ℕ, List, IfErr, IfOk, None, Some, option_copied};
 ghost use Rattle.fr_answer.specs.Checked.{fault_status};
-ghost use Rattle.fr_answer.specs.Commands.{IsAnswered, IsPaged};
+ghost use Rattle.fr_answer.specs.Commands.{IsAnswered, IsPaged, IsSearchAt};
 
 use crate::answer::Refusal;
 use crate::files::Files;
@@ -65,7 +65,8 @@ fn refute_looked<R: Threads + Sync, F: Files, O: Write, E: Write>(
         (λ status. 2 ≤ status → asked.now.format ≡ None → out.new ≡ out.old) }
     ensures refused { IfErr result (λ refusal. fault_status refusal.fault ≡ 3) }
     ensures most { IfOk result (λ status. status ≤ 3) }
-    ensures files { IsPaged F.Puts (option_copied asked.now.html) files.old files.new }
+    ensures files { IsPaged F.Puts (IsSearchAt (F.Gives files.old) asked.now.app.now)
+        (option_copied asked.now.html) files.old files.new }
 {
     let ways = ways_of(asked);
     let found = searched_file(rt, alloc, files, asked.app, asked.states as usize, ways);
@@ -95,7 +96,8 @@ pub(crate) fn refute<R: Threads + Sync, F: Files, O: Write, E: Write>(
         (λ status. 2 ≤ status → asked.now.format ≡ None → out.new ≡ out.old) }
     ensures refused { IfErr result (λ refusal. fault_status refusal.fault ≡ 3) }
     ensures most { IfOk result (λ status. status ≤ 3) }
-    ensures files { IsPaged F.Puts (option_copied asked.now.html) files.old files.new }
+    ensures files { IsPaged F.Puts (IsSearchAt (F.Gives files.old) asked.now.app.now)
+        (option_copied asked.now.html) files.old files.new }
 {
     let html = output_at(asked.html, Holds::Page);
     if let Err(fault) = files.check_outputs(&[asked.app], &[html]) {

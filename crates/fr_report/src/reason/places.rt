@@ -1,5 +1,7 @@
 // Where actors stand, with their lines of code.
+ghost use Rattle.std.specs.Prelude.{IfOk};
 ghost use Rattle.fr_calls.specs.State.{IsWellFormed};
+ghost use Rattle.fr_report.specs.Refuted.{IsPlaced};
 
 use super::words::{put_critical, put_suspended, suspension_in};
 use crate::listing::line_of_code;
@@ -10,7 +12,9 @@ use fr_program::{ActorId, App, Point};
 use std::alloc::{AllocError, Global};
 
 /// An actor at a point.
-pub(super) fn standing_at(alloc: Global, app: &App, point: Point) -> Result<Standing, AllocError> {
+pub(super) fn standing_at(alloc: Global, app: &App, point: Point) -> Result<Standing, AllocError>
+    ensures { IfOk result (IsPlaced app.now point.actor) }
+{
     Ok(Standing {
         actor: point.actor,
         point: Some(point),
@@ -37,6 +41,7 @@ pub(crate) fn standing_in(
     state: &State,
 ) -> Result<Standing, AllocError>
     requires { IsWellFormed app.now state.now }
+    ensures { IfOk result (IsPlaced app.now actor) }
 {
     match actor_place(app, state, actor) {
         Place::At { pc, side } => standing_at(alloc, app, Point { actor, pc, side }),

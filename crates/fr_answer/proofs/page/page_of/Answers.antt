@@ -3,15 +3,15 @@ use Rattle.std.proofs.Common.{◌≡◌, ◌++◌, ℕ, List, Result, Ok, Err, I
 use Rattle.std.specs.declared.alloc.Global.{Global}
 use Rattle.fr_page.specs.declared.page.Page.{Page}
 use Rattle.fr_page.specs.Whole.{head_of}
-use Rattle.fr_answer.specs.declared.answer.Answer.{Answer}
+use Rattle.fr_answer.specs.declared.answer.What.{What}
 use Rattle.fr_answer.specs.Answers.{first_line, kind_of}
 use Rattle.fr_answer.specs.Pages.{IsPageOf, page_kind}
 use Rattle.fr_answer.proofs.page.page_of.Goals as goal
 
-written : {Y : Type 0} (answer : Answer) (page : Page) (r : Result (String Global) Y) → page.kind ≡ page_kind (kind_of answer.what) → string_bytes page.answer ≡ first_line answer.what
-    → IfOk r (λ text. (rest : List ℕ) × (string_bytes text ≡ head_of page ++ rest)) → IfOk r (λ text. IsPageOf answer (string_bytes text))
-written answer page (Ok text) kind line h = (page, kind, line, h.0, h.1)
-written answer page (Err e) kind line h = tt
+written : {Y : Type 0} (what : What) (page : Page) (r : Result (String Global) Y) → page.kind ≡ page_kind (kind_of what) → string_bytes page.answer ≡ first_line what
+    → IfOk r (λ text. (rest : List ℕ) × (string_bytes text ≡ head_of page ++ rest)) → IfOk r (λ text. IsPageOf what (string_bytes text))
+written what page (Ok text) kind line h = (page, kind, line, h.0, h.1)
+written what page (Err e) kind line h = tt
 
 pub returns : goal.returns
-returns c = written c.args.answer.now c.in_ok-page.page c.page_text.result c.in_ok-page.ensures.kind c.in_ok-page.ensures.line c.page_text.ensures
+returns c = written c.args.answer.now.what c.in_ok-page.page c.page_text.result c.in_ok-page.ensures.kind c.in_ok-page.ensures.line c.page_text.ensures

@@ -1,7 +1,8 @@
 -- What is shown is what was found.
-use Rattle.std.proofs.Common.{None, ◌≡◌}
+use Rattle.std.proofs.Common.{◌≡◌, ◌≤◌, subst, sym}
+use Rattle.std.specs.Prelude.{option_copied}
 use Rattle.fr_answer.specs.Answers.{HasFound, what_status}
-use Rattle.fr_answer.proofs.Showing.{kept-found, most-found, refused-found, shown-found}
+use Rattle.fr_answer.proofs.Showing.{kept-found, most-found, paged-as, refused-found, shown-found}
 use Rattle.fr_answer.proofs.printing.show_found.Goals as goal
 
 pub returns-clause-answered : goal.returns-clause-answered
@@ -16,3 +17,9 @@ returns-clause-kept g c = kept-found _ _ c.show.result (what_status c.in_ok-answ
 
 pub returns-clause-most : goal.returns-clause-most
 returns-clause-most g c = most-found c.show.result (what_status c.in_ok-answer.answer.what) c.show.ensures.status c.in_ok-answer.ensures.most
+
+pub returns-clause-paged : goal.returns-clause-paged
+returns-clause-paged g c =
+    let what = c.in_ok-answer.answer.what in
+    paged-as g.F.Files.Puts (λ w. w ≡ what) (HasFound c.args.found) (option_copied c.args.asked.html) _ _
+    (λ w le same. subst (HasFound c.args.found) (sym same) (c.in_ok-answer.ensures.found (subst (λ v. what_status v ≤ 1) same le))) c.show.ensures.paged

@@ -1,5 +1,5 @@
 -- A fault of the bytes is present in them, and a run takes the place of a no alone.
-use Rattle.std.proofs.Common.{◌≡◌, ◌∙◌, ap, subst, sym, inr, None, rules, IsTrue}
+use Rattle.std.proofs.Common.{◌≡◌, ap, subst, inr, None, rules, IsTrue}
 use Rattle.std.proofs.lemmas.Result.{err_from_is_err_and}
 use Rattle.fr_cert.specs.Meaning.{Means as CertMeans}
 use Rattle.fr_formats.specs.declared.answer.AnswerKind.TheVariants.{No, Breach}

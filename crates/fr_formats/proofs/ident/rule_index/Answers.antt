@@ -1,4 +1,4 @@
-use Rattle.std.proofs.Common.{◌≡◌, ℕ, ◌+◌, Bool, cond, List, [], ◌∷◌, Option, Some, map, refl, sym, ◌∙◌, ap, bytes_eq}
+use Rattle.std.proofs.Common.{◌≡◌, ℕ, ◌+◌, Bool, cond, List, [], ◌∷◌, Some, map, refl, ◌∙◌, ap, bytes_eq}
 use Rattle.std.specs.List.{position_from}
 use Rattle.fr_formats.proofs.ident.rule_index.Goals as goal
 

@@ -2,13 +2,13 @@
 use Rattle.std.proofs.Common.{◌∙◌, subst, IfOk, None, List, ℕ, true}
 use Rattle.fr_list.specs.Beside.{beside}
 use Rattle.fr_answer.specs.Commands.{IsAnswerBy, IsProofAt}
-use Rattle.fr_answer.proofs.Showing.{line-status}
+use Rattle.fr_answer.proofs.Showing.{line-found}
 use Rattle.fr_answer.proofs.commands.list.proved_line.Goals as goal
 
-pub returns : goal.returns
-returns g c =
+pub returns-clause-by : goal.returns-clause-by
+returns-clause-by g c =
     let gives = g.F.Files.Gives c.args.files.now in
     let list = c.args.list.now in
     let found = c.proved_alone-found.result in
     let proof = subst (λ a. IfOk found (λ r. (certificate : List ℕ) × IsProofAt gives a true certificate r.1)) (c.deref.ensures ∙ c.in_ok-app.ensures) c.proved_alone-found.ensures.proof in
-    line-status (IsAnswerBy gives list (beside list c.args.app.now) None) found c.new.result c.new.ensures.found proof
+    line-found (IsAnswerBy gives list (beside list c.args.app.now) None) found c.new.result c.new.ensures.found proof

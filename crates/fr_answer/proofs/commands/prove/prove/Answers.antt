@@ -15,5 +15,5 @@ returns-in-Err-clause-files g c =
     let same = c.show_outputs_refused.ensures.same in (
       c.args.files.now,
       kept-same (g.F.Files.Gives c.args.files.now) g.F.Files.Puts c.args.asked.now.app.now (option_copied c.args.asked.now.out) c.args.files.now,
-      paged-same g.F.Files.Puts (option_copied c.args.asked.now.html) c.args.files.now _ same,
+      paged-same g.F.Files.Puts _ (option_copied c.args.asked.now.html) c.args.files.now _ same,
     )

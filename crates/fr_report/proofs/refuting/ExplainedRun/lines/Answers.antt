@@ -1,6 +1,6 @@
 -- Each turn adds the lines of the next step, and at last comes the line that tells where the actor is.
-use Rattle.std.proofs.Common.{◌≡◌, ◌∙◌, ◌+◌, ◌<◌, ◌≤◌, ◌++◌, ◌∷◌, [], take, length, get_or, ap, sym, subst, arith, rules}
-use Rattle.std.proofs.lemmas.List.{take_all}
+use Rattle.std.proofs.Common.{◌≡◌, ◌∙◌, ◌+◌, ◌<◌, ◌≤◌, ◌++◌, ◌∷◌, [], take, length, get_or, ap, codes, string_bytes, sym, subst, arith, rules}
+use Rattle.std.proofs.lemmas.List.{append-nil, take_all}
 use Rattle.std.proofs.lemmas.Grind.{flat_map-append}
 use Rattle.fr_report.specs.Lines.{lines_text}
 use Rattle.fr_report.specs.Refuted.{steps_in, AreStepLines}
@@ -32,4 +32,5 @@ returns c =
     let all = take_all k steps (subst (λ xs. length xs ≤ k) c.deref-step-items.ensures.value ended) in
     let pushed : c.push.new.self.items ≡ lines ++ last ∷ [] = search rules in
     let told = subst (λ xs. AreStepLines c.args.explains c.args.app.now (steps_in xs) (lines_text lines)) all c.loop-step.invariant in
-    (lines_text lines, lines_text (last ∷ []), told, ap lines_text pushed ∙ flat_map-append _ lines (last ∷ []))
+    let line = append-nil (string_bytes last ++ codes "\n") ∙ ap (λ t. t ++ codes "\n") c.in_ok-text.ensures in
+    (lines_text lines, told, ap lines_text pushed ∙ flat_map-append _ lines (last ∷ []) ∙ ap (λ t. lines_text lines ++ t) line)

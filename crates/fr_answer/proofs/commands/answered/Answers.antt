@@ -1,15 +1,16 @@
 -- The status 0 is that of safe applications.
 use Rattle.std.proofs.Common.{List, ℕ}
+use Rattle.std.specs.Option.{is_some}
 use Rattle.fr_answer.specs.Commands.{AreNamedSafe, IsCheckAnswered, IsProofAt, IsSafeAt, IsShown}
 use Rattle.fr_answer.proofs.Safe.{named-safe, proof-shown-safe, safe-by}
-use Rattle.fr_answer.proofs.entry.answered.Goals as goal
+use Rattle.fr_answer.proofs.commands.answered.Goals as goal
 
 pub returns-in-Check-clause-safe : goal.returns-in-Check-clause-safe
 returns-in-Check-clause-safe g c =
     let gives = g.F.Files.Gives c.args.files.now in
     let asked = c.in-Check.asked in
-    rw c.in-Check.is (safe-by (λ s. IsCheckAnswered gives asked.files asked.format s _ _) (AreNamedSafe gives asked.files) c.check.result c.check.ensures.answered
-    (λ s e h. named-safe gives asked.files asked.format s _ _ e h))
+    rw c.in-Check.is (safe-by (λ s. IsCheckAnswered gives asked.files asked.format (is_some asked.detail) s _ _) (AreNamedSafe gives asked.files) c.check.result c.check.ensures.answered
+    (λ s e h. named-safe gives asked.files asked.format (is_some asked.detail) s _ _ e h))
 
 pub returns-in-Prove-clause-safe : goal.returns-in-Prove-clause-safe
 returns-in-Prove-clause-safe g c =

@@ -1,0 +1,63 @@
+// Where a fault is, in lines that can be shown.
+ghost use Rattle.std.specs.Prelude.{◌≡◌, ◌++◌, [], ◌∷◌, IfOk, OnOk, string_bytes};
+ghost use Rattle.fr_place.specs.Told.{IsPlaceLine};
+
+use fr_escape::push_plain;
+use std::alloc::{AllocError, Global};
+use std::marker::Model;
+
+/// The lines that say where a fault is. Each begins with two blanks, so that none looks like an answer, and nothing in one steers a
+/// terminal.
+#[derive(Drop)]
+pub struct Place {
+    lines: Vec<String>,
+}
+
+impl Model for Place {
+    ghost use Rattle.std.specs.Prelude.{All, List, String, string_bytes};
+    ghost use Rattle.std.specs.declared.alloc.Global.{Global};
+    ghost use Rattle.fr_place.specs.Told.{IsPlaceLine};
+
+    ghost Value = { List (String Global) };
+
+    ghost view = { λ p. p.lines.items };
+
+    ghost invariant = { λ p. All (λ line. IsPlaceLine (string_bytes line)) p.lines.items };
+}
+
+impl Place {
+    /// No line.
+    pub(crate) fn new(alloc: Global) -> Place
+        ensures { result ≡ [] }
+    {
+        Place {
+            lines: Vec::new(alloc),
+        }
+    }
+
+    /// Adds a line.
+    pub(crate) fn add(&mut self, line: String) -> Result<(), AllocError>
+        requires { IsPlaceLine (string_bytes line) }
+        ensures { OnOk result (self.new ≡ self.old ++ line ∷ []) }
+    {
+        self.lines.push(line)?;
+        Ok(())
+    }
+
+    /// The lines, without their newlines.
+    pub fn lines(&self) -> &[String]
+        ensures { result.now ≡ self.now }
+    {
+        self.lines.as_slice()
+    }
+}
+
+/// The text as the one line of a place, with what would steer a terminal written as in a literal. Its error is that an allocation
+/// was refused.
+pub fn place_of_text(alloc: Global, text: &str) -> Result<Place, AllocError> {
+    let mut line = String::from_str(alloc, "  ")?;
+    push_plain(&mut line, text)?;
+    let mut place = Place::new(alloc);
+    place.add(line)?;
+    Ok(place)
+}
