@@ -1,3 +1,4 @@
+pub mod AsJsonLaws
 pub mod HtmlLaws
 pub mod MarkupLaws
 pub mod PlainLaws

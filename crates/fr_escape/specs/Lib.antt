@@ -1,3 +1,4 @@
+pub mod AsJson
 pub mod Html
 pub mod Markup
 pub mod Plain

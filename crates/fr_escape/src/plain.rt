@@ -20,7 +20,7 @@ fn push_escape(out: &mut String, character: char) -> Result<(), AllocError>
 }
 
 /// Whether the character steers a terminal, or the order in which a text is read.
-fn steers(character: char) -> bool
+pub(crate) fn steers(character: char) -> bool
     ensures { result ≡ steers character }
 {
     character.is_control()

@@ -9,7 +9,6 @@
 use Rattle.std.specs.Prelude.{ℕ, List, [], ◌∷◌, ◌++◌, codes, flat_map, option_map, string_bytes}
 use Rattle.std.specs.declared.string.String.{String}
 use Rattle.json.specs.Token.{Token, begin_object, end_object, end_array, key, string}
-use Rattle.json.specs.Layout.{pretty}
 use Rattle.fr_request.specs.declared.format.TheConstants.{VERSION}
 use Rattle.fr_formats.specs.declared.answer.AnswerShown.{AnswerShown}
 use Rattle.fr_formats.specs.declared.answer.Failure.{Failure}
@@ -17,7 +16,7 @@ use Rattle.fr_formats.specs.declared.answer.PlaceShown.{PlaceShown}
 use Rattle.fr_formats.specs.declared.answer.StepShown.{StepShown}
 use Rattle.fr_formats.specs.declared.answer.WarningShown.{WarningShown}
 use Rattle.fr_formats.specs.Answers.{command_name, kind_name, side_name, status_of, greatest_status}
-use Rattle.fr_formats.specs.Tokens.{array, field, integer, number, maybe, listed, object}
+use Rattle.fr_formats.specs.Tokens.{array, field, integer, number, maybe, listed, object, written}
 
 unfoldable pub place_tokens : PlaceShown → List Token
 place_tokens p =
@@ -63,4 +62,4 @@ report_begins status =
     ++ number (codes "form") 1 ++ number (codes "status") status ++ array (codes "answers")
 
 abbrev pub json_of : List AnswerShown → List ℕ
-json_of answers = pretty (report_begins (greatest_status answers) ++ flat_map answer_tokens answers ++ end_array ∷ end_object ∷ []) ++ codes "\n"
+json_of answers = written (report_begins (greatest_status answers) ++ flat_map answer_tokens answers ++ end_array ∷ end_object ∷ [])

@@ -18,7 +18,6 @@ use Rattle.std.specs.Prelude.{◌≡◌, ℕ, zero, ℤ, pos, ◌+◌, ◌-◌, 
 use Rattle.std.specs.Fmt.{signed_decimal}
 use Rattle.std.specs.List.{list_any, starts_with}
 use Rattle.json.specs.Token.{Token, begin_object, end_object, end_array, key}
-use Rattle.json.specs.Layout.{pretty}
 use Rattle.fr_escape.specs.Uri.{uri}
 use Rattle.fr_request.specs.declared.format.TheConstants.{VERSION}
 use Rattle.fr_formats.specs.declared.answer.AnswerKind.{AnswerKind}
@@ -32,7 +31,7 @@ use Rattle.fr_formats.specs.declared.ident.Ident.{Ident}
 use Rattle.fr_formats.specs.declared.sarif.flow.Stop.{Stop as StopShown}
 use Rattle.fr_formats.specs.Answers.{kind_name, side_name, warning_rule, greatest_status}
 use Rattle.fr_formats.specs.Names.{rule_index, rule_names}
-use Rattle.fr_formats.specs.Tokens.{array, field, flag, maybe, message, number, object}
+use Rattle.fr_formats.specs.Tokens.{array, field, flag, maybe, message, number, object, written}
 
 -- ---- places
 
@@ -281,4 +280,4 @@ log all answers =
 
 -- the text is the report, with some words about each rule
 abbrev pub IsSarif : List AnswerShown → List ℕ → Type 0
-IsSarif answers text = (all : List Rule) × (map (λ r. r.name) all ≡ rule_names) × (text ≡ pretty (log all answers) ++ codes "\n")
+IsSarif answers text = (all : List Rule) × (map (λ r. r.name) all ≡ rule_names) × (text ≡ written (log all answers))

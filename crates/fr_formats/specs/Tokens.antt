@@ -9,10 +9,13 @@
 -- | listed                            | a member that is an array; nothing where it has no items                |
 -- | mark                              | the bracket that a character is; nothing for any other                  |
 -- | tokens_of                         | the tokens of a `Piece`                                                 |
-use Rattle.std.specs.Prelude.{ℕ, ℤ, ◌==◌, Bool, if◌then◌else◌, List, [], ◌∷◌, ◌++◌, Option, Some, None, codes, decimal, flat_map, option_map}
+-- | written                           | the text of tokens, in which nothing steers what shows it               |
+use Rattle.std.specs.Prelude.{ℕ, ℤ, ◌==◌, Bool, if◌then◌else◌, List, [], ◌∷◌, ◌++◌, Option, Some, None, codes, decimal, encode_utf8_all, flat_map, option_map}
 use Rattle.std.specs.Fmt.{signed_decimal}
+use Rattle.json.specs.Layout.{pretty}
 use Rattle.json.specs.Token as json
 use Rattle.json.specs.Token.{Token}
+use Rattle.fr_escape.specs.AsJson.{as_json}
 use Rattle.fr_formats.specs.declared.piece.Piece.{Piece}
 use Rattle.fr_formats.specs.declared.piece.Piece.TheVariants.{Marks, Object, Array, Key, Text, Field, MaybeField, Flag, Integer, Number, MaybeNumber, Message}
 
@@ -64,3 +67,7 @@ tokens_of (Integer key value) = integer key.now value
 tokens_of (Number key value) = number key.now value
 tokens_of (MaybeNumber key value) = maybe (number key.now) value
 tokens_of (Message key text) = message key.now text.now
+
+-- a line for each item and member, and a newline at the end
+abbrev pub written : List Token → List ℕ
+written tokens = encode_utf8_all (as_json (pretty tokens)) ++ codes "\n"

@@ -3,9 +3,9 @@ ghost use Rattle.std.specs.Prelude.{◌≡◌, ◌++◌, ◌∷◌, [], IfOk, On
 ghost use Rattle.json.specs.Token.{key as key_token};
 ghost use Rattle.json.specs.Print.{IsPrintable};
 ghost use Rattle.json.specs.Reads.{token_of};
-ghost use Rattle.json.specs.Layout.{pretty};
-ghost use Rattle.fr_formats.specs.Tokens.{mark, message, tokens_of};
+ghost use Rattle.fr_formats.specs.Tokens.{mark, message, tokens_of, written};
 
+use fr_escape::push_json;
 use itoa::Buffer;
 use json::{Pretty, Token};
 use std::alloc::{AllocError, Global};
@@ -121,14 +121,16 @@ impl Out {
         Ok(())
     }
 
-    /// The text, with a line for each item and member, and a newline at its end.
+    /// The text, with a line for each item and member, and a newline at its end. Nothing in it steers what shows it.
     pub fn finish(self) -> Result<String, AllocError>
-        ensures { IfOk result (λ text. string_bytes text ≡ pretty self.tokens ++ codes "\n") }
+        ensures { IfOk result (λ text. string_bytes text ≡ written self.tokens) }
     {
-        let tokens = self.tokens;
-        let Ok(mut text) = String::from_utf8(tokens.into_inner()) else {
+        let (alloc, tokens) = (self.alloc, self.tokens);
+        let Ok(laid_out) = String::from_utf8(tokens.into_inner()) else {
             return Err(AllocError);
         };
+        let mut text = String::new(alloc);
+        push_json(&mut text, &laid_out)?;
         text.push('\n')?;
         Ok(text)
     }
