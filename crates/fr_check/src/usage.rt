@@ -1,5 +1,6 @@
 // Words that ask for nothing: for the help or the version, or words that are wrong.
 ghost use Rattle.std.specs.Prelude.{◌≡◌, ◌≤◌};
+ghost use Rattle.clap.specs.Values.{kind_of};
 
 use clap::error::ErrorKind;
 use fr_answer::{MACHINE, REFUSED};
@@ -38,7 +39,9 @@ fn plain_words(alloc: Global, words: &[String]) -> Result<Vec<String>, AllocErro
 
 /// Prints the usage message for words that were not matched, or the help or the version, and gives the exit status. Where the words
 /// were not matched for want of memory, it prints that.
-pub fn explain(rt: &HostRuntime, words: &[String], unmatched: &clap::Error) -> u8 {
+pub fn explain(rt: &HostRuntime, words: &[String], unmatched: &clap::Error) -> u8
+    ensures { kind_of unmatched.now ≡ ErrorKind.OutOfMemory → result ≡ 3 }
+{
     if matches!(unmatched.kind(), ErrorKind::OutOfMemory) {
         return no_memory(rt);
     }
