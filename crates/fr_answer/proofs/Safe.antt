@@ -1,5 +1,5 @@
 -- The exit status 0 is that of safe applications.
-use Rattle.std.proofs.Common.{◌≡◌, ◌≤◌, inl, inr, ℕ, List, [], ◌∷◌, All, Bool, Option, None, Some, Result, Ok, Err, IfOk, refl, sym, subst, arith, map, ◌∙◌, ap}
+use Rattle.std.proofs.Common.{◌≡◌, ◌≤◌, inl, inr, ℕ, List, [], ◌∷◌, All, Bool, Option, None, Some, Result, Ok, Err, IfOk, refl, sym, subst, arith, map, ◌∙◌}
 use Rattle.std.proofs.lemmas.List.Elements.{All-head, All-tail}
 use Rattle.std.specs.Prelude.{fold}
 use Rattle.fr_program.specs.Program.{Program}
@@ -23,7 +23,7 @@ use Rattle.fr_request.specs.declared.request.Judged.TheVariants.{One, Listed}
 use Rattle.fr_answer.specs.declared.answer.What.{What}
 use Rattle.fr_answer.specs.declared.answer.What.TheVariants.{Judged, Searched, Refused}
 use Rattle.fr_answer.specs.Checked.{IsSafeText}
-use Rattle.fr_answer.specs.Answers.{kind_of_verdict, kind_of_finding, what_status, IsBreachIn, IsProofOf, IsSearchOf, IsVerdictOn}
+use Rattle.fr_answer.specs.Answers.{kind_of_verdict, kind_of_finding, what_status, IsProofOf, IsSettledIn, IsSearchOf, IsVerdictOn}
 use Rattle.fr_answer.specs.Commands.{AreAnswered, AreEachSafe, AreLinesPrinted, AreNamedSafe, IsAnswerBy, IsCheckAnswered, IsCheckOf, IsLineAnswer, IsProofAt, IsSafeAt, IsSearchAt, IsShown, LineAnswer, greater_status}
 
 -- the status 0 is that of a yes
@@ -35,7 +35,7 @@ zero-yes (TellsNo p part) e = absurd (omega (arith, e))
 pub zero-safe : (P : Program) (found : Finding) → IsFound P found → kind_status (kind_of_finding found) ≡ 0 → IsSafe P
 zero-safe P (FoundBreach r) is e = absurd (omega (arith, e))
 zero-safe P (Safe states) is e = is
-zero-safe P (Unknown states) is e = absurd (omega (arith, e))
+zero-safe P (Unknown states left) is e = absurd (omega (arith, e))
 
 -- a verdict, a proof and a search with that status
 pub verdict-safe : (a c : List ℕ) (what : What) → IsVerdictOn a c what → what_status what ≡ 0 → IsSafeText a
@@ -50,13 +50,15 @@ search-safe a (Judged j) h e = absurd h
 search-safe a (Searched P found explains) h e = (P, h.0, zero-safe P found h.1 e)
 search-safe a (Refused r) h e = absurd h
 
--- a run into a breach has another status
-pub breach-status : (a : List ℕ) (what : What) → IsBreachIn a what → what_status what ≡ 1
-breach-status a what h = ap kind_status h.1
+-- what settles the matter was found
+pub settled-found : (a : List ℕ) (what : What) → IsSettledIn a what → IsSearchOf a what
+settled-found a (Judged j) h = absurd h
+settled-found a (Searched P found explains) h = (h.0, h.1)
+settled-found a (Refused r) h = absurd h
 
 pub proof-safe : (a : List ℕ) (searches : Bool) (c : List ℕ) (what : What) → IsProofOf a searches c what → what_status what ≡ 0 → IsSafeText a
 proof-safe a searches c what (inl h) e = verdict-safe a c what h e
-proof-safe a searches c what (inr h) e = let one = breach-status a what h.4 in absurd (omega (arith, one, e))
+proof-safe a searches c what (inr h) e = search-safe a what (settled-found a what h.4) e
 
 -- an exit status is 3 at the most
 pub status-most : (kind : AnswerKind) → kind_status kind ≤ 3
@@ -69,8 +71,8 @@ status-most NoVerdict = omega arith
 status-most Machine = omega arith
 
 -- what holds of an answer with the status 0 holds of what is answered so
-pub safe-by : {Y : Type 0} (A : ℕ → Type 0) (B : Type 0) (r : Result ℕ Y) → IfOk r (λ s. s ≤ 1 → A s) → ((s : ℕ) → s ≡ 0 → A s → B) → IfOk r (λ s. s ≡ 0 → B)
-safe-by A B (Ok s) h f = λ e. let le : s ≤ 1 = omega (arith, e) in f s e (h le)
+pub safe-by : {Y : Type 0} (A : ℕ → Type 0) (B : Type 0) (r : Result ℕ Y) → IfOk r A → ((s : ℕ) → s ≡ 0 → A s → B) → IfOk r (λ s. s ≡ 0 → B)
+safe-by A B (Ok s) h f = λ e. f s e h
 safe-by A B (Err y) h f = tt
 
 module _ (gives : List ℕ → ℕ → List ℕ → Type 0) where
@@ -113,10 +115,20 @@ module _ (gives : List ℕ → ℕ → List ℕ → Type 0) where
   -- the same of what a request asks for
   pub named-safe : (named : Named) (format : Option Format) (explains : Bool) (s : ℕ) (old new : Option (List ℕ)) → s ≡ 0 → IsCheckAnswered gives named format explains s old new
       → AreNamedSafe gives named
-  named-safe (One app certificate) format explains s old new e h = check-safe app.now certificate.now h.0 h.1 (sym h.2 ∙ e)
+  named-safe (One app certificate) format explains s old new e h =
+      let zero = sym h.2 ∙ e in
+      check-safe app.now certificate.now h.0 (h.1 (omega (arith, zero))) zero
   named-safe (Listed list) format explains s old new e h =
       (h.0, h.1, h.2, h.3, answered-safe list.now h.2 s (λ lines. AreLinesPrinted format explains list.now lines old new) e h.4)
 
   pub proof-shown-safe : (app : List ℕ) (searches : Bool) (format : Option Format) (s : ℕ) (old new : Option (List ℕ)) → s ≡ 0
       → IsShown (λ what. (certificate : List ℕ) × IsProofAt gives app searches certificate what) format s old new → IsSafeAt gives app
-  proof-shown-safe app searches format s old new e h = proof-at-safe app searches h.1.0 h.0 h.1.1 (sym h.2 ∙ e)
+  proof-shown-safe app searches format s old new e h =
+      let zero = sym h.2 ∙ e in
+      let proof = h.1 (omega (arith, zero)) in
+      proof-at-safe app searches proof.0 h.0 proof.1 zero
+
+  pub search-shown-safe : (app : List ℕ) (format : Option Format) (s : ℕ) (old new : Option (List ℕ)) → s ≡ 0 → IsShown (IsSearchAt gives app) format s old new → IsSafeAt gives app
+  search-shown-safe app format s old new e h =
+      let zero = sym h.2 ∙ e in
+      search-at-safe app h.0 (h.1 (omega (arith, zero))) zero

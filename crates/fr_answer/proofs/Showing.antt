@@ -1,10 +1,13 @@
 -- What a command shows is what it found.
-use Rattle.std.proofs.Common.{◌≡◌, ◌≤◌, inl, inr, ℕ, List, Bool, Option, None, Some, Result, Ok, Err, IfOk, IfErr, String, string_bytes, refl, sym, subst, ◌∙◌, arith}
+use Rattle.std.proofs.Common.{◌≡◌, ◌≤◌, ◌⊎◌, inl, inr, ap, ℕ, List, Bool, Option, None, Some, Result, Ok, Err, IfOk, IfErr, String, string_bytes, refl, sym, subst, ◌∙◌}
 use Rattle.std.proofs.lemmas.Bool.{false≢true}
 use Rattle.std.proofs.lemmas.Option.{same_Some}
 use Rattle.std.specs.Prelude.{IsErr, option_map}
 use Rattle.std.specs.declared.alloc.Global.{Global}
 use Rattle.fr_files.specs.declared.outputs.Output.{Output}
+use Rattle.fr_formats.specs.declared.answer.AnswerKind.{AnswerKind}
+use Rattle.fr_formats.specs.declared.answer.AnswerKind.TheVariants.{Yes as SaysYes, Breach, NoBreach}
+use Rattle.fr_formats.specs.Answers.{status_of as kind_status}
 use Rattle.fr_judge.specs.Told.{TellsVerdict}
 use Rattle.fr_judge.specs.declared.part.Verdict.TheVariants.{Yes}
 use Rattle.fr_program.specs.Program.{Program}
@@ -15,9 +18,9 @@ use Rattle.fr_answer.specs.declared.answer.Answer.{Answer}
 use Rattle.fr_answer.specs.declared.answer.Refusal.{Refusal}
 use Rattle.fr_answer.specs.declared.answer.What.{What}
 use Rattle.fr_answer.specs.declared.answer.What.TheVariants.{Judged, Searched, Refused}
-use Rattle.fr_answer.specs.Answers.{HasFound, IsProofOf, IsVerdictOn, what_status}
+use Rattle.fr_answer.specs.Answers.{HasFound, IsProofOf, IsSettledIn, IsVerdictOn, kind_of, kind_of_finding, what_status}
 use Rattle.fr_answer.specs.Commands.{IsAnswerBy, IsGiven, IsKept, IsLineAnswer, IsPaged, IsPrinted, IsProofAt, IsShown}
-use Rattle.fr_answer.proofs.Safe.{breach-status, zero-yes}
+use Rattle.fr_answer.proofs.Safe.{zero-yes}
 
 -- what holds of all that is found holds of what was
 pub from-found : {X E : Type 0} (Is : What → Type 0) (found : Result (X × What) E) (what : What) → IfOk found (λ r. Is r.1) → HasFound found what → Is what
@@ -26,9 +29,15 @@ from-found Is (Err e) what h is = absurd is
 
 -- so it does of what is shown
 pub shown-of : {X E Y : Type 0} (Is : What → Type 0) (found : Result (X × What) E) (format : Option Format) (old new : Option (List ℕ)) (r : Result ℕ Y) → IfOk found (λ x. Is x.1)
-    → IfOk r (λ status. status ≤ 1 → IsShown (HasFound found) format status old new) → IfOk r (λ status. status ≤ 1 → IsShown Is format status old new)
-shown-of Is found format old new (Ok status) h shown = λ le. let s = shown le in (s.0, from-found Is found s.0 h s.1, s.2, s.3)
-shown-of Is found format old new (Err e) h shown = tt
+    → IfOk r (λ status. IsShown (HasFound found) format status old new) → IfOk r (λ status. IsShown Is format status old new)
+shown-of Is found format old new (Ok status) h s = (s.0, (λ le. from-found Is found s.0 h (s.1 le)), s.2, s.3)
+shown-of Is found format old new (Err e) h s = tt
+
+-- so it does of an answer that is refused
+pub shown-none : {Y : Type 0} (Is : What → Type 0) (shown format : Option Format) (old new : Option (List ℕ)) (r : Result ℕ Y) → shown ≡ format
+    → IfOk r (λ status. IsShown (λ _. ⊥) shown status old new) → IfOk r (λ status. IsShown Is format status old new)
+shown-none Is shown format old new (Ok status) same s = (s.0, (λ le. absurd (s.1 le)), s.2, subst (λ f. IsPrinted f s.0 old new) same s.3)
+shown-none Is shown format old new (Err e) same s = tt
 
 -- an output that is looked at is the one that is asked for
 pub may-of : (May : List ℕ → Type 0) (output : Option Output) (path : Option (List ℕ)) → option_map (λ o. o.path.now) output ≡ path → ((o : Output) → output ≡ Some o → May o.path.now)
@@ -44,9 +53,14 @@ line-found Is found (Err e) has h = tt
 
 -- an answer that is shown: its exit status, what is printed, and that nothing is where there is no verdict
 pub shown-found : {Y : Type 0} (Has : What → Type 0) (format : Option Format) (old new : Option (List ℕ)) (r : Result ℕ Y) (what : What) → (what_status what ≤ 1 → Has what)
-    → IfOk r (λ s. s ≡ what_status what) → IfOk r (λ s. IsPrinted format what old new) → IfOk r (λ s. s ≤ 1 → IsShown Has format s old new)
-shown-found Has format old new (Ok s) what has status text = λ le. (what, has (subst (λ n. n ≤ 1) status le), status, text)
+    → IfOk r (λ s. s ≡ what_status what) → IfOk r (λ s. IsPrinted format what old new) → IfOk r (λ s. IsShown Has format s old new)
+shown-found Has format old new (Ok s) what has status text = (what, has, status, text)
 shown-found Has format old new (Err e) what has status text = tt
+
+-- of an answer that isn't there nothing is promised
+pub no-answer : {X E T Y : Type 0} (found : Result X E) (r : Result T Y) (P : T → Type 0) (y : Y) → r ≡ Err y → IfErr found (λ _. IfOk r P)
+no-answer (Ok x) r P y e = tt
+no-answer (Err f) r P y e = subst (λ x. IfOk x P) (sym e) tt
 
 pub refused-found : {X E Y : Type 0} (found : Result X E) (r : Result ℕ Y) (n : ℕ) → IfErr found (λ _. 2 ≤ n) → IfOk r (λ s. s ≡ n) → IfErr found (λ _. IfOk r (λ s. 2 ≤ s))
 refused-found (Ok x) r n h status = tt
@@ -95,14 +109,23 @@ module _ (gives : List ℕ → ℕ → List ℕ → Type 0) where
       let same : path ≡ given.0 = same_Some path given.0 given.1 in
       inr (proof.0, text, proof.1, yes proof.0 what proof.2 given.2, subst (λ p. puts old p text new) (sym same) given.3)
     where
-      by-verdict : (a : List ℕ) (what : What) → IsVerdictOn a text what → what_status what ≡ 0 → (P : Program) × IsJudged a text P Yes
-      by-verdict a (Judged j) h e = (j.app, (h.0, j.certificate, h.1, subst (λ v. TellsVerdict j.app j.certificate v) (zero-yes j.verdict e) h.2))
+      by-verdict : (a : List ℕ) (what : What) → IsVerdictOn a text what → kind_of what ≡ SaysYes → (P : Program) × IsJudged a text P Yes
+      by-verdict a (Judged j) h e = (j.app, (h.0, j.certificate, h.1, subst (λ v. TellsVerdict j.app j.certificate v) (zero-yes j.verdict (ap kind_status e)) h.2))
       by-verdict a (Searched P found explains) h e = absurd h
       by-verdict a (Refused r) h e = absurd h
 
-      yes : (a : List ℕ) (what : What) → IsProofOf a searches text what → what_status what ≡ 0 → (P : Program) × IsJudged a text P Yes
+      other : (kind : AnswerKind) → (kind ≡ Breach) ⊎ (kind ≡ NoBreach) → kind ≡ SaysYes → ⊥
+      other kind (inl breach) e = cc
+      other kind (inr none) e = cc
+
+      settled : (a : List ℕ) (what : What) → IsSettledIn a what → kind_of what ≡ SaysYes → ⊥
+      settled a (Judged j) h e = h
+      settled a (Searched P found explains) h e = other (kind_of_finding found) h.2 e
+      settled a (Refused r) h e = h
+
+      yes : (a : List ℕ) (what : What) → IsProofOf a searches text what → kind_of what ≡ SaysYes → (P : Program) × IsJudged a text P Yes
       yes a what (inl h) e = by-verdict a what h e
-      yes a what (inr h) e = let one = breach-status a what h.4 in absurd (omega (arith, one, e))
+      yes a what (inr h) e = absurd (settled a what h.4 e)
 
   pub kept-same : {Z : Type 0} (puts : Z → List ℕ → List ℕ → Z → Type 0) (app : List ℕ) (path : Option (List ℕ)) (old : Z) → IsKept gives puts app path old old
   kept-same puts app None old = refl

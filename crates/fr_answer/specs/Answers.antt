@@ -9,8 +9,9 @@
 -- | place_text, AreLinesOf          | the lines that follow it                                                         |
 -- | IsTextOf                        | the text of an answer, to the letter                                             |
 -- | IsVerdictOn                     | the verdict on the application and the certificate that bytes mean               |
--- | IsSearchOf, IsBreachIn          | what a search found in the application that bytes mean; a run into a breach      |
--- | IsProofOf                       | the verdict by this certificate, or a run into a breach in place of a no         |
+-- | IsSearchOf                      | what a search found in the application that bytes mean                           |
+-- | Settles, IsSettledIn            | the same, where it is a run into a breach, or all states                         |
+-- | IsProofOf                       | the verdict by this certificate, or what settles the matter in place of a no     |
 -- | HasFound                        | what was found, where something was                                              |
 -- | CanRefuseSearch, CanRefuseProof | this fault can be the answer to the bytes and the number of workers              |
 use Rattle.std.specs.Prelude.{◌≡◌, ◌⊎◌, ◌++◌, ◌==◌, ℕ, Bool, IsTrue, List, [], codes, Option, None, Some, Result, Ok, Err, String, if◌then◌else◌}
@@ -45,7 +46,7 @@ kind_of_verdict (TellsNo p part) = No
 abbrev pub kind_of_finding : Finding → AnswerKind
 kind_of_finding (FoundBreach r) = Breach
 kind_of_finding (Safe states) = NoBreach
-kind_of_finding (Unknown states) = StatesLeft
+kind_of_finding (Unknown states left) = StatesLeft
 
 -- refused where the fault is of what was given, and else the machine's
 abbrev pub kind_of_fault : CheckFault → AnswerKind
@@ -94,14 +95,19 @@ abbrev pub IsSearchOf : List ℕ → What → Type 0
 IsSearchOf app (Searched P found explains) = AppMeans app P × IsFound P found
 IsSearchOf app what = ⊥
 
--- the same, and it is a run into a breach
-abbrev pub IsBreachIn : List ℕ → What → Type 0
-IsBreachIn app what = IsSearchOf app what × (kind_of what ≡ Breach)
+-- what was found settles the matter: a run into a breach, or all states, in none of which a rule is breached
+abbrev pub Settles : Finding → Type 0
+Settles found = (kind_of_finding found ≡ Breach) ⊎ (kind_of_finding found ≡ NoBreach)
 
--- the verdict by this certificate; or in place of a no, where one is searched for, a run into a breach
+-- the bytes mean this application, and what was found of it is so and settles the matter
+abbrev pub IsSettledIn : List ℕ → What → Type 0
+IsSettledIn app (Searched P found explains) = AppMeans app P × IsFound P found × Settles found
+IsSettledIn app what = ⊥
+
+-- the verdict by this certificate; or in place of a no, where there is a search, what settles the matter
 abbrev pub IsProofOf : List ℕ → Bool → List ℕ → What → Type 0
 IsProofOf app searches certificate what =
-    IsVerdictOn app certificate what ⊎ ((no : What) × IsVerdictOn app certificate no × (kind_of no ≡ No) × IsTrue searches × IsBreachIn app what)
+    IsVerdictOn app certificate what ⊎ ((no : What) × IsVerdictOn app certificate no × (kind_of no ≡ No) × IsTrue searches × IsSettledIn app what)
 
 -- this is what was found, where something was
 abbrev pub HasFound : {X E : Type 0} → Result (X × What) E → What → Type 0

@@ -27,6 +27,7 @@ use Rattle.fr_program.specs.Program.{Program}
 use Rattle.fr_reader.specs.Meaning.{Means as AppMeans}
 use Rattle.fr_text.specs.Texts.{IsJudged}
 use Rattle.fr_judge.specs.declared.part.Verdict.TheVariants.{Yes}
+use Rattle.fr_formats.specs.declared.answer.AnswerKind.TheVariants.{Yes as SaysYes}
 use Rattle.fr_escape.specs.Plain.{plain}
 use Rattle.fr_formats.specs.declared.answer.AnswerShown.{AnswerShown}
 use Rattle.fr_formats.specs.Reports.{IsReport}
@@ -70,7 +71,8 @@ abbrev pub IsCheckOf : (List ℕ → ℕ → List ℕ → Type 0) → List ℕ �
 IsCheckOf gives app certificate what =
     (a c : List ℕ) × gives app most_app_bytes a × gives certificate most_certificate_bytes c × IsVerdictOn a c what
 
--- the verdict on the application in this file by this certificate, or where one is searched for in place of a no a run into a breach
+-- the verdict on the application in this file by this certificate; or in place of a no, where there is a search, a run into a breach or
+-- that no state of any run breaches a rule
 abbrev pub IsProofAt : (List ℕ → ℕ → List ℕ → Type 0) → List ℕ → Bool → List ℕ → What → Type 0
 IsProofAt gives app searches certificate what = (a : List ℕ) × gives app most_app_bytes a × IsProofOf a searches certificate what
 
@@ -90,12 +92,12 @@ IsPrinted None what old new = what_status what ≤ 1 → (text : List ℕ) × Is
 IsPrinted (Some format) what old new =
     (shown : AnswerShown) × (text : List ℕ) × Shows what shown × IsReport format (shown ∷ []) text × Appends old new text
 
--- there is such an answer with this exit status, and it was printed
+-- there is an answer with this exit status, and it was printed; where it isn't refused, it is such a one
 abbrev pub IsShown : (What → Type 0) → Option Format → ℕ → Option (List ℕ) → Option (List ℕ) → Type 0
-IsShown Is format status old new = (what : What) × Is what × (status ≡ what_status what) × IsPrinted format what old new
+IsShown Is format status old new = (what : What) × (what_status what ≤ 1 → Is what) × (status ≡ what_status what) × IsPrinted format what old new
 
 -- the verdict on the application in a file, by the certificate in another one that the list names, or by one that was worked out; or
--- a run into a breach instead
+-- what a search found instead
 abbrev pub IsAnswerBy : (List ℕ → ℕ → List ℕ → Type 0) → List ℕ → List ℕ → Option (List ℕ) → What → Type 0
 IsAnswerBy gives list app (Some path) what = IsCheckOf gives app (beside list path) what
 IsAnswerBy gives list app None what = (certificate : List ℕ) × IsProofAt gives app true certificate what
@@ -236,10 +238,9 @@ abbrev pub IsNamedAnswer : (List ℕ → ℕ → List ℕ → Type 0) → Named 
 IsNamedAnswer gives (One app certificate) what = IsCheckOf gives app.now certificate.now what
 IsNamedAnswer gives (Listed list) what = ⊥
 
--- the files are as they were, but that the one at the path, if there is one, may have been given this text where the answer has the
--- exit status 0
+-- the files are as they were, but that the one at the path, if there is one, may have been given this text where the answer is yes
 abbrev pub IsGiven : {Z : Type 0} → (Z → List ℕ → List ℕ → Z → Type 0) → Option (List ℕ) → What → List ℕ → Z → Z → Type 0
-IsGiven puts path what text old new = (new ≡ old) ⊎ ((p : List ℕ) × (path ≡ Some p) × (what_status what ≡ 0) × puts old p text new)
+IsGiven puts path what text old new = (new ≡ old) ⊎ ((p : List ℕ) × (path ≡ Some p) × (kind_of what ≡ SaysYes) × puts old p text new)
 
 -- the files are as they were, but that the one for the certificate may have been given one on which the verdict is yes
 abbrev pub IsKept : {Z : Type 0} → (List ℕ → ℕ → List ℕ → Type 0) → (Z → List ℕ → List ℕ → Z → Type 0) → List ℕ → Option (List ℕ) → Z → Z → Type 0

@@ -61,6 +61,8 @@ pub struct Answer {
     pub what: What,
     /// What the answer may hide.
     pub warnings: Vec<WarningShown>,
+    /// What `prove` tried besides, a line each.
+    pub notes: Vec<String>,
 }
 
 /// The kind of a verdict.

@@ -1,5 +1,5 @@
 // The one entry, and the commands: from what the words ask for to the exit status.
-ghost use Rattle.std.specs.Prelude.{◌≡◌, ◌≤◌, IfErr, IfOk};
+ghost use Rattle.std.specs.Prelude.{◌≡◌, ◌≤◌, ◌⊎◌, IfErr, IfOk};
 ghost use Rattle.fr_answer.specs.Checked.{fault_status};
 ghost use Rattle.fr_answer.specs.Commands.{AreSafe, IsAnswered, IsText, IsWritten};
 
@@ -35,8 +35,8 @@ fn answered<R: Threads + Wait + Sync, F: Files, O: Write, E: Write>(
     out: &mut O,
     err: &mut E,
 ) -> Result<u8, Refusal>
-    ensures answered { IfOk result (λ status. status ≤ 1
-        → IsAnswered (F.Gives files.old) request.now status (O.contents out.old) (O.contents out.new)) }
+    ensures answered { IfOk result
+        (λ status. IsAnswered (F.Gives files.old) request.now status (O.contents out.old) (O.contents out.new)) }
     ensures safe { IfOk result (λ status. status ≡ 0 → AreSafe (F.Gives files.old) request.now) }
     ensures kept { IfOk result (λ status. 2 ≤ status → IsText request.now → out.new ≡ out.old) }
     ensures refused { IfErr result (λ refusal. fault_status refusal.fault ≡ 2 → out.new ≡ out.old) }
@@ -58,8 +58,10 @@ fn answered<R: Threads + Wait + Sync, F: Files, O: Write, E: Write>(
 ///
 /// It is 0 for `check`, `prove`, `refute` and `run` only where each application that is named breaks none of the twelve rules in any
 /// state of any run: for a list, each of its lines. It is 1 where that isn't shown; for `find`, where no certificate was found. It
-/// is 2 where the words, a file or an output is refused: then `err` says why, and where the answer is a text for a person about one
-/// application, nothing is written to `out`. It is 3 where the machine failed; what was written then is open.
+/// is 2 where the words, a file or an output is refused. Then either the answer was written all the same, as a report that says what is
+/// refused, or as the lines of a list, of which each is answered; or nothing was written to `out`, and `err` says why. So it is where the
+/// answer is a text for a person about one application. It is 3 where the machine failed: what was written then is open, unless it is
+/// such an answer.
 ///
 /// A file is replaced only by a certificate on which the verdict is yes, by a page, or by the certificate that `find` was asked for.
 pub fn run<R: Threads + Wait + Sync, F: Files, O: Write, E: Write>(
@@ -70,8 +72,8 @@ pub fn run<R: Threads + Wait + Sync, F: Files, O: Write, E: Write>(
     out: &mut O,
     err: &mut E,
 ) -> u8
-    ensures answered { result ≤ 1
-        → IsAnswered (F.Gives files.old) request.now result (O.contents out.old) (O.contents out.new) }
+    ensures answered { IsAnswered (F.Gives files.old) request.now result (O.contents out.old) (O.contents out.new)
+        ⊎ (2 ≤ result × (result ≡ 2 → out.new ≡ out.old)) }
     ensures safe { result ≡ 0 → AreSafe (F.Gives files.old) request.now }
     ensures kept { result ≡ 2 → IsText request.now → out.new ≡ out.old }
     ensures most { result ≤ 3 }

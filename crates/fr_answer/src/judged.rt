@@ -6,8 +6,17 @@ ghost use Rattle.fr_judge.specs.Told.{Speaks, TellsVerdict};
 use fr_ends::Certificate;
 use fr_judge::Verdict;
 use fr_program::App;
+use fr_refuter::Left;
 use fr_report::Explanation;
 use std::marker::Model;
+
+/// A search for a run into a breach that found none.
+#[derive(Clone, Copy)]
+pub struct Tried {
+    /// How many states it went through.
+    pub states: usize,
+    pub left: Left,
+}
 
 /// An application, a certificate that fits it, the verdict on both, and why it is no where that is asked for.
 #[derive(Drop)]
@@ -16,6 +25,8 @@ pub struct Judged {
     certificate: Certificate,
     verdict: Verdict,
     why: Option<Explanation>,
+    /// The search for a run into a breach that found none, where there was one.
+    tried: Option<Tried>,
 }
 
 impl Model for Judged {
@@ -50,7 +61,20 @@ impl Judged {
             certificate,
             verdict,
             why,
+            tried: None,
         }
+    }
+
+    /// The same, after this search for a run into a breach; None where there was none.
+    pub fn after_search(self, tried: Option<Tried>) -> Judged
+        ensures { result ≡ self }
+    {
+        Judged { tried, ..self }
+    }
+
+    /// The search for a run into a breach that found none, where there was one.
+    pub fn tried(&self) -> Option<Tried> {
+        self.tried
     }
 
     /// The application.

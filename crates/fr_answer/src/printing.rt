@@ -14,6 +14,7 @@ use crate::shown::shown_of;
 use crate::ways::{Asked, Warns};
 use fr_files::OutputFault;
 use fr_formats::{Source, answers_text};
+use fr_report::text_of;
 use fr_request::Format;
 use std::alloc::{AllocError, Global};
 use std::io::Write;
@@ -174,6 +175,7 @@ pub(crate) fn show<F: Files, O: Write, E: Write>(
     put_page(alloc, answer, asked, files)?;
     if asked.format.is_none() {
         warn(alloc, answer, "", err)?;
+        put(&text_of(alloc, &answer.notes)?, err)?;
     }
     Ok(answer.what.status())
 }
@@ -190,8 +192,8 @@ pub(crate) fn show_found<F: Files, O: Write, E: Write>(
     err: &mut E,
 ) -> Result<u8, Refusal>
     requires may { (path : List ℕ) → option_copied asked.html ≡ Some path → F.May files.old path }
-    ensures answered { IfOk result (λ status. status ≤ 1
-        → IsShown (HasFound found) asked.entry.format status (O.contents out.old) (O.contents out.new)) }
+    ensures answered { IfOk result
+        (λ status. IsShown (HasFound found) asked.entry.format status (O.contents out.old) (O.contents out.new)) }
     ensures refused { IfErr found (λ _. IfOk result (λ status. 2 ≤ status)) }
     ensures kept { IfOk result
         (λ status. 2 ≤ status → asked.entry.format ≡ None → out.new ≡ out.old) }
@@ -213,6 +215,8 @@ pub(crate) fn show_outputs_refused<F: Files, O: Write, E: Write>(
     out: &mut O,
     err: &mut E,
 ) -> Result<u8, Refusal>
+    ensures answered { IfOk result
+        (λ status. IsShown (λ _. ⊥) asked.entry.format status (O.contents out.old) (O.contents out.new)) }
     ensures refused { IfOk result (λ status. 2 ≤ status) }
     ensures kept { IfOk result (λ status. asked.entry.format ≡ None → out.new ≡ out.old) }
     ensures most { IfOk result (λ status. status ≤ 3) }

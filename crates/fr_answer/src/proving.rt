@@ -2,28 +2,26 @@
 ghost use Rattle.std.specs.Prelude.{◌≡◌, ◌↔◌, IfOk, IfErr, IsErrOf, string_bytes};
 ghost use Rattle.fr_ends.specs.Fits.{CertificateFits};
 ghost use Rattle.fr_parallel.specs.Kept.{IsNoCrew};
-ghost use Rattle.fr_answer.specs.Answers.{CanRefuseProof, IsProofOf};
+ghost use Rattle.fr_refuter.specs.Refutes.{IsFound};
+ghost use Rattle.fr_answer.specs.Answers.{CanRefuseProof, IsProofOf, Settles};
 
 use crate::answer::What;
 use crate::fault::CheckFault;
-use crate::judged::Judged;
+use crate::judged::{Judged, Tried};
 use crate::judging::why;
 use crate::layout::laid_out;
+use crate::ways::Ways;
 use fr_cert::{MOST_BYTES, read_cert, write_cert};
 use fr_ends::Certificate;
-use fr_judge::Verdict;
+use fr_judge::{Part, Verdict};
 use fr_parallel::{Gate, is_crew, judge_with};
 use fr_program::App;
 use fr_prover::{best_certificate, thinned};
 use fr_reader::read_app;
-use fr_refuter::{Finding, refute};
-use fr_request::Detail;
+use fr_refuter::{ActorSet, Finding, Search, refute};
 use std::alloc::{AllocError, Global};
 use std::sync::Wait;
 use std::thread::Threads;
-
-/// The most states that are looked at for a breach where the verdict is no.
-const MOST_STATES: usize = 100_000;
 
 /// The text of a certificate, a note on each line.
 fn text_of(alloc: Global, app: &App, certificate: &Certificate) -> Result<String, AllocError>
@@ -45,10 +43,49 @@ fn certificate_text(alloc: Global, app: &App) -> Result<String, AllocError> {
     text_of(alloc, app, &certificate)
 }
 
-/// Works out a certificate for the application, and judges it by this many workers. Where the verdict is no, and `searches` asks for
-/// it, the same workers look for a run into a breach, in 100,000 states at the most.
+/// The actors that the verdict names: the one whose point fails, and the one whose step spoils its note.
+fn suspects_of(verdict: Verdict) -> ActorSet {
+    match verdict {
+        Verdict::Yes => ActorSet::NONE,
+        Verdict::No {
+            point,
+            part: Part::Spoiled(by),
+        } => ActorSet::NONE.with(point.actor).with(by.actor),
+        Verdict::No { point, .. } => ActorSet::NONE.with(point.actor),
+    }
+}
+
+/// What a search finds in place of this verdict, which is no: a run into a breach, or that no state of any run breaches a rule; else how
+/// far it went. Its error is that an allocation was refused.
+fn settled<R: Threads + Sync>(
+    rt: &R,
+    alloc: Global,
+    app: &App,
+    verdict: Verdict,
+    ways: Ways,
+) -> Result<Result<Finding, Tried>, AllocError>
+    ensures found { IfOk result (λ r. IfOk r (λ found. IsFound app.now found)) }
+    ensures settles { IfOk result (λ r. IfOk r Settles) }
+{
+    let search = Search {
+        most_states: ways.states,
+        most_bytes: ways.state_bytes,
+        workers: ways.workers,
+        suspects: suspects_of(verdict),
+        wants_shortest: false,
+    };
+    Ok(match refute(rt, alloc, app, search)? {
+        Finding::Breach(run) => Ok(Finding::Breach(run)),
+        Finding::Safe { states } => Ok(Finding::Safe { states }),
+        Finding::Unknown { states, left } => Err(Tried { states, left }),
+    })
+}
+
+/// Works out a certificate for the application, and judges it. Where the verdict is no, and `searches` asks for it, the same workers
+/// look for a run into a breach.
 ///
-/// Ok is the verdict by the certificate whose text comes with it, or in place of a no a run into a breach.
+/// Ok is the verdict by the certificate whose text comes with it. In place of a no it is what the search found, where that is a run into
+/// a breach, or that no state of any run breaches a rule.
 ///
 /// # Errors
 ///
@@ -59,35 +96,37 @@ pub(crate) fn proved<R: Threads + Wait + Sync, G: Gate>(
     rt: &R,
     alloc: Global,
     app: &[u8],
-    workers: usize,
+    ways: Ways,
     gate: &G,
     searches: bool,
-    detail: Option<Detail>,
 ) -> Result<(What, String), CheckFault>
     ensures proved { IfOk result (λ r. IsProofOf app.now searches (string_bytes r.1) r.0) }
-    ensures workers { IsErrOf result CheckFault.Workers ↔ IsNoCrew workers }
-    ensures refused { IfErr result (CanRefuseProof app.now workers) }
+    ensures workers { IsErrOf result CheckFault.Workers ↔ IsNoCrew ways.workers }
+    ensures refused { IfErr result (CanRefuseProof app.now ways.workers) }
 {
-    if !is_crew(workers) {
+    if !is_crew(ways.workers) {
         return Err(CheckFault::Workers);
     }
     let app = read_app(alloc, app)?;
     let text = certificate_text(alloc, &app)?;
     let certificate = read_cert(alloc, &app, text.as_bytes())?;
-    let verdict = judge_with(rt, alloc, &app, &certificate, workers, gate)?;
+    let verdict = judge_with(rt, alloc, &app, &certificate, ways.workers, gate)?;
+    let mut tried = None;
     if searches && matches!(verdict, Verdict::No { .. }) {
-        let found = refute(rt, alloc, &app, MOST_STATES, workers)?;
-        if matches!(&found, Finding::Breach(_)) {
-            let explains = detail.is_some();
-            let what = What::Searched {
-                app,
-                found,
-                explains,
-            };
-            return Ok((what, text));
+        match settled(rt, alloc, &app, verdict, ways)? {
+            Ok(found) => {
+                let explains = ways.detail.is_some();
+                let what = What::Searched {
+                    app,
+                    found,
+                    explains,
+                };
+                return Ok((what, text));
+            }
+            Err(left) => tried = Some(left),
         }
     }
-    let why = why(alloc, &app, &certificate, verdict, detail)?;
-    let judged = Judged::new(app, certificate, verdict, why);
+    let why = why(alloc, &app, &certificate, verdict, ways.detail)?;
+    let judged = Judged::new(app, certificate, verdict, why).after_search(tried);
     Ok((What::Judged(judged), text))
 }

@@ -9,7 +9,7 @@ use crate::files::Files;
 use crate::judging::judged;
 use crate::proving::proved;
 use crate::refuting::searched;
-use crate::warning::warnings_of;
+use crate::warning::said_beside;
 use crate::ways::{Warns, Ways};
 use fr_cert::MOST_BYTES as MOST_CERTIFICATE_BYTES;
 use fr_formats::Source;
@@ -101,7 +101,7 @@ pub(crate) fn proved_file<R: Threads + Wait + Sync, F: Files>(
     ensures fault { IfErr result (λ refusal. 2 ≤ fault_status refusal.fault) }
 {
     let app = application(alloc, files, app, ways.names)?;
-    match proved(rt, alloc, &app, ways.workers, &Open, searches, ways.detail) {
+    match proved(rt, alloc, &app, ways, &Open, searches) {
         Ok((what, certificate)) => Ok((app, what, certificate)),
         Err(fault) => Err(Refusal::of_texts(alloc, &app, None, fault, ways.places)),
     }
@@ -128,15 +128,13 @@ pub(crate) fn searched_file<R: Threads + Sync, F: Files>(
     alloc: Global,
     files: &F,
     app: &str,
-    most_states: usize,
     ways: Ways,
 ) -> Result<(Vec<u8>, What), Refusal>
     ensures found { IfOk result (λ r. IsSearchAt (F.Gives files.now) app.now r.1) }
     ensures fault { IfErr result (λ refusal. 2 ≤ fault_status refusal.fault) }
 {
     let app = application(alloc, files, app, ways.names)?;
-    let explains = ways.detail.is_some();
-    match searched(rt, alloc, &app, most_states, ways.workers, explains) {
+    match searched(rt, alloc, &app, ways) {
         Ok(what) => Ok((app, what)),
         Err(fault) => Err(Refusal::of_texts(alloc, &app, None, fault, ways.places)),
     }
@@ -155,22 +153,24 @@ impl Answer {
         ensures refused { IfErr found (λ _. IfOk result (λ a. 2 ≤ what_status a.what)) }
         ensures most { IfOk result (λ a. what_status a.what ≤ 3) }
     {
-        let (text, what) = match found {
-            Ok(found) => found,
-            Err(refusal) => (Vec::new(alloc), What::Refused(refusal)),
-        };
+        let application = String::from_str(alloc, source.application)?;
         let certificate = match source.certificate {
             Some(path) => Some(String::from_str(alloc, path)?),
             None => None,
         };
-        let warnings = warnings_of(alloc, &what, warns)?;
+        let (text, what) = match found {
+            Ok(found) => found,
+            Err(refusal) => (Vec::new(alloc), What::Refused(refusal)),
+        };
+        let (warnings, notes) = said_beside(alloc, source, &what, warns)?;
         Ok(Answer {
             command: source.command,
-            application: String::from_str(alloc, source.application)?,
+            application,
             certificate,
             text,
             what,
             warnings,
+            notes,
         })
     }
 }

@@ -5,15 +5,16 @@ ghost use Rattle.fr_answer.specs.Answers.{CanRefuseSearch, IsSearchOf};
 
 use crate::answer::What;
 use crate::fault::CheckFault;
+use crate::ways::Ways;
 use fr_parallel::is_crew;
 use fr_reader::read_app;
-use fr_refuter::refute;
+use fr_refuter::{ActorSet, Search, refute};
 use std::alloc::Global;
 use std::thread::Threads;
 
-/// Looks for a run of the application into a breach of one of the twelve rules, shortest first, by this many workers, and keeps so
-/// many states at the most. Ok is what was found, which is the same for every number of workers: a run, that no state of any run
-/// breaches a rule, or nothing.
+/// Looks for a run of the application into a breach of one of the twelve rules, the shortest where the states last for it, by this many
+/// workers. Ok is what was found, which is the same for every number of workers: a run, that no state of any run breaches a rule, or
+/// nothing.
 ///
 /// # Errors
 ///
@@ -23,22 +24,27 @@ pub(crate) fn searched<R: Threads + Sync>(
     rt: &R,
     alloc: Global,
     app: &[u8],
-    most_states: usize,
-    workers: usize,
-    explains: bool,
+    ways: Ways,
 ) -> Result<What, CheckFault>
     ensures found { IfOk result (IsSearchOf app.now) }
-    ensures workers { IsErrOf result CheckFault.Workers ↔ IsNoCrew workers }
-    ensures refused { IfErr result (CanRefuseSearch app.now workers) }
+    ensures workers { IsErrOf result CheckFault.Workers ↔ IsNoCrew ways.workers }
+    ensures refused { IfErr result (CanRefuseSearch app.now ways.workers) }
 {
-    if !is_crew(workers) {
+    if !is_crew(ways.workers) {
         return Err(CheckFault::Workers);
     }
     let app = read_app(alloc, app)?;
-    let found = refute(rt, alloc, &app, most_states, workers)?;
+    let search = Search {
+        most_states: ways.states,
+        most_bytes: ways.state_bytes,
+        workers: ways.workers,
+        suspects: ActorSet::NONE,
+        wants_shortest: true,
+    };
+    let found = refute(rt, alloc, &app, search)?;
     Ok(What::Searched {
         app,
         found,
-        explains,
+        explains: ways.detail.is_some(),
     })
 }

@@ -1,11 +1,20 @@
 // What an answer may hide.
 use crate::answer::What;
+use crate::judged::Tried;
 use crate::ways::Warns;
-use fr_formats::{WarningKind, WarningShown};
+use fr_formats::{Command, Source, WarningKind, WarningShown};
 use fr_notes::Notes;
 use fr_program::App;
+use fr_refuter::{Finding, Left};
 use fr_report::{NO_ACTORS, never_reached, never_used};
 use std::alloc::{AllocError, Global};
+
+/// What is said where a certificate is asked for and the proof is by all states.
+const NO_CERTIFICATE: &str = "no certificate was written: all states were gone through instead";
+
+/// What is said of a search that didn't follow all steps.
+const NOT_FOLLOWED: &str =
+    "not every step was followed: an actor has more than 4096 choices, or a depth or a count past 255";
 
 /// Adds lines as warnings of this kind.
 fn add(
@@ -49,11 +58,7 @@ fn warnings_for(
 
 /// What the answer may hide, as far as it is asked for: a verdict says nothing of lines that are never reached, and of what is never
 /// used. An answer without a verdict hides nothing. Its error is that an allocation was refused.
-pub(crate) fn warnings_of(
-    alloc: Global,
-    what: &What,
-    warns: Warns,
-) -> Result<Vec<WarningShown>, AllocError> {
+fn warnings_of(alloc: Global, what: &What, warns: Warns) -> Result<Vec<WarningShown>, AllocError> {
     match what {
         _ if warns == Warns::Never => Ok(Vec::new(alloc)),
         What::Judged(judged) => {
@@ -63,4 +68,61 @@ pub(crate) fn warnings_of(
         What::Searched { app, .. } => warnings_for(alloc, app, None, warns),
         What::Refused(_) => Ok(Vec::new(alloc)),
     }
+}
+
+/// Whether a certificate was asked for from the command `prove`.
+fn is_unwritten(source: Source) -> bool {
+    matches!(source.command, Command::Prove) && source.certificate.is_some()
+}
+
+/// The line that says what kept a search from going through all states: None where it is their number, which the answer says.
+fn left_line(alloc: Global, left: Left) -> Result<Option<String>, AllocError> {
+    Ok(match left {
+        Left::States => None,
+        Left::Bytes(most) => {
+            let mebibytes = most / 1_048_576;
+            Some(format!(in alloc; "the limit of {mebibytes} MiB was reached")?)
+        }
+        Left::Choices => Some(String::from_str(alloc, NOT_FOLLOWED)?),
+    })
+}
+
+/// What was tried besides: how many states were gone through for a run into a breach, where `prove` found none, and what kept the search
+/// from going through all; or that no certificate was written, where the proof is by all states. Its error is that an allocation
+/// was refused.
+fn notes_of(alloc: Global, source: Source, what: &What) -> Result<Vec<String>, AllocError> {
+    let mut notes = Vec::new(alloc);
+    let left = match what {
+        What::Judged(judged) => match judged.tried() {
+            Some(Tried { states, left }) => {
+                notes.push(format!(in alloc; "no run into a breach in {states} states")?)?;
+                left_line(alloc, left)?
+            }
+            None => None,
+        },
+        What::Searched { found, .. } => match found {
+            Finding::Unknown { left, .. } => left_line(alloc, *left)?,
+            Finding::Safe { .. } if is_unwritten(source) => {
+                Some(String::from_str(alloc, NO_CERTIFICATE)?)
+            }
+            _ => None,
+        },
+        What::Refused(_) => None,
+    };
+    if let Some(line) = left {
+        notes.push(line)?;
+    }
+    Ok(notes)
+}
+
+/// What is said beside an answer: its warnings, as far as they are asked for, and what was tried besides. Its error is that an
+/// allocation was refused.
+pub(crate) fn said_beside(
+    alloc: Global,
+    source: Source,
+    what: &What,
+    warns: Warns,
+) -> Result<(Vec<WarningShown>, Vec<String>), AllocError> {
+    let warnings = warnings_of(alloc, what, warns)?;
+    Ok((warnings, notes_of(alloc, source, what)?))
 }

@@ -5,6 +5,17 @@ ghost use Rattle.fr_answer.specs.Commands.{detail_in};
 use fr_files::{Holds, Output};
 use fr_request::{Detail, Format};
 
+/// How many states a search for a breach keeps at the most, where the words don't say how many.
+pub(crate) const MOST_STATES: usize = 1_000_000;
+
+/// How many bytes these states take at the most, where the words don't say how many.
+pub(crate) const MOST_STATE_BYTES: usize = 536_870_912;
+
+/// So many MiB in bytes.
+pub(crate) fn mebibytes(count: u32) -> usize {
+    (count as usize).saturating_mul(1_048_576)
+}
+
 /// Of which things that a verdict may hide a command warns.
 #[derive(Clone, Copy, PartialEq, Eq)]
 pub(crate) enum Warns {
@@ -21,6 +32,10 @@ pub(crate) enum Warns {
 pub(crate) struct Ways {
     /// How many threads judge or search.
     pub workers: usize,
+    /// The most states that a search for a breach keeps.
+    pub states: usize,
+    /// The most bytes that these states take.
+    pub state_bytes: usize,
     /// Whether it is explained why it is no and where a refusal is, and how much of a state.
     pub detail: Option<Detail>,
     /// Whether it is found out where a text is refused.

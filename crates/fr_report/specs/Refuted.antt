@@ -9,9 +9,10 @@
 -- | IsStepTold       | the line of a step, as one of a run; if it is explained, other lines below it       |
 -- | AreStepLines     | the lines of steps, explained or not                                                |
 -- | standing_text, IsPlaced | where an actor is, with its line of code                                     |
--- | AreRunLines      | the lines of steps, and then where the actor is                                     |
+-- | shorter_text     | the line that says that a shorter run may exist, where it may and this is asked for |
+-- | AreRunLines      | the lines of steps, where the actor is then, and that line                          |
 -- | IsRunText        | those lines of a breach, and otherwise none                                         |
-use Rattle.std.specs.Prelude.{◌≡◌, ◌++◌, ℕ, Bool, true, false, List, [], ◌∷◌, All, None, Some, codes, decimal, encode_utf8_all, length, map, String, string_bytes}
+use Rattle.std.specs.Prelude.{◌≡◌, ◌++◌, ℕ, Bool, true, false, not, ◌&&◌, if◌then◌else◌, List, [], ◌∷◌, All, None, Some, codes, decimal, encode_utf8_all, length, map, String, string_bytes}
 use Rattle.std.specs.declared.alloc.Global.{Global}
 use Rattle.fr_escape.specs.Plain.{plain}
 use Rattle.fr_program.specs.declared.ids.ActorId.{ActorId}
@@ -48,7 +49,7 @@ breach_text P r =
 abbrev pub found_line : Program → Finding → List ℕ
 found_line P (Breach r) = codes "breach: " ++ breach_text P r
 found_line P (Safe states) = codes "no breach in " ++ (decimal states ++ codes " states")
-found_line P (Unknown states) = codes "no breach in " ++ (decimal states ++ codes " states, more are left")
+found_line P (Unknown states left) = codes "no breach in " ++ (decimal states ++ codes " states, more are left")
 
 -- a line that looks like no step: two blanks, and a text with what steers a terminal, and what ends a line, written as in a literal
 abbrev pub IsBelow : List ℕ → Type 0
@@ -78,13 +79,17 @@ standing_text P s = elim s.point [
 abbrev pub IsPlaced : Program → ActorId → Standing → Type 0
 IsPlaced P actor s = (s.actor ≡ actor) × elim s.point [ None ↦ Unit {0} | Some p ↦ (p.actor ≡ actor) × (string_bytes s.code ≡ code_text P p) ]
 
--- the lines of the steps, explained or not, and then the line that says where the actor is
-abbrev pub AreRunLines : Bool → Program → List StepTaken → Standing → List ℕ → Type 0
-AreRunLines explains P steps last text =
-    (lines : List ℕ) × AreStepLines explains P steps lines × (text ≡ lines ++ (standing_text P last ++ codes "\n"))
+-- the line that follows a run that isn't known to be the shortest, where it is explained
+abbrev pub shorter_text : Bool → Bool → List ℕ
+shorter_text explains shortest = if explains && not shortest then codes "a shorter run may exist\n" else []
+
+-- the lines of the steps, explained or not, then the line that says where the actor is, and that a shorter run may exist
+abbrev pub AreRunLines : Bool → Program → List StepTaken → Standing → Bool → List ℕ → Type 0
+AreRunLines explains P steps last shortest text =
+    (lines : List ℕ) × AreStepLines explains P steps lines × (text ≡ lines ++ (standing_text P last ++ (codes "\n" ++ shorter_text explains shortest)))
 
 -- those lines of the steps that lead to a breach, and where the actor is that breaches the rule; no text where none was found
 abbrev pub IsRunText : Bool → Program → Finding → List ℕ → Type 0
-IsRunText explains P (Breach r) text = (last : Standing) × IsPlaced P r.actor last × AreRunLines explains P r.steps.items last text
+IsRunText explains P (Breach r) text = (last : Standing) × IsPlaced P r.actor last × AreRunLines explains P r.steps.items last r.is_shortest text
 IsRunText explains P (Safe states) text = text ≡ []
-IsRunText explains P (Unknown states) text = text ≡ []
+IsRunText explains P (Unknown states left) text = text ≡ []

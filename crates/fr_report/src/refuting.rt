@@ -1,10 +1,12 @@
 // What is found of an application that is searched for a breach.
-ghost use Rattle.std.specs.Prelude.{◌≡◌, All, IfOk, string_bytes};
+ghost use Rattle.std.specs.Prelude.{◌≡◌, ◌++◌, All, IfOk, codes, string_bytes};
 ghost use Rattle.fr_calls.specs.State.{IsWellFormed};
 ghost use Rattle.fr_report.specs.Lines.{lines_text};
 ghost use Rattle.fr_report.specs.Refuted.{
   breach_text,
   found_line,
+  shorter_text,
+  standing_text,
   steps_in,
   AreRunLines,
   IsBelow,
@@ -30,6 +32,8 @@ pub struct ExplainedRun {
     pub steps: Vec<ExplainedStep>,
     /// Where the actor then is that breaches the rule.
     pub last: Standing,
+    /// It is the shortest of all, as far as the search saw.
+    pub is_shortest: bool,
 }
 
 /// Takes a step, and explains it.
@@ -56,6 +60,7 @@ fn step_told(
 pub fn explain_run(alloc: Global, app: &App, found: &Refutation) -> Result<ExplainedRun, AllocError>
     ensures steps { IfOk result (λ run. steps_in run.steps.items ≡ found.now.steps.items) }
     ensures last { IfOk result (λ run. IsPlaced app.now found.now.actor run.last) }
+    ensures shortest { IfOk result (λ run. run.is_shortest ≡ found.now.is_shortest) }
 {
     app.recall_faultless();
     the_start_is_well_formed();
@@ -65,7 +70,11 @@ pub fn explain_run(alloc: Global, app: &App, found: &Refutation) -> Result<Expla
         steps.push(step_told(alloc, app, &mut state, *step)?)?;
     }
     let last = standing_in(alloc, app, found.actor, &state)?;
-    Ok(ExplainedRun { steps, last })
+    Ok(ExplainedRun {
+        steps,
+        last,
+        is_shortest: found.is_shortest,
+    })
 }
 
 /// The text as a line below a step.
@@ -119,22 +128,37 @@ fn step_lines(
 }
 
 impl ExplainedRun {
+    /// The lines that follow those of the steps.
+    fn end_lines(&self, alloc: Global, app: &App, explains: bool) -> Result<Vec<String>, AllocError>
+        ensures { IfOk result (λ lines. lines_text lines.items ≡
+            standing_text app.now self.now.last ++ (codes "\n" ++ shorter_text explains self.now.is_shortest)) }
+    {
+        let mut lines = Vec::new(alloc);
+        lines.push(self.last.text(alloc, app)?)?;
+        if explains && !self.is_shortest {
+            lines.push(String::from_str(alloc, "a shorter run may exist")?)?;
+        }
+        Ok(lines)
+    }
+
     /// The lines of the run: those of its steps, and where the actor is that then breaches the rule, with its
-    /// line of code. Where it is asked for, lines below each step explain it.
+    /// line of code. Where it is asked for, lines below each step explain it, and the last line says that a shorter run may exist,
+    /// where it may.
     ///
     /// # Errors
     ///
     /// Only where memory is refused. The lines' form is this project's own.
     pub fn lines(&self, alloc: Global, app: &App, explains: bool) -> Result<Vec<String>, AllocError>
         ensures { IfOk result (λ lines.
-            AreRunLines explains app.now (steps_in self.now.steps.items) self.now.last (lines_text lines.items)) }
+            AreRunLines explains app.now (steps_in self.now.steps.items) self.now.last self.now.is_shortest (lines_text lines.items)) }
     {
         let mut lines = Vec::new(alloc);
         for step in &self.steps {
             let mut more = step_lines(alloc, app, step, explains)?;
             lines.append(&mut more)?;
         }
-        lines.push(self.last.text(alloc, app)?)?;
+        let mut ends = self.end_lines(alloc, app, explains)?;
+        lines.append(&mut ends)?;
         Ok(lines)
     }
 }
@@ -159,7 +183,7 @@ pub fn finding_line(alloc: Global, app: &App, found: &Finding) -> Result<String,
             format!(in alloc; "breach: {told}")
         }
         Finding::Safe { states } => format!(in alloc; "no breach in {states} states"),
-        Finding::Unknown { states } => {
+        Finding::Unknown { states, .. } => {
             format!(in alloc; "no breach in {states} states, more are left")
         }
     }

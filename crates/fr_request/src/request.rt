@@ -73,6 +73,10 @@ pub struct ProveRequest<'a> {
     pub detail: Option<Detail>,
     /// Whether a run into a breach is looked for where the verdict is no.
     pub searches: bool,
+    /// The most states that this search keeps.
+    pub states: u32,
+    /// The most memory for these states, in MiB.
+    pub memory: u32,
     /// The form of the answer; None where it is a text for a person.
     pub format: Option<Format>,
     /// The file for the page, where one is wanted.
@@ -85,6 +89,8 @@ pub struct RefuteRequest<'a> {
     pub app: &'a str,
     /// The most states that are kept.
     pub states: u32,
+    /// The most memory for these states, in MiB.
+    pub memory: u32,
     pub workers: u16,
     /// Whether it is told what each step of the run did, or where a refusal is.
     pub explains: bool,

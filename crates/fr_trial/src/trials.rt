@@ -155,6 +155,8 @@ fn proves(rt: HostRuntime) -> Result<(), AllocError> {
             warns: false,
             detail: None,
             searches: true,
+            states: 1000,
+            memory: 64,
             format: None,
             html,
         });
@@ -172,6 +174,7 @@ fn refutes(rt: HostRuntime) -> Result<(), AllocError> {
     let asked = Request::Refute(RefuteRequest {
         app: "broken.toml",
         states: 1000,
+        memory: 64,
         workers: 1,
         explains: false,
         format: None,

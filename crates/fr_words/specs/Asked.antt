@@ -71,11 +71,14 @@ pub record IsProve (rs : Rows) (asked : ProveRequest) : Type 0 where
   pub warns : asked.warns ≡ is_given rs (codes "warn")
   pub detail : asked.detail ≡ detail_at rs
   pub searches : asked.searches ≡ not (is_given rs (codes "no-search"))
+  pub states : number_at 32 rs (codes "states") ≡ Some asked.states
+  pub memory : number_at 32 rs (codes "memory") ≡ Some asked.memory
   pub format : asked.format ≡ format_at rs
   pub html : option_map (λ s. s.now) asked.html ≡ text_at rs (codes "html")
 
 abbrev pub can_prove : Rows → Bool
-can_prove rs = has_text rs (codes "APP") && has_number 16 rs (codes "workers")
+can_prove rs =
+    has_text rs (codes "APP") && has_number 16 rs (codes "workers") && has_number 32 rs (codes "states") && has_number 32 rs (codes "memory")
 
 -- `points`, whose request has no type of its own
 pub record IsPoints (rs : Rows) (named : Text) (told : Bool) : Type 0 where
@@ -86,13 +89,15 @@ pub record IsPoints (rs : Rows) (named : Text) (told : Bool) : Type 0 where
 pub record IsRefute (rs : Rows) (asked : RefuteRequest) : Type 0 where
   pub app : text_at rs (codes "APP") ≡ Some asked.app.now
   pub states : number_at 32 rs (codes "states") ≡ Some asked.states
+  pub memory : number_at 32 rs (codes "memory") ≡ Some asked.memory
   pub workers : number_at 16 rs (codes "workers") ≡ Some asked.workers
   pub explains : asked.explains ≡ is_given rs (codes "explain")
   pub format : asked.format ≡ format_at rs
   pub html : option_map (λ s. s.now) asked.html ≡ text_at rs (codes "html")
 
 abbrev pub can_refute : Rows → Bool
-can_refute rs = has_text rs (codes "APP") && has_number 32 rs (codes "states") && has_number 16 rs (codes "workers")
+can_refute rs =
+    has_text rs (codes "APP") && has_number 32 rs (codes "states") && has_number 32 rs (codes "memory") && has_number 16 rs (codes "workers")
 
 -- `run`
 pub record IsRun (rs : Rows) (asked : RunRequest) : Type 0 where

@@ -3,17 +3,17 @@ ghost use Rattle.std.specs.Prelude.{◌≡◌, IfSome, is_some};
 ghost use Rattle.fr_words.specs.Found.{rows};
 ghost use Rattle.fr_words.specs.Asked.{IsProve, can_prove};
 
-use crate::found::{is_given, short_number_at, text_at};
+use crate::found::{is_given, number_at, short_number_at, text_at};
 use crate::shared::{
     all_arg, command_of, detail_asked, explain_arg, file_arg, flag_arg, format_arg, format_asked,
-    html_arg, text_arg, warn_arg, workers_arg,
+    html_arg, memory_arg, states_arg, text_arg, warn_arg, workers_arg,
 };
 use clap::{Arg, ArgMatches, Command};
 use fr_request::ProveRequest;
 use std::alloc::{AllocError, Global};
 
 const STATUSES: &str = "Exit status:
-  0  The verdict is yes
+  0  The verdict is yes, or all states were seen and none breaches a rule
   1  A run into a breach was printed, or the verdict by the best certificate that was found
   2  The words or the application are refused, or the file for the certificate has something else
   3  The machine failed: no memory, no thread, or a file that can't be read or written";
@@ -42,6 +42,8 @@ pub fn prove_command<'a>(alloc: Global) -> Result<Command<'a>, AllocError> {
         certificate_arg(alloc),
         workers_arg(alloc),
         no_search_arg(alloc),
+        states_arg(alloc),
+        memory_arg(alloc, "512"),
         format_arg(alloc),
         warn_arg(alloc),
         explain_arg(alloc, EXPLAINS),
@@ -64,6 +66,8 @@ pub fn asked_prove<'a>(words: &ArgMatches<'a>) -> Option<ProveRequest<'a>>
         warns: is_given(words, "warn"),
         detail: detail_asked(words),
         searches: !is_given(words, "no-search"),
+        states: number_at(words, "states")?,
+        memory: number_at(words, "memory")?,
         format: format_asked(words),
         html: text_at(words, "html"),
     })

@@ -5,9 +5,10 @@ ghost use Rattle.fr_words.specs.Asked.{IsRefute, can_refute};
 
 use crate::found::{is_given, number_at, short_number_at, text_at};
 use crate::shared::{
-    command_of, explain_arg, file_arg, format_arg, format_asked, html_arg, workers_arg,
+    command_of, explain_arg, file_arg, format_arg, format_asked, html_arg, memory_arg, states_arg,
+    workers_arg,
 };
-use clap::{Arg, ArgMatches, Command, value_parser};
+use clap::{ArgMatches, Command};
 use fr_request::RefuteRequest;
 use std::alloc::{AllocError, Global};
 
@@ -20,16 +21,6 @@ const STATUSES: &str = "Exit status:
 const EXPLAINS: &str =
     "Tell what each step of the run did, and on standard error where a refused file is at fault";
 
-/// The word `--states` with its number.
-fn states_arg<'a>(alloc: Global) -> Arg<'a> {
-    Arg::new(alloc, "states")
-        .long("states")
-        .value_name("N")
-        .value_parser(value_parser!(u32).range(1..=100_000_000))
-        .default_value("1000000")
-        .help("The most states that are looked at, 1 to 100000000")
-}
-
 /// The command `refute`: its words, its help and its exit statuses.
 pub fn refute_command<'a>(alloc: Global) -> Result<Command<'a>, AllocError> {
     let about = "Looks for a run of an application into a breach of a rule, shortest first";
@@ -37,6 +28,7 @@ pub fn refute_command<'a>(alloc: Global) -> Result<Command<'a>, AllocError> {
     let args = vec![in alloc;
         file_arg(alloc, "APP", "The application, in TOML"),
         states_arg(alloc),
+        memory_arg(alloc, "2048"),
         workers_arg(alloc),
         format_arg(alloc),
         explain_arg(alloc, EXPLAINS),
@@ -54,6 +46,7 @@ pub fn asked_refute<'a>(words: &ArgMatches<'a>) -> Option<RefuteRequest<'a>>
     Some(RefuteRequest {
         app: text_at(words, "APP")?,
         states: number_at(words, "states")?,
+        memory: number_at(words, "memory")?,
         workers: short_number_at(words, "workers")?,
         explains: is_given(words, "explain"),
         format: format_asked(words),

@@ -50,6 +50,26 @@ pub fn file_arg<'a>(alloc: Global, id: &'a str, help: &'a str) -> Arg<'a> {
         .help(help)
 }
 
+/// The word `--states` with its number.
+pub fn states_arg<'a>(alloc: Global) -> Arg<'a> {
+    Arg::new(alloc, "states")
+        .long("states")
+        .value_name("N")
+        .value_parser(value_parser!(u32).range(1..=100_000_000))
+        .default_value("1000000")
+        .help("The most states that are looked at, 1 to 100000000")
+}
+
+/// The word `--memory` with its number, which is so many MiB where it isn't given.
+pub fn memory_arg<'a>(alloc: Global, otherwise: &'a str) -> Arg<'a> {
+    Arg::new(alloc, "memory")
+        .long("memory")
+        .value_name("MIB")
+        .value_parser(value_parser!(u32).range(1..=1_048_576))
+        .default_value(otherwise)
+        .help("The most memory for these states, 1 to 1048576 MiB")
+}
+
 /// The word `--workers` with its number.
 pub fn workers_arg<'a>(alloc: Global) -> Arg<'a> {
     Arg::new(alloc, "workers")

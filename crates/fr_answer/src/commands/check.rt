@@ -16,7 +16,7 @@ use crate::commands::list::check_list;
 use crate::files::Files;
 use crate::printing::{show_found, show_outputs_refused};
 use crate::reading::checked_files;
-use crate::ways::{Asked, Warns, Ways, detail_in, output_at};
+use crate::ways::{Asked, MOST_STATE_BYTES, MOST_STATES, Warns, Ways, detail_in, output_at};
 use fr_files::Holds;
 use fr_formats::{Command, Source};
 use fr_request::{CheckRequest, Judged};
@@ -30,6 +30,8 @@ fn ways_of(asked: &CheckRequest) -> Ways {
     let detail = detail_in(asked.format, asked.detail);
     Ways {
         workers: usize::from(asked.workers),
+        states: MOST_STATES,
+        state_bytes: MOST_STATE_BYTES,
         detail,
         places: detail.is_some() || asked.html.is_some(),
         names: detail.is_some(),
@@ -66,7 +68,7 @@ fn check_looked<R: Threads + Wait + Sync, F: Files, O: Write, E: Write>(
     err: &mut E,
 ) -> Result<u8, Refusal>
     requires may { (path : List ℕ) → option_copied asked.now.html ≡ Some path → F.May files.old path }
-    ensures answered { IfOk result (λ status. status ≤ 1 → IsShown
+    ensures answered { IfOk result (λ status. IsShown
         (IsCheckOf (F.Gives files.old) app.now certificate.now) asked.now.format status (O.contents out.old) (O.contents out.new)) }
     ensures kept { IfOk result
         (λ status. 2 ≤ status → asked.now.format ≡ None → out.new ≡ out.old) }
@@ -102,7 +104,7 @@ fn check_one<R: Threads + Wait + Sync, F: Files, O: Write, E: Write>(
     out: &mut O,
     err: &mut E,
 ) -> Result<u8, Refusal>
-    ensures answered { IfOk result (λ status. status ≤ 1 → IsShown
+    ensures answered { IfOk result (λ status. IsShown
         (IsCheckOf (F.Gives files.old) app.now certificate.now) asked.now.format status (O.contents out.old) (O.contents out.new)) }
     ensures kept { IfOk result
         (λ status. 2 ≤ status → asked.now.format ≡ None → out.new ≡ out.old) }
@@ -134,7 +136,7 @@ pub(crate) fn check<R: Threads + Wait + Sync, F: Files, O: Write, E: Write>(
     err: &mut E,
 ) -> Result<u8, Refusal>
     ensures answered { IfOk result
-        (λ status. status ≤ 1 → IsCheckAnswered (F.Gives files.old) asked.now.files asked.now.format
+        (λ status. IsCheckAnswered (F.Gives files.old) asked.now.files asked.now.format
         (is_some asked.now.detail) status (O.contents out.old) (O.contents out.new)) }
     ensures kept { IfOk result (λ status. 2 ≤ status → IsNamedText asked.now.files asked.now.format → out.new ≡ out.old) }
     ensures refused { IfErr result (λ refusal. fault_status refusal.fault ≡ 2 → out.new ≡ out.old) }

@@ -25,7 +25,7 @@ use crate::files::Files;
 use crate::printing::{put, warn};
 use crate::reading::{checked_files, input, proved_alone};
 use crate::shown::shown_of;
-use crate::ways::{Warns, Ways, detail_in};
+use crate::ways::{MOST_STATE_BYTES, MOST_STATES, Warns, Ways, detail_in};
 use fr_escape::push_plain;
 use fr_formats::{AnswerShown, Command, Source, answers_text};
 use fr_list::{Listed, MOST_LIST_BYTES, listed_in, path_beside};
@@ -249,6 +249,8 @@ pub(super) fn check_list<R: Threads + Wait + Sync, F: Files, O: Write, E: Write>
     let detail = detail_in(asked.format, asked.detail);
     let ways = Ways {
         workers: usize::from(asked.workers),
+        states: MOST_STATES,
+        state_bytes: MOST_STATE_BYTES,
         detail,
         places: detail.is_some(),
         names: true,

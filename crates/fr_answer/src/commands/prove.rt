@@ -4,13 +4,12 @@ ghost use Rattle.fr_answer.specs.Checked.{fault_status};
 ghost use Rattle.fr_answer.specs.Commands.{IsAnswered, IsGiven, IsWritten};
 
 use crate::answer::{Refusal, What};
-use crate::exit::DONE;
 use crate::files::Files;
 use crate::printing::{show_found, show_outputs_refused};
 use crate::reading::proved_file;
-use crate::ways::{Asked, Warns, Ways, detail_in, output_at};
+use crate::ways::{Asked, Warns, Ways, detail_in, mebibytes, output_at};
 use fr_files::Holds;
-use fr_formats::{Command, Source};
+use fr_formats::{AnswerKind, Command, Source};
 use fr_request::{ProveRequest, Request};
 use std::alloc::Global;
 use std::io::Write;
@@ -35,7 +34,7 @@ fn kept<F: Files>(
     ensures same { IfErr found (λ _. files.new ≡ files.old) }
 {
     let (text, what, certificate) = found?;
-    if what.status() == DONE
+    if matches!(what.kind(), AnswerKind::Yes)
         && let Some(path) = out
     {
         if let Err(fault) = files.replace(path, certificate.as_bytes()) {
@@ -50,6 +49,8 @@ fn ways_of(asked: &ProveRequest) -> Ways {
     let detail = detail_in(asked.format, asked.detail);
     Ways {
         workers: usize::from(asked.workers),
+        states: asked.states as usize,
+        state_bytes: mebibytes(asked.memory),
         detail,
         places: detail.is_some() || asked.html.is_some(),
         names: true,
@@ -94,7 +95,7 @@ fn prove_looked<R: Threads + Wait + Sync, F: Files, O: Write, E: Write>(
 ) -> Result<u8, Refusal>
     requires out { (path : List ℕ) → option_copied asked.now.out ≡ Some path → F.May files.old path }
     requires html { (path : List ℕ) → option_copied asked.now.html ≡ Some path → F.May files.old path }
-    ensures answered { IfOk result (λ status. status ≤ 1 → IsAnswered (F.Gives files.old)
+    ensures answered { IfOk result (λ status. IsAnswered (F.Gives files.old)
         (Request.Prove asked.now) status (O.contents out.old) (O.contents out.new)) }
     ensures kept { IfOk result
         (λ status. 2 ≤ status → asked.now.format ≡ None → out.new ≡ out.old) }
@@ -126,7 +127,7 @@ pub(crate) fn prove<R: Threads + Wait + Sync, F: Files, O: Write, E: Write>(
     out: &mut O,
     err: &mut E,
 ) -> Result<u8, Refusal>
-    ensures answered { IfOk result (λ status. status ≤ 1 → IsAnswered (F.Gives files.old)
+    ensures answered { IfOk result (λ status. IsAnswered (F.Gives files.old)
         (Request.Prove asked.now) status (O.contents out.old) (O.contents out.new)) }
     ensures kept { IfOk result
         (λ status. 2 ≤ status → asked.now.format ≡ None → out.new ≡ out.old) }

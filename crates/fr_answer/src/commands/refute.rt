@@ -7,7 +7,7 @@ use crate::answer::Refusal;
 use crate::files::Files;
 use crate::printing::{show_found, show_outputs_refused};
 use crate::reading::searched_file;
-use crate::ways::{Asked, Warns, Ways, output_at};
+use crate::ways::{Asked, Warns, Ways, mebibytes, output_at};
 use fr_files::Holds;
 use fr_formats::{Command, Source};
 use fr_request::{Detail, RefuteRequest, Request};
@@ -20,6 +20,8 @@ fn ways_of(asked: &RefuteRequest) -> Ways {
     let detail = asked.explains.then_some(Detail::Told);
     Ways {
         workers: usize::from(asked.workers),
+        states: asked.states as usize,
+        state_bytes: mebibytes(asked.memory),
         detail,
         places: asked.explains || asked.format.is_some() || asked.html.is_some(),
         names: true,
@@ -59,7 +61,7 @@ fn refute_looked<R: Threads + Sync, F: Files, O: Write, E: Write>(
     err: &mut E,
 ) -> Result<u8, Refusal>
     requires may { (path : List ℕ) → option_copied asked.now.html ≡ Some path → F.May files.old path }
-    ensures answered { IfOk result (λ status. status ≤ 1 → IsAnswered (F.Gives files.old)
+    ensures answered { IfOk result (λ status. IsAnswered (F.Gives files.old)
         (Request.Refute asked.now) status (O.contents out.old) (O.contents out.new)) }
     ensures kept { IfOk result
         (λ status. 2 ≤ status → asked.now.format ≡ None → out.new ≡ out.old) }
@@ -69,7 +71,7 @@ fn refute_looked<R: Threads + Sync, F: Files, O: Write, E: Write>(
         (option_copied asked.now.html) files.old files.new }
 {
     let ways = ways_of(asked);
-    let found = searched_file(rt, alloc, files, asked.app, asked.states as usize, ways);
+    let found = searched_file(rt, alloc, files, asked.app, ways);
     let shown = Asked {
         format: asked.format,
         html: asked.html,
@@ -90,7 +92,7 @@ pub(crate) fn refute<R: Threads + Sync, F: Files, O: Write, E: Write>(
     out: &mut O,
     err: &mut E,
 ) -> Result<u8, Refusal>
-    ensures answered { IfOk result (λ status. status ≤ 1 → IsAnswered (F.Gives files.old)
+    ensures answered { IfOk result (λ status. IsAnswered (F.Gives files.old)
         (Request.Refute asked.now) status (O.contents out.old) (O.contents out.new)) }
     ensures kept { IfOk result
         (λ status. 2 ≤ status → asked.now.format ≡ None → out.new ≡ out.old) }

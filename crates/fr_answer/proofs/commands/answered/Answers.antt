@@ -1,8 +1,8 @@
 -- The status 0 is that of safe applications.
 use Rattle.std.proofs.Common.{List, ℕ}
 use Rattle.std.specs.Option.{is_some}
-use Rattle.fr_answer.specs.Commands.{AreNamedSafe, IsCheckAnswered, IsProofAt, IsSafeAt, IsShown}
-use Rattle.fr_answer.proofs.Safe.{named-safe, proof-shown-safe, safe-by}
+use Rattle.fr_answer.specs.Commands.{AreNamedSafe, IsCheckAnswered, IsProofAt, IsSafeAt, IsSearchAt, IsShown}
+use Rattle.fr_answer.proofs.Safe.{named-safe, proof-shown-safe, safe-by, search-shown-safe}
 use Rattle.fr_answer.proofs.commands.answered.Goals as goal
 
 pub returns-in-Check-clause-safe : goal.returns-in-Check-clause-safe
@@ -18,3 +18,10 @@ returns-in-Prove-clause-safe g c =
     let asked = c.in-Prove.asked in
     rw c.in-Prove.is (safe-by (λ s. IsShown (λ what. (certificate : List ℕ) × IsProofAt gives asked.app.now asked.searches certificate what) asked.format s _ _) (IsSafeAt gives asked.app.now) c.prove.result c.prove.ensures.answered
     (λ s e h. proof-shown-safe gives asked.app.now asked.searches asked.format s _ _ e h))
+
+pub returns-in-Refute-clause-safe : goal.returns-in-Refute-clause-safe
+returns-in-Refute-clause-safe g c =
+    let gives = g.F.Files.Gives c.args.files.now in
+    let asked = c.in-Refute.asked in
+    rw c.in-Refute.is (safe-by (λ s. IsShown (IsSearchAt gives asked.app.now) asked.format s _ _) (IsSafeAt gives asked.app.now) c.refute.result c.refute.ensures.answered
+    (λ s e h. search-shown-safe gives asked.app.now asked.format s _ _ e h))

@@ -1,7 +1,8 @@
 -- Both outputs passed.
 use Rattle.std.proofs.Common.{refl, rules}
-use Rattle.std.specs.Prelude.{option_copied}
-use Rattle.fr_answer.proofs.Showing.{kept-same, may-of, paged-same}
+use Rattle.std.specs.Prelude.{option_copied, ℕ, List}
+use Rattle.fr_answer.specs.Commands.{IsProofAt}
+use Rattle.fr_answer.proofs.Showing.{kept-same, may-of, paged-same, shown-none}
 use Rattle.fr_answer.proofs.commands.prove.prove.Goals as goal
 
 pub prove_looked-requires : goal.prove_looked-requires
@@ -17,3 +18,8 @@ returns-in-Err-clause-files g c =
       kept-same (g.F.Files.Gives c.args.files.now) g.F.Files.Puts c.args.asked.now.app.now (option_copied c.args.asked.now.out) c.args.files.now,
       paged-same g.F.Files.Puts _ (option_copied c.args.asked.now.html) c.args.files.now _ same,
     )
+
+pub returns-in-Err-clause-answered : goal.returns-in-Err-clause-answered
+returns-in-Err-clause-answered g c =
+    shown-none (λ what. (certificate : List ℕ) × IsProofAt (g.F.Files.Gives c.args.files.now) c.args.asked.now.app.now c.args.asked.now.searches certificate what) _ c.args.asked.now.format _ _
+    c.show_outputs_refused.result c.asked_of-shown.ensures.format c.show_outputs_refused.ensures.answered

@@ -1,6 +1,6 @@
 -- Each turn adds the lines of the next step, and at last comes the line that tells where the actor is.
-use Rattle.std.proofs.Common.{◌≡◌, ◌∙◌, ◌+◌, ◌<◌, ◌≤◌, ◌++◌, ◌∷◌, [], take, length, get_or, ap, codes, string_bytes, sym, subst, arith, rules}
-use Rattle.std.proofs.lemmas.List.{append-nil, take_all}
+use Rattle.std.proofs.Common.{◌≡◌, ◌∙◌, ◌+◌, ◌<◌, ◌≤◌, ◌++◌, take, length, get_or, ap, sym, subst, arith, rules}
+use Rattle.std.proofs.lemmas.List.{take_all}
 use Rattle.std.proofs.lemmas.Grind.{flat_map-append}
 use Rattle.fr_report.specs.Lines.{lines_text}
 use Rattle.fr_report.specs.Refuted.{steps_in, AreStepLines}
@@ -27,10 +27,9 @@ returns c =
     let steps = c.args.self.now.steps.items in
     let k = c.loop-step.step-index in
     let lines = c.loop-step.lines.items in
-    let last = c.in_ok-text.field-0 in
+    let ends = c.in_ok-ends.ends.items in
     let ended : length c.deref-step-items.result.now ≤ k = omega (arith, c.loop-step-test.false) in
     let all = take_all k steps (subst (λ xs. length xs ≤ k) c.deref-step-items.ensures.value ended) in
-    let pushed : c.push.new.self.items ≡ lines ++ last ∷ [] = search rules in
+    let added : c.append-2.new.self.items ≡ lines ++ ends = search rules in
     let told = subst (λ xs. AreStepLines c.args.explains c.args.app.now (steps_in xs) (lines_text lines)) all c.loop-step.invariant in
-    let line = append-nil (string_bytes last ++ codes "\n") ∙ ap (λ t. t ++ codes "\n") c.in_ok-text.ensures in
-    (lines_text lines, told, ap lines_text pushed ∙ flat_map-append _ lines (last ∷ []) ∙ ap (λ t. lines_text lines ++ t) line)
+    (lines_text lines, told, ap lines_text added ∙ flat_map-append _ lines ends ∙ ap (λ t. lines_text lines ++ t) c.in_ok-ends.ensures)
