@@ -20,8 +20,11 @@ use std::collections::BTreeSet;
 /// The most steps that a search looks at.
 pub const MOST_STEPS: u64 = 40_000_000;
 
-/// So often divisions are added to those that served best.
+/// So often divisions are added to those that served best, for each actor that fails first.
 const MOST_DIVISIONS: usize = 6;
+
+/// The most actors of an application.
+const MOST_ACTORS: usize = 32;
 
 /// So often a search learns thresholds.
 const MOST_LESSONS: u32 = 3;
@@ -150,7 +153,7 @@ impl<'a> Search<'a> {
         Ok(better)
     }
 
-    /// The best try that is found.
+    /// The best try that is found. Once the first actor of those that fail doesn't fail any more, the next one has as many divisions.
     fn run(&mut self, alloc: Global) -> Result<Tried, AllocError> {
         let divisions = Vec::new(alloc);
         let measured = self.solve(alloc, &divisions)?;
@@ -158,14 +161,21 @@ impl<'a> Search<'a> {
             measured,
             divisions,
         };
-        for _ in 0..MOST_DIVISIONS {
-            if best.measured.failures.is_empty() {
+        let mut count = 0usize;
+        for _ in 0..MOST_DIVISIONS * MOST_ACTORS {
+            if best.measured.failures.is_empty() || count >= MOST_DIVISIONS {
                 break;
             }
-            match self.improved(alloc, &best)? {
-                Some(better) => best = better,
-                None => break,
-            }
+            let Some(better) = self.improved(alloc, &best)? else {
+                break;
+            };
+            let (now, before) = (&better.measured.failures, &best.measured.failures);
+            count = if self.is_over_with_first(now, before) {
+                0
+            } else {
+                count.saturating_add(1)
+            };
+            best = better;
         }
         Ok(best)
     }
