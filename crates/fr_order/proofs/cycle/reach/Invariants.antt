@@ -1,0 +1,5 @@
+use Rattle.fr_order.specs.Peeled.{AreAmong}
+use Rattle.fr_order.proofs.cycle.reach.Given as goal
+
+abbrev pub invariant-loop-edge : goal.invariant-loop-edge
+invariant-loop-edge l = AreAmong l.edges l.reached.items

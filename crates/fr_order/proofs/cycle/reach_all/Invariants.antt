@@ -1,0 +1,5 @@
+use Rattle.fr_order.specs.Peeled.{AreAmong}
+use Rattle.fr_order.proofs.cycle.reach_all.Given as goal
+
+abbrev pub invariant-loop-done : goal.invariant-loop-done
+invariant-loop-done l = AreAmong l.edges l.reached.items

@@ -1,0 +1,9 @@
+use Rattle.std.proofs.Common.{◌<◌, ℕ, get_or}
+use Rattle.fr_program.specs.declared.ids.ObjId.{ObjId}
+use Rattle.fr_order.specs.declared.edge.Edge.{Edge}
+use Rattle.fr_order.specs.Peeled.{Blocks}
+use Rattle.fr_order.proofs.peeling.first_free.Given as goal
+
+-- to each mutex of the rest so far leads an edge from one that isn't in the order
+abbrev pub invariant-loop-place : goal.invariant-loop-place
+invariant-loop-place l = (k : ℕ) (d : ObjId) → k < l.place → (e : Edge) × Blocks l.edges l.order (get_or l.rest k d).0 e
