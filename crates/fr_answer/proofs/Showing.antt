@@ -5,9 +5,6 @@ use Rattle.std.proofs.lemmas.Option.{same_Some}
 use Rattle.std.specs.Prelude.{IsErr, option_map}
 use Rattle.std.specs.declared.alloc.Global.{Global}
 use Rattle.fr_files.specs.declared.outputs.Output.{Output}
-use Rattle.fr_formats.specs.declared.answer.AnswerKind.{AnswerKind}
-use Rattle.fr_formats.specs.declared.answer.AnswerKind.TheVariants.{Yes as SaysYes, Breach, NoBreach}
-use Rattle.fr_formats.specs.Answers.{status_of as kind_status}
 use Rattle.fr_judge.specs.Told.{TellsVerdict}
 use Rattle.fr_judge.specs.declared.part.Verdict.TheVariants.{Yes}
 use Rattle.fr_program.specs.Program.{Program}
@@ -18,9 +15,8 @@ use Rattle.fr_answer.specs.declared.answer.Answer.{Answer}
 use Rattle.fr_answer.specs.declared.answer.Refusal.{Refusal}
 use Rattle.fr_answer.specs.declared.answer.What.{What}
 use Rattle.fr_answer.specs.declared.answer.What.TheVariants.{Judged, Searched, Refused}
-use Rattle.fr_answer.specs.Answers.{HasFound, IsProofOf, IsSettledIn, IsVerdictOn, kind_of, kind_of_finding, what_status}
+use Rattle.fr_answer.specs.Answers.{HasFound, IsProofOf, IsSettledIn, IsVerdictOn, IsYes, what_status}
 use Rattle.fr_answer.specs.Commands.{IsAnswerBy, IsGiven, IsKept, IsLineAnswer, IsPaged, IsPrinted, IsProofAt, IsShown}
-use Rattle.fr_answer.proofs.Safe.{zero-yes}
 
 -- what holds of all that is found holds of what was
 pub from-found : {X E : Type 0} (Is : What → Type 0) (found : Result (X × What) E) (what : What) → IfOk found (λ r. Is r.1) → HasFound found what → Is what
@@ -92,16 +88,16 @@ pub paged-found : {X E Z : Type 0} (puts : Z → List ℕ → List ℕ → Z →
     → IfOk found (λ x. Is x.1) → IsPaged puts (HasFound found) path old new → IsPaged puts Is path old new
 paged-found puts Is found path old new h paged = paged-as puts (HasFound found) Is path old new (λ w le has. from-found Is found w h has) paged
 
-module _ (gives : List ℕ → ℕ → List ℕ → Type 0) where
+module _ (gives : List ℕ → ℕ → List ℕ → Type 0) (asks : Bool) where
   -- a line of a list
-  pub line-by : {Y : Type 0} (list app : List ℕ) (certificate : Option (List ℕ)) (r : Result Answer Y) → IfOk r (λ a. what_status a.what ≤ 1 → IsAnswerBy gives list (beside list app) certificate a.what)
-      → IfOk r (λ a. IsLineAnswer gives list (record { entry = record { application = app; certificate = certificate }; what = a.what }))
+  pub line-by : {Y : Type 0} (list app : List ℕ) (certificate : Option (List ℕ)) (r : Result Answer Y) → IfOk r (λ a. what_status a.what ≤ 1 → IsAnswerBy gives asks list (beside list app) certificate a.what)
+      → IfOk r (λ a. IsLineAnswer gives asks list (record { entry = record { application = app; certificate = certificate }; what = a.what }))
   line-by list app certificate (Ok a) h = record { by = h }
   line-by list app certificate (Err e) h = tt
 
   -- a certificate that is kept has a yes
   pub kept-yes : {Z : Type 0} (puts : Z → List ℕ → List ℕ → Z → Type 0) (app : List ℕ) (searches : Bool) (path : Option (List ℕ)) (what : What) (text : List ℕ) (old new : Z)
-      → IsProofAt gives app searches text what → IsGiven puts path what text old new → IsKept gives puts app path old new
+      → IsProofAt gives asks app searches text what → IsGiven puts path what text old new → IsKept gives puts app path old new
   kept-yes puts app searches None what text old new proof (inl same) = same
   kept-yes puts app searches None what text old new proof (inr given) = let no : ⊥ = (let e = given.1 in cc) in absurd no
   kept-yes puts app searches (Some path) what text old new proof (inl same) = inl same
@@ -109,21 +105,17 @@ module _ (gives : List ℕ → ℕ → List ℕ → Type 0) where
       let same : path ≡ given.0 = same_Some path given.0 given.1 in
       inr (proof.0, text, proof.1, yes proof.0 what proof.2 given.2, subst (λ p. puts old p text new) (sym same) given.3)
     where
-      by-verdict : (a : List ℕ) (what : What) → IsVerdictOn a text what → kind_of what ≡ SaysYes → (P : Program) × IsJudged a text P Yes
-      by-verdict a (Judged j) h e = (j.app, (h.0, j.certificate, h.1, subst (λ v. TellsVerdict j.app j.certificate v) (zero-yes j.verdict (ap kind_status e)) h.2))
+      by-verdict : (a : List ℕ) (what : What) → IsVerdictOn asks a text what → IsYes what → (P : Program) × IsJudged a text P Yes
+      by-verdict a (Judged j) h e = (j.app, (h.0, j.certificate, h.1, subst (λ v. TellsVerdict j.app j.certificate v) e h.2))
       by-verdict a (Searched P found explains) h e = absurd h
       by-verdict a (Refused r) h e = absurd h
 
-      other : (kind : AnswerKind) → (kind ≡ Breach) ⊎ (kind ≡ NoBreach) → kind ≡ SaysYes → ⊥
-      other kind (inl breach) e = cc
-      other kind (inr none) e = cc
-
-      settled : (a : List ℕ) (what : What) → IsSettledIn a what → kind_of what ≡ SaysYes → ⊥
+      settled : (a : List ℕ) (what : What) → IsSettledIn asks a what → IsYes what → ⊥
       settled a (Judged j) h e = h
-      settled a (Searched P found explains) h e = other (kind_of_finding found) h.2 e
+      settled a (Searched P found explains) h e = e
       settled a (Refused r) h e = h
 
-      yes : (a : List ℕ) (what : What) → IsProofOf a searches text what → kind_of what ≡ SaysYes → (P : Program) × IsJudged a text P Yes
+      yes : (a : List ℕ) (what : What) → IsProofOf asks a searches text what → IsYes what → (P : Program) × IsJudged a text P Yes
       yes a what (inl h) e = by-verdict a what h e
       yes a what (inr h) e = absurd (settled a what h.4 e)
 
@@ -132,15 +124,15 @@ module _ (gives : List ℕ → ℕ → List ℕ → Type 0) where
   kept-same puts app (Some p) old = inl refl
 
   pub kept-by : {Z V : Type 0} (puts : Z → List ℕ → List ℕ → Z → Type 0) (app : List ℕ) (searches : Bool) (path : Option (List ℕ)) (proof : Result (V × What × String Global) Refusal) (old new : Z)
-      → IfOk proof (λ all. IsProofAt gives app searches (string_bytes all.2) all.1) → IfOk proof (λ all. IsGiven puts path all.1 (string_bytes all.2) old new)
+      → IfOk proof (λ all. IsProofAt gives asks app searches (string_bytes all.2) all.1) → IfOk proof (λ all. IsGiven puts path all.1 (string_bytes all.2) old new)
       → IfErr proof (λ _. new ≡ old) → IsKept gives puts app path old new
   kept-by puts app searches path (Ok all) old new h given same = kept-yes puts app searches path all.1 (string_bytes all.2) old new h given
   kept-by puts app searches path (Err e) old new h given same = subst (λ z. IsKept gives puts app path old z) (sym same) (kept-same puts app path old)
 
   -- what is found of a proof is what was proved, with or without the certificate's text
   pub proof-found : {V : Type 0} (app : List ℕ) (searches : Bool) (proof : Result (V × What × String Global) Refusal) (found : Result (V × What) Refusal)
-      → IfOk proof (λ all. IsProofAt gives app searches (string_bytes all.2) all.1) → IfOk found (λ r. IfOk proof (λ all. r.1 ≡ all.1)) → IfErr proof (λ refusal. IsErr found)
-      → IfOk found (λ r. (certificate : List ℕ) × IsProofAt gives app searches certificate r.1)
-  proof-found app searches (Ok all) (Ok r) h same none = (string_bytes all.2, subst (λ w. IsProofAt gives app searches (string_bytes all.2) w) (sym same) h)
+      → IfOk proof (λ all. IsProofAt gives asks app searches (string_bytes all.2) all.1) → IfOk found (λ r. IfOk proof (λ all. r.1 ≡ all.1)) → IfErr proof (λ refusal. IsErr found)
+      → IfOk found (λ r. (certificate : List ℕ) × IsProofAt gives asks app searches certificate r.1)
+  proof-found app searches (Ok all) (Ok r) h same none = (string_bytes all.2, subst (λ w. IsProofAt gives asks app searches (string_bytes all.2) w) (sym same) h)
   proof-found app searches (Err e) (Ok r) h same none = absurd (false≢true none)
   proof-found app searches proof (Err e) h same none = tt

@@ -8,6 +8,7 @@
 -- | list_line             | the line of a list that is refused                                            |
 -- | IsAnswer              | the status and what was written are those of the verdict on the bytes         |
 -- | IsSafeText            | the bytes mean an application that is safe                                    |
+-- | IsFreeText            | the bytes mean an application that is never deadlocked                        |
 -- | HasVerdict            | there is a verdict on the bytes                                               |
 -- | app_fault, cert_fault | the fault of a check that a refused text comes to; inner ones of memory are one |
 -- | check_fault           | the fault of a check that bytes without a verdict come to                     |
@@ -19,6 +20,7 @@ use Rattle.std.specs.Prelude.{◌≡◌, ◌++◌, ℕ, List, Option, false, cod
 use Rattle.std.specs.Io.KnownBytes.{Appends}
 use Rattle.fr_program.specs.Program.{Program}
 use Rattle.fr_calls.specs.Run.{IsSafe}
+use Rattle.fr_waits.specs.Waits.{HasNoDeadlock}
 use Rattle.fr_list.specs.declared.listed.ListFault.{ListFault}
 use Rattle.fr_list.specs.declared.listed.ListFault.TheVariants.{Memory as NoMemoryForList, TooLong, NotText, Words as TooManyWords, Empty}
 use Rattle.fr_reader.specs.declared.fault.ReadFault.{ReadFault}
@@ -88,7 +90,7 @@ line_of Write = codes "machine: file"
 abbrev pub whole_line : CheckFault → List ℕ
 whole_line fault = line_of fault ++ codes "\n"
 
--- the bytes mean an application and a certificate; the status tells the verdict on them, and its report was
+-- the bytes mean an application and a certificate; the status is that of the verdict on them, and its report was
 -- written after what the writer had, and nothing else
 abbrev pub IsAnswer : List ℕ → List ℕ → ℕ → Option (List ℕ) → Option (List ℕ) → Type 0
 IsAnswer app certificate status old new =
@@ -97,6 +99,10 @@ IsAnswer app certificate status old new =
 -- the bytes mean an application that breaks no rule in any state of any run
 abbrev pub IsSafeText : List ℕ → Type 0
 IsSafeText app = (P : Program) × Means app P × IsSafe P
+
+-- the bytes mean an application of which no state of any run is deadlocked
+abbrev pub IsFreeText : List ℕ → Type 0
+IsFreeText app = (P : Program) × Means app P × HasNoDeadlock P
 
 -- the bytes mean an application and a certificate, so that there is a verdict on them
 abbrev pub HasVerdict : List ℕ → List ℕ → Type 0

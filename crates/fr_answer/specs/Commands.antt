@@ -16,10 +16,10 @@
 -- | AreRunWords                       | the words of a run that are asked for                                          |
 -- | IsListing                         | the points of the application in a file were written                           |
 -- | IsAnswered                        | the exit status, and what was written, are those of the request                |
--- | IsSafeAt, AreSafe                 | the application in a file is safe; each that a verdict is asked for on         |
+-- | IsSafeIn, IsSafeAt, AreSafe       | the application in a file is safe; each that a verdict is asked for on         |
 -- | IsText                            | the answer is a text about one application                                     |
 -- | IsPaged, IsKept, IsWritten        | the files are as they were, but for a page, for a certificate with a yes; for what the request names |
-use Rattle.std.specs.Prelude.{◌≡◌, ◌≤◌, ◌⊎◌, ◌++◌, ℕ, Bool, true, false, List, [], ◌∷◌, All, Option, None, Some, codes, encode_utf8_all, fold, if◌then◌else◌, map, max, nat_eq, option_copied, string_bytes}
+use Rattle.std.specs.Prelude.{◌≡◌, ◌≤◌, ◌⊎◌, ◌++◌, ℕ, Bool, true, false, IsTrue, List, [], ◌∷◌, All, Option, None, Some, codes, encode_utf8_all, fold, if◌then◌else◌, map, max, nat_eq, option_copied, string_bytes}
 use Rattle.std.specs.List.{concat, starts_with}
 use Rattle.std.specs.Option.{is_some}
 use Rattle.std.specs.Io.KnownBytes.{Appends}
@@ -27,7 +27,6 @@ use Rattle.fr_program.specs.Program.{Program}
 use Rattle.fr_reader.specs.Meaning.{Means as AppMeans}
 use Rattle.fr_text.specs.Texts.{IsJudged}
 use Rattle.fr_judge.specs.declared.part.Verdict.TheVariants.{Yes}
-use Rattle.fr_formats.specs.declared.answer.AnswerKind.TheVariants.{Yes as SaysYes}
 use Rattle.fr_escape.specs.Plain.{plain}
 use Rattle.fr_formats.specs.declared.answer.AnswerShown.{AnswerShown}
 use Rattle.fr_formats.specs.Reports.{IsReport}
@@ -43,8 +42,8 @@ use Rattle.fr_request.specs.declared.request.Request.{Request}
 use Rattle.fr_request.specs.declared.request.Request.TheVariants.{Check, Find, Prove, Points, Refute, Run}
 use Rattle.fr_answer.specs.declared.answer.What.{What}
 use Rattle.fr_answer.specs.declared.found.Found.{Found}
-use Rattle.fr_answer.specs.Answers.{AreLinesOf, IsProofOf, IsSearchOf, IsTextOf, IsVerdictOn, first_line, kind_of, what_status}
-use Rattle.fr_answer.specs.Checked.{IsSafeText}
+use Rattle.fr_answer.specs.Answers.{AreLinesOf, IsProofOf, IsSearchOf, IsTextOf, IsVerdictOn, IsYes, first_line, second_text, shown_line, kind_of, what_status}
+use Rattle.fr_answer.specs.Checked.{IsFreeText, IsSafeText}
 use Rattle.fr_answer.specs.Pages.{IsPageOf}
 use Rattle.fr_answer.specs.Found.{IsCertificateFor, IsFound, found_line, found_status}
 use Rattle.fr_answer.specs.Ran.{IsRunText}
@@ -67,23 +66,23 @@ detail_in (Some format) None = Some Told
 detail_in (Some format) (Some detail) = Some detail
 
 -- the verdict on the application and the certificate in these two files
-abbrev pub IsCheckOf : (List ℕ → ℕ → List ℕ → Type 0) → List ℕ → List ℕ → What → Type 0
-IsCheckOf gives app certificate what =
-    (a c : List ℕ) × gives app most_app_bytes a × gives certificate most_certificate_bytes c × IsVerdictOn a c what
+abbrev pub IsCheckOf : (List ℕ → ℕ → List ℕ → Type 0) → Bool → List ℕ → List ℕ → What → Type 0
+IsCheckOf gives asks app certificate what =
+    (a c : List ℕ) × gives app most_app_bytes a × gives certificate most_certificate_bytes c × IsVerdictOn asks a c what
 
 -- the verdict on the application in this file by this certificate; or in place of a no, where there is a search, a run into a breach or
 -- that no state of any run breaches a rule
-abbrev pub IsProofAt : (List ℕ → ℕ → List ℕ → Type 0) → List ℕ → Bool → List ℕ → What → Type 0
-IsProofAt gives app searches certificate what = (a : List ℕ) × gives app most_app_bytes a × IsProofOf a searches certificate what
+abbrev pub IsProofAt : (List ℕ → ℕ → List ℕ → Type 0) → Bool → List ℕ → Bool → List ℕ → What → Type 0
+IsProofAt gives asks app searches certificate what = (a : List ℕ) × gives app most_app_bytes a × IsProofOf asks a searches certificate what
 
 -- what a search found in the application in this file
-abbrev pub IsSearchAt : (List ℕ → ℕ → List ℕ → Type 0) → List ℕ → What → Type 0
-IsSearchAt gives app what = (a : List ℕ) × gives app most_app_bytes a × IsSearchOf a what
+abbrev pub IsSearchAt : (List ℕ → ℕ → List ℕ → Type 0) → Bool → List ℕ → What → Type 0
+IsSearchAt gives asks app what = (a : List ℕ) × gives app most_app_bytes a × IsSearchOf asks a what
 
--- what a report shows of an answer: its kind and its first line
+-- what a report shows of an answer: its kind and its first line, or in place of a yes that a deadlock isn't excluded
 pub record Shows (what : What) (shown : AnswerShown) : Type 0 where
   pub kind : shown.answer ≡ kind_of what
-  pub first : string_bytes shown.report ≡ first_line what
+  pub first : string_bytes shown.report ≡ shown_line what
 
 -- the answer's text was written after what the writer had, and nothing else, where it isn't refused; in a form that machines read a
 -- report that shows the answer was
@@ -98,9 +97,9 @@ IsShown Is format status old new = (what : What) × (what_status what ≤ 1 → 
 
 -- the verdict on the application in a file, by the certificate in another one that the list names, or by one that was worked out; or
 -- what a search found instead
-abbrev pub IsAnswerBy : (List ℕ → ℕ → List ℕ → Type 0) → List ℕ → List ℕ → Option (List ℕ) → What → Type 0
-IsAnswerBy gives list app (Some path) what = IsCheckOf gives app (beside list path) what
-IsAnswerBy gives list app None what = (certificate : List ℕ) × IsProofAt gives app true certificate what
+abbrev pub IsAnswerBy : (List ℕ → ℕ → List ℕ → Type 0) → Bool → List ℕ → List ℕ → Option (List ℕ) → What → Type 0
+IsAnswerBy gives asks list app (Some path) what = IsCheckOf gives asks app (beside list path) what
+IsAnswerBy gives asks list app None what = (certificate : List ℕ) × IsProofAt gives asks app true certificate what
 
 -- a line of a list with the answer to it
 pub record LineAnswer : Type 0 where
@@ -108,8 +107,8 @@ pub record LineAnswer : Type 0 where
   pub what : What
 
 -- where it is a verdict, it is that on the files that the line names
-pub record IsLineAnswer (gives : List ℕ → ℕ → List ℕ → Type 0) (list : List ℕ) (line : LineAnswer) : Type 0 where
-  pub by : what_status line.what ≤ 1 → IsAnswerBy gives list (beside list line.entry.application) line.entry.certificate line.what
+pub record IsLineAnswer (gives : List ℕ → ℕ → List ℕ → Type 0) (asks : Bool) (list : List ℕ) (line : LineAnswer) : Type 0 where
+  pub by : what_status line.what ≤ 1 → IsAnswerBy gives asks list (beside list line.entry.application) line.entry.certificate line.what
 
 -- the greatest of their exit statuses, 0 where there is no line
 abbrev pub greater_status : ℕ → LineAnswer → ℕ
@@ -129,10 +128,11 @@ Each Is (x ∷ xs) (y ∷ ys) = Is x y × Each Is xs ys
 abbrev pub heading : List ℕ → List ℕ
 heading path = (if starts_with nat_eq path (codes "::") then codes "./" else []) ++ (encode_utf8_all (plain path) ++ codes ": ")
 
--- what is printed of the answer to an application with this path: its first line, and the others where they are asked for
+-- what is printed of the answer to an application with this path: its first line, whether actors can deadlock, and the other lines where
+-- they are asked for
 abbrev pub AreMore : Bool → What → List ℕ → Type 0
 AreMore true what more = AreLinesOf what more
-AreMore false what more = more ≡ []
+AreMore false what more = more ≡ second_text what
 
 abbrev pub IsLineText : Bool → List ℕ → What → List ℕ → Type 0
 IsLineText explains path what text =
@@ -147,15 +147,15 @@ AreLinesPrinted (Some format) explains list lines old new =
     (shown : List AnswerShown) × (text : List ℕ) × Each (λ line s. Shows line.what s) lines shown × IsReport format shown text × Appends old new text
 
 -- these lines are answered, this is the greatest exit status, and this is so of the answers
-abbrev pub AreAnswered : (List ℕ → ℕ → List ℕ → Type 0) → List ℕ → List Entry → ℕ → (List LineAnswer → Type 0) → Type 0
-AreAnswered gives list entries status Is =
-    (lines : List LineAnswer) × (map (λ line. line.entry) lines ≡ entries) × All (IsLineAnswer gives list) lines × (status ≡ greatest_status lines) × Is lines
+abbrev pub AreAnswered : (List ℕ → ℕ → List ℕ → Type 0) → Bool → List ℕ → List Entry → ℕ → (List LineAnswer → Type 0) → Type 0
+AreAnswered gives asks list entries status Is =
+    (lines : List LineAnswer) × (map (λ line. line.entry) lines ≡ entries) × All (IsLineAnswer gives asks list) lines × (status ≡ greatest_status lines) × Is lines
 
 -- the file has a list, of which each line is answered and printed
-abbrev pub IsListAnswered : (List ℕ → ℕ → List ℕ → Type 0) → List ℕ → Option Format → Bool → ℕ → Option (List ℕ) → Option (List ℕ) → Type 0
-IsListAnswered gives list format explains status old new =
+abbrev pub IsListAnswered : (List ℕ → ℕ → List ℕ → Type 0) → Bool → List ℕ → Option Format → Bool → ℕ → Option (List ℕ) → Option (List ℕ) → Type 0
+IsListAnswered gives asks list format explains status old new =
     (text : List ℕ) × gives list most_list_bytes text × (entries : List Entry) × ListMeans text entries
-    × AreAnswered gives list entries status (λ lines. AreLinesPrinted format explains list lines old new)
+    × AreAnswered gives asks list entries status (λ lines. AreLinesPrinted format explains list lines old new)
 
 -- no words where none are given, and else those of the text
 abbrev pub AreRunWords : Option (List ℕ) → List ℕ → Type 0
@@ -163,9 +163,9 @@ AreRunWords None words = words ≡ []
 AreRunWords (Some text) words = AreWords text words
 
 -- the verdict on two files, or on each line of a list
-abbrev pub IsCheckAnswered : (List ℕ → ℕ → List ℕ → Type 0) → Named → Option Format → Bool → ℕ → Option (List ℕ) → Option (List ℕ) → Type 0
-IsCheckAnswered gives (One app certificate) format explains status old new = IsShown (IsCheckOf gives app.now certificate.now) format status old new
-IsCheckAnswered gives (Listed list) format explains status old new = IsListAnswered gives list.now format explains status old new
+abbrev pub IsCheckAnswered : (List ℕ → ℕ → List ℕ → Type 0) → Bool → Named → Option Format → Bool → ℕ → Option (List ℕ) → Option (List ℕ) → Type 0
+IsCheckAnswered gives asks (One app certificate) format explains status old new = IsShown (IsCheckOf gives asks app.now certificate.now) format status old new
+IsCheckAnswered gives asks (Listed list) format explains status old new = IsListAnswered gives asks list.now format explains status old new
 
 -- the points of the application in a file
 abbrev pub IsListing : (List ℕ → ℕ → List ℕ → Type 0) → List ℕ → ℕ → Option (List ℕ) → Option (List ℕ) → Type 0
@@ -174,10 +174,10 @@ IsListing gives app status old new =
 
 -- the exit status, and what was written after what the writer had, are those of the request
 abbrev pub IsAnswered : (List ℕ → ℕ → List ℕ → Type 0) → Request → ℕ → Option (List ℕ) → Option (List ℕ) → Type 0
-IsAnswered gives (Check asked) status old new = IsCheckAnswered gives asked.files asked.format (is_some asked.detail) status old new
+IsAnswered gives (Check asked) status old new = IsCheckAnswered gives asked.deadlock asked.files asked.format (is_some asked.detail) status old new
 IsAnswered gives (Prove asked) status old new =
-    IsShown (λ what. (certificate : List ℕ) × IsProofAt gives asked.app.now asked.searches certificate what) asked.format status old new
-IsAnswered gives (Refute asked) status old new = IsShown (IsSearchAt gives asked.app.now) asked.format status old new
+    IsShown (λ what. (certificate : List ℕ) × IsProofAt gives asked.deadlock asked.app.now asked.searches certificate what) asked.format status old new
+IsAnswered gives (Refute asked) status old new = IsShown (IsSearchAt gives asked.deadlock asked.app.now) asked.format status old new
 IsAnswered gives (Find asked) status old new =
     (a : List ℕ) × gives asked.app.now most_app_bytes a × (found : Found) × IsFound a found × (status ≡ found_status found)
     × Appends old new (found_line found)
@@ -187,29 +187,33 @@ IsAnswered gives (Run asked) status old new =
     × AreRunWords (option_copied asked.words) words × IsRunText a c asked.polls words asked.detail status text × Appends old new text
 
 -- the application in the file breaks no rule in any state of any run
-abbrev pub IsSafeAt : (List ℕ → ℕ → List ℕ → Type 0) → List ℕ → Type 0
-IsSafeAt gives app = (a : List ℕ) × gives app most_app_bytes a × IsSafeText a
+abbrev pub IsSafeIn : (List ℕ → ℕ → List ℕ → Type 0) → List ℕ → Type 0
+IsSafeIn gives app = (a : List ℕ) × gives app most_app_bytes a × IsSafeText a
+
+-- so does it, and it is never deadlocked where that is asked
+abbrev pub IsSafeAt : (List ℕ → ℕ → List ℕ → Type 0) → Bool → List ℕ → Type 0
+IsSafeAt gives asks app = (a : List ℕ) × gives app most_app_bytes a × IsSafeText a × (IsTrue asks → IsFreeText a)
 
 -- so does each application that these lines of a list name
-abbrev pub AreEachSafe : (List ℕ → ℕ → List ℕ → Type 0) → List ℕ → List Entry → Type 0
-AreEachSafe gives list [] = Unit {0}
-AreEachSafe gives list (e ∷ entries) = IsSafeAt gives (beside list e.application) × AreEachSafe gives list entries
+abbrev pub AreEachSafe : (List ℕ → ℕ → List ℕ → Type 0) → Bool → List ℕ → List Entry → Type 0
+AreEachSafe gives asks list [] = Unit {0}
+AreEachSafe gives asks list (e ∷ entries) = IsSafeAt gives asks (beside list e.application) × AreEachSafe gives asks list entries
 
 -- so does each application that the list in the file names
-abbrev pub AreListedSafe : (List ℕ → ℕ → List ℕ → Type 0) → List ℕ → Type 0
-AreListedSafe gives list =
-    (text : List ℕ) × gives list most_list_bytes text × (entries : List Entry) × ListMeans text entries × AreEachSafe gives list entries
+abbrev pub AreListedSafe : (List ℕ → ℕ → List ℕ → Type 0) → Bool → List ℕ → Type 0
+AreListedSafe gives asks list =
+    (text : List ℕ) × gives list most_list_bytes text × (entries : List Entry) × ListMeans text entries × AreEachSafe gives asks list entries
 
-abbrev pub AreNamedSafe : (List ℕ → ℕ → List ℕ → Type 0) → Named → Type 0
-AreNamedSafe gives (One app certificate) = IsSafeAt gives app.now
-AreNamedSafe gives (Listed list) = AreListedSafe gives list.now
+abbrev pub AreNamedSafe : (List ℕ → ℕ → List ℕ → Type 0) → Bool → Named → Type 0
+AreNamedSafe gives asks (One app certificate) = IsSafeAt gives asks app.now
+AreNamedSafe gives asks (Listed list) = AreListedSafe gives asks list.now
 
 -- so does each application on which the request asks for a verdict
 abbrev pub AreSafe : (List ℕ → ℕ → List ℕ → Type 0) → Request → Type 0
-AreSafe gives (Check asked) = AreNamedSafe gives asked.files
-AreSafe gives (Prove asked) = IsSafeAt gives asked.app.now
-AreSafe gives (Refute asked) = IsSafeAt gives asked.app.now
-AreSafe gives (Run asked) = IsSafeAt gives asked.app.now
+AreSafe gives (Check asked) = AreNamedSafe gives asked.deadlock asked.files
+AreSafe gives (Prove asked) = IsSafeAt gives asked.deadlock asked.app.now
+AreSafe gives (Refute asked) = IsSafeAt gives asked.deadlock asked.app.now
+AreSafe gives (Run asked) = IsSafeIn gives asked.app.now
 AreSafe gives (Find asked) = Unit {0}
 AreSafe gives (Points app explains) = Unit {0}
 
@@ -234,13 +238,13 @@ IsPaged puts Is (Some path) old new =
     (new ≡ old) ⊎ ((what : What) × (text : List ℕ) × (what_status what ≤ 1 → Is what) × IsPageOf what text × puts old path text new)
 
 -- an answer of which a page may be asked for: the verdict on two files, which a list doesn't have
-abbrev pub IsNamedAnswer : (List ℕ → ℕ → List ℕ → Type 0) → Named → What → Type 0
-IsNamedAnswer gives (One app certificate) what = IsCheckOf gives app.now certificate.now what
-IsNamedAnswer gives (Listed list) what = ⊥
+abbrev pub IsNamedAnswer : (List ℕ → ℕ → List ℕ → Type 0) → Bool → Named → What → Type 0
+IsNamedAnswer gives asks (One app certificate) what = IsCheckOf gives asks app.now certificate.now what
+IsNamedAnswer gives asks (Listed list) what = ⊥
 
--- the files are as they were, but that the one at the path, if there is one, may have been given this text where the answer is yes
+-- the files are as they were, but that the one at the path, if there is one, may have been given this text where the verdict is yes
 abbrev pub IsGiven : {Z : Type 0} → (Z → List ℕ → List ℕ → Z → Type 0) → Option (List ℕ) → What → List ℕ → Z → Z → Type 0
-IsGiven puts path what text old new = (new ≡ old) ⊎ ((p : List ℕ) × (path ≡ Some p) × (kind_of what ≡ SaysYes) × puts old p text new)
+IsGiven puts path what text old new = (new ≡ old) ⊎ ((p : List ℕ) × (path ≡ Some p) × IsYes what × puts old p text new)
 
 -- the files are as they were, but that the one for the certificate may have been given one on which the verdict is yes
 abbrev pub IsKept : {Z : Type 0} → (List ℕ → ℕ → List ℕ → Type 0) → (Z → List ℕ → List ℕ → Z → Type 0) → List ℕ → Option (List ℕ) → Z → Z → Type 0
@@ -250,11 +254,11 @@ IsKept gives puts app (Some path) old new =
 
 -- the files are as they were, but that those that the request names were given what it asks for
 abbrev pub IsWritten : {Z : Type 0} → (List ℕ → ℕ → List ℕ → Type 0) → (Z → List ℕ → List ℕ → Z → Type 0) → Request → Z → Z → Type 0
-IsWritten gives puts (Check asked) old new = IsPaged puts (IsNamedAnswer gives asked.files) (option_copied asked.html) old new
+IsWritten gives puts (Check asked) old new = IsPaged puts (IsNamedAnswer gives asked.deadlock asked.files) (option_copied asked.html) old new
 IsWritten {Z} gives puts (Prove asked) old new =
     (mid : Z) × IsKept gives puts asked.app.now (option_copied asked.out) old mid
-    × IsPaged puts (λ what. (certificate : List ℕ) × IsProofAt gives asked.app.now asked.searches certificate what) (option_copied asked.html) mid new
-IsWritten gives puts (Refute asked) old new = IsPaged puts (IsSearchAt gives asked.app.now) (option_copied asked.html) old new
+    × IsPaged puts (λ what. (certificate : List ℕ) × IsProofAt gives asked.deadlock asked.app.now asked.searches certificate what) (option_copied asked.html) mid new
+IsWritten gives puts (Refute asked) old new = IsPaged puts (IsSearchAt gives asked.deadlock asked.app.now) (option_copied asked.html) old new
 IsWritten gives puts (Find asked) old new =
     (new ≡ old) ⊎ ((a text : List ℕ) × gives asked.app.now most_app_bytes a × ((P : Program) × AppMeans a P × IsCertificateFor P text) × puts old asked.out.now text new)
 IsWritten gives puts (Points app explains) old new = new ≡ old

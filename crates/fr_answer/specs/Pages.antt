@@ -3,29 +3,31 @@
 -- | word       | meaning                                                                        |
 -- |------------|--------------------------------------------------------------------------------|
 -- | page_kind  | the heading of a page for an answer of this kind                               |
--- | IsPageOf   | a page that begins with that heading and with the answer's first line          |
+-- | IsPageOf   | a page that begins with that heading and with the answer's line                |
 use Rattle.std.specs.Prelude.{◌≡◌, ◌++◌, ℕ, List, string_bytes}
 use Rattle.fr_formats.specs.declared.answer.AnswerKind.{AnswerKind}
-use Rattle.fr_formats.specs.declared.answer.AnswerKind.TheVariants.{Yes, No, Breach, NoBreach, StatesLeft, Refused, Machine}
+use Rattle.fr_formats.specs.declared.answer.AnswerKind.TheVariants.{Yes, No, MayDeadlock, Breach, Deadlock, NoBreach, StatesLeft, Refused, Machine}
 use Rattle.fr_page.specs.declared.page.Kind.{Kind}
 use Rattle.fr_page.specs.declared.page.Page.{Page}
 use Rattle.fr_page.specs.Whole.{head_of}
 use Rattle.fr_answer.specs.declared.answer.What.{What}
-use Rattle.fr_answer.specs.Answers.{first_line, kind_of}
-use Rattle.fr_page.specs.declared.page.Kind.TheVariants.{Yes as YesPage, No as NoPage, Breach as BreachPage, Safe as SafePage, Unknown as UnknownPage, Refused as RefusedPage}
+use Rattle.fr_answer.specs.Answers.{kind_of, shown_line}
+use Rattle.fr_page.specs.declared.page.Kind.TheVariants.{Yes as YesPage, No as NoPage, MayDeadlock as MayDeadlockPage, Breach as BreachPage, Deadlock as DeadlockPage, Safe as SafePage, Unknown as UnknownPage, Refused as RefusedPage}
 
 -- the heading of a page for an answer of this kind
 abbrev pub page_kind : AnswerKind → Kind
 page_kind Yes = YesPage
 page_kind No = NoPage
+page_kind MayDeadlock = MayDeadlockPage
 page_kind Breach = BreachPage
+page_kind Deadlock = DeadlockPage
 page_kind NoBreach = SafePage
 page_kind StatesLeft = UnknownPage
 page_kind Refused = RefusedPage
 page_kind Machine = RefusedPage
 
--- the text begins with the heading of the answer's kind and with its first line
+-- the text begins with the heading of the answer's kind and with the line that reports show of it
 abbrev pub IsPageOf : What → List ℕ → Type 0
 IsPageOf what text =
-    (page : Page) × (page.kind ≡ page_kind (kind_of what)) × (string_bytes page.answer ≡ first_line what)
+    (page : Page) × (page.kind ≡ page_kind (kind_of what)) × (string_bytes page.answer ≡ shown_line what)
     × (rest : List ℕ) × (text ≡ head_of page ++ rest)

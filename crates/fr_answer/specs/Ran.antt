@@ -51,14 +51,14 @@ run_fault NoMemory = Memory
 run_fault Spent = Memory
 run_fault NoActor = Memory
 
--- the bytes mean an application and a certificate; the status tells the verdict on them, and the text is its output, with nothing
+-- the bytes mean an application and a certificate; the status is that of the verdict on them, and the text is its output, with nothing
 -- added to a yes, and nothing where nobody asks why it is no
 abbrev pub IsRunText : List ℕ → List ℕ → ℕ → List ℕ → Option Detail → ℕ → List ℕ → Type 0
 IsRunText app certificate polls words detail status text =
     (P : Program) × (verdict : Verdict) × (out more : List ℕ) × IsJudged app certificate P verdict × (status ≡ status_of verdict)
     × IsOutput P verdict polls words out × (text ≡ out ++ more) × (status ≡ 0 → more ≡ []) × (detail ≡ None → more ≡ [])
 
--- the bytes mean an application and a certificate; the status tells the verdict on them, and its output was written
+-- the bytes mean an application and a certificate; the status is that of the verdict on them, and its output was written
 -- after what the writer had, and nothing else
 abbrev pub IsRunAnswer : List ℕ → List ℕ → ℕ → List ℕ → ℕ → Option (List ℕ) → Option (List ℕ) → Type 0
 IsRunAnswer app certificate polls words status old new =

@@ -1,16 +1,22 @@
 // What a command found out about an application.
-ghost use Rattle.std.specs.Prelude.{◌≡◌, IfOk, string_bytes};
+ghost use Rattle.std.specs.Prelude.{◌≡◌, IfOk, IsTrue, None, string_bytes};
 ghost use Rattle.fr_report.specs.Lines.{lines_text};
 ghost use Rattle.fr_report.specs.Refuted.{IsRunText};
 ghost use Rattle.fr_answer.specs.Answers.{
   AreLinesOf,
   IsTextOf,
+  IsYes,
   first_line,
+  judged_line,
   kind_of,
   kind_of_fault,
   kind_of_finding,
-  kind_of_verdict,
+  kind_of_judged,
+  kind_of_waits,
   place_text,
+  second_text,
+  shown_line,
+  waits_text,
   what_status,
 };
 
@@ -19,10 +25,11 @@ use crate::fault::{CheckFault, fault_line, status};
 use crate::judged::Judged;
 use fr_formats::{AnswerKind, Command, WarningShown};
 use fr_judge::Verdict;
+use fr_order::Order;
 use fr_place::Place;
 use fr_program::App;
 use fr_refuter::Finding;
-use fr_report::{explain_run, finding_line, text_of, verdict_line};
+use fr_report::{explain_deadlock, explain_run, finding_line, order_line, text_of, verdict_line};
 use std::alloc::{AllocError, Global};
 
 /// Why there is no verdict, and where: a text that is refused, or the machine that failed.
@@ -38,7 +45,7 @@ pub struct Refusal {
 pub enum What {
     /// The verdict by a certificate.
     Judged(Judged),
-    /// What a search for a breach found, whose steps are explained where that is asked for.
+    /// What a search for a breach, or for a deadlock too, found, whose steps are explained where that is asked for.
     Searched {
         app: App,
         found: Finding,
@@ -65,12 +72,23 @@ pub struct Answer {
     pub notes: Vec<String>,
 }
 
-/// The kind of a verdict.
-fn kind_of_verdict(verdict: Verdict) -> AnswerKind
-    ensures { result ≡ kind_of_verdict verdict }
+/// The kind of a yes.
+fn kind_of_waits(waits: &Option<Order>) -> AnswerKind
+    ensures { result ≡ kind_of_waits waits.now }
+{
+    match waits {
+        None => AnswerKind::Yes,
+        Some(Order::Upwards(_)) => AnswerKind::Yes,
+        Some(Order::Cycle(_)) => AnswerKind::MayDeadlock,
+    }
+}
+
+/// The kind of a verdict, with what is said of deadlocks.
+pub(crate) fn kind_of_judged(verdict: Verdict, waits: &Option<Order>) -> AnswerKind
+    ensures { result ≡ kind_of_judged verdict waits.now }
 {
     match verdict {
-        Verdict::Yes => AnswerKind::Yes,
+        Verdict::Yes => kind_of_waits(waits),
         Verdict::No { .. } => AnswerKind::No,
     }
 }
@@ -81,7 +99,8 @@ fn kind_of_finding(found: &Finding) -> AnswerKind
 {
     match found {
         Finding::Breach(_) => AnswerKind::Breach,
-        Finding::Safe { .. } => AnswerKind::NoBreach,
+        Finding::Deadlock(_) => AnswerKind::Deadlock,
+        Finding::Safe { .. } | Finding::Free { .. } => AnswerKind::NoBreach,
         Finding::Unknown { .. } => AnswerKind::StatesLeft,
     }
 }
@@ -97,17 +116,52 @@ fn kind_of_fault(fault: &CheckFault) -> AnswerKind
     }
 }
 
-/// What explains a verdict, a line each.
-fn why_lines(alloc: Global, judged: &Judged) -> Result<Vec<String>, AllocError>
+/// The line that says whether actors can deadlock; no line where that wasn't asked.
+fn waits_lines(alloc: Global, app: &App, waits: &Option<Order>) -> Result<Vec<String>, AllocError>
+    ensures { IfOk result (λ lines. lines_text lines.items ≡ waits_text app.now waits.now) }
+{
+    let mut lines = Vec::new(alloc);
+    if let Some(order) = waits {
+        lines.push(order_line(alloc, app, order)?)?;
+    }
+    Ok(lines)
+}
+
+/// What explains a verdict, a line each, or whether actors can deadlock.
+fn judged_lines(alloc: Global, judged: &Judged) -> Result<Vec<String>, AllocError>
     ensures { IfOk result (λ lines. AreLinesOf (What.Judged judged.now) (lines_text lines.items)) }
 {
     match judged.why() {
         Some(why) => why.lines(alloc, judged.app()),
-        None => Ok(Vec::new(alloc)),
+        None => waits_lines(alloc, judged.app(), judged.waits()),
     }
 }
 
-/// The lines of a run into a breach; none where none was found.
+/// The line of a yes, as a report shows it: it gives way to a deadlock that isn't excluded.
+fn yes_line(alloc: Global, app: &App, waits: &Option<Order>) -> Result<String, AllocError>
+    ensures { IfOk result (λ line. string_bytes line ≡ judged_line app.now Verdict.Yes waits.now) }
+{
+    match waits {
+        None => String::from_str(alloc, "yes"),
+        Some(order) => match order {
+            Order::Upwards(_) => String::from_str(alloc, "yes"),
+            Order::Cycle(_) => order_line(alloc, app, order),
+        },
+    }
+}
+
+/// The line of a verdict, as a report shows it.
+fn judged_line(alloc: Global, judged: &Judged) -> Result<String, AllocError>
+    ensures { IfOk result (λ line. string_bytes line ≡ shown_line (What.Judged judged.now)) }
+{
+    judged.recall_verdict();
+    match judged.verdict() {
+        Verdict::Yes => yes_line(alloc, judged.app(), judged.waits()),
+        Verdict::No { .. } => verdict_line(alloc, judged.app(), judged.verdict()),
+    }
+}
+
+/// The lines of a run into a breach or a deadlock; none where none was found.
 fn run_lines(
     alloc: Global,
     app: &App,
@@ -118,7 +172,10 @@ fn run_lines(
 {
     match found {
         Finding::Breach(run) => explain_run(alloc, app, run)?.lines(alloc, app, explains),
-        Finding::Safe { .. } | Finding::Unknown { .. } => Ok(Vec::new(alloc)),
+        Finding::Deadlock(run) => explain_deadlock(alloc, app, run)?.lines(alloc, app, explains),
+        Finding::Safe { .. } | Finding::Free { .. } | Finding::Unknown { .. } => {
+            Ok(Vec::new(alloc))
+        }
     }
 }
 
@@ -144,12 +201,12 @@ fn place_lines(alloc: Global, refusal: &Refusal) -> Result<Vec<String>, AllocErr
 }
 
 impl What {
-    /// What kind of answer it is: yes exactly where the verdict is.
+    /// What kind of answer it is: yes exactly where the verdict is, and no deadlock is possible where that is asked.
     pub fn kind(&self) -> AnswerKind
         ensures { result ≡ kind_of self.now }
     {
         match self {
-            What::Judged(judged) => kind_of_verdict(judged.verdict()),
+            What::Judged(judged) => kind_of_judged(judged.verdict(), judged.waits()),
             What::Searched { found, .. } => kind_of_finding(found),
             What::Refused(refusal) => kind_of_fault(&refusal.fault),
         }
@@ -178,18 +235,59 @@ impl What {
         }
     }
 
-    /// The other lines: why a verdict is no, a run, or where the fault is. Its error is that an allocation was refused.
+    /// Whether it is the verdict yes.
+    pub fn is_yes(&self) -> bool
+        ensures { IsTrue result → IsYes self.now }
+    {
+        match self {
+            What::Judged(judged) => matches!(judged.verdict(), Verdict::Yes),
+            What::Searched { .. } | What::Refused(_) => false,
+        }
+    }
+
+    /// The line that reports show of the answer, without its newline: the first one, or in place of a yes that a deadlock isn't excluded.
+    /// Its error is that an allocation was refused.
+    pub fn shown_line(&self, alloc: Global) -> Result<String, AllocError>
+        ensures { IfOk result (λ line. string_bytes line ≡ shown_line self.now) }
+    {
+        match self {
+            What::Judged(judged) => judged_line(alloc, judged),
+            What::Searched { .. } | What::Refused(_) => self.line(alloc),
+        }
+    }
+
+    /// The lines that are always printed after the first one: whether actors can deadlock, where that was asked. Its error is that an
+    /// allocation was refused.
+    pub fn second_lines(&self, alloc: Global) -> Result<Vec<String>, AllocError>
+        ensures { IfOk result (λ lines. lines_text lines.items ≡ second_text self.now) }
+    {
+        match self {
+            What::Judged(judged) => waits_lines(alloc, judged.app(), judged.waits()),
+            What::Searched { .. } | What::Refused(_) => Ok(Vec::new(alloc)),
+        }
+    }
+
+    /// The other lines: why a verdict is no or whether actors can deadlock, a run, or where the fault is. Its error is that an allocation
+    /// was refused.
     pub fn lines(&self, alloc: Global) -> Result<Vec<String>, AllocError>
         ensures { IfOk result (λ lines. AreLinesOf self.now (lines_text lines.items)) }
     {
         match self {
-            What::Judged(judged) => why_lines(alloc, judged),
+            What::Judged(judged) => judged_lines(alloc, judged),
             What::Searched {
                 app,
                 found,
                 explains,
             } => run_lines(alloc, app, found, *explains),
             What::Refused(refusal) => place_lines(alloc, refusal),
+        }
+    }
+
+    /// The lines that follow the one that reports show. Its error is that an allocation was refused.
+    pub fn shown_lines(&self, alloc: Global) -> Result<Vec<String>, AllocError> {
+        match self.kind() {
+            AnswerKind::MayDeadlock => Ok(Vec::new(alloc)),
+            _ => self.lines(alloc),
         }
     }
 

@@ -1,16 +1,18 @@
-// A verdict, with what it is on.
-ghost use Rattle.std.specs.Prelude.{◌≡◌, None};
+// A verdict, with what it is on, and whether actors can deadlock.
+ghost use Rattle.std.specs.Prelude.{◌≡◌, None, IfSome};
 ghost use Rattle.fr_ends.specs.Fits.{CertificateFits};
 ghost use Rattle.fr_judge.specs.Told.{Speaks, TellsVerdict};
+ghost use Rattle.fr_order.specs.Order.{IsOrderOf};
 
 use fr_ends::Certificate;
 use fr_judge::Verdict;
+use fr_order::Order;
 use fr_program::App;
 use fr_refuter::Left;
 use fr_report::Explanation;
 use std::marker::Model;
 
-/// A search for a run into a breach that found none.
+/// A search for a run into a breach, or for one into a deadlock, that found none.
 #[derive(Clone, Copy)]
 pub struct Tried {
     /// How many states it went through.
@@ -25,7 +27,9 @@ pub struct Judged {
     certificate: Certificate,
     verdict: Verdict,
     why: Option<Explanation>,
-    /// The search for a run into a breach that found none, where there was one.
+    /// Whether actors can deadlock over mutexes, where that is asked and the verdict is yes.
+    waits: Option<Order>,
+    /// The search for a run that found none, where there was one.
     tried: Option<Tried>,
 }
 
@@ -34,45 +38,50 @@ impl Model for Judged {
 
     ghost Value = { JudgedOf };
 
-    ghost view = { λ j. record { app = j.app; certificate = j.certificate; verdict = j.verdict; why = j.why } };
+    ghost view = { λ j. record { app = j.app; certificate = j.certificate; verdict = j.verdict; why = j.why; waits = j.waits } };
 
-    ghost invariant = { λ j. IsVerdictOf (record { app = j.app; certificate = j.certificate; verdict = j.verdict; why = j.why }) };
+    ghost invariant = { λ j. IsVerdictOf (record { app = j.app; certificate = j.certificate; verdict = j.verdict; why = j.why; waits = j.waits }) };
 }
 
 impl Judged {
-    /// All as one value: the certificate fits the application, the verdict is the one on both, and nothing explains a yes.
+    /// All as one value: the certificate fits the application, the verdict is the one on both, nothing explains a yes, and an order of the
+    /// mutexes is one of the certificate.
     pub fn new(
         app: App,
         certificate: Certificate,
         verdict: Verdict,
         why: Option<Explanation>,
+        waits: Option<Order>,
     ) -> Judged
         requires fits { CertificateFits app certificate }
         requires verdict { TellsVerdict app certificate verdict }
         requires speaks { Speaks app verdict }
         requires why { verdict ≡ Verdict.Yes → why ≡ None }
+        requires waits { IfSome waits (IsOrderOf app certificate) }
         ensures app { result.app ≡ app }
         ensures certificate { result.certificate ≡ certificate }
         ensures verdict { result.verdict ≡ verdict }
         ensures why { result.why ≡ why }
+        ensures waits { result.waits ≡ waits }
     {
         Judged {
             app,
             certificate,
             verdict,
             why,
+            waits,
             tried: None,
         }
     }
 
-    /// The same, after this search for a run into a breach; None where there was none.
+    /// The same, after this search for a run; None where there was none.
     pub fn after_search(self, tried: Option<Tried>) -> Judged
         ensures { result ≡ self }
     {
         Judged { tried, ..self }
     }
 
-    /// The search for a run into a breach that found none, where there was one.
+    /// The search for a run that found none, where there was one.
     pub fn tried(&self) -> Option<Tried> {
         self.tried
     }
@@ -105,12 +114,20 @@ impl Judged {
         &self.why
     }
 
+    /// Whether actors can deadlock over mutexes; None where nobody asked, and where the verdict is no.
+    pub fn waits(&self) -> &Option<Order>
+        ensures { result.now ≡ self.now.waits }
+    {
+        &self.waits
+    }
+
     /// What such a value says: the certificate fits the application, and the verdict is the one on both.
     pub fn recall_verdict(&self)
         ensures fits { CertificateFits self.now.app self.now.certificate }
         ensures verdict { TellsVerdict self.now.app self.now.certificate self.now.verdict }
         ensures speaks { Speaks self.now.app self.now.verdict }
         ensures why { self.now.verdict ≡ Verdict.Yes → self.now.why ≡ None }
+        ensures waits { IfSome self.now.waits (IsOrderOf self.now.app self.now.certificate) }
     {
         let _ = &self.verdict;
     }

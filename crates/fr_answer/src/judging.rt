@@ -1,8 +1,9 @@
 // The verdict on two texts, and why it is no.
-ghost use Rattle.std.specs.Prelude.{◌≡◌, IfOk, IfErr, None};
+ghost use Rattle.std.specs.Prelude.{◌≡◌, IfOk, IfErr, IfSome, None};
 ghost use Rattle.fr_ends.specs.Fits.{CertificateFits};
 ghost use Rattle.fr_judge.specs.declared.part.Verdict.TheVariants.{Yes};
-ghost use Rattle.fr_answer.specs.Answers.{IsVerdictOn};
+ghost use Rattle.fr_order.specs.Order.{IsOrderOf};
+ghost use Rattle.fr_answer.specs.Answers.{IsAnsweredFor, IsVerdictOn};
 ghost use Rattle.fr_answer.specs.Checked.{CanRefuse};
 
 use crate::answer::What;
@@ -10,6 +11,7 @@ use crate::fault::CheckFault;
 use crate::judged::Judged;
 use fr_ends::Certificate;
 use fr_judge::{Judging, Lists, Verdict};
+use fr_order::{Order, order_of};
 use fr_parallel::{Gate, judge_reading};
 use fr_program::App;
 use fr_report::{Explained, Explanation, explain, verdict_line};
@@ -78,7 +80,29 @@ pub(crate) fn why(
     Ok(Some(found))
 }
 
-/// Judges the certificate for the application by this many workers. Ok is the verdict, and where `detail` asks for it why it is no.
+/// Whether actors can deadlock over mutexes, by a certificate that passes, where that is asked; None elsewhere.
+pub(crate) fn waits(
+    alloc: Global,
+    app: &App,
+    certificate: &Certificate,
+    verdict: Verdict,
+    asks: bool,
+) -> Result<Option<Order>, AllocError>
+    requires { CertificateFits app.now certificate.now }
+    ensures order { IfOk result (λ found. IfSome found (IsOrderOf app.now certificate.now)) }
+    ensures answered { IfOk result (IsAnsweredFor asks verdict) }
+{
+    if !asks {
+        return Ok(None);
+    }
+    match verdict {
+        Verdict::Yes => Ok(Some(order_of(alloc, app, certificate)?)),
+        Verdict::No { .. } => Ok(None),
+    }
+}
+
+/// Judges the certificate for the application by this many workers. Ok is the verdict, where `detail` asks for it why it is no, and where
+/// `asks` is true and the verdict is yes whether actors can deadlock over mutexes.
 ///
 /// # Errors
 ///
@@ -92,13 +116,21 @@ pub(crate) fn judged<R: Threads + Wait + Sync, G: Gate>(
     workers: usize,
     gate: &G,
     detail: Option<Detail>,
+    asks: bool,
 ) -> Result<What, CheckFault>
-    ensures judged { IfOk result (IsVerdictOn app.now certificate.now) }
+    ensures judged { IfOk result (IsVerdictOn asks app.now certificate.now) }
     ensures refused { IfErr result (CanRefuse app.now certificate.now workers) }
 {
     let reading = judge_reading(rt, alloc, app, certificate, workers, gate)?;
     let (app, certificate) = (&reading.app, &reading.certificate);
     let why = why(alloc, app, certificate, reading.verdict, detail)?;
-    let judged = Judged::new(reading.app, reading.certificate, reading.verdict, why);
+    let waits = waits(alloc, app, certificate, reading.verdict, asks)?;
+    let judged = Judged::new(
+        reading.app,
+        reading.certificate,
+        reading.verdict,
+        why,
+        waits,
+    );
     Ok(What::Judged(judged))
 }

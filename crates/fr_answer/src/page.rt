@@ -1,6 +1,6 @@
 // An answer as a page to look at.
 ghost use Rattle.std.specs.Prelude.{◌≡◌, IfOk, string_bytes};
-ghost use Rattle.fr_answer.specs.Answers.{first_line, kind_of};
+ghost use Rattle.fr_answer.specs.Answers.{kind_of, shown_line};
 ghost use Rattle.fr_answer.specs.Pages.{IsPageOf, page_kind};
 
 mod actors;
@@ -14,7 +14,7 @@ use fr_page::{ActorShown, Kind, Page, StepShown, page_text};
 use fr_refuter::Finding;
 use points::put_judged;
 use std::alloc::{AllocError, Global};
-use steps::put_run;
+use steps::{put_deadlock, put_run};
 
 /// The heading of a page for an answer of this kind.
 fn page_kind(kind: AnswerKind) -> Kind
@@ -23,7 +23,9 @@ fn page_kind(kind: AnswerKind) -> Kind
     match kind {
         AnswerKind::Yes => Kind::Yes,
         AnswerKind::No => Kind::No,
+        AnswerKind::MayDeadlock => Kind::MayDeadlock,
         AnswerKind::Breach => Kind::Breach,
+        AnswerKind::Deadlock => Kind::Deadlock,
         AnswerKind::NoBreach => Kind::Safe,
         AnswerKind::StatesLeft => Kind::Unknown,
         AnswerKind::Refused | AnswerKind::Machine => Kind::Refused,
@@ -44,7 +46,7 @@ fn command_text(alloc: Global, answer: &Answer) -> Result<String, AllocError> {
 /// What a page shows below the answer.
 #[derive(Drop)]
 struct Body {
-    /// Lines that say where a text is refused.
+    /// Lines that say whether actors can deadlock, or where a text is refused.
     details: Vec<String>,
     /// Numbers in words.
     counts: Vec<String>,
@@ -73,11 +75,16 @@ fn body_of(alloc: Global, what: &What) -> Result<Body, AllocError> {
         What::Judged(judged) => {
             put_actors(alloc, &mut body, judged.app())?;
             put_judged(alloc, &mut body, judged)?;
+            if matches!(what.kind(), AnswerKind::Yes) {
+                body.details = what.second_lines(alloc)?;
+            }
         }
         What::Searched { app, found, .. } => {
             put_actors(alloc, &mut body, app)?;
-            if let Finding::Breach(run) = found {
-                put_run(alloc, &mut body, app, run)?;
+            match found {
+                Finding::Breach(run) => put_run(alloc, &mut body, app, run)?,
+                Finding::Deadlock(run) => put_deadlock(alloc, &mut body, app, run)?,
+                _ => {}
             }
         }
         What::Refused(_) => body.details = what.lines(alloc)?,
@@ -85,15 +92,15 @@ fn body_of(alloc: Global, what: &What) -> Result<Body, AllocError> {
     Ok(body)
 }
 
-/// The page with this below the heading of the answer's kind and its first line.
+/// The page with this below the heading of the answer's kind and the line that reports show of it.
 fn headed(alloc: Global, answer: &Answer, body: Body) -> Result<Page, AllocError>
     ensures kind { IfOk result (λ page. page.kind ≡ page_kind (kind_of answer.now.what)) }
-    ensures line { IfOk result (λ page. string_bytes page.answer ≡ first_line answer.now.what) }
+    ensures line { IfOk result (λ page. string_bytes page.answer ≡ shown_line answer.now.what) }
 {
     Ok(Page {
         kind: page_kind(answer.what.kind()),
         command: command_text(alloc, answer)?,
-        answer: answer.what.line(alloc)?,
+        answer: answer.what.shown_line(alloc)?,
         details: body.details,
         counts: body.counts,
         omissions: body.omissions,
@@ -102,8 +109,8 @@ fn headed(alloc: Global, answer: &Answer, body: Body) -> Result<Page, AllocError
     })
 }
 
-/// The page of an answer, as one HTML file. Its heading is that of the answer's kind, and the line below it is the answer's first
-/// line. Its error is that an allocation was refused.
+/// The page of an answer, as one HTML file. Its heading is that of the answer's kind, and the line below it is the one that
+/// reports show of it. Its error is that an allocation was refused.
 pub fn page_of(alloc: Global, answer: &Answer) -> Result<String, AllocError>
     ensures { IfOk result (λ text. IsPageOf answer.now.what (string_bytes text)) }
 {

@@ -1,19 +1,21 @@
 // Working out a certificate for the application that bytes mean, and judging it.
-ghost use Rattle.std.specs.Prelude.{◌≡◌, ◌↔◌, IfOk, IfErr, IsErrOf, string_bytes};
+ghost use Rattle.std.specs.Prelude.{◌≡◌, ◌⊎◌, ◌↔◌, IsTrue, IfOk, IfErr, IsErrOf, string_bytes};
 ghost use Rattle.fr_ends.specs.Fits.{CertificateFits};
 ghost use Rattle.fr_parallel.specs.Kept.{IsNoCrew};
-ghost use Rattle.fr_refuter.specs.Refutes.{IsFound};
-ghost use Rattle.fr_answer.specs.Answers.{CanRefuseProof, IsProofOf, Settles};
+ghost use Rattle.fr_refuter.specs.Refutes.{IsFound, Suits};
+ghost use Rattle.fr_answer.specs.Answers.{CanRefuseProof, IsProofOf, Settles, kind_of_judged};
 
-use crate::answer::What;
+use crate::answer::{What, kind_of_judged};
 use crate::fault::CheckFault;
 use crate::judged::{Judged, Tried};
-use crate::judging::why;
+use crate::judging::{waits, why};
 use crate::layout::laid_out;
 use crate::ways::Ways;
 use fr_cert::{MOST_BYTES, read_cert, write_cert};
 use fr_ends::Certificate;
-use fr_judge::{Part, Verdict};
+use fr_formats::AnswerKind;
+use fr_judge::{Judging, Lists, Part, Verdict};
+use fr_order::Order;
 use fr_parallel::{Gate, is_crew, judge_with};
 use fr_program::App;
 use fr_prover::{best_certificate, thinned};
@@ -31,16 +33,32 @@ fn text_of(alloc: Global, app: &App, certificate: &Certificate) -> Result<String
     laid_out(alloc, compact.as_str())
 }
 
-/// The text of the best certificate that is found for the application. Where it is longer than a certificate may be, it is that of
-/// the certificate without what isn't needed.
-fn certificate_text(alloc: Global, app: &App) -> Result<String, AllocError> {
-    let certificate = best_certificate(alloc, app)?;
-    let text = text_of(alloc, app, &certificate)?;
-    if text.len() <= MOST_BYTES {
-        return Ok(text);
+/// Whether the certificate keeps every part at every point.
+fn passes(alloc: Global, app: &App, certificate: &Certificate) -> Result<bool, AllocError>
+    requires { CertificateFits app.now certificate.now }
+{
+    let lists = Lists::build(alloc, app, certificate)?;
+    let judging = Judging::with(app, certificate, &lists);
+    for number in 0..app.points() {
+        if judging.part_at(number).is_some() {
+            return Ok(false);
+        }
     }
-    let certificate = thinned(alloc, app, &certificate)?;
-    text_of(alloc, app, &certificate)
+    Ok(true)
+}
+
+/// The text of the best certificate that is found for the application: without what isn't needed where that passes, so that a change of the
+/// application changes few of its lines; and else with all that is known, unless that is longer than a certificate may be.
+fn certificate_text(alloc: Global, app: &App) -> Result<String, AllocError> {
+    let whole = best_certificate(alloc, app)?;
+    let thin = thinned(alloc, app, &whole)?;
+    if !passes(alloc, app, &thin)? {
+        let text = text_of(alloc, app, &whole)?;
+        if text.len() <= MOST_BYTES {
+            return Ok(text);
+        }
+    }
+    text_of(alloc, app, &thin)
 }
 
 /// The actors that the verdict names: the one whose point fails, and the one whose step spoils its note.
@@ -55,37 +73,62 @@ fn suspects_of(verdict: Verdict) -> ActorSet {
     }
 }
 
-/// What a search finds in place of this verdict, which is no: a run into a breach, or that no state of any run breaches a rule; else how
-/// far it went. Its error is that an allocation was refused.
+/// The actors that are the first to be asked about: those that the verdict names, or those whose takes make a cycle.
+fn suspects_among(verdict: Verdict, waits: &Option<Order>) -> ActorSet {
+    let mut suspects = suspects_of(verdict);
+    if let Some(Order::Cycle(edges)) = waits {
+        for edge in edges {
+            suspects = suspects.with(edge.point.actor);
+        }
+    }
+    suspects
+}
+
+/// Whether the verdict is no, or a deadlock isn't excluded.
+fn is_unsettled(verdict: Verdict, waits: &Option<Order>) -> bool
+    ensures { IsTrue result → (kind_of_judged verdict waits.now ≡ AnswerKind.No) ⊎ (kind_of_judged verdict waits.now ≡ AnswerKind.MayDeadlock) }
+{
+    match kind_of_judged(verdict, waits) {
+        AnswerKind::No | AnswerKind::MayDeadlock => true,
+        _ => false,
+    }
+}
+
+/// What a search finds in place of a verdict: a run into a breach, or that no state of any run breaches a rule, and where that is asked
+/// the same of deadlocks; else how far it went. Its error is that an allocation was refused.
 fn settled<R: Threads + Sync>(
     rt: &R,
     alloc: Global,
     app: &App,
-    verdict: Verdict,
+    suspects: ActorSet,
     ways: Ways,
 ) -> Result<Result<Finding, Tried>, AllocError>
     ensures found { IfOk result (λ r. IfOk r (λ found. IsFound app.now found)) }
+    ensures suits { IfOk result (λ r. IfOk r (Suits ways.deadlock)) }
     ensures settles { IfOk result (λ r. IfOk r Settles) }
 {
     let search = Search {
         most_states: ways.states,
         most_bytes: ways.state_bytes,
         workers: ways.workers,
-        suspects: suspects_of(verdict),
+        suspects,
+        seeks_deadlocks: ways.deadlock,
         wants_shortest: false,
     };
     Ok(match refute(rt, alloc, app, search)? {
         Finding::Breach(run) => Ok(Finding::Breach(run)),
+        Finding::Deadlock(run) => Ok(Finding::Deadlock(run)),
         Finding::Safe { states } => Ok(Finding::Safe { states }),
+        Finding::Free { states } => Ok(Finding::Free { states }),
         Finding::Unknown { states, left } => Err(Tried { states, left }),
     })
 }
 
-/// Works out a certificate for the application, and judges it. Where the verdict is no, and `searches` asks for it, the same workers
-/// look for a run into a breach.
+/// Works out a certificate for the application, and judges it. Where the verdict is no, or a deadlock isn't excluded where that is asked,
+/// and `searches` asks for it, the same workers look for a run into a breach or a deadlock.
 ///
-/// Ok is the verdict by the certificate whose text comes with it. In place of a no it is what the search found, where that is a run into
-/// a breach, or that no state of any run breaches a rule.
+/// Ok is the verdict by the certificate whose text comes with it. In place of one that doesn't settle the matter it is what the search
+/// found, where that is a run, or that no state of any run breaches a rule or is deadlocked.
 ///
 /// # Errors
 ///
@@ -100,7 +143,7 @@ pub(crate) fn proved<R: Threads + Wait + Sync, G: Gate>(
     gate: &G,
     searches: bool,
 ) -> Result<(What, String), CheckFault>
-    ensures proved { IfOk result (λ r. IsProofOf app.now searches (string_bytes r.1) r.0) }
+    ensures proved { IfOk result (λ r. IsProofOf ways.deadlock app.now searches (string_bytes r.1) r.0) }
     ensures workers { IsErrOf result CheckFault.Workers ↔ IsNoCrew ways.workers }
     ensures refused { IfErr result (CanRefuseProof app.now ways.workers) }
 {
@@ -111,9 +154,11 @@ pub(crate) fn proved<R: Threads + Wait + Sync, G: Gate>(
     let text = certificate_text(alloc, &app)?;
     let certificate = read_cert(alloc, &app, text.as_bytes())?;
     let verdict = judge_with(rt, alloc, &app, &certificate, ways.workers, gate)?;
+    let waits = waits(alloc, &app, &certificate, verdict, ways.deadlock)?;
     let mut tried = None;
-    if searches && matches!(verdict, Verdict::No { .. }) {
-        match settled(rt, alloc, &app, verdict, ways)? {
+    if searches && is_unsettled(verdict, &waits) {
+        let suspects = suspects_among(verdict, &waits);
+        match settled(rt, alloc, &app, suspects, ways)? {
             Ok(found) => {
                 let explains = ways.detail.is_some();
                 let what = What::Searched {
@@ -127,6 +172,6 @@ pub(crate) fn proved<R: Threads + Wait + Sync, G: Gate>(
         }
     }
     let why = why(alloc, &app, &certificate, verdict, ways.detail)?;
-    let judged = Judged::new(app, certificate, verdict, why).after_search(tried);
+    let judged = Judged::new(app, certificate, verdict, why, waits).after_search(tried);
     Ok((What::Judged(judged), text))
 }

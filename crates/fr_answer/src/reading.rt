@@ -59,7 +59,7 @@ pub(crate) fn checked_files<R: Threads + Wait + Sync, F: Files>(
     certificate: &str,
     ways: Ways,
 ) -> Result<(Vec<u8>, What), Refusal>
-    ensures verdict { IfOk result (λ r. IsCheckOf (F.Gives files.now) app.now certificate.now r.1) }
+    ensures verdict { IfOk result (λ r. IsCheckOf (F.Gives files.now) ways.deadlock app.now certificate.now r.1) }
     ensures fault { IfErr result (λ refusal. 2 ≤ fault_status refusal.fault) }
 {
     let app = application(alloc, files, app, ways.names)?;
@@ -78,6 +78,7 @@ pub(crate) fn checked_files<R: Threads + Wait + Sync, F: Files>(
         ways.workers,
         &Open,
         ways.detail,
+        ways.deadlock,
     ) {
         Ok(what) => Ok((app, what)),
         Err(fault) => {
@@ -97,7 +98,7 @@ pub(crate) fn proved_file<R: Threads + Wait + Sync, F: Files>(
     searches: bool,
     ways: Ways,
 ) -> Result<(Vec<u8>, What, String), Refusal>
-    ensures proof { IfOk result (λ r. IsProofAt (F.Gives files.now) app.now searches (string_bytes r.2) r.1) }
+    ensures proof { IfOk result (λ r. IsProofAt (F.Gives files.now) ways.deadlock app.now searches (string_bytes r.2) r.1) }
     ensures fault { IfErr result (λ refusal. 2 ≤ fault_status refusal.fault) }
 {
     let app = application(alloc, files, app, ways.names)?;
@@ -115,7 +116,7 @@ pub(crate) fn proved_alone<R: Threads + Wait + Sync, F: Files>(
     app: &str,
     ways: Ways,
 ) -> Result<(Vec<u8>, What), Refusal>
-    ensures proof { IfOk result (λ r. (certificate : List ℕ) × IsProofAt (F.Gives files.now) app.now true certificate r.1) }
+    ensures proof { IfOk result (λ r. (certificate : List ℕ) × IsProofAt (F.Gives files.now) ways.deadlock app.now true certificate r.1) }
     ensures fault { IfErr result (λ refusal. 2 ≤ fault_status refusal.fault) }
 {
     let (text, what, _certificate) = proved_file(rt, alloc, files, app, true, ways)?;
@@ -130,7 +131,7 @@ pub(crate) fn searched_file<R: Threads + Sync, F: Files>(
     app: &str,
     ways: Ways,
 ) -> Result<(Vec<u8>, What), Refusal>
-    ensures found { IfOk result (λ r. IsSearchAt (F.Gives files.now) app.now r.1) }
+    ensures found { IfOk result (λ r. IsSearchAt (F.Gives files.now) ways.deadlock app.now r.1) }
     ensures fault { IfErr result (λ refusal. 2 ≤ fault_status refusal.fault) }
 {
     let app = application(alloc, files, app, ways.names)?;

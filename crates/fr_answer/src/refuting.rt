@@ -1,4 +1,4 @@
-// Looking for a run of the application that bytes mean into a breach.
+// Looking for a run of the application that bytes mean into a breach, or into a deadlock too.
 ghost use Rattle.std.specs.Prelude.{◌↔◌, IfOk, IfErr, IsErrOf};
 ghost use Rattle.fr_parallel.specs.Kept.{IsNoCrew};
 ghost use Rattle.fr_answer.specs.Answers.{CanRefuseSearch, IsSearchOf};
@@ -12,9 +12,9 @@ use fr_refuter::{ActorSet, Search, refute};
 use std::alloc::Global;
 use std::thread::Threads;
 
-/// Looks for a run of the application into a breach of one of the twelve rules, the shortest where the states last for it, by this many
-/// workers. Ok is what was found, which is the same for every number of workers: a run, that no state of any run breaches a rule, or
-/// nothing.
+/// Looks for a run of the application into a breach of one of the twelve rules, and where that is asked into a deadlock, the shortest
+/// where the states last for it, by this many workers. Ok is what was found, which is the same for every number of workers: a run, that
+/// no state of any run breaches a rule or is deadlocked, or nothing.
 ///
 /// # Errors
 ///
@@ -26,7 +26,7 @@ pub(crate) fn searched<R: Threads + Sync>(
     app: &[u8],
     ways: Ways,
 ) -> Result<What, CheckFault>
-    ensures found { IfOk result (IsSearchOf app.now) }
+    ensures found { IfOk result (IsSearchOf ways.deadlock app.now) }
     ensures workers { IsErrOf result CheckFault.Workers ↔ IsNoCrew ways.workers }
     ensures refused { IfErr result (CanRefuseSearch app.now ways.workers) }
 {
@@ -39,6 +39,7 @@ pub(crate) fn searched<R: Threads + Sync>(
         most_bytes: ways.state_bytes,
         workers: ways.workers,
         suspects: ActorSet::NONE,
+        seeks_deadlocks: ways.deadlock,
         wants_shortest: true,
     };
     let found = refute(rt, alloc, &app, search)?;

@@ -1,6 +1,6 @@
 // An answer as reports for machines show it.
 ghost use Rattle.std.specs.Prelude.{◌≡◌, IfOk, string_bytes};
-ghost use Rattle.fr_answer.specs.Answers.{first_line, kind_of};
+ghost use Rattle.fr_answer.specs.Answers.{kind_of, shown_line};
 
 mod failure;
 mod places;
@@ -12,7 +12,7 @@ use fr_formats::{AnswerShown, Failure, Source, StepShown, WarningShown};
 use fr_refuter::Finding;
 use places::Places;
 use std::alloc::{AllocError, Global};
-use steps::run_shown;
+use steps::{deadlock_shown, run_shown};
 
 /// What fails, and the steps of a run, each with its place in the application's text.
 fn details_of(
@@ -31,6 +31,14 @@ fn details_of(
         } => {
             let places = Places::build(alloc, app, &answer.text)?;
             run_shown(alloc, &places, run)
+        }
+        What::Searched {
+            app,
+            found: Finding::Deadlock(run),
+            ..
+        } => {
+            let places = Places::build(alloc, app, &answer.text)?;
+            deadlock_shown(alloc, &places, run)
         }
         _ => Ok((None, Vec::new(alloc))),
     }
@@ -52,16 +60,16 @@ fn warnings_shown(
 /// The answer as JSON, SARIF and JUnit show it. Its error is that an allocation was refused.
 pub fn shown_of(alloc: Global, answer: &Answer) -> Result<AnswerShown, AllocError>
     ensures kind { IfOk result (λ shown. shown.answer ≡ kind_of answer.now.what) }
-    ensures report { IfOk result (λ shown. string_bytes shown.report ≡ first_line answer.now.what) }
+    ensures report { IfOk result (λ shown. string_bytes shown.report ≡ shown_line answer.now.what) }
 {
     let source = Source {
         command: answer.command,
         application: &answer.application,
         certificate: answer.certificate.as_deref(),
     };
-    let report = answer.what.line(alloc)?;
+    let report = answer.what.shown_line(alloc)?;
     let mut shown = AnswerShown::new(alloc, source, answer.what.kind(), report)?;
-    shown.lines = answer.what.lines(alloc)?;
+    shown.lines = answer.what.shown_lines(alloc)?;
     shown.warnings = warnings_shown(alloc, &answer.warnings)?;
     let (failure, steps) = details_of(alloc, answer)?;
     shown.failure = failure;

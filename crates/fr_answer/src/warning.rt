@@ -1,12 +1,16 @@
 // What an answer may hide.
 use crate::answer::What;
-use crate::judged::Tried;
+use crate::judged::{Judged, Tried};
 use crate::ways::Warns;
 use fr_formats::{Command, Source, WarningKind, WarningShown};
+use fr_judge::Verdict;
 use fr_notes::Notes;
 use fr_program::App;
 use fr_refuter::{Finding, Left};
-use fr_report::{NO_ACTORS, never_reached, never_used};
+use fr_report::{
+    NO_ACTORS, held_while_waiting, lost_updates, never_given, never_reached, never_used,
+    used_one_way,
+};
 use std::alloc::{AllocError, Global};
 
 /// What is said where a certificate is asked for and the proof is by all states.
@@ -28,8 +32,25 @@ fn add(
     Ok(())
 }
 
-/// The warnings for an application: that it has no actors, and where all are asked for the lines that are never reached by the notes, where
-/// there are notes, and what is never used.
+/// Adds the warnings that rest on notes.
+fn add_noted(
+    alloc: Global,
+    warnings: &mut Vec<WarningShown>,
+    app: &App,
+    notes: &Notes,
+) -> Result<(), AllocError> {
+    let unreached = never_reached(alloc, app, notes)?;
+    let held = held_while_waiting(alloc, app, notes)?;
+    let taken = never_given(alloc, app, notes)?;
+    let lost = lost_updates(alloc, app, notes)?;
+    add(warnings, WarningKind::NeverReached, unreached)?;
+    add(warnings, WarningKind::HeldWhileWaiting, held)?;
+    add(warnings, WarningKind::NeverGiven, taken)?;
+    add(warnings, WarningKind::LostUpdate, lost)
+}
+
+/// The warnings for an application: that it has no actors, and where all are asked for what the notes hint at, where there are
+/// notes, and what is never used or used one way.
 fn warnings_for(
     alloc: Global,
     app: &App,
@@ -44,14 +65,11 @@ fn warnings_for(
     }
     if warns == Warns::OfAll {
         if let Some(notes) = notes {
-            let lines = never_reached(alloc, app, notes)?;
-            add(&mut warnings, WarningKind::NeverReached, lines)?;
+            add_noted(alloc, &mut warnings, app, notes)?;
         }
-        add(
-            &mut warnings,
-            WarningKind::NeverUsed,
-            never_used(alloc, app)?,
-        )?;
+        let (unused, one_way) = (never_used(alloc, app)?, used_one_way(alloc, app)?);
+        add(&mut warnings, WarningKind::NeverUsed, unused)?;
+        add(&mut warnings, WarningKind::UsedOneWay, one_way)?;
     }
     Ok(warnings)
 }
@@ -87,7 +105,15 @@ fn left_line(alloc: Global, left: Left) -> Result<Option<String>, AllocError> {
     })
 }
 
-/// What was tried besides: how many states were gone through for a run into a breach, where `prove` found none, and what kept the search
+/// What was looked for after this verdict.
+fn sought(judged: &Judged) -> &'static str {
+    match judged.verdict() {
+        Verdict::Yes => "a deadlock",
+        Verdict::No { .. } => "a breach",
+    }
+}
+
+/// What was tried besides: how many states were gone through for a run into a breach or a deadlock, where `prove` found none, and what kept the search
 /// from going through all; or that no certificate was written, where the proof is by all states. Its error is that an allocation
 /// was refused.
 fn notes_of(alloc: Global, source: Source, what: &What) -> Result<Vec<String>, AllocError> {
@@ -95,14 +121,15 @@ fn notes_of(alloc: Global, source: Source, what: &What) -> Result<Vec<String>, A
     let left = match what {
         What::Judged(judged) => match judged.tried() {
             Some(Tried { states, left }) => {
-                notes.push(format!(in alloc; "no run into a breach in {states} states")?)?;
+                let into = sought(judged);
+                notes.push(format!(in alloc; "no run into {into} in {states} states")?)?;
                 left_line(alloc, left)?
             }
             None => None,
         },
         What::Searched { found, .. } => match found {
             Finding::Unknown { left, .. } => left_line(alloc, *left)?,
-            Finding::Safe { .. } if is_unwritten(source) => {
+            Finding::Safe { .. } | Finding::Free { .. } if is_unwritten(source) => {
                 Some(String::from_str(alloc, NO_CERTIFICATE)?)
             }
             _ => None,

@@ -36,6 +36,8 @@ pub(crate) struct Ways {
     pub states: usize,
     /// The most bytes that these states take.
     pub state_bytes: usize,
+    /// Whether it is asked if actors can deadlock over mutexes.
+    pub deadlock: bool,
     /// Whether it is explained why it is no and where a refusal is, and how much of a state.
     pub detail: Option<Detail>,
     /// Whether it is found out where a text is refused.
@@ -68,7 +70,7 @@ pub(crate) fn detail_in(format: Option<Format>, detail: Option<Detail>) -> Optio
     }
 }
 
-/// The file at this path as an output that replaces what is told; None where no file is asked for.
+/// The file at this path as an output that replaces what this says; None where no file is asked for.
 pub(crate) fn output_at(path: Option<&str>, replaces: Holds) -> Option<Output<'_>>
     ensures { option_map (λ output. output.path.now) result ≡ option_copied path.entry }
 {

@@ -12,11 +12,11 @@ use Rattle.std.specs.Prelude.{◌≡◌, ℕ, max, fold, List, [], Option, Some,
 use Rattle.fr_formats.specs.declared.answer.Command.{Command}
 use Rattle.fr_formats.specs.declared.answer.Command.TheVariants.{Check, Prove, Refute}
 use Rattle.fr_formats.specs.declared.answer.AnswerKind.{AnswerKind}
-use Rattle.fr_formats.specs.declared.answer.AnswerKind.TheVariants.{Yes, No, Breach, NoBreach, StatesLeft, Refused, Machine}
+use Rattle.fr_formats.specs.declared.answer.AnswerKind.TheVariants.{Yes, No, MayDeadlock, Breach, Deadlock, NoBreach, StatesLeft, Refused, Machine}
 use Rattle.fr_formats.specs.declared.answer.SideShown.{SideShown}
 use Rattle.fr_formats.specs.declared.answer.SideShown.TheVariants.{Before, Inside}
 use Rattle.fr_formats.specs.declared.answer.WarningKind.{WarningKind}
-use Rattle.fr_formats.specs.declared.answer.WarningKind.TheVariants.{NeverReached, NeverUsed, NoActors}
+use Rattle.fr_formats.specs.declared.answer.WarningKind.TheVariants.{NeverReached, NeverUsed, NoActors, HeldWhileWaiting, NeverGiven, LostUpdate, UsedOneWay}
 use Rattle.fr_formats.specs.declared.answer.Source.{Source}
 use Rattle.fr_formats.specs.declared.answer.AnswerShown.{AnswerShown}
 use Rattle.fr_formats.specs.declared.answer.Failure.{Failure}
@@ -29,7 +29,9 @@ command_name Refute = codes "refute"
 abbrev pub kind_name : AnswerKind → List ℕ
 kind_name Yes = codes "yes"
 kind_name No = codes "no"
+kind_name MayDeadlock = codes "may-deadlock"
 kind_name Breach = codes "breach"
+kind_name Deadlock = codes "deadlock"
 kind_name NoBreach = codes "no-breach"
 kind_name StatesLeft = codes "states-left"
 kind_name Refused = codes "refused"
@@ -43,12 +45,18 @@ abbrev pub warning_rule : WarningKind → List ℕ
 warning_rule NeverReached = codes "never-reached"
 warning_rule NeverUsed = codes "never-used"
 warning_rule NoActors = codes "no-actors"
+warning_rule HeldWhileWaiting = codes "held-while-waiting"
+warning_rule NeverGiven = codes "never-given"
+warning_rule LostUpdate = codes "lost-update"
+warning_rule UsedOneWay = codes "used-one-way"
 
 abbrev pub status_of : AnswerKind → ℕ
 status_of Yes = 0
 status_of NoBreach = 0
 status_of No = 1
+status_of MayDeadlock = 1
 status_of Breach = 1
+status_of Deadlock = 1
 status_of StatesLeft = 1
 status_of Refused = 2
 status_of Machine = 3

@@ -11,7 +11,7 @@ use Rattle.std.specs.Prelude.{ℕ, Bool, true, false, List, [], ◌∷◌, ◌++
 use Rattle.std.specs.declared.string.String.{String}
 use Rattle.fr_escape.specs.Xml.{xml}
 use Rattle.fr_formats.specs.declared.answer.AnswerKind.{AnswerKind}
-use Rattle.fr_formats.specs.declared.answer.AnswerKind.TheVariants.{Yes, No, Breach, NoBreach, StatesLeft, Refused, Machine}
+use Rattle.fr_formats.specs.declared.answer.AnswerKind.TheVariants.{Yes, No, MayDeadlock, Breach, Deadlock, NoBreach, StatesLeft, Refused, Machine}
 use Rattle.fr_formats.specs.declared.answer.AnswerShown.{AnswerShown}
 use Rattle.fr_formats.specs.declared.answer.WarningShown.{WarningShown}
 use Rattle.fr_formats.specs.declared.junit.Part.{Part}
@@ -25,7 +25,9 @@ abbrev pub is_failed : AnswerKind → Bool
 is_failed Yes = false
 is_failed NoBreach = false
 is_failed No = true
+is_failed MayDeadlock = true
 is_failed Breach = true
+is_failed Deadlock = true
 is_failed StatesLeft = true
 is_failed Refused = false
 is_failed Machine = false
@@ -34,7 +36,9 @@ abbrev pub is_broken : AnswerKind → Bool
 is_broken Yes = false
 is_broken NoBreach = false
 is_broken No = false
+is_broken MayDeadlock = false
 is_broken Breach = false
+is_broken Deadlock = false
 is_broken StatesLeft = false
 is_broken Refused = true
 is_broken Machine = true
@@ -68,7 +72,9 @@ abbrev pub outcome_by : AnswerKind → AnswerShown → List ℕ
 outcome_by Yes a = []
 outcome_by NoBreach a = []
 outcome_by No a = failed (codes "failure") a
+outcome_by MayDeadlock a = failed (codes "failure") a
 outcome_by Breach a = failed (codes "failure") a
+outcome_by Deadlock a = failed (codes "failure") a
 outcome_by StatesLeft a = failed (codes "failure") a
 outcome_by Refused a = failed (codes "error") a
 outcome_by Machine a = failed (codes "error") a

@@ -36,8 +36,9 @@ rule_names =
     codes "rule-1" ∷ codes "rule-2" ∷ codes "rule-3" ∷ codes "rule-4" ∷ codes "rule-5" ∷ codes "rule-6"
     ∷ codes "rule-7" ∷ codes "rule-8" ∷ codes "rule-9" ∷ codes "rule-10" ∷ codes "rule-11" ∷ codes "rule-12"
     ∷ codes "entry" ∷ codes "goes-to" ∷ codes "guard" ∷ codes "near" ∷ codes "spoiled-by" ∷ codes "refused"
-    ∷ codes "states-left" ∷ codes "never-reached" ∷ codes "never-used" ∷ codes "no-actors" ∷ []
+    ∷ codes "states-left" ∷ codes "never-reached" ∷ codes "never-used" ∷ codes "no-actors" ∷ codes "deadlock" ∷ codes "may-deadlock"
+    ∷ codes "held-while-waiting" ∷ codes "never-given" ∷ codes "lost-update" ∷ codes "used-one-way" ∷ []
 
 -- the index of a name among all
-abbrev pub rule_index : List ℕ → Option ℕ
+unfoldable pub rule_index : List ℕ → Option ℕ
 rule_index name = position_from (λ known. bytes_eq known name) 0 rule_names

@@ -21,7 +21,7 @@ use Rattle.json.specs.Token.{Token, begin_object, end_object, end_array, key}
 use Rattle.fr_escape.specs.Uri.{uri}
 use Rattle.fr_request.specs.declared.format.TheConstants.{VERSION}
 use Rattle.fr_formats.specs.declared.answer.AnswerKind.{AnswerKind}
-use Rattle.fr_formats.specs.declared.answer.AnswerKind.TheVariants.{Yes, No, Breach, NoBreach, StatesLeft, Refused, Machine}
+use Rattle.fr_formats.specs.declared.answer.AnswerKind.TheVariants.{Yes, No, MayDeadlock, Breach, Deadlock, NoBreach, StatesLeft, Refused, Machine}
 use Rattle.fr_formats.specs.declared.answer.AnswerShown.{AnswerShown}
 use Rattle.fr_formats.specs.declared.answer.Failure.{Failure}
 use Rattle.fr_formats.specs.declared.answer.PlaceShown.{PlaceShown}
@@ -141,11 +141,17 @@ flow path text (stop ∷ stops) =
 
 abbrev pub is_run : AnswerKind → Bool
 is_run Breach = true
+is_run Deadlock = true
 is_run kind = false
+
+-- what a run is said to lead to
+abbrev pub run_words : AnswerKind → List ℕ
+run_words Deadlock = codes "A run from the start into the deadlock"
+run_words kind = codes "A run from the start into the breach"
 
 unfoldable pub flow_of : AnswerShown → Failure → List Token
 flow_of a f =
-    if is_run a.answer then flow (string_bytes a.application) (codes "A run from the start into the breach") (run_stops f a.steps.items)
+    if is_run a.answer then flow (string_bytes a.application) (run_words a.answer) (run_stops f a.steps.items)
     else flow (string_bytes a.application) (codes "A state that the notes allow, and what is wrong with it") (note_stops f)
 
 -- ---- results
@@ -203,7 +209,9 @@ result_by Yes a = []
 result_by NoBreach a = []
 result_by Machine a = []
 result_by No a = failing_by a.failure a
+result_by MayDeadlock a = failing_by a.failure a
 result_by Breach a = failing_by a.failure a
+result_by Deadlock a = failing_by a.failure a
 result_by Refused a = whole_result (codes "error") a
 result_by StatesLeft a = whole_result (codes "warning") a
 

@@ -27,11 +27,15 @@ pub enum AnswerKind {
     Yes,
     /// The verdict is no.
     No,
+    /// The verdict is yes, and no order of the mutexes excludes a deadlock, where that was asked.
+    MayDeadlock,
     /// There is a run into a breach.
     Breach,
-    /// No state of any run breaches a rule: all of them were seen.
+    /// There is a run into a deadlock.
+    Deadlock,
+    /// No state of any run breaches a rule, nor is one deadlocked where that was asked: all of them were seen.
     NoBreach,
-    /// No state that was seen breaches a rule, and more are left.
+    /// No state that was seen breaches a rule, nor is one deadlocked where that was asked, and more are left.
     StatesLeft,
     /// A file is refused.
     Refused,
@@ -98,6 +102,14 @@ pub enum WarningKind {
     NeverUsed,
     /// There is no task and no interrupt.
     NoActors,
+    /// A mutex is held while its task waits without limit for something else.
+    HeldWhileWaiting,
+    /// A mutex is taken where it can be held already.
+    NeverGiven,
+    /// An update of a shared variable can be lost.
+    LostUpdate,
+    /// A variable is read and never written, or written and never read.
+    UsedOneWay,
 }
 
 /// What an answer may hide.
@@ -140,14 +152,15 @@ impl Command {
 }
 
 impl AnswerKind {
-    /// The exit status of a command that answers so: 0 for a yes and for no breach, 1 for a no, for a breach and where
-    /// states are left, 2 where a file is refused, and 3 where the machine failed.
+    /// The exit status of a command that answers so: 0 for a yes and for no breach, 1 for a no, for a breach, for a deadlock that is
+    /// there or may be, and where states are left, 2 where a file is refused, and 3 where the machine failed.
     pub fn status(self) -> u8
         ensures { result ≡ status_of self }
     {
         match self {
             AnswerKind::Yes | AnswerKind::NoBreach => 0,
-            AnswerKind::No | AnswerKind::Breach | AnswerKind::StatesLeft => 1,
+            AnswerKind::No | AnswerKind::MayDeadlock | AnswerKind::Breach => 1,
+            AnswerKind::Deadlock | AnswerKind::StatesLeft => 1,
             AnswerKind::Refused => 2,
             AnswerKind::Machine => 3,
         }
@@ -160,7 +173,9 @@ impl AnswerKind {
         match self {
             AnswerKind::Yes => "yes",
             AnswerKind::No => "no",
+            AnswerKind::MayDeadlock => "may-deadlock",
             AnswerKind::Breach => "breach",
+            AnswerKind::Deadlock => "deadlock",
             AnswerKind::NoBreach => "no-breach",
             AnswerKind::StatesLeft => "states-left",
             AnswerKind::Refused => "refused",
@@ -190,6 +205,10 @@ impl WarningKind {
             WarningKind::NeverReached => "never-reached",
             WarningKind::NeverUsed => "never-used",
             WarningKind::NoActors => "no-actors",
+            WarningKind::HeldWhileWaiting => "held-while-waiting",
+            WarningKind::NeverGiven => "never-given",
+            WarningKind::LostUpdate => "lost-update",
+            WarningKind::UsedOneWay => "used-one-way",
         }
     }
 }

@@ -18,7 +18,7 @@ pub(crate) struct Ident {
 }
 
 /// All of them: the twelve rules, the other parts of a verdict, and what else a report can say.
-const IDENTS: [Ident; 22] = [
+const IDENTS: [Ident; 28] = [
     Ident {
         name: "rule-1",
         short: "Two actors at the writing end of a buffer",
@@ -128,6 +128,36 @@ const IDENTS: [Ident; 22] = [
         name: "no-actors",
         short: "There is no task and no interrupt",
         help: "The application has no code, so nothing in it can break a rule. Add its tasks and interrupts.",
+    },
+    Ident {
+        name: "deadlock",
+        short: "Actors wait for one another's mutexes for ever",
+        help: "Each of them holds a mutex and waits without limit for the next one's. Let all take these mutexes in one order, or give the takes a block time.",
+    },
+    Ident {
+        name: "may-deadlock",
+        short: "No order of the mutexes excludes a deadlock",
+        help: "Mutexes are taken in different orders, and no run into a deadlock was found. Let all take them in one order, or give the takes a block time.",
+    },
+    Ident {
+        name: "held-while-waiting",
+        short: "A mutex is held while its task waits without limit",
+        help: "Whoever takes the mutex waits as long. Give the mutex back before the wait, or give the wait a block time.",
+    },
+    Ident {
+        name: "never-given",
+        short: "A mutex is taken where it can be held already",
+        help: "On some way back to the take the mutex isn't given, so the task waits for itself. Give it on every way.",
+    },
+    Ident {
+        name: "lost-update",
+        short: "An update of a shared variable can be lost",
+        help: "A task copies the variable and sets it from the copy, and another one can set it in between. Let both hold one mutex, or be in a critical section.",
+    },
+    Ident {
+        name: "used-one-way",
+        short: "Variable is read and never written, or written and never read",
+        help: "A wrong name can hide behind that. Take the variable out, or name it where it is meant.",
     },
 ];
 

@@ -83,10 +83,12 @@ macro_rules! put {
 fn is_failed(kind: AnswerKind) -> bool
     ensures { result ≡ fails kind }
 {
-    matches!(
-        kind,
-        AnswerKind::No | AnswerKind::Breach | AnswerKind::StatesLeft
-    )
+    match kind {
+        AnswerKind::No | AnswerKind::MayDeadlock | AnswerKind::Breach => true,
+        AnswerKind::Deadlock | AnswerKind::StatesLeft => true,
+        AnswerKind::Yes | AnswerKind::NoBreach => false,
+        AnswerKind::Refused | AnswerKind::Machine => false,
+    }
 }
 
 /// Whether the case is an error: there is no verdict.
@@ -117,9 +119,10 @@ fn put_outcome(text: &mut String, answer: &AnswerShown) -> Result<(), AllocError
 {
     match answer.answer {
         AnswerKind::Yes | AnswerKind::NoBreach => Ok(()),
-        AnswerKind::No | AnswerKind::Breach | AnswerKind::StatesLeft => {
+        AnswerKind::No | AnswerKind::MayDeadlock | AnswerKind::Breach => {
             put_failed(text, "failure", answer)
         }
+        AnswerKind::Deadlock | AnswerKind::StatesLeft => put_failed(text, "failure", answer),
         AnswerKind::Refused | AnswerKind::Machine => put_failed(text, "error", answer),
     }
 }

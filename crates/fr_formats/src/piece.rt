@@ -10,7 +10,7 @@ use itoa::Buffer;
 use json::{Pretty, Token};
 use std::alloc::{AllocError, Global};
 
-/// A piece of a text in JSON: brackets, a bracket behind a key, a key, a text, or a member of an object. What may lack is
+/// A piece of a text in JSON: brackets, a bracket after a key, a key, a text, or a member of an object. What may lack is
 /// left out where it lacks.
 #[derive(Clone, Copy)]
 pub(crate) enum Piece<'a> {
@@ -53,7 +53,7 @@ impl Out {
         Out { alloc, tokens }
     }
 
-    /// Appends a value behind its key.
+    /// Appends a value after its key.
     fn put_member(&mut self, key: &str, value: Token) -> Result<(), AllocError>
         requires { IsPrintable (token_of value) }
         ensures { OnOk result (self.new.tokens ≡ self.old.tokens ++ key_token key.now ∷ token_of value.entry ∷ []) }
@@ -62,7 +62,7 @@ impl Out {
         self.tokens.token(value)
     }
 
-    /// Appends an object with a text behind its key.
+    /// Appends an object with a text after its key.
     fn put_message(&mut self, key: &str, text: &str) -> Result<(), AllocError>
         ensures { OnOk result (self.new.tokens ≡ self.old.tokens ++ message key.now text.now) }
     {

@@ -4,7 +4,7 @@ mod place;
 
 ghost use Rattle.std.specs.Prelude.{◌≡◌, ◌++◌, IfOk, OnOk, map, nat_lt, string_bytes};
 ghost use Rattle.fr_formats.specs.Answers.{greatest_status as greatest};
-ghost use Rattle.fr_formats.specs.Sarif.{added, all_notifications, artifact, error_begins, failing, files, invocations, is_named, log, log_begins, notification, notification_of, notifications, plain_result, related, result_begins, result_of, results, results_begin, rule_of, rule_tokens, rules, IsSarif, warning_results, whole_result, whole_text};
+ghost use Rattle.fr_formats.specs.Sarif.{IsSarif, added, all_notifications, artifact, error_begins, failing, failing_by, files, invocations, is_named, log, log_begins, notification, notification_of, notifications, plain_result, related, result_begins, result_of, results, results_begin, rule_of, rule_tokens, rules, warning_results, whole_result, whole_text};
 
 use crate::answer::{AnswerKind, AnswerShown, Failure, greatest_status};
 use crate::ident::{Ident, idents, rule_index};
@@ -42,7 +42,7 @@ fn put_rules(out: &mut Out, idents: &[Ident]) -> Result<(), AllocError>
     put!(out; Marks("]}}"))
 }
 
-/// The report's line, and the lines behind it.
+/// The report's line, and the lines after it.
 #[tactic(auto, using(std::proofs::Common::append_assoc), unfolding(crate::specs::Sarif::whole_text))]
 fn text_of(alloc: Global, answer: &AnswerShown) -> Result<String, AllocError>
     ensures { IfOk result (λ text. string_bytes text ≡ whole_text answer.now) }
@@ -122,6 +122,16 @@ fn put_failing(out: &mut Out, answer: &AnswerShown, failure: &Failure) -> Result
     put!(out; Marks("}"))
 }
 
+/// Appends what fails, or all that the answer says where no place is known.
+fn put_failed(out: &mut Out, answer: &AnswerShown) -> Result<(), AllocError>
+    ensures { OnOk result (out.new.tokens ≡ out.old.tokens ++ failing_by answer.now.failure answer.now) }
+{
+    match &answer.failure {
+        Some(failure) => put_failing(out, answer, failure),
+        None => put_whole(out, answer, "error"),
+    }
+}
+
 /// Appends what the answer says of the application: nothing for a yes.
 #[tactic(auto, using(std::proofs::Common::append_assoc), unfolding(crate::specs::Sarif::result_of))]
 fn put_result(out: &mut Out, answer: &AnswerShown) -> Result<(), AllocError>
@@ -129,10 +139,8 @@ fn put_result(out: &mut Out, answer: &AnswerShown) -> Result<(), AllocError>
 {
     match answer.answer {
         AnswerKind::Yes | AnswerKind::NoBreach | AnswerKind::Machine => Ok(()),
-        AnswerKind::No | AnswerKind::Breach => match &answer.failure {
-            Some(failure) => put_failing(out, answer, failure),
-            None => put_whole(out, answer, "error"),
-        },
+        AnswerKind::No | AnswerKind::MayDeadlock => put_failed(out, answer),
+        AnswerKind::Breach | AnswerKind::Deadlock => put_failed(out, answer),
         AnswerKind::Refused => put_whole(out, answer, "error"),
         AnswerKind::StatesLeft => put_whole(out, answer, "warning"),
     }

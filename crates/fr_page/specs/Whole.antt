@@ -10,7 +10,7 @@
 use Rattle.std.specs.Prelude.{ℕ, List, [], ◌∷◌, ◌++◌, codes, string_bytes}
 use Rattle.std.specs.declared.string.String.{String}
 use Rattle.fr_page.specs.declared.page.Kind.{Kind}
-use Rattle.fr_page.specs.declared.page.Kind.TheVariants.{Yes, No, Breach, Safe, Unknown, Refused}
+use Rattle.fr_page.specs.declared.page.Kind.TheVariants.{Yes, No, MayDeadlock, Breach, Deadlock, Safe, Unknown, Refused}
 use Rattle.fr_page.specs.declared.page.Page.{Page}
 use Rattle.fr_page.specs.declared.whole.TheConstants.{HEAD}
 use Rattle.fr_page.specs.declared.style.TheConstants.{STYLE}
@@ -19,7 +19,9 @@ use Rattle.fr_page.specs.Markup.{between, each, escaped}
 abbrev pub heading_of : Kind → List ℕ
 heading_of Yes = codes "<h1 class='good'><span aria-hidden='true'>&#10003;</span> yes</h1>\n"
 heading_of No = codes "<h1 class='bad'><span aria-hidden='true'>&#10007;</span> no</h1>\n"
+heading_of MayDeadlock = codes "<h1 class='odd'><span aria-hidden='true'>?</span> may deadlock</h1>\n"
 heading_of Breach = codes "<h1 class='bad'><span aria-hidden='true'>&#10007;</span> breach</h1>\n"
+heading_of Deadlock = codes "<h1 class='bad'><span aria-hidden='true'>&#10007;</span> deadlock</h1>\n"
 heading_of Safe = codes "<h1 class='good'><span aria-hidden='true'>&#10003;</span> no breach</h1>\n"
 heading_of Unknown = codes "<h1 class='odd'><span aria-hidden='true'>?</span> no breach yet</h1>\n"
 heading_of Refused = codes "<h1 class='odd'><span aria-hidden='true'>!</span> refused</h1>\n"
@@ -28,7 +30,9 @@ unfoldable pub meaning_of : Kind → List ℕ
 meaning_of Yes = codes "<p>The application in the file breaks none of the twelve rules, in any state of any run.</p>\n"
 meaning_of Safe = codes "<p>The application in the file breaks none of the twelve rules, in any state of any run.</p>\n"
 meaning_of No = codes "<p>The certificate doesn't show that the application is safe: the application breaks a rule, or a note is false or says too little.</p>\n"
+meaning_of MayDeadlock = codes "<p>The application in the file breaks none of the twelve rules. Its mutexes are taken in different orders, so that a run may come to a deadlock.</p>\n"
 meaning_of Breach = codes "<p>This run of the application breaks a rule.</p>\n"
+meaning_of Deadlock = codes "<p>After this run of the application these actors wait for one another's mutexes for ever.</p>\n"
 meaning_of Unknown = codes "<p>No run that was looked at breaks a rule. More states are left, so nothing is known of the others.</p>\n"
 meaning_of Refused = codes "<p>A file can't be understood, so there is no verdict.</p>\n"
 

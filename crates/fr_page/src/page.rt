@@ -5,8 +5,12 @@
 pub enum Kind {
     Yes,
     No,
+    /// The application is safe, and no order of its mutexes excludes a deadlock.
+    MayDeadlock,
     /// A run breaks a rule.
     Breach,
+    /// A run comes to a deadlock.
+    Deadlock,
     /// No state of any run breaks a rule.
     Safe,
     /// No breach was found, and not everything was looked at.

@@ -25,7 +25,11 @@ fn heading(kind: Kind) -> &'static str
     match kind {
         Kind::Yes => "<h1 class='good'><span aria-hidden='true'>&#10003;</span> yes</h1>\n",
         Kind::No => "<h1 class='bad'><span aria-hidden='true'>&#10007;</span> no</h1>\n",
+        Kind::MayDeadlock =>
+            "<h1 class='odd'><span aria-hidden='true'>?</span> may deadlock</h1>\n",
         Kind::Breach => "<h1 class='bad'><span aria-hidden='true'>&#10007;</span> breach</h1>\n",
+        Kind::Deadlock =>
+            "<h1 class='bad'><span aria-hidden='true'>&#10007;</span> deadlock</h1>\n",
         Kind::Safe => "<h1 class='good'><span aria-hidden='true'>&#10003;</span> no breach</h1>\n",
         Kind::Unknown => "<h1 class='odd'><span aria-hidden='true'>?</span> no breach yet</h1>\n",
         Kind::Refused => "<h1 class='odd'><span aria-hidden='true'>!</span> refused</h1>\n",
@@ -44,7 +48,13 @@ fn meaning(kind: Kind) -> &'static str
         Kind::No => {
             "<p>The certificate doesn't show that the application is safe: the application breaks a rule, or a note is false or says too little.</p>\n"
         }
+        Kind::MayDeadlock => {
+            "<p>The application in the file breaks none of the twelve rules. Its mutexes are taken in different orders, so that a run may come to a deadlock.</p>\n"
+        }
         Kind::Breach => "<p>This run of the application breaks a rule.</p>\n",
+        Kind::Deadlock => {
+            "<p>After this run of the application these actors wait for one another's mutexes for ever.</p>\n"
+        }
         Kind::Unknown => {
             "<p>No run that was looked at breaks a rule. More states are left, so nothing is known of the others.</p>\n"
         }
@@ -74,9 +84,13 @@ fn put_line(page: &mut Writer, kind: Kind, answer: &str) -> Result<(), AllocErro
 {
     match kind {
         Kind::Yes => Ok(()),
-        Kind::No | Kind::Breach | Kind::Safe | Kind::Unknown | Kind::Refused => {
-            page.between("<p class='answer'><code>", answer, "</code></p>\n")
-        }
+        Kind::No
+        | Kind::MayDeadlock
+        | Kind::Breach
+        | Kind::Deadlock
+        | Kind::Safe
+        | Kind::Unknown
+        | Kind::Refused => { page.between("<p class='answer'><code>", answer, "</code></p>\n") }
     }
 }
 
@@ -125,7 +139,7 @@ fn put_rest(alloc: Global, page: &mut Writer, shown: &Page) -> Result<(), AllocE
     if !shown.steps.is_empty() {
         put_run(alloc, page, &shown.actors, &shown.steps)?;
     }
-    let has_notes = matches!(shown.kind, Kind::Yes | Kind::No);
+    let has_notes = matches!(shown.kind, Kind::Yes | Kind::No | Kind::MayDeadlock);
     put_code(page, &shown.actors, has_notes)?;
     page.markup("</main>\n<script>\n")?;
     page.markup(STEPS)?;

@@ -5,3 +5,4 @@ pub mod Report
 pub mod Shown
 pub mod Told
 pub mod Trace
+pub mod Waits

@@ -1,18 +1,19 @@
--- The bytes of what is found of an application that is searched for a breach.
+-- The bytes of what is found of an application that is searched for a breach, or for a deadlock too.
 --
 -- | word             | meaning                                                                             |
 -- |------------------|-------------------------------------------------------------------------------------|
 -- | steps_in         | the steps that are explained                                                        |
 -- | breach_text      | the rule, the actor that breaches it, and the number of steps                       |
--- | found_line       | the line that tells that; or how many states were seen, and whether these are all   |
+-- | found_line       | the line that reports that; or how many states were seen, and whether these are all |
 -- | IsBelow          | a line that explains a step, and looks like none                                    |
 -- | IsStepTold       | the line of a step, as one of a run; if it is explained, other lines below it       |
 -- | AreStepLines     | the lines of steps, explained or not                                                |
--- | standing_text, IsPlaced | where an actor is, with its line of code                                     |
+-- | standing_text, IsHere, IsPlaced | where an actor is, with its line of code                             |
+-- | standings_text, AreWaiting | where actors are, a line each; those of the actors of a cycle                 |
 -- | shorter_text     | the line that says that a shorter run may exist, where it may and this is asked for |
--- | AreRunLines      | the lines of steps, where the actor is then, and that line                          |
--- | IsRunText        | those lines of a breach, and otherwise none                                         |
-use Rattle.std.specs.Prelude.{◌≡◌, ◌++◌, ℕ, Bool, true, false, not, ◌&&◌, if◌then◌else◌, List, [], ◌∷◌, All, None, Some, codes, decimal, encode_utf8_all, length, map, String, string_bytes}
+-- | AreRunLines      | the lines of steps, where actors are then, and that line                            |
+-- | IsRunText        | those lines of a breach or a deadlock, and otherwise none                           |
+use Rattle.std.specs.Prelude.{◌≡◌, ◌++◌, ℕ, Bool, true, false, not, ◌&&◌, if◌then◌else◌, List, [], ◌∷◌, All, None, Some, codes, decimal, encode_utf8_all, flat_map, length, map, String, string_bytes}
 use Rattle.std.specs.declared.alloc.Global.{Global}
 use Rattle.fr_escape.specs.Plain.{plain}
 use Rattle.fr_program.specs.declared.ids.ActorId.{ActorId}
@@ -23,13 +24,16 @@ use Rattle.fr_runner.specs.declared.trace.Entry.TheVariants.{Stepped}
 use Rattle.fr_refuter.specs.declared.step.StepTaken.{StepTaken}
 use Rattle.fr_refuter.specs.declared.replay.Refutation.{Refutation}
 use Rattle.fr_refuter.specs.declared.answer.Finding.{Finding}
-use Rattle.fr_refuter.specs.declared.answer.Finding.TheVariants.{Breach, Safe, Unknown}
+use Rattle.fr_refuter.specs.declared.replay.Deadlocked.{Deadlocked}
+use Rattle.fr_refuter.specs.declared.answer.Finding.TheVariants.{Breach, Deadlock, Safe, Free, Unknown}
 use Rattle.fr_report.specs.declared.reason.changes.ExplainedStep.{ExplainedStep}
 use Rattle.fr_report.specs.declared.told.Standing.{Standing}
 use Rattle.fr_report.specs.Lines.{lines_text}
 use Rattle.fr_report.specs.Listing.{code_text}
 use Rattle.fr_report.specs.Report.{rule_text, side_text}
 use Rattle.fr_report.specs.Trace.{entry_text}
+use Rattle.fr_report.specs.Waits.{deadlock_text}
+use Rattle.fr_waits.specs.declared.wait.Wait.{Wait}
 
 -- the steps that are explained
 abbrev pub steps_in : List ExplainedStep → List StepTaken
@@ -48,7 +52,9 @@ breach_text P r =
 -- the line of what was found, without its newline
 abbrev pub found_line : Program → Finding → List ℕ
 found_line P (Breach r) = codes "breach: " ++ breach_text P r
+found_line P (Deadlock d) = codes "deadlock: " ++ deadlock_text P d
 found_line P (Safe states) = codes "no breach in " ++ (decimal states ++ codes " states")
+found_line P (Free states) = codes "no breach and no deadlock in " ++ (decimal states ++ codes " states")
 found_line P (Unknown states left) = codes "no breach in " ++ (decimal states ++ codes " states, more are left")
 
 -- a line that looks like no step: two blanks, and a text with what steers a terminal, and what ends a line, written as in a literal
@@ -61,7 +67,7 @@ IsStepTold false P step text = text ≡ step_text P step
 IsStepTold true P step text =
     (more : List (String Global)) × All (λ line. IsBelow (string_bytes line)) more × (text ≡ step_text P step ++ lines_text more)
 
--- the lines of the steps in their order, each told so
+-- the lines of the steps in their order, each explained so
 abbrev pub AreStepLines : Bool → Program → List StepTaken → List ℕ → Type 0
 AreStepLines explains P [] text = text ≡ []
 AreStepLines explains P (step ∷ rest) text =
@@ -75,21 +81,36 @@ standing_text P s = elim s.point [
       ++ (codes " " ++ (decimal p.pc ++ (codes " " ++ (side_text p.side ++ (codes ": " ++ string_bytes s.code)))))
 ]
 
--- it is this actor, and the line of code is that of its point
+-- the lines of several, each with its newline
+abbrev pub standings_text : Program → List Standing → List ℕ
+standings_text P lasts = flat_map (λ s. standing_text P s ++ codes "\n") lasts
+
+-- the point is one of its actor, and the line of code is that of the point
+abbrev pub IsHere : Program → Standing → Type 0
+IsHere P s = elim s.point [ None ↦ Unit {0} | Some p ↦ (p.actor ≡ s.actor) × (string_bytes s.code ≡ code_text P p) ]
+
+-- the same, of this actor
 abbrev pub IsPlaced : Program → ActorId → Standing → Type 0
-IsPlaced P actor s = (s.actor ≡ actor) × elim s.point [ None ↦ Unit {0} | Some p ↦ (p.actor ≡ actor) × (string_bytes s.code ≡ code_text P p) ]
+IsPlaced P actor s = (s.actor ≡ actor) × IsHere P s
+
+-- the same, of each actor of a cycle of waits
+abbrev pub AreWaiting : Program → List Wait → List Standing → Type 0
+AreWaiting P cycle lasts = (map (λ s. s.actor) lasts ≡ map (λ w. w.actor) cycle) × All (IsHere P) lasts
 
 -- the line that follows a run that isn't known to be the shortest, where it is explained
 abbrev pub shorter_text : Bool → Bool → List ℕ
 shorter_text explains shortest = if explains && not shortest then codes "a shorter run may exist\n" else []
 
--- the lines of the steps, explained or not, then the line that says where the actor is, and that a shorter run may exist
-abbrev pub AreRunLines : Bool → Program → List StepTaken → Standing → Bool → List ℕ → Type 0
-AreRunLines explains P steps last shortest text =
-    (lines : List ℕ) × AreStepLines explains P steps lines × (text ≡ lines ++ (standing_text P last ++ (codes "\n" ++ shorter_text explains shortest)))
+-- the lines of the steps, explained or not, then those that say where actors are, and that a shorter run may exist
+abbrev pub AreRunLines : Bool → Program → List StepTaken → List Standing → Bool → List ℕ → Type 0
+AreRunLines explains P steps lasts shortest text =
+    (lines : List ℕ) × AreStepLines explains P steps lines × (text ≡ lines ++ (standings_text P lasts ++ shorter_text explains shortest))
 
--- those lines of the steps that lead to a breach, and where the actor is that breaches the rule; no text where none was found
+-- those lines of the steps that lead to a breach, and where the actor is that breaches the rule; or to a deadlock, and where the actors
+-- are that wait for one another; no text where no run was found
 abbrev pub IsRunText : Bool → Program → Finding → List ℕ → Type 0
-IsRunText explains P (Breach r) text = (last : Standing) × IsPlaced P r.actor last × AreRunLines explains P r.steps.items last r.is_shortest text
+IsRunText explains P (Breach r) text = (last : Standing) × IsPlaced P r.actor last × AreRunLines explains P r.steps.items (last ∷ []) r.is_shortest text
+IsRunText explains P (Deadlock d) text = (lasts : List Standing) × AreWaiting P d.cycle.items lasts × AreRunLines explains P d.steps.items lasts d.is_shortest text
 IsRunText explains P (Safe states) text = text ≡ []
+IsRunText explains P (Free states) text = text ≡ []
 IsRunText explains P (Unknown states left) text = text ≡ []

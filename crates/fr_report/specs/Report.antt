@@ -1,4 +1,4 @@
--- The bytes of a report: the line that tells a verdict.
+-- The bytes of a report: the line of a verdict.
 --
 -- | word           | meaning                                                                        |
 -- |----------------|--------------------------------------------------------------------------------|
@@ -35,7 +35,7 @@ point_text P p =
     codes "point " ++ (decimal (point_number P p) ++ (codes " (" ++ ((actor_at P p.actor.0).name
     ++ (codes " " ++ (decimal p.pc ++ (codes " " ++ (side_text p.side ++ codes ")")))))))
 
--- what is said of a breached rule; rules 1 and 2 are told as guards, so that nobody reads their two texts
+-- what is said of a breached rule; rules 1 and 2 are reported as guards, so that nobody reads their two texts
 abbrev pub rule_text : RuleOf → List ℕ
 rule_text OneWriter = codes "two actors at the writing end of a buffer"
 rule_text OneReader = codes "two actors at the reading end of a buffer"

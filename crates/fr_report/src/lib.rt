@@ -16,6 +16,7 @@ mod shown;
 mod text;
 mod told;
 mod trace;
+mod waits;
 mod warning;
 
 pub use lines::text_of;
@@ -23,9 +24,13 @@ pub use listing::{line_of_code, points_text};
 pub use reason::{
     Depth, ExplainedStep, depth_in, depths_of, explain, note_told, place_told, state_told,
 };
-pub use refuting::{ExplainedRun, breach_text, explain_run, finding_line};
-pub use shown::{actor_name, rule_text, side_name};
+pub use refuting::{ExplainedRun, breach_text, explain_deadlock, explain_run, finding_line};
+pub use shown::{actor_name, object_name, rule_text, side_name};
 pub use text::{part_text, report, verdict_line};
 pub use told::{Explained, Explanation, Line, ShownState, Standing, explanation_text};
 pub use trace::trace_text;
-pub use warning::{NO_ACTORS, never_reached, never_used};
+pub use waits::{deadlock_text, order_line};
+pub use warning::{
+    NO_ACTORS, held_while_waiting, lost_updates, never_given, never_reached, never_used,
+    used_one_way,
+};

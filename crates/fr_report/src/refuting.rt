@@ -1,14 +1,15 @@
-// What is found of an application that is searched for a breach.
-ghost use Rattle.std.specs.Prelude.{◌≡◌, ◌++◌, All, IfOk, codes, string_bytes};
+// What is found of an application that is searched for a breach, or for a deadlock too.
+ghost use Rattle.std.specs.Prelude.{◌≡◌, ◌++◌, ◌∷◌, [], ℕ, List, All, IfOk, codes, string_bytes};
 ghost use Rattle.fr_calls.specs.State.{IsWellFormed};
 ghost use Rattle.fr_report.specs.Lines.{lines_text};
 ghost use Rattle.fr_report.specs.Refuted.{
   breach_text,
   found_line,
   shorter_text,
-  standing_text,
+  standings_text,
   steps_in,
   AreRunLines,
+  AreWaiting,
   IsBelow,
   IsPlaced,
   IsStepTold,
@@ -18,20 +19,22 @@ use crate::reason::{ExplainedStep, standing_in, step_explained};
 use crate::shown::{actor_name, rule_text};
 use crate::told::Standing;
 use crate::trace::put_entry;
+use crate::waits::deadlock_text;
 use fr_calls::{State, the_start_is_well_formed};
 use fr_escape::push_plain;
 use fr_program::App;
-use fr_refuter::{Finding, Refutation, StepTaken, take_step};
+use fr_refuter::{Deadlocked, Finding, Refutation, StepTaken, take_step};
 use fr_runner::Entry;
+use fr_waits::Wait;
 use std::alloc::{AllocError, Global};
 
-/// A run into a breach.
+/// A run into a breach or a deadlock.
 #[derive(Drop)]
 pub struct ExplainedRun {
     /// Its steps, from the start on.
     pub steps: Vec<ExplainedStep>,
-    /// Where the actor then is that breaches the rule.
-    pub last: Standing,
+    /// Where the actor then is that breaches the rule, or where those are that wait for one another.
+    pub lasts: Vec<Standing>,
     /// It is the shortest of all, as far as the search saw.
     pub is_shortest: bool,
 }
@@ -52,6 +55,25 @@ fn step_told(
     step_explained(alloc, app, step, &before, state)
 }
 
+/// These steps of a run, each with where its actor was and what it changed, and the state after them.
+fn explained(
+    alloc: Global,
+    app: &App,
+    taken: &[StepTaken],
+) -> Result<(Vec<ExplainedStep>, State), AllocError>
+    ensures steps { IfOk result (λ r. steps_in r.0.items ≡ taken.now) }
+    ensures formed { IfOk result (λ r. IsWellFormed app.now r.1) }
+{
+    app.recall_faultless();
+    the_start_is_well_formed();
+    let mut state = State::start(alloc, app)?;
+    let mut steps = Vec::new(alloc);
+    for step in taken {
+        steps.push(step_told(alloc, app, &mut state, *step)?)?;
+    }
+    Ok((steps, state))
+}
+
 /// The run into a breach of the application: each step with where its actor was and what it changed.
 ///
 /// # Errors
@@ -59,20 +81,55 @@ fn step_told(
 /// Only where memory is refused.
 pub fn explain_run(alloc: Global, app: &App, found: &Refutation) -> Result<ExplainedRun, AllocError>
     ensures steps { IfOk result (λ run. steps_in run.steps.items ≡ found.now.steps.items) }
-    ensures last { IfOk result (λ run. IsPlaced app.now found.now.actor run.last) }
+    ensures last { IfOk result (λ run. (last : Standing) × (run.lasts.items ≡ last ∷ []) × IsPlaced app.now found.now.actor last) }
     ensures shortest { IfOk result (λ run. run.is_shortest ≡ found.now.is_shortest) }
 {
-    app.recall_faultless();
-    the_start_is_well_formed();
-    let mut state = State::start(alloc, app)?;
-    let mut steps = Vec::new(alloc);
-    for step in &found.steps {
-        steps.push(step_told(alloc, app, &mut state, *step)?)?;
-    }
-    let last = standing_in(alloc, app, found.actor, &state)?;
+    let (steps, state) = explained(alloc, app, &found.steps)?;
+    let mut lasts = Vec::new(alloc);
+    lasts.push(standing_in(alloc, app, found.actor, &state)?)?;
     Ok(ExplainedRun {
         steps,
-        last,
+        lasts,
+        is_shortest: found.is_shortest,
+    })
+}
+
+/// Where the actors of a cycle of waits are in the state.
+fn standings_in(
+    alloc: Global,
+    app: &App,
+    cycle: &[Wait],
+    state: &State,
+) -> Result<Vec<Standing>, AllocError>
+    requires { IsWellFormed app.now state.now }
+    ensures { IfOk result (λ lasts. AreWaiting app.now cycle.now lasts.items) }
+{
+    let mut lasts = Vec::new(alloc);
+    for wait in cycle {
+        lasts.push(standing_in(alloc, app, wait.actor, state)?)?;
+    }
+    Ok(lasts)
+}
+
+/// The run into a deadlock of the application: each step with where its actor was and what it changed.
+///
+/// # Errors
+///
+/// Only where memory is refused.
+pub fn explain_deadlock(
+    alloc: Global,
+    app: &App,
+    found: &Deadlocked,
+) -> Result<ExplainedRun, AllocError>
+    ensures steps { IfOk result (λ run. steps_in run.steps.items ≡ found.now.steps.items) }
+    ensures lasts { IfOk result (λ run. AreWaiting app.now found.now.cycle.items run.lasts.items) }
+    ensures shortest { IfOk result (λ run. run.is_shortest ≡ found.now.is_shortest) }
+{
+    let (steps, state) = explained(alloc, app, &found.steps)?;
+    let lasts = standings_in(alloc, app, &found.cycle, &state)?;
+    Ok(ExplainedRun {
+        steps,
+        lasts,
         is_shortest: found.is_shortest,
     })
 }
@@ -127,22 +184,36 @@ fn step_lines(
     Ok(lines)
 }
 
+/// Where actors are, a line each.
+fn standing_lines(
+    alloc: Global,
+    app: &App,
+    standings: &[Standing],
+) -> Result<Vec<String>, AllocError>
+    ensures { IfOk result (λ lines. lines_text lines.items ≡ standings_text app.now standings.now) }
+{
+    let mut lines = Vec::new(alloc);
+    for standing in standings {
+        lines.push(standing.text(alloc, app)?)?;
+    }
+    Ok(lines)
+}
+
 impl ExplainedRun {
     /// The lines that follow those of the steps.
     fn end_lines(&self, alloc: Global, app: &App, explains: bool) -> Result<Vec<String>, AllocError>
         ensures { IfOk result (λ lines. lines_text lines.items ≡
-            standing_text app.now self.now.last ++ (codes "\n" ++ shorter_text explains self.now.is_shortest)) }
+            standings_text app.now self.now.lasts.items ++ shorter_text explains self.now.is_shortest) }
     {
-        let mut lines = Vec::new(alloc);
-        lines.push(self.last.text(alloc, app)?)?;
+        let mut lines = standing_lines(alloc, app, &self.lasts)?;
         if explains && !self.is_shortest {
             lines.push(String::from_str(alloc, "a shorter run may exist")?)?;
         }
         Ok(lines)
     }
 
-    /// The lines of the run: those of its steps, and where the actor is that then breaches the rule, with its
-    /// line of code. Where it is asked for, lines below each step explain it, and the last line says that a shorter run may exist,
+    /// The lines of the run: those of its steps, and where the actor is that then breaches the rule, or where those are that wait for
+    /// one another, with their lines of code. Where it is asked for, lines below each step explain it, and the last line says that a shorter run may exist,
     /// where it may.
     ///
     /// # Errors
@@ -150,7 +221,7 @@ impl ExplainedRun {
     /// Only where memory is refused. The lines' form is this project's own.
     pub fn lines(&self, alloc: Global, app: &App, explains: bool) -> Result<Vec<String>, AllocError>
         ensures { IfOk result (λ lines.
-            AreRunLines explains app.now (steps_in self.now.steps.items) self.now.last self.now.is_shortest (lines_text lines.items)) }
+            AreRunLines explains app.now (steps_in self.now.steps.items) self.now.lasts.items self.now.is_shortest (lines_text lines.items)) }
     {
         let mut lines = Vec::new(alloc);
         for step in &self.steps {
@@ -163,7 +234,7 @@ impl ExplainedRun {
     }
 }
 
-/// What tells a breach: its rule, its actor, and after how many steps it is. An error says that an allocation was
+/// What describes a breach: its rule, its actor, and after how many steps it is. An error says that an allocation was
 /// refused.
 pub fn breach_text(alloc: Global, app: &App, found: &Refutation) -> Result<String, AllocError>
     ensures { IfOk result (λ text. string_bytes text ≡ breach_text app.now found.now) }
@@ -173,7 +244,7 @@ pub fn breach_text(alloc: Global, app: &App, found: &Refutation) -> Result<Strin
     format!(in alloc; "rule {number}: {rule}: {actor}, after {steps} steps")
 }
 
-/// The first line that is told of what was found, without its newline. An error says that an allocation was refused.
+/// The first line that reports what was found, without its newline. An error says that an allocation was refused.
 pub fn finding_line(alloc: Global, app: &App, found: &Finding) -> Result<String, AllocError>
     ensures { IfOk result (λ line. string_bytes line ≡ found_line app.now found.now) }
 {
@@ -182,7 +253,14 @@ pub fn finding_line(alloc: Global, app: &App, found: &Finding) -> Result<String,
             let told = breach_text(alloc, app, refutation)?;
             format!(in alloc; "breach: {told}")
         }
+        Finding::Deadlock(deadlocked) => {
+            let told = deadlock_text(alloc, app, deadlocked)?;
+            format!(in alloc; "deadlock: {told}")
+        }
         Finding::Safe { states } => format!(in alloc; "no breach in {states} states"),
+        Finding::Free { states } => {
+            format!(in alloc; "no breach and no deadlock in {states} states")
+        }
         Finding::Unknown { states, .. } => {
             format!(in alloc; "no breach in {states} states, more are left")
         }

@@ -80,7 +80,7 @@ impl fmt::Display for ShownPoint<'_> {
     }
 }
 
-/// What a report says of a breached rule. Rules 1 and 2 are told as guards, so that nobody reads
+/// What a report says of a breached rule. Rules 1 and 2 are reported as guards, so that nobody reads
 /// their two texts.
 pub fn rule_text(rule: Rule) -> &'static str
     ensures { result.now ≡ rule_text rule }

@@ -9,7 +9,7 @@ use fr_judge::{Part, Verdict};
 use fr_program::App;
 use std::alloc::{AllocError, Global};
 
-/// The line that tells the verdict, with its newline: `yes`, or `no`, the first failing point and
+/// The line of the verdict, with its newline: `yes`, or `no`, the first failing point and
 /// what fails there. The verdict is one on this application. An error says that an allocation was
 /// refused. The line's form is this project's own.
 pub fn report(alloc: Global, app: &App, verdict: &Verdict) -> Result<String, AllocError>
@@ -21,7 +21,7 @@ pub fn report(alloc: Global, app: &App, verdict: &Verdict) -> Result<String, All
     Ok(text)
 }
 
-/// The line that tells the verdict, without its newline. It is the report's where the verdict is one on this
+/// The line of the verdict, without its newline. It is the report's where the verdict is one on this
 /// application. An error says that an allocation was refused.
 pub fn verdict_line(alloc: Global, app: &App, verdict: Verdict) -> Result<String, AllocError>
     ensures { Speaks app.now verdict → IfOk result

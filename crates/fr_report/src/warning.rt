@@ -1,12 +1,18 @@
-// What a verdict may hide: points that are never reached, variables and objects that are never used, and an application
-// without actors.
+// What a verdict may hide: points that are never reached, variables and objects that are never used or used one way, mutexes that are held
+// for long, updates that can be lost, and an application without actors.
+mod mutexes;
+mod one_way;
 mod unused;
+mod updates;
 
 use crate::shown::actor_name;
 use fr_notes::Notes;
 use fr_program::{ActorId, App};
+pub use mutexes::{held_while_waiting, never_given};
+pub use one_way::used_one_way;
 use std::alloc::{AllocError, Global};
 pub use unused::never_used;
+pub use updates::lost_updates;
 
 /// Points of one actor in a row whose notes say that the actor is never there.
 #[derive(Clone, Copy)]

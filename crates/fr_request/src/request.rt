@@ -14,7 +14,7 @@ pub enum Request<'a> {
     /// The points of the application in this file.
     Points {
         app: &'a str,
-        /// Whether it is told where a refusal is.
+        /// Whether it is printed where a refusal is.
         explains: bool,
     },
     /// A run of the application into a breach.
@@ -29,9 +29,11 @@ pub struct CheckRequest<'a> {
     /// The files that are judged, of which one or more are named.
     pub files: Judged<'a>,
     pub workers: u16,
-    /// Whether points that are never reached are told.
+    /// Whether there are warnings of points that are never reached.
     pub warns: bool,
-    /// Whether it is told why the verdict is no or where a refusal is, and how much of a state.
+    /// Whether it is asked, where the verdict is yes, if actors can wait for one another's mutexes for ever.
+    pub deadlock: bool,
+    /// Whether it is printed why the verdict is no or where a refusal is, and how much of a state.
     pub detail: Option<Detail>,
     /// The form of the answer; None where it is a text for a person.
     pub format: Option<Format>,
@@ -55,7 +57,7 @@ pub struct FindRequest<'a> {
     /// The file for the certificate.
     pub out: &'a str,
     pub rounds: u16,
-    /// Whether it is told where a refusal is.
+    /// Whether it is printed where a refusal is.
     pub explains: bool,
 }
 
@@ -66,9 +68,11 @@ pub struct ProveRequest<'a> {
     /// The file for the certificate, where one is wanted.
     pub out: Option<&'a str>,
     pub workers: u16,
-    /// Whether points that are never reached are told.
+    /// Whether there are warnings of points that are never reached.
     pub warns: bool,
-    /// Whether it is told why the verdict is no, what each step of a run into a breach does, or where a refusal
+    /// Whether it is asked, where the verdict is yes, if actors can wait for one another's mutexes for ever.
+    pub deadlock: bool,
+    /// Whether it is printed why the verdict is no, what each step of a run into a breach does, or where a refusal
     /// is, and how much of a state.
     pub detail: Option<Detail>,
     /// Whether a run into a breach is looked for where the verdict is no.
@@ -92,7 +96,9 @@ pub struct RefuteRequest<'a> {
     /// The most memory for these states, in MiB.
     pub memory: u32,
     pub workers: u16,
-    /// Whether it is told what each step of the run did, or where a refusal is.
+    /// Whether a run into a deadlock is looked for too.
+    pub deadlock: bool,
+    /// Whether it is printed what each step of the run did, or where a refusal is.
     pub explains: bool,
     /// The form of the answer; None where it is a text for a person.
     pub format: Option<Format>,
@@ -108,6 +114,6 @@ pub struct RunRequest<'a> {
     pub polls: u32,
     /// The text of the words that choices are picked by, where it is given.
     pub words: Option<&'a str>,
-    /// Whether it is told why the verdict is no or where a refusal is, and how much of a state.
+    /// Whether it is printed why the verdict is no or where a refusal is, and how much of a state.
     pub detail: Option<Detail>,
 }

@@ -3,7 +3,7 @@
 -- | word                          | meaning                                                     |
 -- |-------------------------------|-------------------------------------------------------------|
 -- | IsJudged, IsCheck, ..         | the request, field by field                                 |
--- | has_text, has_number          | a word has a text, a number behind it                       |
+-- | has_text, has_number          | a word has a text, a number after it                        |
 -- | can_judge, can_check, ..      | the words that have to be there are there                   |
 -- | IsAsked, can_ask              | the same of the command with this name                      |
 -- | Asks, can_ask_any             | the same of the whole line                                  |
@@ -23,11 +23,11 @@ use Rattle.fr_request.specs.declared.request.Request.{Request}
 use Rattle.fr_request.specs.declared.request.Request.TheVariants.{Check, Find, Prove, Points, Refute, Run}
 use Rattle.fr_words.specs.Found.{Rows, subcommand, text_at, is_given, number_at, detail_at, format_at}
 
--- the word has a text behind it
+-- the word has a text after it
 abbrev pub has_text : Rows → Text → Bool
 has_text rs id = is_some (text_at rs id)
 
--- the word has a number of so many bits behind it
+-- the word has a number of so many bits after it
 abbrev pub has_number : ℕ → Rows → Text → Bool
 has_number bits rs id = is_some (number_at bits rs id)
 
@@ -46,6 +46,7 @@ pub record IsCheck (rs : Rows) (asked : CheckRequest) : Type 0 where
   pub files : IsJudged rs asked.files
   pub workers : number_at 16 rs (codes "workers") ≡ Some asked.workers
   pub warns : asked.warns ≡ is_given rs (codes "warn")
+  pub deadlock : asked.deadlock ≡ is_given rs (codes "deadlock")
   pub detail : asked.detail ≡ detail_at rs
   pub format : asked.format ≡ format_at rs
   pub html : option_map (λ s. s.now) asked.html ≡ text_at rs (codes "html")
@@ -69,6 +70,7 @@ pub record IsProve (rs : Rows) (asked : ProveRequest) : Type 0 where
   pub out : option_map (λ s. s.now) asked.out ≡ text_at rs (codes "certificate")
   pub workers : number_at 16 rs (codes "workers") ≡ Some asked.workers
   pub warns : asked.warns ≡ is_given rs (codes "warn")
+  pub deadlock : asked.deadlock ≡ is_given rs (codes "deadlock")
   pub detail : asked.detail ≡ detail_at rs
   pub searches : asked.searches ≡ not (is_given rs (codes "no-search"))
   pub states : number_at 32 rs (codes "states") ≡ Some asked.states
@@ -81,9 +83,9 @@ can_prove rs =
     has_text rs (codes "APP") && has_number 16 rs (codes "workers") && has_number 32 rs (codes "states") && has_number 32 rs (codes "memory")
 
 -- `points`, whose request has no type of its own
-pub record IsPoints (rs : Rows) (named : Text) (told : Bool) : Type 0 where
+pub record IsPoints (rs : Rows) (named : Text) (explained : Bool) : Type 0 where
   pub app : text_at rs (codes "APP") ≡ Some named
-  pub explains : told ≡ is_given rs (codes "explain")
+  pub explains : explained ≡ is_given rs (codes "explain")
 
 -- `refute`
 pub record IsRefute (rs : Rows) (asked : RefuteRequest) : Type 0 where
@@ -91,6 +93,7 @@ pub record IsRefute (rs : Rows) (asked : RefuteRequest) : Type 0 where
   pub states : number_at 32 rs (codes "states") ≡ Some asked.states
   pub memory : number_at 32 rs (codes "memory") ≡ Some asked.memory
   pub workers : number_at 16 rs (codes "workers") ≡ Some asked.workers
+  pub deadlock : asked.deadlock ≡ is_given rs (codes "deadlock")
   pub explains : asked.explains ≡ is_given rs (codes "explain")
   pub format : asked.format ≡ format_at rs
   pub html : option_map (λ s. s.now) asked.html ≡ text_at rs (codes "html")

@@ -4,10 +4,10 @@
 -- |-------------------------|--------------------------------------------------------------------------|
 -- | Rows, rows              | what was found for each word; that of all matches                        |
 -- | subcommand              | the name of the command that was met, and what was found for its words   |
--- | text_at                 | the text behind a word, where it is there                                |
--- | is_given                | a word without a text behind it is there                                 |
+-- | text_at                 | the text after a word, where it is there                                 |
+-- | is_given                | a word without a text after it is there                                  |
 -- | number_in, number_at    | the number of so many bits that a text, a word's text, writes            |
--- | detail_at, format_at    | how much is to be told; the form of the answer, None for a person's text |
+-- | detail_at, format_at    | how much is printed; the form of the answer, None for a person's text    |
 use Rattle.std.specs.Prelude.{ℕ, ◌^◌, List, Bool, false, ◌&&◌, Option, Some, None, option_and_then, if◌then◌else◌, length, nat_lt, codes}
 use Rattle.std.specs.List.{list_all}
 use Rattle.std.specs.Option.{option_map_or}
@@ -35,7 +35,7 @@ rows m = rows_of (found_of m)
 abbrev pub subcommand : ArgMatches → Option (Text × Rows)
 subcommand m = subcommand_rows_of m
 
--- the text behind the word, where it is there
+-- the text after the word, where it is there
 unfoldable pub text_at : Rows → Text → Option Text
 text_at rs id = first_of id rs
 
@@ -53,11 +53,11 @@ is_number bits text =
 abbrev pub number_in : ℕ → Text → Option ℕ
 number_in bits text = if is_number bits text then Some (digits_value 10 (without_leading_plus text)) else None
 
--- the number behind the word, where it is there
+-- the number after the word, where it is there
 unfoldable pub number_at : ℕ → Rows → Text → Option ℕ
 number_at bits rs id = option_and_then (number_in bits) (one_of id rs)
 
--- how much is to be told: everything by `--all`, what matters by `--explain`
+-- how much is printed: everything by `--all`, what matters by `--explain`
 abbrev pub detail_at : Rows → Option Detail
 detail_at rs =
     if is_given rs (codes "all") then Some Whole

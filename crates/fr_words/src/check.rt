@@ -5,8 +5,8 @@ ghost use Rattle.fr_words.specs.Asked.{IsJudged, IsCheck, can_judge, can_check};
 
 use crate::found::{is_given, short_number_at, text_at};
 use crate::shared::{
-    EXPLAINS_VERDICT, STATUSES, all_arg, command_of, detail_asked, explain_arg, file_arg,
-    format_arg, format_asked, html_arg, text_arg, warn_arg, workers_arg,
+    EXPLAINS_VERDICT, STATUSES, all_arg, command_of, deadlock_arg, detail_asked, explain_arg,
+    file_arg, format_arg, format_asked, html_arg, text_arg, warn_arg, workers_arg,
 };
 use clap::{Arg, ArgMatches, Command};
 use fr_request::{CheckRequest, Judged};
@@ -40,6 +40,7 @@ pub fn check_command<'a>(alloc: Global) -> Result<Command<'a>, AllocError> {
         workers_arg(alloc),
         format_arg(alloc),
         warn_arg(alloc),
+        deadlock_arg(alloc),
         explain_arg(alloc, EXPLAINS_VERDICT),
         all_arg(alloc),
         html,
@@ -71,6 +72,7 @@ pub fn asked_check<'a>(words: &ArgMatches<'a>) -> Option<CheckRequest<'a>>
         files: files_judged(words)?,
         workers: short_number_at(words, "workers")?,
         warns: is_given(words, "warn"),
+        deadlock: is_given(words, "deadlock"),
         detail: detail_asked(words),
         format: format_asked(words),
         html: text_at(words, "html"),

@@ -15,7 +15,7 @@ use clap::{ArgMatches, Command, Error};
 use fr_request::{Request, VERSION};
 use std::alloc::{AllocError, Global};
 
-/// What `--version` prints behind the name. `./build` puts the commit in place of the zeros, in the program that it links.
+/// What `--version` prints after the name. `./build` puts the commit in place of the zeros, in the program that it links.
 const VERSIONS: &str = "0.1.0
 commit 0000000000000000000000000000000000000000
 application format 1

@@ -4,28 +4,28 @@ ghost use Rattle.fr_words.specs.Found.{rows, text_at, is_given, number_at};
 
 use clap::ArgMatches;
 
-/// The text behind the word; None where it isn't there.
+/// The text after the word; None where it isn't there.
 pub fn text_at<'a>(words: &ArgMatches<'a>, id: &str) -> Option<&'a str>
     ensures { option_map (λ s. s.now) result ≡ text_at (rows words.now) id.now }
 {
     words.get_str(id)
 }
 
-/// Whether the word is there, which has no text behind it.
+/// Whether the word is there, which has no text after it.
 pub fn is_given(words: &ArgMatches, id: &str) -> bool
     ensures { result ≡ is_given (rows words.now) id.now }
 {
     words.get_one::<bool>(id).unwrap_or(false)
 }
 
-/// The number behind the word, of at most 16 bits; None where it isn't there.
+/// The number after the word, of at most 16 bits; None where it isn't there.
 pub fn short_number_at(words: &ArgMatches, id: &str) -> Option<u16>
     ensures { result ≡ number_at 16 (rows words.now) id.now }
 {
     words.get_one::<u16>(id)
 }
 
-/// The number behind the word, of at most 32 bits; None where it isn't there.
+/// The number after the word, of at most 32 bits; None where it isn't there.
 pub fn number_at(words: &ArgMatches, id: &str) -> Option<u32>
     ensures { result ≡ number_at 32 (rows words.now) id.now }
 {

@@ -5,8 +5,8 @@ ghost use Rattle.fr_words.specs.Asked.{IsProve, can_prove};
 
 use crate::found::{is_given, number_at, short_number_at, text_at};
 use crate::shared::{
-    all_arg, command_of, detail_asked, explain_arg, file_arg, flag_arg, format_arg, format_asked,
-    html_arg, memory_arg, states_arg, text_arg, warn_arg, workers_arg,
+    all_arg, command_of, deadlock_arg, detail_asked, explain_arg, file_arg, flag_arg, format_arg,
+    format_asked, html_arg, memory_arg, states_arg, text_arg, warn_arg, workers_arg,
 };
 use clap::{Arg, ArgMatches, Command};
 use fr_request::ProveRequest;
@@ -19,7 +19,7 @@ const STATUSES: &str = "Exit status:
   3  The machine failed: no memory, no thread, or a file that can't be read or written";
 
 const EXPLAINS: &str =
-    "Tell why it is no or what each step did, and on standard error where a refused file is wrong";
+    "Print why it is no or what each step did, and on standard error where a refused file is wrong";
 
 /// The word `--certificate` with its file.
 fn certificate_arg<'a>(alloc: Global) -> Arg<'a> {
@@ -46,6 +46,7 @@ pub fn prove_command<'a>(alloc: Global) -> Result<Command<'a>, AllocError> {
         memory_arg(alloc, "512"),
         format_arg(alloc),
         warn_arg(alloc),
+        deadlock_arg(alloc),
         explain_arg(alloc, EXPLAINS),
         all_arg(alloc),
         html,
@@ -64,6 +65,7 @@ pub fn asked_prove<'a>(words: &ArgMatches<'a>) -> Option<ProveRequest<'a>>
         out: text_at(words, "certificate"),
         workers: short_number_at(words, "workers")?,
         warns: is_given(words, "warn"),
+        deadlock: is_given(words, "deadlock"),
         detail: detail_asked(words),
         searches: !is_given(words, "no-search"),
         states: number_at(words, "states")?,

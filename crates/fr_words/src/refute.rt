@@ -5,8 +5,8 @@ ghost use Rattle.fr_words.specs.Asked.{IsRefute, can_refute};
 
 use crate::found::{is_given, number_at, short_number_at, text_at};
 use crate::shared::{
-    command_of, explain_arg, file_arg, format_arg, format_asked, html_arg, memory_arg, states_arg,
-    workers_arg,
+    command_of, deadlock_arg, explain_arg, file_arg, format_arg, format_asked, html_arg,
+    memory_arg, states_arg, workers_arg,
 };
 use clap::{ArgMatches, Command};
 use fr_request::RefuteRequest;
@@ -19,7 +19,7 @@ const STATUSES: &str = "Exit status:
   3  The machine failed: no memory, or a file that can't be read or written";
 
 const EXPLAINS: &str =
-    "Tell what each step of the run did, and on standard error where a refused file is at fault";
+    "Print what each step of the run did, and on standard error where a refused file is at fault";
 
 /// The command `refute`: its words, its help and its exit statuses.
 pub fn refute_command<'a>(alloc: Global) -> Result<Command<'a>, AllocError> {
@@ -30,6 +30,7 @@ pub fn refute_command<'a>(alloc: Global) -> Result<Command<'a>, AllocError> {
         states_arg(alloc),
         memory_arg(alloc, "2048"),
         workers_arg(alloc),
+        deadlock_arg(alloc),
         format_arg(alloc),
         explain_arg(alloc, EXPLAINS),
         html,
@@ -48,6 +49,7 @@ pub fn asked_refute<'a>(words: &ArgMatches<'a>) -> Option<RefuteRequest<'a>>
         states: number_at(words, "states")?,
         memory: number_at(words, "memory")?,
         workers: short_number_at(words, "workers")?,
+        deadlock: is_given(words, "deadlock"),
         explains: is_given(words, "explain"),
         format: format_asked(words),
         html: text_at(words, "html"),

@@ -35,7 +35,7 @@ pub fn flag_arg<'a>(alloc: Global, name: &'a str, help: &'a str) -> Arg<'a> {
     arg.action(ArgAction::SetTrue).help(help)
 }
 
-/// A word with two dashes and a text behind it.
+/// A word with two dashes and a text after it.
 pub fn text_arg<'a>(alloc: Global, name: &'a str, value: &'a str, help: &'a str) -> Arg<'a> {
     let arg = Arg::new(alloc, name).long(name).value_name(value);
     arg.action(ArgAction::Set).help(help)
@@ -82,16 +82,22 @@ pub fn workers_arg<'a>(alloc: Global) -> Arg<'a> {
 
 /// The word `--warn`.
 pub fn warn_arg<'a>(alloc: Global) -> Arg<'a> {
-    let help = "Tell lines of code that are never reached, on standard error";
+    let help = "Warn of lines of code that are never reached, on standard error";
     flag_arg(alloc, "warn", help)
+}
+
+/// The word `--deadlock`.
+pub fn deadlock_arg<'a>(alloc: Global) -> Arg<'a> {
+    let help = "Ask for deadlocks too: actors that wait for one another's mutexes for ever";
+    flag_arg(alloc, "deadlock", help)
 }
 
 /// What `--explain` does where there is a verdict.
 pub const EXPLAINS_VERDICT: &str =
-    "Tell why the verdict is no, and on standard error where a refused file is at fault";
+    "Print why the verdict is no, and on standard error where a refused file is at fault";
 
 /// What `--explain` does where only a file can be refused.
-pub const EXPLAINS_REFUSAL: &str = "Tell where a refused file is at fault, on standard error";
+pub const EXPLAINS_REFUSAL: &str = "Print where a refused file is at fault, on standard error";
 
 /// The word `--explain`, with what it does.
 pub fn explain_arg<'a>(alloc: Global, help: &'a str) -> Arg<'a> {
@@ -141,7 +147,7 @@ pub fn html_arg<'a>(alloc: Global) -> Result<Arg<'a>, AllocError> {
         .conflicts_with("list")
 }
 
-/// How much is told of why a verdict is no: with `--all` everything, with `--explain` what matters, and
+/// How much is printed of why a verdict is no: with `--all` everything, with `--explain` what matters, and
 /// nothing without either.
 pub fn detail_asked(words: &ArgMatches) -> Option<Detail>
     ensures { result ≡ detail_at (rows words.now) }

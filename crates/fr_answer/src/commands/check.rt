@@ -26,12 +26,15 @@ use std::sync::Wait;
 use std::thread::Threads;
 
 /// How `check` does its work for one application.
-fn ways_of(asked: &CheckRequest) -> Ways {
+fn ways_of(asked: &CheckRequest) -> Ways
+    ensures { result.deadlock ≡ asked.now.deadlock }
+{
     let detail = detail_in(asked.format, asked.detail);
     Ways {
         workers: usize::from(asked.workers),
         states: MOST_STATES,
         state_bytes: MOST_STATE_BYTES,
+        deadlock: asked.deadlock,
         detail,
         places: detail.is_some() || asked.html.is_some(),
         names: detail.is_some(),
@@ -69,12 +72,12 @@ fn check_looked<R: Threads + Wait + Sync, F: Files, O: Write, E: Write>(
 ) -> Result<u8, Refusal>
     requires may { (path : List ℕ) → option_copied asked.now.html ≡ Some path → F.May files.old path }
     ensures answered { IfOk result (λ status. IsShown
-        (IsCheckOf (F.Gives files.old) app.now certificate.now) asked.now.format status (O.contents out.old) (O.contents out.new)) }
+        (IsCheckOf (F.Gives files.old) asked.now.deadlock app.now certificate.now) asked.now.format status (O.contents out.old) (O.contents out.new)) }
     ensures kept { IfOk result
         (λ status. 2 ≤ status → asked.now.format ≡ None → out.new ≡ out.old) }
     ensures most { IfOk result (λ status. status ≤ 3) }
     ensures fault { IfErr result (λ refusal. fault_status refusal.fault ≡ 3) }
-    ensures files { IsPaged F.Puts (IsCheckOf (F.Gives files.old) app.now certificate.now)
+    ensures files { IsPaged F.Puts (IsCheckOf (F.Gives files.old) asked.now.deadlock app.now certificate.now)
         (option_copied asked.now.html) files.old files.new }
 {
     let ways = ways_of(asked);
@@ -105,12 +108,12 @@ fn check_one<R: Threads + Wait + Sync, F: Files, O: Write, E: Write>(
     err: &mut E,
 ) -> Result<u8, Refusal>
     ensures answered { IfOk result (λ status. IsShown
-        (IsCheckOf (F.Gives files.old) app.now certificate.now) asked.now.format status (O.contents out.old) (O.contents out.new)) }
+        (IsCheckOf (F.Gives files.old) asked.now.deadlock app.now certificate.now) asked.now.format status (O.contents out.old) (O.contents out.new)) }
     ensures kept { IfOk result
         (λ status. 2 ≤ status → asked.now.format ≡ None → out.new ≡ out.old) }
     ensures most { IfOk result (λ status. status ≤ 3) }
     ensures fault { IfErr result (λ refusal. fault_status refusal.fault ≡ 3) }
-    ensures files { IsPaged F.Puts (IsCheckOf (F.Gives files.old) app.now certificate.now)
+    ensures files { IsPaged F.Puts (IsCheckOf (F.Gives files.old) asked.now.deadlock app.now certificate.now)
         (option_copied asked.now.html) files.old files.new }
 {
     let output = output_at(asked.html, Holds::Page);
@@ -136,12 +139,12 @@ pub(crate) fn check<R: Threads + Wait + Sync, F: Files, O: Write, E: Write>(
     err: &mut E,
 ) -> Result<u8, Refusal>
     ensures answered { IfOk result
-        (λ status. IsCheckAnswered (F.Gives files.old) asked.now.files asked.now.format
+        (λ status. IsCheckAnswered (F.Gives files.old) asked.now.deadlock asked.now.files asked.now.format
         (is_some asked.now.detail) status (O.contents out.old) (O.contents out.new)) }
     ensures kept { IfOk result (λ status. 2 ≤ status → IsNamedText asked.now.files asked.now.format → out.new ≡ out.old) }
     ensures refused { IfErr result (λ refusal. fault_status refusal.fault ≡ 2 → out.new ≡ out.old) }
     ensures most { IfOk result (λ status. status ≤ 3) }
-    ensures files { IsPaged F.Puts (IsNamedAnswer (F.Gives files.old) asked.now.files)
+    ensures files { IsPaged F.Puts (IsNamedAnswer (F.Gives files.old) asked.now.deadlock asked.now.files)
         (option_copied asked.now.html) files.old files.new }
 {
     match asked.files {

@@ -4,6 +4,7 @@ ghost use Rattle.std.specs.Io.KnownBytes.{Appends};
 ghost use Rattle.std.specs.Option.{is_some};
 ghost use Rattle.fr_list.specs.Beside.{beside};
 ghost use Rattle.fr_list.specs.Means.{shown as entry_of};
+ghost use Rattle.fr_report.specs.Lines.{lines_text};
 ghost use Rattle.fr_answer.specs.Answers.{first_line, what_status};
 ghost use Rattle.fr_answer.specs.Checked.{fault_status};
 ghost use Rattle.fr_answer.specs.Commands.{
@@ -46,7 +47,7 @@ fn proved_line<R: Threads + Wait + Sync, F: Files>(
     files: &F,
 ) -> Result<Answer, AllocError>
     ensures by { IfOk result
-        (λ a. what_status a.what ≤ 1 → IsAnswerBy (F.Gives files.now) list.now (beside list.now app.now) None a.what) }
+        (λ a. what_status a.what ≤ 1 → IsAnswerBy (F.Gives files.now) ways.deadlock list.now (beside list.now app.now) None a.what) }
     ensures path { IfOk result (λ a. string_bytes a.application ≡ beside list.now app.now) }
 {
     let app = path_beside(alloc, list, app)?;
@@ -70,7 +71,7 @@ fn checked_line<R: Threads + Wait + Sync, F: Files>(
     files: &F,
 ) -> Result<Answer, AllocError>
     ensures by { IfOk result
-        (λ a. what_status a.what ≤ 1 → IsAnswerBy (F.Gives files.now) list.now (beside list.now app.now) (Some certificate.now) a.what) }
+        (λ a. what_status a.what ≤ 1 → IsAnswerBy (F.Gives files.now) ways.deadlock list.now (beside list.now app.now) (Some certificate.now) a.what) }
     ensures path { IfOk result (λ a. string_bytes a.application ≡ beside list.now app.now) }
 {
     let (app, certificate) = (
@@ -95,7 +96,7 @@ fn answer_line<R: Threads + Wait + Sync, F: Files>(
     ways: Ways,
     files: &F,
 ) -> Result<Answer, AllocError>
-    ensures by { IfOk result (λ a. IsLineAnswer (F.Gives files.now) list.now
+    ensures by { IfOk result (λ a. IsLineAnswer (F.Gives files.now) ways.deadlock list.now
         (record { entry = entry_of listed.entry; what = a.what })) }
     ensures path { IfOk result (λ a. string_bytes a.application ≡ beside list.now listed.entry.application.now) }
 {
@@ -126,7 +127,19 @@ fn heading(alloc: Global, path: &str) -> Result<String, AllocError>
     Ok(text)
 }
 
-/// The answer for one line: the application's name with the first line, and the others where they are asked for.
+/// The lines that follow the first one: whether actors can deadlock, and the others where they are asked for.
+fn more_lines(alloc: Global, what: &What, explains: bool) -> Result<Vec<String>, AllocError>
+    ensures { IfOk result (λ lines. AreMore explains what.now (lines_text lines.items)) }
+{
+    if explains {
+        what.lines(alloc)
+    } else {
+        what.second_lines(alloc)
+    }
+}
+
+/// The answer for one line: the application's name with the first line, whether actors can deadlock, and the other lines where they are
+/// asked for.
 fn line_text(
     alloc: Global,
     heading: &str,
@@ -137,10 +150,7 @@ fn line_text(
         × (string_bytes text ≡ heading.now ++ (first_line what.now ++ (codes "\n" ++ more)))) }
 {
     let line = what.line(alloc)?;
-    if !explains {
-        return format!(in alloc; "{heading}{line}\n");
-    }
-    let more = text_of(alloc, &what.lines(alloc)?)?;
+    let more = text_of(alloc, &more_lines(alloc, what, explains)?)?;
     format!(in alloc; "{heading}{line}\n{more}")
 }
 
@@ -173,7 +183,7 @@ fn print_each<R: Threads + Wait + Sync, F: Files, O: Write, E: Write>(
     out: &mut O,
     err: &mut E,
 ) -> Result<u8, CheckFault>
-    ensures answered { IfOk result (λ status. AreAnswered (F.Gives files.now) list.now (map entry_of entries.now) status
+    ensures answered { IfOk result (λ status. AreAnswered (F.Gives files.now) ways.deadlock list.now (map entry_of entries.now) status
         (λ lines. AreLinesPrinted None (is_some ways.detail) list.now lines (O.contents out.old) (O.contents out.new))) }
     ensures most { IfOk result (λ status. status ≤ 3) }
     ensures fault { IfErr result (λ fault. fault_status fault ≡ 3) }
@@ -196,7 +206,7 @@ fn shown_each<R: Threads + Wait + Sync, F: Files>(
     ways: Ways,
     files: &F,
 ) -> Result<(Vec<AnswerShown>, u8), AllocError>
-    ensures answered { IfOk result (λ r. AreAnswered (F.Gives files.now) list.now (map entry_of entries.now) r.1
+    ensures answered { IfOk result (λ r. AreAnswered (F.Gives files.now) ways.deadlock list.now (map entry_of entries.now) r.1
         (λ lines. Each (λ line shown. Shows line.what shown) lines r.0.items)) }
     ensures most { IfOk result (λ r. r.1 ≤ 3) }
 {
@@ -220,7 +230,7 @@ fn report_each<R: Threads + Wait + Sync, F: Files, O: Write>(
     files: &F,
     out: &mut O,
 ) -> Result<u8, CheckFault>
-    ensures answered { IfOk result (λ status. AreAnswered (F.Gives files.now) list.now (map entry_of entries.now) status
+    ensures answered { IfOk result (λ status. AreAnswered (F.Gives files.now) ways.deadlock list.now (map entry_of entries.now) status
         (λ lines. AreLinesPrinted (Some format) (is_some ways.detail) list.now lines (O.contents out.old) (O.contents out.new))) }
     ensures most { IfOk result (λ status. status ≤ 3) }
     ensures fault { IfErr result (λ fault. fault_status fault ≡ 3) }
@@ -241,7 +251,7 @@ pub(super) fn check_list<R: Threads + Wait + Sync, F: Files, O: Write, E: Write>
     out: &mut O,
     err: &mut E,
 ) -> Result<u8, Refusal>
-    ensures answered { IfOk result (λ status. IsListAnswered (F.Gives files.now) list.now asked.now.format
+    ensures answered { IfOk result (λ status. IsListAnswered (F.Gives files.now) asked.now.deadlock list.now asked.now.format
         (is_some asked.now.detail) status (O.contents out.old) (O.contents out.new)) }
     ensures most { IfOk result (λ status. status ≤ 3) }
     ensures refused { IfErr result (λ refusal. fault_status refusal.fault ≡ 2 → out.new ≡ out.old) }
@@ -251,6 +261,7 @@ pub(super) fn check_list<R: Threads + Wait + Sync, F: Files, O: Write, E: Write>
         workers: usize::from(asked.workers),
         states: MOST_STATES,
         state_bytes: MOST_STATE_BYTES,
+        deadlock: asked.deadlock,
         detail,
         places: detail.is_some(),
         names: true,

@@ -9,7 +9,7 @@ use crate::printing::{show_found, show_outputs_refused};
 use crate::reading::proved_file;
 use crate::ways::{Asked, Warns, Ways, detail_in, mebibytes, output_at};
 use fr_files::Holds;
-use fr_formats::{AnswerKind, Command, Source};
+use fr_formats::{Command, Source};
 use fr_request::{ProveRequest, Request};
 use std::alloc::Global;
 use std::io::Write;
@@ -34,7 +34,7 @@ fn kept<F: Files>(
     ensures same { IfErr found (λ _. files.new ≡ files.old) }
 {
     let (text, what, certificate) = found?;
-    if matches!(what.kind(), AnswerKind::Yes)
+    if what.is_yes()
         && let Some(path) = out
     {
         if let Err(fault) = files.replace(path, certificate.as_bytes()) {
@@ -45,12 +45,15 @@ fn kept<F: Files>(
 }
 
 /// How `prove` does its work.
-fn ways_of(asked: &ProveRequest) -> Ways {
+fn ways_of(asked: &ProveRequest) -> Ways
+    ensures { result.deadlock ≡ asked.now.deadlock }
+{
     let detail = detail_in(asked.format, asked.detail);
     Ways {
         workers: usize::from(asked.workers),
         states: asked.states as usize,
         state_bytes: mebibytes(asked.memory),
+        deadlock: asked.deadlock,
         detail,
         places: detail.is_some() || asked.html.is_some(),
         names: true,
@@ -116,8 +119,8 @@ fn prove_looked<R: Threads + Wait + Sync, F: Files, O: Write, E: Write>(
     show_found(alloc, source, found, ways.warns, shown, files, out, err)
 }
 
-/// Prints the verdict on the application in the file by a certificate that is worked out, or a run into a breach, in the form that is
-/// asked for, and gives the exit status. The outputs are looked at before anything is read, and the certificate is written before
+/// Prints the verdict on the application in the file by a certificate that is worked out, or a run into a breach or a deadlock, in the form
+/// that is asked for, and gives the exit status. The outputs are looked at before anything is read, and the certificate is written before
 /// anything is printed, where the verdict is yes.
 pub(crate) fn prove<R: Threads + Wait + Sync, F: Files, O: Write, E: Write>(
     rt: &R,

@@ -16,12 +16,15 @@ use std::io::Write;
 use std::thread::Threads;
 
 /// How `refute` does its work.
-fn ways_of(asked: &RefuteRequest) -> Ways {
+fn ways_of(asked: &RefuteRequest) -> Ways
+    ensures { result.deadlock ≡ asked.now.deadlock }
+{
     let detail = asked.explains.then_some(Detail::Told);
     Ways {
         workers: usize::from(asked.workers),
         states: asked.states as usize,
         state_bytes: mebibytes(asked.memory),
+        deadlock: asked.deadlock,
         detail,
         places: asked.explains || asked.format.is_some() || asked.html.is_some(),
         names: true,
@@ -67,7 +70,7 @@ fn refute_looked<R: Threads + Sync, F: Files, O: Write, E: Write>(
         (λ status. 2 ≤ status → asked.now.format ≡ None → out.new ≡ out.old) }
     ensures refused { IfErr result (λ refusal. fault_status refusal.fault ≡ 3) }
     ensures most { IfOk result (λ status. status ≤ 3) }
-    ensures files { IsPaged F.Puts (IsSearchAt (F.Gives files.old) asked.now.app.now)
+    ensures files { IsPaged F.Puts (IsSearchAt (F.Gives files.old) asked.now.deadlock asked.now.app.now)
         (option_copied asked.now.html) files.old files.new }
 {
     let ways = ways_of(asked);
@@ -98,7 +101,7 @@ pub(crate) fn refute<R: Threads + Sync, F: Files, O: Write, E: Write>(
         (λ status. 2 ≤ status → asked.now.format ≡ None → out.new ≡ out.old) }
     ensures refused { IfErr result (λ refusal. fault_status refusal.fault ≡ 3) }
     ensures most { IfOk result (λ status. status ≤ 3) }
-    ensures files { IsPaged F.Puts (IsSearchAt (F.Gives files.old) asked.now.app.now)
+    ensures files { IsPaged F.Puts (IsSearchAt (F.Gives files.old) asked.now.deadlock asked.now.app.now)
         (option_copied asked.now.html) files.old files.new }
 {
     let html = output_at(asked.html, Holds::Page);

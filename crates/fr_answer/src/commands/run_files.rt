@@ -1,7 +1,7 @@
 // The command `run`.
 ghost use Rattle.std.specs.Prelude.{◌≡◌, ◌≤◌, IfErr, IfOk, option_copied};
 ghost use Rattle.fr_answer.specs.Checked.{fault_status};
-ghost use Rattle.fr_answer.specs.Commands.{AreRunWords, IsAnswered, IsSafeAt};
+ghost use Rattle.fr_answer.specs.Commands.{AreRunWords, IsAnswered, IsSafeIn};
 
 use crate::answer::Refusal;
 use crate::fault::CheckFault;
@@ -39,7 +39,7 @@ pub(crate) fn run_files<R: Threads + Wait + Sync, F: Files, O: Write>(
 ) -> Result<u8, Refusal>
     ensures answered { IfOk result (λ status. IsAnswered (F.Gives files.now)
         (Request.Run asked.now) status (O.contents out.old) (O.contents out.new)) }
-    ensures safe { IfOk result (λ status. status ≡ 0 → IsSafeAt (F.Gives files.now) asked.now.app.now) }
+    ensures safe { IfOk result (λ status. status ≡ 0 → IsSafeIn (F.Gives files.now) asked.now.app.now) }
     ensures most { IfOk result (λ status. status ≤ 1) }
     ensures refused { IfErr result (λ refusal. fault_status refusal.fault ≡ 2 → out.new ≡ out.old) }
 {

@@ -62,7 +62,7 @@ fn reasons(
     Ok(reasons)
 }
 
-/// A point of the application with what its note says and how it is with it. Why it fails is told where
+/// A point of the application with what its note says and how it is with it. Why it fails is shown where
 /// `explains` asks for it.
 fn point_shown(
     alloc: Global,

@@ -1,4 +1,4 @@
-// A run into a breach, step by step.
+// A run into a breach or a deadlock, step by step.
 ghost use Rattle.std.specs.Prelude.{IfOk};
 ghost use Rattle.fr_calls.specs.State.{IsWellFormed};
 
@@ -7,11 +7,12 @@ use super::actors::{count_text, put_point};
 use fr_calls::{Rule, State, the_start_is_well_formed};
 use fr_page::{ActorAfter, Moved, PointShown, StepShown, Track, TrackKind};
 use fr_program::{ActorId, App, Point, Side};
-use fr_refuter::{Refutation, take_step};
+use fr_refuter::{Deadlocked, Refutation, take_step};
 use fr_report::{
-    Depth, ExplainedStep, Standing, depth_in, depths_of, explain_run, place_told, rule_text,
-    side_name, state_told,
+    Depth, ExplainedRun, ExplainedStep, Standing, depth_in, depths_of, explain_deadlock,
+    explain_run, object_name, place_told, rule_text, side_name, state_told,
 };
+use fr_waits::Wait;
 use std::alloc::{AllocError, Global};
 
 /// How many steps are shown at the beginning of a run, and how many at its end.
@@ -85,7 +86,7 @@ fn actor_after(
     })
 }
 
-/// A row of the run with the state behind it, in which an actor did something.
+/// A row of the run with the state after it, in which an actor did something.
 fn row_of(
     alloc: Global,
     app: &App,
@@ -165,7 +166,7 @@ fn put_step(
     Ok(body.steps.push(row)?)
 }
 
-/// Adds the rows of the steps from the start on, and gives the state behind them.
+/// Adds the rows of the steps from the start on, and gives the state after them.
 fn put_steps(
     alloc: Global,
     body: &mut Body,
@@ -194,52 +195,102 @@ fn rule_told(alloc: Global, rule: Rule) -> Result<String, AllocError> {
     format!(in alloc; "rule {number}: {text}")
 }
 
-/// Adds the breach behind the run: to the run, and to the actor's line of code.
-fn put_breach(
+/// Adds where an actor is after the run, with what is so there: to the run under this name, and to the actor's line of code.
+fn put_end(
     alloc: Global,
     body: &mut Body,
     app: &App,
     depths: &[Depth],
     at: &Standing,
-    rule: Rule,
+    end: (&str, &str),
     last: &State,
 ) -> Result<(), AllocError>
     requires { IsWellFormed app.now last.now }
 {
+    let (name, said) = end;
     let point = point_of(at);
     let moved = Moved {
         actor: at.actor.0,
         line: point.pc,
         code: at.code.clone()?,
         choice: String::new(alloc),
-        change: rule_told(alloc, rule)?,
+        change: String::from_str(alloc, said)?,
         is_breach: true,
     };
-    let name = String::from_str(alloc, "breach")?;
+    let name = String::from_str(alloc, name)?;
     body.steps
         .push(row_of(alloc, app, depths, name, Some(moved), last)?)?;
     let shown = PointShown {
         number: app.number(point).unwrap_or(0),
         side: String::from_str(alloc, side_name(point.side))?,
         notes: Vec::new(alloc),
-        standing: fr_page::Standing::Fails(rule_told(alloc, rule)?),
+        standing: fr_page::Standing::Fails(String::from_str(alloc, said)?),
         explanation: Vec::new(alloc),
     };
     put_point(body, point, shown)
 }
 
-/// Adds the run to the body.
+/// Adds the steps of a run to the body, and gives the state after them.
+fn put_taken(
+    alloc: Global,
+    body: &mut Body,
+    app: &App,
+    depths: &[Depth],
+    run: &ExplainedRun,
+) -> Result<State, AllocError>
+    ensures { IfOk result (λ state. IsWellFormed app.now state) }
+{
+    put_tracks(alloc, body, app, depths)?;
+    let count = run.steps.len();
+    body.counts
+        .push(count_text(alloc, count, "step", "steps")?)?;
+    put_steps(alloc, body, app, depths, &run.steps)
+}
+
+/// Adds a run into a breach to the body.
 pub(super) fn put_run(
     alloc: Global,
     body: &mut Body,
     app: &App,
-    run: &Refutation,
+    found: &Refutation,
 ) -> Result<(), AllocError> {
-    let (depths, told) = (depths_of(alloc, app)?, explain_run(alloc, app, run)?);
-    put_tracks(alloc, body, app, &depths)?;
-    let count = run.steps.len();
-    body.counts
-        .push(count_text(alloc, count, "step", "steps")?)?;
-    let last = put_steps(alloc, body, app, &depths, &told.steps)?;
-    put_breach(alloc, body, app, &depths, &told.last, run.rule, &last)
+    let (depths, run) = (depths_of(alloc, app)?, explain_run(alloc, app, found)?);
+    let last = put_taken(alloc, body, app, &depths, &run)?;
+    let rule = rule_told(alloc, found.rule)?;
+    match run.lasts.first() {
+        Some(at) => put_end(alloc, body, app, &depths, at, ("breach", &rule), &last),
+        None => Ok(()),
+    }
+}
+
+/// Adds where the actors are that wait for one another.
+fn put_waits(
+    alloc: Global,
+    body: &mut Body,
+    app: &App,
+    depths: &[Depth],
+    waiting: (&[Standing], &[Wait]),
+    last: &State,
+) -> Result<(), AllocError>
+    requires { IsWellFormed app.now last.now }
+{
+    let (standings, cycle) = waiting;
+    for (at, wait) in standings.iter().zip(cycle) {
+        let mutex = object_name(app, wait.mutex);
+        let said = format!(in alloc; "waits for {mutex} for ever")?;
+        put_end(alloc, body, app, depths, at, ("deadlock", &said), last)?;
+    }
+    Ok(())
+}
+
+/// Adds a run into a deadlock to the body.
+pub(super) fn put_deadlock(
+    alloc: Global,
+    body: &mut Body,
+    app: &App,
+    found: &Deadlocked,
+) -> Result<(), AllocError> {
+    let (depths, run) = (depths_of(alloc, app)?, explain_deadlock(alloc, app, found)?);
+    let last = put_taken(alloc, body, app, &depths, &run)?;
+    put_waits(alloc, body, app, &depths, (&run.lasts, &found.cycle), &last)
 }

@@ -1,8 +1,11 @@
-// The steps of a run into a breach, and what is breached.
+// The steps of a run into a breach or a deadlock, and what that is.
 use super::places::Places;
 use fr_formats::{Failure, PlaceShown, StepShown, rule_name};
-use fr_refuter::Refutation;
-use fr_report::{ExplainedStep, Standing, breach_text, explain_run};
+use fr_refuter::{Deadlocked, Refutation};
+use fr_report::{
+    ExplainedRun, ExplainedStep, Standing, breach_text, deadlock_text, explain_deadlock,
+    explain_run,
+};
 use std::alloc::{AllocError, Global};
 
 /// Where an actor is; None where it is done.
@@ -34,21 +37,48 @@ fn steps_shown(
     Ok(shown)
 }
 
+/// What is so after a run, which has this name and is described so, and the steps of the run.
+fn ended(
+    alloc: Global,
+    places: &Places,
+    run: &ExplainedRun,
+    rule: &'static str,
+    text: String,
+) -> Result<(Option<Failure>, Vec<StepShown>), AllocError> {
+    let (mut place, mut state) = (None, String::new(alloc));
+    if let Some(last) = run.lasts.first() {
+        place = place_of(alloc, places, last)?;
+        state = last.line(alloc, places.app(), "")?.text(alloc)?;
+    }
+    let failure = Failure {
+        rule,
+        text,
+        place,
+        other: None,
+        state,
+        step: String::new(alloc),
+    };
+    Ok((Some(failure), steps_shown(alloc, places, &run.steps)?))
+}
+
+/// The deadlock, and the steps of the run into it.
+pub(super) fn deadlock_shown(
+    alloc: Global,
+    places: &Places,
+    found: &Deadlocked,
+) -> Result<(Option<Failure>, Vec<StepShown>), AllocError> {
+    let run = explain_deadlock(alloc, places.app(), found)?;
+    let text = deadlock_text(alloc, places.app(), found)?;
+    ended(alloc, places, &run, "deadlock", text)
+}
+
 /// The breach, and the steps of the run into it.
 pub(super) fn run_shown(
     alloc: Global,
     places: &Places,
     found: &Refutation,
 ) -> Result<(Option<Failure>, Vec<StepShown>), AllocError> {
-    let app = places.app();
-    let run = explain_run(alloc, app, found)?;
-    let failure = Failure {
-        rule: rule_name(found.rule),
-        text: breach_text(alloc, app, found)?,
-        place: place_of(alloc, places, &run.last)?,
-        other: None,
-        state: run.last.line(alloc, app, "")?.text(alloc)?,
-        step: String::new(alloc),
-    };
-    Ok((Some(failure), steps_shown(alloc, places, &run.steps)?))
+    let run = explain_run(alloc, places.app(), found)?;
+    let text = breach_text(alloc, places.app(), found)?;
+    ended(alloc, places, &run, rule_name(found.rule), text)
 }

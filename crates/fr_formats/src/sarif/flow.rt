@@ -1,6 +1,6 @@
 // Ways through the code that show what fails.
 ghost use Rattle.std.specs.Prelude.{◌≡◌, ◌++◌, IfOk, OnOk, map, string_bytes};
-ghost use Rattle.fr_formats.specs.Sarif.{change_words, choice_words, flow, flow_begins, flow_of, is_run, mover, note_stops, numbered, place_stops, run_stops, step_stops, step_words, stop_of, stop_tokens};
+ghost use Rattle.fr_formats.specs.Sarif.{change_words, choice_words, flow, flow_begins, flow_of, is_run, mover, note_stops, numbered, place_stops, run_stops, run_words, step_stops, step_words, stop_of, stop_tokens};
 
 use super::place::{put_point, words_of};
 use crate::answer::{AnswerKind, AnswerShown, Failure, PlaceShown, StepShown};
@@ -174,9 +174,9 @@ pub(super) fn put_way(
     ensures { OnOk result (out.new.tokens ≡ out.old.tokens ++ flow_of answer.now failure.now) }
 {
     let path = answer.application.as_str();
-    if is_breach(answer.answer) {
+    if is_run(answer.answer) {
         let stops = stops_of_run(out.alloc, failure, &answer.steps)?;
-        put_flow(out, path, "A run from the start into the breach", &stops)
+        put_flow(out, path, run_words(answer.answer), &stops)
     } else {
         let stops = stops_of_notes(out.alloc, failure)?;
         let text = "A state that the notes allow, and what is wrong with it";
@@ -184,9 +184,19 @@ pub(super) fn put_way(
     }
 }
 
-/// Whether the answer is a run into a breach.
-fn is_breach(kind: AnswerKind) -> bool
+/// Whether the answer is a run.
+fn is_run(kind: AnswerKind) -> bool
     ensures { result ≡ is_run kind }
 {
-    matches!(kind, AnswerKind::Breach)
+    matches!(kind, AnswerKind::Breach | AnswerKind::Deadlock)
+}
+
+/// What a run is said to lead to.
+fn run_words(kind: AnswerKind) -> &'static str
+    ensures { result.now ≡ run_words kind }
+{
+    match kind {
+        AnswerKind::Deadlock => "A run from the start into the deadlock",
+        _ => "A run from the start into the breach",
+    }
 }

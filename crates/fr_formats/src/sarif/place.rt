@@ -76,7 +76,7 @@ pub(super) fn words_of(alloc: Global, place: &PlaceShown) -> Result<String, Allo
     format!(in alloc; "{actor} {index} {side}")
 }
 
-/// Appends the names of an actor and of its point, behind its place in the file.
+/// Appends the names of an actor and of its point, after its place in the file.
 #[tactic(auto, using(std::proofs::Common::append_assoc), unfolding(crate::specs::Sarif::named))]
 fn put_named<'a>(out: &mut Out, actor: &'a str, words: &'a str) -> Result<(), AllocError>
     ensures { OnOk result (out.new.tokens ≡ out.old.tokens ++ named actor.now words.now) }
@@ -85,7 +85,7 @@ fn put_named<'a>(out: &mut Out, actor: &'a str, words: &'a str) -> Result<(), Al
         Field("fullyQualifiedName", words), Field("kind", "function"), Marks("}]"))
 }
 
-/// Appends the names of a point, behind its place in the file.
+/// Appends the names of a point, after its place in the file.
 fn put_names(out: &mut Out, place: &PlaceShown) -> Result<(), AllocError>
     ensures { OnOk result (out.new.tokens
         ≡ out.old.tokens ++ named (string_bytes place.now.actor) (point_words place.now)) }

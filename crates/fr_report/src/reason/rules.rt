@@ -157,7 +157,7 @@ fn put_end(
 }
 
 /// Appends what it is in this state that the rule forbids, for the actor before or inside this instruction.
-/// Rules 1 and 2 are told as guards.
+/// Rules 1 and 2 are reported as guards.
 pub(super) fn put_breach(
     text: &mut String,
     app: &App,

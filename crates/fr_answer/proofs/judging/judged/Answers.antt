@@ -12,5 +12,6 @@ returns-in_err-reading-clause-refused g c =
 
 pub returns-clause-judged : goal.returns-clause-judged
 returns-clause-judged g c =
-    rw (c.new-judged.ensures.app, c.new-judged.ensures.certificate, c.new-judged.ensures.verdict)
-    (c.in_ok-reading.ensures.judged.0, c.in_ok-reading.ensures.means, c.in_ok-reading.ensures.verdict)
+    let waits = c.in_ok-waits.ensures in
+    rw (c.new-judged.ensures.app, c.new-judged.ensures.certificate, c.new-judged.ensures.verdict, c.new-judged.ensures.waits)
+    (c.in_ok-reading.ensures.judged.0, c.in_ok-reading.ensures.means, c.in_ok-reading.ensures.verdict, waits.order, waits.answered)

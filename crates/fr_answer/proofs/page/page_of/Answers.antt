@@ -4,11 +4,11 @@ use Rattle.std.specs.declared.alloc.Global.{Global}
 use Rattle.fr_page.specs.declared.page.Page.{Page}
 use Rattle.fr_page.specs.Whole.{head_of}
 use Rattle.fr_answer.specs.declared.answer.What.{What}
-use Rattle.fr_answer.specs.Answers.{first_line, kind_of}
+use Rattle.fr_answer.specs.Answers.{kind_of, shown_line}
 use Rattle.fr_answer.specs.Pages.{IsPageOf, page_kind}
 use Rattle.fr_answer.proofs.page.page_of.Goals as goal
 
-written : {Y : Type 0} (what : What) (page : Page) (r : Result (String Global) Y) → page.kind ≡ page_kind (kind_of what) → string_bytes page.answer ≡ first_line what
+written : {Y : Type 0} (what : What) (page : Page) (r : Result (String Global) Y) → page.kind ≡ page_kind (kind_of what) → string_bytes page.answer ≡ shown_line what
     → IfOk r (λ text. (rest : List ℕ) × (string_bytes text ≡ head_of page ++ rest)) → IfOk r (λ text. IsPageOf what (string_bytes text))
 written what page (Ok text) kind line h = (page, kind, line, h.0, h.1)
 written what page (Err e) kind line h = tt

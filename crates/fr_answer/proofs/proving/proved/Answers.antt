@@ -1,14 +1,12 @@
--- A fault of the bytes is present in them, and a run takes the place of a no alone.
-use Rattle.std.proofs.Common.{◌≡◌, ap, subst, inr, None, rules, IfOk, IsTrue}
+-- A fault of the bytes is present in them, and what a search found takes the place of what doesn't settle the matter.
+use Rattle.std.proofs.Common.{subst, inl, inr, None, IfOk, IsTrue}
 use Rattle.std.proofs.lemmas.Result.{err_from_is_err_and}
 use Rattle.fr_cert.specs.Meaning.{Means as CertMeans}
-use Rattle.fr_refuter.specs.Refutes.{IsFound}
-use Rattle.fr_formats.specs.declared.answer.AnswerKind.TheVariants.{No}
+use Rattle.fr_refuter.specs.Refutes.{IsFound, Suits}
 use Rattle.fr_answer.specs.declared.answer.What.TheVariants.{Judged}
-use Rattle.fr_answer.specs.Answers.{CanRefuseProof, Settles, kind_of_verdict}
+use Rattle.fr_answer.specs.Answers.{CanRefuseProof, Settles}
 use Rattle.fr_answer.proofs.Refusals.{app-refused, cert-refused}
 use Rattle.fr_answer.proofs.proving.proved.Goals as goal
-use Rattle.fr_answer.proofs.proving.proved.Goals.{in-No, in_default}
 
 pub returns-in_err-app-clause-refused : goal.returns-in_err-app-clause-refused
 returns-in_err-app-clause-refused g c =
@@ -24,14 +22,28 @@ returns-in_err-certificate-clause-refused g c =
 pub returns-in-Ok-clause-proved : goal.returns-in-Ok-clause-proved
 returns-in-Ok-clause-proved g c =
     let means = subst (λ bytes. CertMeans c.in_ok-app.app bytes c.in_ok-certificate.certificate) c.as_bytes.ensures.value c.in_ok-certificate.ensures.ok in
-    let is-no : kind_of_verdict c.in_ok-verdict.verdict ≡ No = elim c.match-matches.branch [ in-No w ↦ ap kind_of_verdict w.in-No.is | in_default w ↦ cc ] in
-    let asked : IsTrue c.args.searches = search rules in
+    let waits = c.in_ok-waits.ensures in
+    let unsettled = c.is_unsettled.ensures c.if-is_unsettled.true in
+    let asked : IsTrue c.args.searches = c.if-searches.true in
     let found = subst (λ r. IfOk r (IsFound c.in_ok-app.app)) c.in-Ok.is c.in_ok-found.ensures.found in
+    let suits = subst (λ r. IfOk r (Suits c.args.ways.deadlock)) c.in-Ok.is c.in_ok-found.ensures.suits in
     let settles = subst (λ r. IfOk r Settles) c.in-Ok.is c.in_ok-found.ensures.settles in
     inr (
-      Judged (record { app = c.in_ok-app.app; certificate = c.in_ok-certificate.certificate; verdict = c.in_ok-verdict.verdict; why = None }),
-      (c.in_ok-app.ensures.ok, means, c.in_ok-verdict.ensures.verdict),
-      is-no,
+      Judged (record { app = c.in_ok-app.app; certificate = c.in_ok-certificate.certificate; verdict = c.in_ok-verdict.verdict; why = None; waits = c.in_ok-waits.waits }),
+      (c.in_ok-app.ensures.ok, means, c.in_ok-verdict.ensures.verdict, waits.order, waits.answered),
+      unsettled,
       asked,
-      (c.in_ok-app.ensures.ok, found, settles),
+      (c.in_ok-app.ensures.ok, found, suits, settles),
     )
+
+pub returns-in_err-why-clause-refused : goal.returns-in_err-why-clause-refused
+returns-in_err-why-clause-refused g c =
+    let p = err_from_is_err_and c.from_residual-in_err-why.result c.from_residual-in_err-why.ensures.1 in
+    rw (p.1, p.2) tt
+
+pub returns-clause-proved : goal.returns-clause-proved
+returns-clause-proved g c =
+    let means = subst (λ bytes. CertMeans c.in_ok-app.app bytes c.in_ok-certificate.certificate) c.as_bytes.ensures.value c.in_ok-certificate.ensures.ok in
+    let waits = c.in_ok-waits.ensures in
+    inl (rw (c.after_search-judged.ensures, c.new.ensures.app, c.new.ensures.certificate, c.new.ensures.verdict, c.new.ensures.waits)
+    (c.in_ok-app.ensures.ok, means, c.in_ok-verdict.ensures.verdict, waits.order, waits.answered))

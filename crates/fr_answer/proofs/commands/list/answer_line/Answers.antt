@@ -12,13 +12,13 @@ returns-in-Some-clause-by g c =
     let gives = g.F.Files.Gives c.args.files.now in
     let list = c.args.list.now in
     let app = c.args.listed.application.now in
-    line-by gives list app (option_copied c.args.listed.certificate) c.checked_line.result
-    (subst (λ o. IfOk c.checked_line.result (λ a. what_status a.what ≤ 1 → IsAnswerBy gives list (beside list app) o a.what)) (sym (ap option_copied c.in-Some.is)) c.checked_line.ensures.by)
+    line-by gives c.args.ways.deadlock list app (option_copied c.args.listed.certificate) c.checked_line.result
+    (subst (λ o. IfOk c.checked_line.result (λ a. what_status a.what ≤ 1 → IsAnswerBy gives c.args.ways.deadlock list (beside list app) o a.what)) (sym (ap option_copied c.in-Some.is)) c.checked_line.ensures.by)
 
 pub returns-in-None-clause-by : goal.returns-in-None-clause-by
 returns-in-None-clause-by g c =
     let gives = g.F.Files.Gives c.args.files.now in
     let list = c.args.list.now in
     let app = c.args.listed.application.now in
-    line-by gives list app (option_copied c.args.listed.certificate) c.proved_line.result
-    (subst (λ o. IfOk c.proved_line.result (λ a. what_status a.what ≤ 1 → IsAnswerBy gives list (beside list app) o a.what)) (sym (ap option_copied c.in-None.is)) c.proved_line.ensures.by)
+    line-by gives c.args.ways.deadlock list app (option_copied c.args.listed.certificate) c.proved_line.result
+    (subst (λ o. IfOk c.proved_line.result (λ a. what_status a.what ≤ 1 → IsAnswerBy gives c.args.ways.deadlock list (beside list app) o a.what)) (sym (ap option_copied c.in-None.is)) c.proved_line.ensures.by)

@@ -7,5 +7,5 @@ use Rattle.fr_answer.proofs.commands.list.print_each.Given as goal
 -- the lines so far are answered and printed
 abbrev pub invariant-loop-entry : goal.invariant-loop-entry
 invariant-loop-entry g l =
-    AreAnswered (g.F.Files.Gives l.files) l.list (map shown (take l.entry-index l.entries)) l.greatest
+    AreAnswered (g.F.Files.Gives l.files) l.ways.deadlock l.list (map shown (take l.entry-index l.entries)) l.greatest
     (λ lines. AreLinesPrinted None (is_some l.ways.detail) l.list lines (g.O.Write.contents l.fn.out) (g.O.Write.contents l.out)) × (l.greatest ≤ 3)

@@ -10,5 +10,5 @@ returns-clause-by g c =
     let gives = g.F.Files.Gives c.args.files.now in
     let list = c.args.list.now in
     let found = c.proved_alone-found.result in
-    let proof = subst (λ a. IfOk found (λ r. (certificate : List ℕ) × IsProofAt gives a true certificate r.1)) (c.deref.ensures ∙ c.in_ok-app.ensures) c.proved_alone-found.ensures.proof in
-    line-found (IsAnswerBy gives list (beside list c.args.app.now) None) found c.new.result c.new.ensures.found proof
+    let proof = subst (λ a. IfOk found (λ r. (certificate : List ℕ) × IsProofAt gives c.args.ways.deadlock a true certificate r.1)) (c.deref.ensures ∙ c.in_ok-app.ensures) c.proved_alone-found.ensures.proof in
+    line-found (IsAnswerBy gives c.args.ways.deadlock list (beside list c.args.app.now) None) found c.new.result c.new.ensures.found proof

@@ -1,5 +1,5 @@
 -- What is shown is what was proved, and a certificate is written where the verdict is yes.
-use Rattle.std.proofs.Common.{List, ℕ}
+use Rattle.std.proofs.Common.{IfOk, List, ℕ, string_bytes, subst}
 use Rattle.std.specs.Prelude.{option_copied}
 use Rattle.fr_answer.specs.Commands.{IsProofAt}
 use Rattle.fr_answer.proofs.Showing.{kept-by, paged-found, proof-found, shown-of}
@@ -9,16 +9,23 @@ pub returns-clause-answered : goal.returns-clause-answered
 returns-clause-answered g c =
     let gives = g.F.Files.Gives c.args.files.now in
     let app = c.args.asked.now.app.now in
-    shown-of (λ what. (certificate : List ℕ) × IsProofAt gives app c.args.asked.now.searches certificate what) c.kept-found.result c.args.asked.now.format _ _ c.show_found.result
-    (proof-found gives app c.args.asked.now.searches c.proved_file-proof.result c.kept-found.result c.proved_file-proof.ensures.proof c.kept-found.ensures.found c.kept-found.ensures.none) c.show_found.ensures.answered
+    let asks = c.args.asked.now.deadlock in
+    let searches = c.args.asked.now.searches in
+    let all = c.proved_file-proof.result in
+    let proof = subst (λ b. IfOk all (λ r. IsProofAt gives b app searches (string_bytes r.2) r.1)) c.ways_of-ways.ensures c.proved_file-proof.ensures.proof in
+    shown-of (λ what. (certificate : List ℕ) × IsProofAt gives asks app searches certificate what) c.kept-found.result c.args.asked.now.format _ _ c.show_found.result
+    (proof-found gives asks app searches all c.kept-found.result proof c.kept-found.ensures.found c.kept-found.ensures.none) c.show_found.ensures.answered
 
 pub returns-clause-files : goal.returns-clause-files
-returns-clause-files g c = (
-  _,
-  kept-by (g.F.Files.Gives c.args.files.now) g.F.Files.Puts c.args.asked.now.app.now c.args.asked.now.searches (option_copied c.args.asked.now.out) c.proved_file-proof.result c.args.files.now _
-      c.proved_file-proof.ensures.proof c.kept-found.ensures.files c.kept-found.ensures.same,
-  paged-found g.F.Files.Puts (λ what. (certificate : List ℕ) × IsProofAt (g.F.Files.Gives c.args.files.now) c.args.asked.now.app.now c.args.asked.now.searches certificate what) c.kept-found.result
-      (option_copied c.args.asked.now.html) _ _
-      (proof-found (g.F.Files.Gives c.args.files.now) c.args.asked.now.app.now c.args.asked.now.searches c.proved_file-proof.result c.kept-found.result c.proved_file-proof.ensures.proof
-      c.kept-found.ensures.found c.kept-found.ensures.none) c.show_found.ensures.paged,
-)
+returns-clause-files g c =
+    let gives = g.F.Files.Gives c.args.files.now in
+    let app = c.args.asked.now.app.now in
+    let asks = c.args.asked.now.deadlock in
+    let searches = c.args.asked.now.searches in
+    let all = c.proved_file-proof.result in
+    let proof = subst (λ b. IfOk all (λ r. IsProofAt gives b app searches (string_bytes r.2) r.1)) c.ways_of-ways.ensures c.proved_file-proof.ensures.proof in (
+      _,
+      kept-by gives asks g.F.Files.Puts app searches (option_copied c.args.asked.now.out) all c.args.files.now _ proof c.kept-found.ensures.files c.kept-found.ensures.same,
+      paged-found g.F.Files.Puts (λ what. (certificate : List ℕ) × IsProofAt gives asks app searches certificate what) c.kept-found.result (option_copied c.args.asked.now.html) _ _
+          (proof-found gives asks app searches all c.kept-found.result proof c.kept-found.ensures.found c.kept-found.ensures.none) c.show_found.ensures.paged,
+    )

@@ -12,4 +12,4 @@ refute_looked-requires g c =
 
 pub returns-in-Err-clause-answered : goal.returns-in-Err-clause-answered
 returns-in-Err-clause-answered g c =
-    shown-none (IsSearchAt (g.F.Files.Gives c.args.files.now) c.args.asked.now.app.now) _ c.args.asked.now.format _ _ c.show_outputs_refused.result c.asked_of-shown.ensures.format c.show_outputs_refused.ensures.answered
+    shown-none (IsSearchAt (g.F.Files.Gives c.args.files.now) c.args.asked.now.deadlock c.args.asked.now.app.now) _ c.args.asked.now.format _ _ c.show_outputs_refused.result c.asked_of-shown.ensures.format c.show_outputs_refused.ensures.answered

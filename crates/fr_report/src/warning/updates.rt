@@ -1,0 +1,307 @@
+// Updates of shared variables that can be lost: an actor copies the variable and then sets it from the copy, and another actor can set it
+// in between.
+use crate::shown::actor_name;
+use fr_notes::{Alternative, Note, Notes, can_meet};
+use fr_program::{Act, ActorId, App, Call, Instr, Operand, Point, Side, VarId};
+use std::alloc::{AllocError, Global};
+
+/// A line that copies a shared variable into one of the actor's own.
+#[derive(Clone, Copy)]
+struct Copied {
+    actor: ActorId,
+    pc: usize,
+    shared: VarId,
+    copy: VarId,
+}
+
+/// The lines from a copy to the line that sets the shared variable from it.
+#[derive(Drop)]
+struct Update {
+    copied: Copied,
+    /// The line that sets the variable.
+    pc: usize,
+    /// That line, and those between.
+    between: Vec<usize>,
+}
+
+/// Whether the variable belongs to no actor.
+fn is_shared(app: &App, x: VarId) -> bool {
+    match app.variables().get(x.0) {
+        Some(variable) => variable.owner.is_none(),
+        None => false,
+    }
+}
+
+/// The shared variable that the operand is.
+fn shared_in(app: &App, operand: Operand) -> Option<VarId> {
+    match operand {
+        Operand::Variable(x) if is_shared(app, x) => Some(x),
+        _ => None,
+    }
+}
+
+/// Whether the operand is this variable.
+fn is_variable(operand: Operand, x: VarId) -> bool {
+    match operand {
+        Operand::Variable(y) => x == y,
+        Operand::Number(_) => false,
+    }
+}
+
+/// What the line copies, if it copies a shared variable.
+fn copied_at(app: &App, actor: ActorId, pc: usize, instr: &Instr) -> Option<Copied> {
+    let Instr::Set {
+        target,
+        left,
+        right,
+        ..
+    } = *instr
+    else {
+        return None;
+    };
+    if is_shared(app, target) {
+        return None;
+    }
+    let shared = shared_in(app, left).or(shared_in(app, right))?;
+    Some(Copied {
+        actor,
+        pc,
+        shared,
+        copy: target,
+    })
+}
+
+/// Whether the line sets the shared variable from its copy.
+fn is_store(instr: &Instr, copied: Copied) -> bool {
+    match *instr {
+        Instr::Set {
+            target,
+            left,
+            right,
+            ..
+        } => {
+            target == copied.shared
+                && (is_variable(left, copied.copy) || is_variable(right, copied.copy))
+        }
+        _ => false,
+    }
+}
+
+/// The variable to which the line gives a number, and whether it does so inside a call.
+fn written_by(instr: &Instr) -> Option<(VarId, Side)> {
+    match *instr {
+        Instr::Set { target, .. } | Instr::Pick { target, .. } => Some((target, Side::Before)),
+        Instr::Call(Call::On(call)) => {
+            let act: Act = call.act;
+            Some((act.written()?, Side::Inside))
+        }
+        _ => None,
+    }
+}
+
+/// The lines to which the line at this place can lead, one or two.
+fn lines_after(instr: &Instr, pc: usize) -> (Option<usize>, Option<usize>) {
+    let next = pc.checked_add(1);
+    match *instr {
+        Instr::If { target, .. } => (next, Some(target)),
+        Instr::Goto { target } => (Some(target), None),
+        Instr::Return | Instr::Call(Call::DeleteSelf) => (None, None),
+        Instr::Call(Call::Create { or_else, .. }) => (next, or_else),
+        Instr::Call(Call::On(call)) => (next, call.act.else_target()),
+        _ => (next, None),
+    }
+}
+
+/// A walk through an actor's code from a copy on.
+#[derive(Drop)]
+struct Walk {
+    next: Vec<usize>,
+    seen: Vec<bool>,
+    between: Vec<usize>,
+    /// The line that sets the variable from the copy, once one was met.
+    store: Option<usize>,
+}
+
+impl Walk {
+    /// Goes on from the line.
+    fn follow(&mut self, instr: &Instr, pc: usize) -> Result<(), AllocError> {
+        let (one, other) = lines_after(instr, pc);
+        if let Some(pc) = one {
+            self.next.push(pc)?;
+        }
+        if let Some(pc) = other {
+            self.next.push(pc)?;
+        }
+        Ok(())
+    }
+
+    /// Looks at the line, and goes on from it unless it sets the variable or the copy.
+    fn visit(&mut self, code: &[Instr], pc: usize, copied: Copied) -> Result<(), AllocError> {
+        let (Some(instr), Some(false)) = (code.get(pc), self.seen.get(pc).copied()) else {
+            return Ok(());
+        };
+        self.seen[pc] = true;
+        if let Some((x, _)) = written_by(instr)
+            && x == copied.copy
+        {
+            return Ok(());
+        }
+        self.between.push(pc)?;
+        if is_store(instr, copied) {
+            self.store = Some(self.store.map_or(pc, |first| first.min(pc)));
+            return Ok(());
+        }
+        self.follow(instr, pc)
+    }
+}
+
+/// The update that begins with this copy; None where no line that can follow sets the variable from it.
+fn update_after(
+    alloc: Global,
+    code: &[Instr],
+    copied: Copied,
+) -> Result<Option<Update>, AllocError> {
+    let mut walk = Walk {
+        next: Vec::new(alloc),
+        seen: vec![in alloc; false; code.len()]?,
+        between: Vec::new(alloc),
+        store: None,
+    };
+    if let Some(instr) = code.get(copied.pc) {
+        walk.follow(instr, copied.pc)?;
+    }
+    // Each line is visited once, and leads to two at the most.
+    for _ in 0..code.len().saturating_mul(2).saturating_add(2) {
+        let Some(pc) = walk.next.pop() else {
+            break;
+        };
+        walk.visit(code, pc, copied)?;
+    }
+    let between = walk.between;
+    Ok(
+        walk.store.map(|pc| Update {
+            copied,
+            pc,
+            between,
+        }),
+    )
+}
+
+/// Whether the alternative can hold beside one of the note's.
+fn meets_some(alternative: &Alternative, note: &Note) -> bool {
+    note.alternatives()
+        .iter()
+        .any(|other| can_meet(alternative, other))
+}
+
+/// Whether two actors can be at these two points at the same time, by what their notes say.
+fn can_both_be_at(app: &App, notes: &Notes, one: Point, number: usize) -> bool {
+    let Some(own) = app.number(one) else {
+        return false;
+    };
+    match (notes.get(own), notes.get(number)) {
+        (Some(note), Some(other)) => note
+            .alternatives()
+            .iter()
+            .any(|alternative| meets_some(alternative, other)),
+        _ => false,
+    }
+}
+
+/// Whether another actor can be at the point with this number while the actor is at one of the lines of the update.
+fn is_between(app: &App, notes: &Notes, update: &Update, number: usize) -> bool {
+    let actor = update.copied.actor;
+    update.between.iter().any(|pc| {
+        let (pc, before, inside) = (*pc, Side::Before, Side::Inside);
+        can_both_be_at(
+            app,
+            notes,
+            Point {
+                actor,
+                pc,
+                side: before,
+            },
+            number,
+        ) || can_both_be_at(
+            app,
+            notes,
+            Point {
+                actor,
+                pc,
+                side: inside,
+            },
+            number,
+        )
+    })
+}
+
+/// Whether another actor sets the update's variable at the point.
+fn sets_at(app: &App, update: &Update, point: Point) -> bool {
+    if point.actor == update.copied.actor {
+        return false;
+    }
+    match app.instr(point) {
+        Some(instr) => written_by(instr) == Some((update.copied.shared, point.side)),
+        None => false,
+    }
+}
+
+/// The first point at which another actor can set the variable within the update.
+fn loser_of(app: &App, notes: &Notes, update: &Update) -> Option<Point> {
+    for number in 0..app.points() {
+        let point = app.point(number);
+        if sets_at(app, update, point) && is_between(app, notes, update, number) {
+            return Some(point);
+        }
+    }
+    None
+}
+
+/// The line of an update that can be lost, with the point at which another actor sets the variable.
+fn line_of(alloc: Global, app: &App, update: &Update, by: Point) -> Result<String, AllocError> {
+    let Copied {
+        actor,
+        pc,
+        shared,
+        ..
+    } = update.copied;
+    let (name, store) = (actor_name(app, actor), update.pc);
+    let variable = match app.variables().get(shared.0) {
+        Some(variable) => variable.name.as_str(),
+        None => "",
+    };
+    let (other, line) = (actor_name(app, by.actor), by.pc);
+    format!(in alloc;
+        "warning: the update of {variable} by {name} {pc} and {name} {store} can be lost: {other} {line} sets it in between"
+    )
+}
+
+/// Adds the warnings for the updates in an actor's code.
+fn add_updates(
+    alloc: Global,
+    lines: &mut Vec<String>,
+    app: &App,
+    notes: &Notes,
+    (actor, code): (ActorId, &[Instr]),
+) -> Result<(), AllocError> {
+    for (pc, instr) in code.iter().enumerate() {
+        if let Some(copied) = copied_at(app, actor, pc, instr)
+            && let Some(update) = update_after(alloc, code, copied)?
+            && let Some(by) = loser_of(app, notes, &update)
+        {
+            lines.push(line_of(alloc, app, &update, by)?)?;
+        }
+    }
+    Ok(())
+}
+
+/// The warnings for updates that can be lost, a line each: an actor copies a shared variable, and sets it from the copy, and another actor
+/// can set it in between, by what their notes say. An error says that an allocation was refused. The lines' form is this project's own.
+pub fn lost_updates(alloc: Global, app: &App, notes: &Notes) -> Result<Vec<String>, AllocError> {
+    let mut lines = Vec::new(alloc);
+    for (number, actor) in app.actors().iter().enumerate() {
+        let place = (ActorId(number), actor.code.as_slice());
+        add_updates(alloc, &mut lines, app, notes, place)?;
+    }
+    Ok(lines)
+}
