@@ -10,7 +10,7 @@ mod steps;
 use crate::answer::{Answer, What};
 use actors::put_actors;
 use fr_formats::{AnswerKind, Command};
-use fr_page::{ActorShown, Kind, Page, StepShown, page_text};
+use fr_page::{ActorShown, Kind, Page, StepShown, WaitShown, page_text};
 use fr_refuter::Finding;
 use points::put_judged;
 use std::alloc::{AllocError, Global};
@@ -54,6 +54,8 @@ struct Body {
     omissions: Vec<String>,
     actors: Vec<ActorShown>,
     steps: Vec<StepShown>,
+    /// Which actors wait for one another after the steps.
+    waits: Vec<WaitShown>,
 }
 
 /// Nothing below the answer.
@@ -64,6 +66,7 @@ fn empty_body(alloc: Global) -> Body {
         omissions: Vec::new(alloc),
         actors: Vec::new(alloc),
         steps: Vec::new(alloc),
+        waits: Vec::new(alloc),
     }
 }
 
@@ -106,6 +109,7 @@ fn headed(alloc: Global, answer: &Answer, body: Body) -> Result<Page, AllocError
         omissions: body.omissions,
         actors: body.actors,
         steps: body.steps,
+        waits: body.waits,
     })
 }
 

@@ -13,7 +13,7 @@ mod whole;
 mod writer;
 
 pub use page::{
-    ActorAfter, ActorShown, Kind, LineShown, Moved, Page, PointShown, Reason, Standing, StepShown,
-    Track, TrackKind,
+    ActorAfter, ActorShown, Doing, Kind, LineShown, Moved, Page, PointShown, Reason, Standing,
+    StepShown, Track, TrackKind, WaitShown,
 };
 pub use whole::page_text;

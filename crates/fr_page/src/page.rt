@@ -36,6 +36,8 @@ pub struct Page {
     pub actors: Vec<ActorShown>,
     /// The run, from the start on; no steps where there is none.
     pub steps: Vec<StepShown>,
+    /// Which actors wait for one another after the run, in the order of the cycle; none where they don't.
+    pub waits: Vec<WaitShown>,
 }
 
 /// A task or an interrupt, with its code.
@@ -117,7 +119,18 @@ pub struct StepShown {
     pub facts: Vec<String>,
 }
 
-/// What an actor does in a step, or that it breaks a rule there.
+/// What the box of an actor in a lane is about.
+#[derive(Clone, Copy, PartialEq, Eq)]
+pub enum Doing {
+    /// The actor takes a step.
+    Step,
+    /// The actor breaks a rule.
+    Breach,
+    /// The actor waits for ever.
+    Wait,
+}
+
+/// What an actor does in a step, or what is so of it after the last one.
 #[derive(Drop)]
 pub struct Moved {
     /// The actor's number.
@@ -127,9 +140,20 @@ pub struct Moved {
     pub code: String,
     /// As `choice 3`; no text where nothing is to be said of it.
     pub choice: String,
-    /// What the step changes, or the rule that is broken.
+    /// What the step changes, the rule that is broken, or what the actor waits for.
     pub change: String,
-    pub is_breach: bool,
+    pub doing: Doing,
+}
+
+/// That an actor waits for a mutex, and who holds it.
+#[derive(Drop)]
+pub struct WaitShown {
+    /// The number of the actor that waits.
+    pub actor: usize,
+    /// The number of the actor that holds the mutex: the same one where it waits for itself.
+    pub holder: usize,
+    /// The name of the mutex.
+    pub mutex: String,
 }
 
 /// An actor in a state of a run.

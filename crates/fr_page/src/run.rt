@@ -1,5 +1,5 @@
 // A run as lanes, one an actor: time goes down, and bars run along a lane.
-use crate::page::{ActorAfter, ActorShown, Moved, StepShown, TrackKind};
+use crate::page::{ActorAfter, ActorShown, Doing, Moved, Page, StepShown, TrackKind, WaitShown};
 use crate::writer::Writer;
 use std::alloc::{AllocError, Global};
 
@@ -139,13 +139,22 @@ fn put_bar(
     page.markup("</i>")
 }
 
+/// The begin of an actor's box in a lane, up to the number of its line.
+fn box_of(doing: Doing) -> &'static str {
+    match doing {
+        Doing::Step => "<div class='does'><code><span>",
+        Doing::Breach => {
+            "<div class='does breaks'><strong>&#10007; breach</strong> <code><span>"
+        }
+        Doing::Wait => {
+            "<div class='does breaks'><strong>&#10007; deadlock</strong> <code><span>"
+        }
+    }
+}
+
 /// Writes what an actor does in a step.
 fn put_move(page: &mut Writer, moved: &Moved) -> Result<(), AllocError> {
-    page.markup(if moved.is_breach {
-        "<div class='does breaks'><strong>&#10007; breach</strong> <code><span>"
-    } else {
-        "<div class='does'><code><span>"
-    })?;
+    page.markup(box_of(moved.doing))?;
     page.number(moved.line)?;
     page.between("</span> ", moved.code.as_str(), "</code>")?;
     page.between(" <small>", moved.choice.as_str(), "</small>")?;
@@ -206,6 +215,50 @@ fn put_row(
     page.markup("</tr>\n")
 }
 
+/// Writes a cell that spans so many lanes and is empty; nothing where it spans none.
+fn put_space(page: &mut Writer, lanes: usize) -> Result<(), AllocError> {
+    if lanes == 0 {
+        return Ok(());
+    }
+    page.markup("<td colspan='")?;
+    page.number(lanes)?;
+    page.markup("'></td>\n")
+}
+
+/// The name of an actor.
+fn name_of<'a>(lanes: &'a [Lane], number: usize) -> &'a str {
+    match lanes.get(number) {
+        Some(lane) => lane.actor.name.as_str(),
+        None => "",
+    }
+}
+
+/// The begin of the cell of an arrow, which points from the lane of the actor that waits to the lane of the one that holds the mutex.
+fn arrow_of(wait: &WaitShown) -> &'static str {
+    if wait.actor < wait.holder {
+        "<td class='right' colspan='"
+    } else if wait.actor > wait.holder {
+        "<td class='left' colspan='"
+    } else {
+        "<td class='own' colspan='"
+    }
+}
+
+/// Writes an arrow from the lane of an actor to the lane of the one that holds the mutex that it waits for.
+fn put_wait(page: &mut Writer, lanes: &[Lane], wait: &WaitShown) -> Result<(), AllocError> {
+    let (first, last) = (wait.actor.min(wait.holder), wait.actor.max(wait.holder));
+    let end = last.saturating_add(1);
+    page.markup("<tr class='wait'><th></th>\n")?;
+    put_space(page, first)?;
+    page.markup(arrow_of(wait))?;
+    page.number(end.saturating_sub(first))?;
+    page.between("'><p>", name_of(lanes, wait.actor), " waits for ")?;
+    page.between("<b>", wait.mutex.as_str(), "</b>, held by ")?;
+    page.between("", name_of(lanes, wait.holder), "</p></td>\n")?;
+    put_space(page, lanes.len().saturating_sub(end))?;
+    page.markup("</tr>\n")
+}
+
 /// Writes where an actor is, and how deep in what.
 fn put_after(page: &mut Writer, actor: &ActorShown, after: &ActorAfter) -> Result<(), AllocError> {
     page.between("<dt>", actor.name.as_str(), "</dt>")?;
@@ -242,8 +295,21 @@ fn put_facts(page: &mut Writer, facts: &[String]) -> Result<(), AllocError> {
     page.markup("</dd>\n")
 }
 
-/// Writes the lanes with a row for each step.
-fn put_lanes(page: &mut Writer, steps: &[StepShown], lanes: &[Lane]) -> Result<(), AllocError> {
+/// Writes the cycle of the actors that wait for one another, an arrow in each row.
+fn put_waits(page: &mut Writer, lanes: &[Lane], waits: &[WaitShown]) -> Result<(), AllocError> {
+    for wait in waits {
+        put_wait(page, lanes, wait)?;
+    }
+    Ok(())
+}
+
+/// Writes the lanes with a row for each step, and below them who waits for whom.
+fn put_lanes(
+    page: &mut Writer,
+    steps: &[StepShown],
+    lanes: &[Lane],
+    waits: &[WaitShown],
+) -> Result<(), AllocError> {
     page.markup("<div class='scroll'>\n<table class='lanes'>\n<thead><tr><th></th>\n")?;
     for lane in lanes {
         put_lane_head(page, lane)?;
@@ -252,22 +318,18 @@ fn put_lanes(page: &mut Writer, steps: &[StepShown], lanes: &[Lane]) -> Result<(
     for (number, step) in steps.iter().enumerate() {
         put_row(page, steps, number, step, lanes)?;
     }
+    put_waits(page, lanes, waits)?;
     page.markup("</tbody>\n</table>\n</div>\n")
 }
 
-/// Writes the run, and behind it the state after each step.
-pub fn put_run(
-    alloc: Global,
-    page: &mut Writer,
-    actors: &[ActorShown],
-    steps: &[StepShown],
-) -> Result<(), AllocError> {
-    let lanes = lanes_of(alloc, actors, steps)?;
+/// Writes the run of a page, and after it the state after each step.
+pub fn put_run(alloc: Global, page: &mut Writer, shown: &Page) -> Result<(), AllocError> {
+    let lanes = lanes_of(alloc, &shown.actors, &shown.steps)?;
     page.markup(RUN)?;
-    put_lanes(page, steps, &lanes)?;
+    put_lanes(page, &shown.steps, &lanes, &shown.waits)?;
     page.markup(PLAYER)?;
-    for step in steps {
-        put_state(page, actors, step)?;
+    for step in &shown.steps {
+        put_state(page, &shown.actors, step)?;
     }
     page.markup("</details>\n</section>\n")
 }

@@ -82,6 +82,13 @@ article .fails td { padding-top: .4rem; }
 .breaks, .breaks:first-child { margin: .3rem .5rem .4rem .1rem; padding: .4rem .7rem; border: 1px solid var(--bad); border-radius: 6px; background: var(--bad-fill); }
 .breaks strong { display: block; font-size: 13px; }
 .gap td { padding: .4rem .9rem; }
+.wait td { height: auto; }
+.wait .right, .wait .left, .wait .own { padding: .3rem .8rem .5rem; color: var(--bad); }
+.wait p { position: relative; padding: 0 1.2rem .2rem; border-bottom: 2px solid; color: var(--bad); text-align: center; }
+.wait p::after { position: absolute; bottom: 0; line-height: 0; font-size: 14px; }
+.wait .right p::after { content: '\\25B6'; right: -.3rem; }
+.wait .left p::after { content: '\\25C0'; left: -.3rem; }
+.wait .own p::after { content: '\\21BA'; right: -.3rem; }
 .current { outline: 2px solid var(--held); outline-offset: -2px; }
 .states { margin-top: 1rem; border: 1px solid var(--rule); border-radius: 10px; background: var(--card); }
 .states details { border-top: 1px solid var(--rule); padding-left: 1rem; }

@@ -137,7 +137,7 @@ fn put_head(page: &mut Writer, shown: &Page) -> Result<(), AllocError>
 /// Writes what is below the answer: the run, if there is one, and the code.
 fn put_rest(alloc: Global, page: &mut Writer, shown: &Page) -> Result<(), AllocError> {
     if !shown.steps.is_empty() {
-        put_run(alloc, page, &shown.actors, &shown.steps)?;
+        put_run(alloc, page, shown)?;
     }
     let has_notes = matches!(shown.kind, Kind::Yes | Kind::No | Kind::MayDeadlock);
     put_code(page, &shown.actors, has_notes)?;

@@ -5,7 +5,7 @@ ghost use Rattle.fr_calls.specs.State.{IsWellFormed};
 use super::Body;
 use super::actors::{count_text, put_point};
 use fr_calls::{Rule, State, the_start_is_well_formed};
-use fr_page::{ActorAfter, Moved, PointShown, StepShown, Track, TrackKind};
+use fr_page::{ActorAfter, Doing, Moved, PointShown, StepShown, Track, TrackKind, WaitShown};
 use fr_program::{ActorId, App, Point, Side};
 use fr_refuter::{Deadlocked, Refutation, take_step};
 use fr_report::{
@@ -122,7 +122,7 @@ fn move_of(alloc: Global, step: &ExplainedStep) -> Result<Moved, AllocError> {
         code: step.before.code.clone()?,
         choice,
         change: step.change(alloc)?,
-        is_breach: false,
+        doing: Doing::Step,
     })
 }
 
@@ -195,19 +195,28 @@ fn rule_told(alloc: Global, rule: Rule) -> Result<String, AllocError> {
     format!(in alloc; "rule {number}: {text}")
 }
 
-/// Adds where an actor is after the run, with what is so there: to the run under this name, and to the actor's line of code.
+/// The name of a row after the last step.
+fn end_name(doing: Doing) -> &'static str {
+    match doing {
+        Doing::Step => "step",
+        Doing::Breach => "breach",
+        Doing::Wait => "deadlock",
+    }
+}
+
+/// Adds where an actor is after the run, with what is so there: to the run, and to the actor's line of code.
 fn put_end(
     alloc: Global,
     body: &mut Body,
     app: &App,
     depths: &[Depth],
     at: &Standing,
-    end: (&str, &str),
+    end: (Doing, &str),
     last: &State,
 ) -> Result<(), AllocError>
     requires { IsWellFormed app.now last.now }
 {
-    let (name, said) = end;
+    let (doing, said) = end;
     let point = point_of(at);
     let moved = Moved {
         actor: at.actor.0,
@@ -215,9 +224,9 @@ fn put_end(
         code: at.code.clone()?,
         choice: String::new(alloc),
         change: String::from_str(alloc, said)?,
-        is_breach: true,
+        doing,
     };
-    let name = String::from_str(alloc, name)?;
+    let name = String::from_str(alloc, end_name(doing))?;
     body.steps
         .push(row_of(alloc, app, depths, name, Some(moved), last)?)?;
     let shown = PointShown {
@@ -258,7 +267,7 @@ pub(super) fn put_run(
     let last = put_taken(alloc, body, app, &depths, &run)?;
     let rule = rule_told(alloc, found.rule)?;
     match run.lasts.first() {
-        Some(at) => put_end(alloc, body, app, &depths, at, ("breach", &rule), &last),
+        Some(at) => put_end(alloc, body, app, &depths, at, (Doing::Breach, &rule), &last),
         None => Ok(()),
     }
 }
@@ -278,9 +287,23 @@ fn put_waits(
     for (at, wait) in standings.iter().zip(cycle) {
         let mutex = object_name(app, wait.mutex);
         let said = format!(in alloc; "waits for {mutex} for ever")?;
-        put_end(alloc, body, app, depths, at, ("deadlock", &said), last)?;
+        put_end(alloc, body, app, depths, at, (Doing::Wait, &said), last)?;
     }
     Ok(())
+}
+
+/// The arrows of a cycle: each actor waits for a mutex that the next one holds, and the last one for a mutex of the first.
+fn arrows_of(alloc: Global, app: &App, cycle: &[Wait]) -> Result<Vec<WaitShown>, AllocError> {
+    let mut arrows = Vec::new(alloc);
+    for (number, wait) in cycle.iter().enumerate() {
+        let next = cycle.get(number.saturating_add(1)).or(cycle.first());
+        arrows.push(WaitShown {
+            actor: wait.actor.0,
+            holder: next.map_or(wait.actor.0, |next| next.actor.0),
+            mutex: String::from_str(alloc, object_name(app, wait.mutex))?,
+        })?;
+    }
+    Ok(arrows)
 }
 
 /// Adds a run into a deadlock to the body.
@@ -292,5 +315,7 @@ pub(super) fn put_deadlock(
 ) -> Result<(), AllocError> {
     let (depths, run) = (depths_of(alloc, app)?, explain_deadlock(alloc, app, found)?);
     let last = put_taken(alloc, body, app, &depths, &run)?;
-    put_waits(alloc, body, app, &depths, (&run.lasts, &found.cycle), &last)
+    put_waits(alloc, body, app, &depths, (&run.lasts, &found.cycle), &last)?;
+    body.waits = arrows_of(alloc, app, &found.cycle)?;
+    Ok(())
 }
