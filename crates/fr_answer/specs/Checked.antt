@@ -16,7 +16,7 @@
 -- | IsAppRefused          | the application's bytes have this fault, which isn't want of memory           |
 -- | IsCertRefused         | the certificate's bytes have, for the application that the other ones mean    |
 -- | CanRefuse, IsRefused  | this fault can be the answer to the bytes and workers; one of status 2 can    |
-use Rattle.std.specs.Prelude.{◌≡◌, ◌++◌, ℕ, List, Option, false, codes, decimal, if◌then◌else◌}
+use Rattle.std.specs.Prelude.{◌≡◌, ◌++◌, ℕ, List, Option, false, codes, decimal, if◌then◌else◌, string_bytes}
 use Rattle.std.specs.Io.KnownBytes.{Appends}
 use Rattle.fr_program.specs.Program.{Program}
 use Rattle.fr_calls.specs.Run.{IsSafe}
@@ -41,7 +41,7 @@ use Rattle.fr_judge.specs.declared.part.Verdict.{Verdict}
 use Rattle.fr_judge.specs.declared.part.Verdict.TheVariants.{Yes, No}
 use Rattle.fr_report.specs.Report.{report_text}
 use Rattle.fr_answer.specs.declared.fault.CheckFault.{CheckFault}
-use Rattle.fr_answer.specs.declared.fault.CheckFault.TheVariants.{App, Cert, List as NoList, Words, Workers, Rounds, Polls, Out, Memory, Thread, File, Write}
+use Rattle.fr_answer.specs.declared.fault.CheckFault.TheVariants.{App, Cert, List as NoList, Source, Words, Workers, Rounds, Polls, Out, Memory, Thread, File, Write}
 
 -- 0 where the verdict is yes, and 1 where it is no
 abbrev pub status_of : Verdict → ℕ
@@ -53,6 +53,7 @@ abbrev pub fault_status : CheckFault → ℕ
 fault_status (App f) = 2
 fault_status (Cert f) = 2
 fault_status (NoList f) = 2
+fault_status (Source text) = 2
 fault_status Words = 2
 fault_status Workers = 2
 fault_status Rounds = 2
@@ -76,6 +77,7 @@ abbrev pub line_of : CheckFault → List ℕ
 line_of (App f) = codes "refused: app " ++ fault_text f
 line_of (Cert f) = codes "refused: cert " ++ text_of f
 line_of (NoList f) = list_line f
+line_of (Source text) = string_bytes text
 line_of Words = codes "refused: words"
 line_of Workers = codes "refused: workers"
 line_of Rounds = codes "refused: rounds"

@@ -2,7 +2,7 @@
 --
 -- | word                              | meaning                                                                        |
 -- |-----------------------------------|--------------------------------------------------------------------------------|
--- | most_app_bytes, most_certificate_bytes, most_list_bytes | the most bytes of each kind of file                      |
+-- | most_app_bytes, most_certificate_bytes, most_list_bytes, most_source_bytes | the most bytes of each kind of file   |
 -- | detail_in                         | how much is explained in this form                                             |
 -- | IsCheckOf                         | the verdict on the application and the certificate in two files                |
 -- | IsProofAt                         | the verdict on the application in a file by a certificate, or a run instead    |
@@ -15,6 +15,7 @@
 -- | AreLinesPrinted, IsListAnswered   | the lines of a list, each answered and printed, in their order                 |
 -- | AreRunWords                       | the words of a run that are asked for                                          |
 -- | IsListing                         | the points of the application in a file were written                           |
+-- | IsApplication, IsTranslated       | the text of an application was written, or is in a file                        |
 -- | IsAnswered                        | the exit status, and what was written, are those of the request                |
 -- | IsSafeIn, IsSafeAt, AreSafe       | the application in a file is safe; each that a verdict is asked for on         |
 -- | IsText                            | the answer is a text about one application                                     |
@@ -39,7 +40,7 @@ use Rattle.fr_request.specs.declared.format.Format.{Format}
 use Rattle.fr_request.specs.declared.request.Judged.{Judged as Named}
 use Rattle.fr_request.specs.declared.request.Judged.TheVariants.{One, Listed}
 use Rattle.fr_request.specs.declared.request.Request.{Request}
-use Rattle.fr_request.specs.declared.request.Request.TheVariants.{Check, Find, Prove, Points, Refute, Run}
+use Rattle.fr_request.specs.declared.request.Request.TheVariants.{Check, Find, Prove, Points, Refute, Run, Translate}
 use Rattle.fr_answer.specs.declared.answer.What.{What}
 use Rattle.fr_answer.specs.declared.found.Found.{Found}
 use Rattle.fr_answer.specs.Answers.{AreLinesOf, IsProofOf, IsSearchOf, IsTextOf, IsVerdictOn, IsYes, first_line, second_text, shown_line, kind_of, what_status}
@@ -58,6 +59,10 @@ most_certificate_bytes = 16777216
 
 abbrev pub most_list_bytes : ℕ
 most_list_bytes = 1048576
+
+-- the most bytes of a source
+abbrev pub most_source_bytes : ℕ
+most_source_bytes = 1048576
 
 -- what is asked for, and where a machine reads the answer never less than what matters
 abbrev pub detail_in : Option Format → Option Detail → Option Detail
@@ -172,6 +177,15 @@ abbrev pub IsListing : (List ℕ → ℕ → List ℕ → Type 0) → List ℕ �
 IsListing gives app status old new =
     (a : List ℕ) × gives app most_app_bytes a × (P : Program) × AppMeans a P × (status ≡ 0) × Appends old new (points_text P)
 
+-- the text means an application
+abbrev pub IsApplication : List ℕ → Type 0
+IsApplication text = (P : Program) × AppMeans text P
+
+-- the text of an application was written after what the writer had, where no file is named for it
+abbrev pub IsTranslated : Option (List ℕ) → Option (List ℕ) → Option (List ℕ) → Type 0
+IsTranslated None old new = (text : List ℕ) × IsApplication text × Appends old new text
+IsTranslated (Some path) old new = (text : List ℕ) × IsApplication text
+
 -- the exit status, and what was written after what the writer had, are those of the request
 abbrev pub IsAnswered : (List ℕ → ℕ → List ℕ → Type 0) → Request → ℕ → Option (List ℕ) → Option (List ℕ) → Type 0
 IsAnswered gives (Check asked) status old new = IsCheckAnswered gives asked.deadlock asked.files asked.format (is_some asked.detail) status old new
@@ -185,6 +199,8 @@ IsAnswered gives (Points app explains) status old new = IsListing gives app.now 
 IsAnswered gives (Run asked) status old new =
     (a c words text : List ℕ) × gives asked.app.now most_app_bytes a × gives asked.certificate.now most_certificate_bytes c
     × AreRunWords (option_copied asked.words) words × IsRunText a c asked.polls words asked.detail status text × Appends old new text
+IsAnswered gives (Translate asked) status old new =
+    (status ≡ 0) × ((source : List ℕ) × gives asked.source.now most_source_bytes source) × IsTranslated (option_copied asked.out) old new
 
 -- the application in the file breaks no rule in any state of any run
 abbrev pub IsSafeIn : (List ℕ → ℕ → List ℕ → Type 0) → List ℕ → Type 0
@@ -216,6 +232,7 @@ AreSafe gives (Refute asked) = IsSafeAt gives asked.deadlock asked.app.now
 AreSafe gives (Run asked) = IsSafeIn gives asked.app.now
 AreSafe gives (Find asked) = Unit {0}
 AreSafe gives (Points app explains) = Unit {0}
+AreSafe gives (Translate asked) = Unit {0}
 
 -- what is asked for is a text for a person about one application
 abbrev pub IsNamedText : Named → Option Format → Type 0
@@ -229,6 +246,7 @@ IsText (Refute asked) = asked.format ≡ None
 IsText (Find asked) = Unit {0}
 IsText (Points app explains) = Unit {0}
 IsText (Run asked) = Unit {0}
+IsText (Translate asked) = Unit {0}
 
 -- the files are as they were, but that the one for the page may have been given a page, which begins with the heading and the first
 -- line of an answer; where that is a verdict, this is so of it
@@ -252,6 +270,15 @@ IsKept gives puts app None old new = new ≡ old
 IsKept gives puts app (Some path) old new =
     (new ≡ old) ⊎ ((a text : List ℕ) × gives app most_app_bytes a × ((P : Program) × IsJudged a text P Yes) × puts old path text new)
 
+-- the files are as they were, but that the one at the path may have been given the text of an application
+abbrev pub IsTranslatedTo : {Z : Type 0} → (Z → List ℕ → List ℕ → Z → Type 0) → List ℕ → Z → Z → Type 0
+IsTranslatedTo puts path old new = (new ≡ old) ⊎ ((text : List ℕ) × IsApplication text × puts old path text new)
+
+-- the same of the path that is named, if one is
+abbrev pub IsOutput : {Z : Type 0} → (Z → List ℕ → List ℕ → Z → Type 0) → Option (List ℕ) → Z → Z → Type 0
+IsOutput puts None old new = new ≡ old
+IsOutput puts (Some path) old new = IsTranslatedTo puts path old new
+
 -- the files are as they were, but that those that the request names were given what it asks for
 abbrev pub IsWritten : {Z : Type 0} → (List ℕ → ℕ → List ℕ → Type 0) → (Z → List ℕ → List ℕ → Z → Type 0) → Request → Z → Z → Type 0
 IsWritten gives puts (Check asked) old new = IsPaged puts (IsNamedAnswer gives asked.deadlock asked.files) (option_copied asked.html) old new
@@ -263,3 +290,4 @@ IsWritten gives puts (Find asked) old new =
     (new ≡ old) ⊎ ((a text : List ℕ) × gives asked.app.now most_app_bytes a × ((P : Program) × AppMeans a P × IsCertificateFor P text) × puts old asked.out.now text new)
 IsWritten gives puts (Points app explains) old new = new ≡ old
 IsWritten gives puts (Run asked) old new = new ≡ old
+IsWritten gives puts (Translate asked) old new = IsOutput puts (option_copied asked.out) old new

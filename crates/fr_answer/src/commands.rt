@@ -10,6 +10,7 @@ mod points;
 mod prove;
 mod refute;
 mod run_files;
+mod translate;
 
 use crate::answer::Refusal;
 use crate::files::Files;
@@ -25,6 +26,7 @@ use std::alloc::Global;
 use std::io::Write;
 use std::sync::Wait;
 use std::thread::Threads;
+use translate::translate;
 
 /// Does what is asked for, and gives the exit status; or why that can't be done.
 fn answered<R: Threads + Wait + Sync, F: Files, O: Write, E: Write>(
@@ -50,6 +52,7 @@ fn answered<R: Threads + Wait + Sync, F: Files, O: Write, E: Write>(
         Request::Points { app, explains } => points(alloc, app, *explains, files, out),
         Request::Refute(asked) => refute(rt, alloc, asked, files, out, err),
         Request::Run(asked) => run_files(rt, alloc, asked, files, out),
+        Request::Translate(asked) => translate(alloc, asked, files, out, err),
     }
 }
 
@@ -57,13 +60,14 @@ fn answered<R: Threads + Wait + Sync, F: Files, O: Write, E: Write>(
 /// the files that are asked for, and gives the exit status.
 ///
 /// It is 0 for `check`, `prove`, `refute` and `run` only where each application that is named breaks none of the twelve rules in any
-/// state of any run: for a list, each of its lines. It is 1 where that isn't shown; for `find`, where no certificate was found. It
+/// state of any run, and where that is asked is never deadlocked: for a list, each of its lines. It is 1 where that isn't shown; for `find`, where no certificate was found. It
 /// is 2 where the words, a file or an output is refused. Then either the answer was written all the same, as a report that says what is
 /// refused, or as the lines of a list, of which each is answered; or nothing was written to `out`, and `err` says why. So it is where the
 /// answer is a text for a person about one application. It is 3 where the machine failed: what was written then is open, unless it is
 /// such an answer.
 ///
-/// A file is replaced only by a certificate on which the verdict is yes, by a page, or by the certificate that `find` was asked for.
+/// A file is replaced only by a certificate on which the verdict is yes, by a page, by the certificate that `find` was asked for, or by the
+/// application that a source means.
 pub fn run<R: Threads + Wait + Sync, F: Files, O: Write, E: Write>(
     rt: &R,
     alloc: Global,

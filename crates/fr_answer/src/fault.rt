@@ -20,6 +20,8 @@ pub enum CheckFault {
     Cert(CertFault),
     /// The bytes of a list of applications are refused.
     List(ListFault),
+    /// A source is refused: what is wrong in it and where, as it is printed.
+    Source(String),
     /// The words that a run picks its choices by are no list of numbers.
     Words,
     /// The number of workers is not 1 to 64.
@@ -143,6 +145,7 @@ pub fn status(fault: &CheckFault) -> u8
         CheckFault::App(_)
         | CheckFault::Cert(_)
         | CheckFault::List(_)
+        | CheckFault::Source(_)
         | CheckFault::Words
         | CheckFault::Workers
         | CheckFault::Rounds
@@ -173,6 +176,7 @@ pub fn fault_line(alloc: Global, fault: &CheckFault) -> Result<String, AllocErro
         CheckFault::App(fault) => format!(in alloc; "refused: app {fault}"),
         CheckFault::Cert(fault) => format!(in alloc; "refused: cert {fault}"),
         CheckFault::List(fault) => list_line(alloc, *fault),
+        CheckFault::Source(text) => text.clone(),
         CheckFault::Words => String::from_str(alloc, "refused: words"),
         CheckFault::Workers => String::from_str(alloc, "refused: workers"),
         CheckFault::Rounds => String::from_str(alloc, "refused: rounds"),

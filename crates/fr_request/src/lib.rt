@@ -10,4 +10,5 @@ pub use detail::Detail;
 pub use format::{Format, VERSION};
 pub use request::{
     CheckRequest, FindRequest, Judged, ProveRequest, RefuteRequest, Request, RunRequest,
+    TranslateRequest,
 };

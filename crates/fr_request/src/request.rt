@@ -21,6 +21,8 @@ pub enum Request<'a> {
     Refute(RefuteRequest<'a>),
     /// A run of the application.
     Run(RunRequest<'a>),
+    /// The application that a source means.
+    Translate(TranslateRequest<'a>),
 }
 
 /// A verdict that the command line asks for.
@@ -116,4 +118,13 @@ pub struct RunRequest<'a> {
     pub words: Option<&'a str>,
     /// Whether it is printed why the verdict is no or where a refusal is, and how much of a state.
     pub detail: Option<Detail>,
+}
+
+/// A translation that the command line asks for.
+#[derive(Clone, Copy)]
+pub struct TranslateRequest<'a> {
+    /// The file of the source.
+    pub source: &'a str,
+    /// The file for the application; None where it goes to standard output.
+    pub out: Option<&'a str>,
 }

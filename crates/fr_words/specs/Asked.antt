@@ -7,7 +7,7 @@
 -- | can_judge, can_check, ..      | the words that have to be there are there                   |
 -- | IsAsked, can_ask              | the same of the command with this name                      |
 -- | Asks, can_ask_any             | the same of the whole line                                  |
-use Rattle.std.specs.Prelude.{◌≡◌, ℕ, Bool, false, not, ◌&&◌, ◌||◌, Some, None, option_map, is_some, codes, if◌then◌else◌}
+use Rattle.std.specs.Prelude.{◌≡◌, ℕ, Bool, false, not, ◌&&◌, ◌||◌, Option, Some, None, option_map, is_some, codes, if◌then◌else◌}
 use Rattle.std.specs.Str.{bytes_eq}
 use Rattle.std.specs.Option.{option_map_or}
 use Rattle.clap.specs.Walk.{Text}
@@ -19,8 +19,9 @@ use Rattle.fr_request.specs.declared.request.FindRequest.{FindRequest}
 use Rattle.fr_request.specs.declared.request.ProveRequest.{ProveRequest}
 use Rattle.fr_request.specs.declared.request.RefuteRequest.{RefuteRequest}
 use Rattle.fr_request.specs.declared.request.RunRequest.{RunRequest}
+use Rattle.fr_request.specs.declared.request.TranslateRequest.{TranslateRequest}
 use Rattle.fr_request.specs.declared.request.Request.{Request}
-use Rattle.fr_request.specs.declared.request.Request.TheVariants.{Check, Find, Prove, Points, Refute, Run}
+use Rattle.fr_request.specs.declared.request.Request.TheVariants.{Check, Find, Prove, Points, Refute, Run, Translate}
 use Rattle.fr_words.specs.Found.{Rows, subcommand, text_at, is_given, number_at, detail_at, format_at}
 
 -- the word has a text after it
@@ -113,6 +114,22 @@ pub record IsRun (rs : Rows) (asked : RunRequest) : Type 0 where
 abbrev pub can_run : Rows → Bool
 can_run rs = has_text rs (codes "APP") && has_text rs (codes "CERT") && has_number 32 rs (codes "polls")
 
+-- the file that a text names: none by `-`, which is standard output
+abbrev pub named_by : Text → Option Text
+named_by text = if bytes_eq text (codes "-") then None else Some text
+
+abbrev pub file_named : Option Text → Option Text
+file_named None = None
+file_named (Some text) = named_by text
+
+-- `translate`
+pub record IsTranslate (rs : Rows) (asked : TranslateRequest) : Type 0 where
+  pub source : text_at rs (codes "SOURCE") ≡ Some asked.source.now
+  pub out : option_map (λ s. s.now) asked.out ≡ file_named (text_at rs (codes "OUT"))
+
+abbrev pub can_translate : Rows → Bool
+can_translate rs = has_text rs (codes "SOURCE") && has_text rs (codes "OUT")
+
 -- the command with this name
 abbrev pub IsAsked : Text → Rows → Request → Type 0
 IsAsked name rs (Check asked) = (name ≡ codes "check") × IsCheck rs asked
@@ -121,6 +138,7 @@ IsAsked name rs (Prove asked) = (name ≡ codes "prove") × IsProve rs asked
 IsAsked name rs (Points app explains) = (name ≡ codes "points") × IsPoints rs app.now explains
 IsAsked name rs (Refute asked) = (name ≡ codes "refute") × IsRefute rs asked
 IsAsked name rs (Run asked) = (name ≡ codes "run") × IsRun rs asked
+IsAsked name rs (Translate asked) = (name ≡ codes "translate") × IsTranslate rs asked
 
 abbrev pub can_ask : Text → Rows → Bool
 can_ask name rs =
@@ -129,7 +147,8 @@ can_ask name rs =
     else if bytes_eq name (codes "prove") then can_prove rs
     else if bytes_eq name (codes "points") then has_text rs (codes "APP")
     else if bytes_eq name (codes "refute") then can_refute rs
-    else if bytes_eq name (codes "run") then can_run rs else false
+    else if bytes_eq name (codes "run") then can_run rs
+    else if bytes_eq name (codes "translate") then can_translate rs else false
 
 -- what was matched of the whole line asks for the request: there is a command, which is asked for this
 abbrev pub Asks : ArgMatches → Request → Type 0

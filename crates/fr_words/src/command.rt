@@ -11,6 +11,7 @@ use crate::prove::{asked_prove, prove_command};
 use crate::refute::{asked_refute, refute_command};
 use crate::run::{asked_run, run_command};
 use crate::shared::{NAME, STATUSES};
+use crate::translate::{asked_translate, translate_command};
 use clap::{ArgMatches, Command, Error};
 use fr_request::{Request, VERSION};
 use std::alloc::{AllocError, Global};
@@ -30,15 +31,17 @@ enum Name {
     Find,
     Points,
     Run,
+    Translate,
 }
 
-const NAMES: [Name; 6] = [
+const NAMES: [Name; 7] = [
     Name::Prove,
     Name::Check,
     Name::Refute,
     Name::Find,
     Name::Points,
     Name::Run,
+    Name::Translate,
 ];
 
 /// The command with this name.
@@ -50,10 +53,11 @@ fn command_named<'a>(alloc: Global, name: Name) -> Result<Command<'a>, AllocErro
         Name::Find => find_command(alloc),
         Name::Points => points_command(alloc),
         Name::Run => run_command(alloc),
+        Name::Translate => translate_command(alloc),
     }
 }
 
-/// The whole command line, with its six commands.
+/// The whole command line, with its seven commands.
 fn command<'a>(alloc: Global) -> Result<Command<'a>, AllocError> {
     let mut command = Command::new(alloc, NAME)
         .version(VERSION)
@@ -90,6 +94,7 @@ fn asked_of<'a>(name: &str, words: &ArgMatches<'a>) -> Option<Request<'a>>
         }),
         "refute" => Some(Request::Refute(asked_refute(words)?)),
         "run" => Some(Request::Run(asked_run(words)?)),
+        "translate" => Some(Request::Translate(asked_translate(words)?)),
         _ => None,
     }
 }

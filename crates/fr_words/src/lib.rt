@@ -12,5 +12,6 @@ mod prove;
 mod refute;
 mod run;
 mod shared;
+mod translate;
 
 pub use command::{asked, matched};

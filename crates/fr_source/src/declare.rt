@@ -1,0 +1,368 @@
+// Declarations: constants, variables, objects, functions, tasks and interrupts.
+
+use crate::cursor::{Cursor, clipped};
+use crate::fault::{Fault, Spot, wrong};
+use crate::lines::Lines;
+use crate::near::{hint, is_near};
+use crate::program::{
+    Action, Actor, ActorKind, MOST_VARIABLES, Object, ObjectKind, Owner, Program, Range, Variable,
+};
+use crate::reader::{Home, Reader};
+use crate::scope::Meaning;
+use crate::token::Token;
+use std::alloc::{AllocError, Global};
+use std::mem;
+
+/// The most objects of an application.
+const MOST_OBJECTS: usize = 64;
+
+/// The most actors of an application.
+const MOST_ACTORS: usize = 32;
+
+/// The most names outside the actors and functions.
+const MOST_NAMES: usize = 1024;
+
+/// The sizes that an object may have.
+const SIZES: Range = Range {
+    low: 1,
+    high: 65_535,
+};
+
+/// The words that begin a declaration.
+static DECLARATIONS: [&str; 12] = [
+    "const",
+    "shared",
+    "task",
+    "interrupt",
+    "function",
+    "queue",
+    "binary",
+    "counting",
+    "mutex",
+    "recursive",
+    "stream",
+    "message",
+];
+
+/// What the source declares.
+pub(crate) fn program_in<'a>(
+    alloc: Global,
+    tokens: Vec<Token<'a>>,
+    end: Token<'a>,
+) -> Result<Program<'a>, Fault> {
+    let mut reader = Reader::new(alloc, Cursor::new(alloc, tokens, end));
+    for _ in 0..=reader.cursor.left() {
+        if reader.cursor.is_at_end() {
+            break;
+        }
+        reader.declaration()?;
+    }
+    if reader.program.actors.is_empty() {
+        let what = String::from_str(alloc, "a task or an interrupt: there is none");
+        return Err(reader.cursor.expected(what));
+    }
+    Ok(mem::replace(&mut reader.program, Program::new(alloc)))
+}
+
+impl<'a> Reader<'a> {
+    /// Reads a declaration.
+    fn declaration(&mut self) -> Result<(), Fault> {
+        self.begin_statement();
+        let word = self.cursor.word("a declaration")?;
+        if self.scope.count() >= MOST_NAMES {
+            return Err(
+                self.cursor
+                    .refused(word.spot, "more than 1024 names are declared"),
+            );
+        }
+        match word.text {
+            "const" => self.constant_declaration(),
+            "shared" => self.variable_declaration(Owner::Everyone, true),
+            "task" => self.actor(ActorKind::Task),
+            "interrupt" => self.actor(ActorKind::Interrupt),
+            "function" => self.function(),
+            text => match ObjectKind::of(text) {
+                Some(kind) => self.object(kind),
+                None => Err(self.no_declaration(word)),
+            },
+        }
+    }
+
+    /// The fault that a word begins no declaration.
+    fn no_declaration(&self, word: Token<'a>) -> Fault {
+        wrong(
+            word.spot,
+            self.no_declaration_near(
+                clipped(word.text),
+                DECLARATIONS.iter().find(|one| is_near(word.text, one)),
+            ),
+        )
+    }
+
+    /// What is said of a word that begins no declaration, and may be meant for another.
+    fn no_declaration_near(
+        &self,
+        shown: &str,
+        near: Option<&'static &'static str>,
+    ) -> Result<String, AllocError> {
+        let hint = hint(self.alloc, near.copied())?;
+        format!(in self.alloc;
+            "expected a declaration, which begins with one of const, shared, task, interrupt, function, queue, binary, \
+             counting, mutex, recursive, stream, message; found '{shown}'{hint}"
+        )
+    }
+
+    /// Refuses one more of what there may be at most so many.
+    fn check_count(&self, what: &str, count: usize, most: usize, spot: Spot) -> Result<(), Fault> {
+        if count < most {
+            return Ok(());
+        }
+        Err(wrong(
+            spot,
+            format!(in self.alloc; "there may be at most {most} {what}, and this is one more"),
+        ))
+    }
+
+    fn constant_declaration(&mut self) -> Result<(), Fault> {
+        let name = self.new_name("a constant")?;
+        self.cursor.take("=", "")?;
+        let number = self.constant()?;
+        self.scope
+            .add_outside(name.text, Meaning::Constant(number))?;
+        self.cursor.take(";", " after the declaration")
+    }
+
+    /// Reads the least and the greatest number of a range.
+    fn range(&mut self) -> Result<Range, Fault> {
+        let low = self.constant()?;
+        self.cursor.take("..", " and the greatest value")?;
+        let spot = self.cursor.spot();
+        let high = self.constant()?;
+        if low > high {
+            return Err(wrong(
+                spot,
+                format!(in self.alloc; "the range {low}..{high} is empty"),
+            ));
+        }
+        Ok(Range { low, high })
+    }
+
+    /// Reads a variable, without the word before its name. `may_begin`: it may have a first value.
+    fn variable_declaration(&mut self, owner: Owner, may_begin: bool) -> Result<(), Fault> {
+        let name = self.new_name("a variable")?;
+        self.cursor.take("in", " and a range, as in 'in 0..8'")?;
+        let range = self.range()?;
+        let first = self.first_value(range, may_begin)?;
+        self.cursor.take(";", " after the declaration")?;
+        let function = match owner {
+            Owner::Function(_) => Some(self.name),
+            _ => None,
+        };
+        let variable = Variable {
+            name: name.text,
+            spot: name.spot,
+            range,
+            first,
+            owner,
+            function,
+        };
+        let place = match owner {
+            Owner::Function(_) => self.add_local(variable)?,
+            _ => self.add_variable(variable)?,
+        };
+        match owner {
+            Owner::Everyone => self.scope.add_outside(name.text, Meaning::Variable(place)),
+            _ => self.scope.add_inside(name.text, Meaning::Variable(place)),
+        }
+    }
+
+    /// Takes the first value of a variable, if there is one.
+    fn first_value(&mut self, range: Range, may_begin: bool) -> Result<i64, Fault> {
+        let spot = self.cursor.spot();
+        let Range { low, high } = range;
+        if !self.cursor.accepts("=") {
+            if range.holds(0) {
+                return Ok(0);
+            }
+            let text = format!(in self.alloc;
+                "expected '=' and the first value: 0 isn't in {low}..{high}"
+            );
+            return Err(wrong(spot, text));
+        }
+        let first = self.constant()?;
+        if !may_begin {
+            let kind = self.home.text();
+            let text = format!(in self.alloc;
+                "a variable of this {kind} keeps its value: write 'static var' for one that is set at the start alone, \
+                 or assign it below"
+            );
+            return Err(wrong(spot, text));
+        }
+        if !range.holds(first) {
+            return Err(wrong(
+                spot,
+                format!(in self.alloc; "{first} isn't in {low}..{high}"),
+            ));
+        }
+        Ok(first)
+    }
+
+    /// Adds a variable of the application.
+    pub(crate) fn add_variable(&mut self, variable: Variable<'a>) -> Result<usize, Fault> {
+        self.check_count(
+            "variables",
+            self.program.written.len(),
+            MOST_VARIABLES,
+            variable.spot,
+        )?;
+        let place = self.program.variables.len();
+        self.program.variables.push(variable)?;
+        self.program.written.push(place)?;
+        Ok(place)
+    }
+
+    /// Adds a variable of a function: each actor that calls it gets its own.
+    fn add_local(&mut self, variable: Variable<'a>) -> Result<usize, Fault> {
+        self.check_count(
+            "variables",
+            self.lines.body.variables.len(),
+            MOST_VARIABLES,
+            variable.spot,
+        )?;
+        let place = self.program.variables.len();
+        self.program.variables.push(variable)?;
+        self.lines.body.variables.push(place)?;
+        Ok(place)
+    }
+
+    /// Reads an object, without the word of its kind.
+    fn object(&mut self, kind: ObjectKind) -> Result<(), Fault> {
+        let name = self.new_name("an object")?;
+        self.check_count(
+            "objects",
+            self.program.objects.len(),
+            MOST_OBJECTS,
+            name.spot,
+        )?;
+        let size = self.size(kind)?;
+        let items = match kind {
+            ObjectKind::Queue => {
+                self.cursor.take("of", " and a range, as in 'of 0..9'")?;
+                Some(self.range()?)
+            }
+            _ => None,
+        };
+        let first = self.first_count(kind, size)?;
+        let is_live = !self.cursor.accepts("=");
+        if !is_live {
+            self.cursor
+                .take("NULL", ": an object that isn't there at the start")?;
+        }
+        self.cursor.take(";", " after the declaration")?;
+        let place = self.program.objects.len();
+        self.program.objects.push(Object {
+            name: name.text,
+            kind,
+            size,
+            items,
+            first,
+            is_live,
+        })?;
+        self.scope.add_outside(name.text, Meaning::Object(place))
+    }
+
+    /// Takes the first count of a counting semaphore.
+    fn first_count(&mut self, kind: ObjectKind, size: Option<i64>) -> Result<Option<i64>, Fault> {
+        match (kind, size) {
+            (ObjectKind::Counting, Some(high)) => {
+                self.cursor
+                    .take("first", " and the first count, as in 'first 0'")?;
+                Ok(Some(self.number("the first count", Range { low: 0, high })?))
+            }
+            _ => Ok(None),
+        }
+    }
+
+    /// Takes the size of an object, where its kind has one.
+    fn size(&mut self, kind: ObjectKind) -> Result<Option<i64>, Fault> {
+        match kind {
+            ObjectKind::Queue | ObjectKind::Counting | ObjectKind::Stream | ObjectKind::Message => {
+                self.cursor.take("[", " and the size")?;
+                let size = self.number("the size", SIZES)?;
+                self.cursor.take("]", "")?;
+                Ok(Some(size))
+            }
+            _ => Ok(None),
+        }
+    }
+
+    /// Reads a function: its name means something only after it.
+    fn function(&mut self) -> Result<(), Fault> {
+        let name = self.new_name("a function")?;
+        self.cursor
+            .take("(", " and ')' after the name of a function")?;
+        self.cursor.take(")", ": a function has no arguments")?;
+        let place = self.program.bodies.len();
+        self.body(Home::Function, name, Owner::Function(place))?;
+        self.lines.place(0)?;
+        self.add_body()?;
+        self.scope.add_outside(name.text, Meaning::Function(place))
+    }
+
+    /// Reads a task or an interrupt.
+    fn actor(&mut self, kind: ActorKind) -> Result<(), Fault> {
+        let (home, meaning, last, what) = match kind {
+            ActorKind::Task => (Home::Task, Meaning::Task, Action::End, "a task"),
+            ActorKind::Interrupt => (
+                Home::Interrupt,
+                Meaning::Interrupt,
+                Action::Return,
+                "an interrupt",
+            ),
+        };
+        let name = self.new_name(what)?;
+        let number = self.program.actors.len();
+        self.check_count("actors", number, MOST_ACTORS, name.spot)?;
+        self.scope.add_outside(name.text, meaning)?;
+        let end = self.body(home, name, Owner::Actor(number))?;
+        self.lines.place(0)?;
+        self.lines.line(last, None, end)?;
+        let body = self.program.bodies.len();
+        self.add_body()?;
+        self.program.actors.push(Actor {
+            name: name.text,
+            kind,
+            body,
+            end,
+        })?;
+        Ok(())
+    }
+
+    /// Reads a body, and gives the place of its closing brace.
+    fn body(&mut self, home: Home, name: Token<'a>, owner: Owner) -> Result<Spot, Fault> {
+        self.home = home;
+        self.name = name.text;
+        self.labels.clear();
+        self.cursor.take("{", "")?;
+        for _ in 0..self.cursor.left() {
+            let is_static = self.cursor.accepts("static");
+            if !is_static && !self.cursor.sees("var") {
+                break;
+            }
+            self.begin_statement();
+            self.cursor.take("var", "")?;
+            self.variable_declaration(owner, is_static || matches!(home, Home::Task))?;
+        }
+        let end = self.statements()?;
+        self.check_labels()?;
+        self.scope.leave();
+        Ok(end)
+    }
+
+    /// Keeps the body that was read.
+    fn add_body(&mut self) -> Result<(), Fault> {
+        let Lines { body, .. } = mem::replace(&mut self.lines, Lines::new(self.alloc));
+        self.program.bodies.push(body)?;
+        Ok(())
+    }
+}

@@ -1,0 +1,382 @@
+// From a body to the lines of an actor: each call of a function becomes the lines of the function, with labels and
+// variables of the actor's own.
+
+use crate::fault::{Fault, Spot, wrong};
+use crate::program::{
+    Action, Actor, Argument, Call, Item, MOST_ITEMS, MOST_VARIABLES, Operand, Owner, Program,
+    Variable,
+};
+use std::alloc::Global;
+
+/// Where a line is in the source. In a function, `call` is the number of the call, among those of the actor.
+#[derive(Clone, Copy)]
+pub(crate) struct Place {
+    pub(crate) spot: Spot,
+    pub(crate) call: Option<usize>,
+}
+
+impl Place {
+    pub(crate) fn is(self, other: Place) -> bool {
+        self.spot.line == other.spot.line
+            && self.spot.column == other.spot.column
+            && self.call == other.call
+    }
+}
+
+/// A line of an actor. `to` is the number of the line that a goto, an `if` or a failed call goes to.
+#[derive(Clone, Copy)]
+pub(crate) struct Line {
+    pub(crate) action: Action,
+    pub(crate) to: Option<usize>,
+    pub(crate) place: Place,
+}
+
+impl Line {
+    pub(crate) fn is_goto(self) -> bool {
+        matches!(self.action, Action::Goto)
+    }
+
+    /// Whether no way leads from this line to the next.
+    pub(crate) fn ends(self) -> bool {
+        match self.action {
+            Action::Goto | Action::Return | Action::End => true,
+            Action::Call { call, .. } => call.kernel.name == "vTaskDelete",
+            _ => false,
+        }
+    }
+}
+
+/// The lines of an actor, and where its functions are called.
+#[derive(Drop)]
+pub(crate) struct Code {
+    pub(crate) lines: Vec<Line>,
+    pub(crate) calls: Vec<Place>,
+}
+
+/// A body that is written out: which item comes next, what its labels are counted from, and its call.
+#[derive(Clone, Copy)]
+struct Frame {
+    body: usize,
+    next: usize,
+    first_label: usize,
+    call: Option<usize>,
+}
+
+/// A variable of a function, and the actor's own for it.
+#[derive(Clone, Copy)]
+struct Own {
+    declared: usize,
+    copy: usize,
+}
+
+/// What writes out the body of an actor.
+#[derive(Drop)]
+struct Expander<'a> {
+    actor: Actor<'a>,
+    number: usize,
+    items: usize,
+    frames: Vec<Frame>,
+    lines: Vec<Line>,
+    calls: Vec<Place>,
+    /// The line that each label is before.
+    labels: Vec<usize>,
+    own: Vec<Own>,
+}
+
+impl<'a> Expander<'a> {
+    fn new(alloc: Global, actor: Actor<'a>, number: usize) -> Expander<'a> {
+        Expander {
+            actor,
+            number,
+            items: 0,
+            frames: Vec::new(alloc),
+            lines: Vec::new(alloc),
+            calls: Vec::new(alloc),
+            labels: Vec::new(alloc),
+            own: Vec::new(alloc),
+        }
+    }
+
+    /// Begins to write out a body.
+    fn enter(
+        &mut self,
+        program: &Program<'a>,
+        body: usize,
+        call: Option<usize>,
+    ) -> Result<(), Fault> {
+        let first_label = self.labels.len();
+        let count = program.bodies.get(body).map_or(0, |body| body.labels);
+        for _ in 0..count {
+            self.labels.push(0)?;
+        }
+        self.frames.push(Frame {
+            body,
+            next: 0,
+            first_label,
+            call,
+        })?;
+        Ok(())
+    }
+
+    /// Writes out the next item of the innermost body, or leaves that body. Answers whether there is more.
+    fn step(&mut self, alloc: Global, program: &mut Program<'a>) -> Result<bool, Fault> {
+        let Some(frame) = self.frames.last().copied() else {
+            return Ok(false);
+        };
+        let Some(item) = program
+            .bodies
+            .get(frame.body)
+            .and_then(|body| body.items.get(frame.next))
+            .copied()
+        else {
+            let _ = self.frames.pop();
+            return Ok(true);
+        };
+        if let Some(top) = self.frames.last_mut() {
+            top.next = frame.next.saturating_add(1);
+        }
+        self.items = self.items.saturating_add(1);
+        match item {
+            Item::Line { action, to, spot } => self.line(frame, action, to, spot)?,
+            Item::Label(label) => self.label(frame, label),
+            Item::Expand { function, spot } => {
+                self.expand(
+                    alloc,
+                    program,
+                    function,
+                    Place {
+                        spot,
+                        call: frame.call,
+                    },
+                )?;
+            }
+        }
+        Ok(true)
+    }
+
+    /// Begins to write out a function that is called at a place.
+    fn expand(
+        &mut self,
+        alloc: Global,
+        program: &mut Program<'a>,
+        function: usize,
+        place: Place,
+    ) -> Result<(), Fault> {
+        if self.items > MOST_ITEMS {
+            return Err(self.too_large(alloc, place));
+        }
+        self.copy_variables(alloc, program, function)?;
+        let call = self.calls.len();
+        self.calls.push(place)?;
+        self.enter(program, function, Some(call))
+    }
+
+    /// Writes a line, with the actor's own variables.
+    fn line(
+        &mut self,
+        frame: Frame,
+        action: Action,
+        to: Option<usize>,
+        spot: Spot,
+    ) -> Result<(), Fault> {
+        let action = self.own_action(action);
+        let to = to.map(|label| label.saturating_add(frame.first_label));
+        self.lines.push(Line {
+            action,
+            to,
+            place: Place {
+                spot,
+                call: frame.call,
+            },
+        })?;
+        Ok(())
+    }
+
+    /// Notes the line that a label is before: the next one.
+    fn label(&mut self, frame: Frame, label: usize) {
+        let line = self.lines.len();
+        if let Some(slot) = self.labels.get_mut(label.saturating_add(frame.first_label)) {
+            *slot = line;
+        }
+    }
+
+    /// Gives the actor its own variables of a function, unless it has them.
+    fn copy_variables(
+        &mut self,
+        alloc: Global,
+        program: &mut Program<'a>,
+        function: usize,
+    ) -> Result<(), Fault> {
+        let count = program
+            .bodies
+            .get(function)
+            .map_or(0, |body| body.variables.len());
+        for place in 0..count {
+            let declared = program
+                .bodies
+                .get(function)
+                .and_then(|body| body.variables.get(place))
+                .copied();
+            let Some(declared) = declared else {
+                break;
+            };
+            if !self.own.iter().any(|own| own.declared == declared) {
+                self.copy_variable(alloc, program, declared)?;
+            }
+        }
+        Ok(())
+    }
+
+    /// Gives the actor its own variable for one of a function.
+    fn copy_variable(
+        &mut self,
+        alloc: Global,
+        program: &mut Program<'a>,
+        declared: usize,
+    ) -> Result<(), Fault> {
+        let Some(variable) = program.variable(declared) else {
+            return Ok(());
+        };
+        if program.written.len() >= MOST_VARIABLES {
+            let text = format!(in alloc;
+                "there may be at most 64 variables, and each actor that calls this function has its own: this is one more"
+            );
+            return Err(wrong(variable.spot, text));
+        }
+        let copy = program.variables.len();
+        program.variables.push(Variable {
+            owner: Owner::Actor(self.number),
+            ..variable
+        })?;
+        program.written.push(copy)?;
+        self.own.push(Own { declared, copy })?;
+        Ok(())
+    }
+
+    /// The actor's own variable for one of a function; any other variable itself.
+    fn own_variable(&self, variable: usize) -> usize {
+        match self.own.iter().find(|own| own.declared == variable) {
+            Some(own) => own.copy,
+            None => variable,
+        }
+    }
+
+    fn own_operand(&self, operand: Operand) -> Operand {
+        match operand {
+            Operand::Variable(variable) => Operand::Variable(self.own_variable(variable)),
+            Operand::Number(_) => operand,
+        }
+    }
+
+    fn own_argument(&self, argument: Argument) -> Argument {
+        match argument {
+            Argument::Operand(operand) => Argument::Operand(self.own_operand(operand)),
+            _ => argument,
+        }
+    }
+
+    fn own_call(&self, call: Call) -> Call {
+        let [first, second, third] = call.arguments;
+        let arguments = [
+            self.own_argument(first),
+            self.own_argument(second),
+            self.own_argument(third),
+        ];
+        Call { arguments, ..call }
+    }
+
+    /// The action, with the actor's own variables in place of those of functions.
+    fn own_action(&self, action: Action) -> Action {
+        match action {
+            Action::Set {
+                variable,
+                left,
+                more,
+            } => Action::Set {
+                variable: self.own_variable(variable),
+                left: self.own_operand(left),
+                more: more.map(|(sign, right)| (sign, self.own_operand(right))),
+            },
+            Action::Pick { variable, range } => Action::Pick {
+                variable: self.own_variable(variable),
+                range,
+            },
+            Action::Call { answer, call } => Action::Call {
+                answer: answer.map(|variable| self.own_variable(variable)),
+                call: self.own_call(call),
+            },
+            Action::If {
+                left,
+                comparison,
+                right,
+            } => Action::If {
+                left: self.own_operand(left),
+                comparison,
+                right: self.own_operand(right),
+            },
+            Action::Goto | Action::Return | Action::End => action,
+        }
+    }
+
+    /// The fault that an actor grows too large.
+    fn too_large(&self, alloc: Global, place: Place) -> Fault {
+        let kind = self.actor.kind.text();
+        let name = self.actor.name;
+        let text = format!(in alloc;
+            "{kind} '{name}' grows to more than 4096 lines and labels: this construct passed the limit, and at most \
+             512 lines may be left in the end"
+        );
+        wrong(outermost(&self.calls, place), text)
+    }
+
+    /// The lines, with the lines that their labels are before.
+    fn finished(self) -> Code {
+        let Expander {
+            mut lines,
+            calls,
+            labels,
+            ..
+        } = self;
+        for line in lines.iter_mut() {
+            line.to = line.to.and_then(|label| labels.get(label)).copied();
+        }
+        Code { lines, calls }
+    }
+}
+
+/// Where a line is in the actor itself: where it calls the function that the line is of.
+pub(crate) fn outermost(calls: &[Place], place: Place) -> Spot {
+    let mut place = place;
+    for _ in 0..calls.len() {
+        match place.call.and_then(|call| calls.get(call)) {
+            Some(outer) => place = *outer,
+            None => break,
+        }
+    }
+    place.spot
+}
+
+/// The lines of an actor. Its own variables of the functions that it calls are added to the program's.
+pub(crate) fn code_of<'a>(
+    alloc: Global,
+    program: &mut Program<'a>,
+    actor: Actor<'a>,
+    number: usize,
+) -> Result<Code, Fault> {
+    let mut expander = Expander::new(alloc, actor, number);
+    expander.enter(program, actor.body, None)?;
+    for _ in 0..=MOST_ITEMS * 4 {
+        if !expander.step(alloc, program)? {
+            break;
+        }
+        if expander.items > MOST_ITEMS {
+            let last = expander.lines.last().map(|line| line.place);
+            let place = last.unwrap_or(Place {
+                spot: actor.end,
+                call: None,
+            });
+            return Err(expander.too_large(alloc, place));
+        }
+    }
+    Ok(expander.finished())
+}

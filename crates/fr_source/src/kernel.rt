@@ -1,0 +1,207 @@
+// The calls of the kernel that a source may make: one table, a row a call. And the words that no name may be.
+
+use crate::near::is_near;
+use crate::program::ObjectKind;
+
+/// What is in an argument's place.
+#[derive(Clone, Copy)]
+pub(crate) enum Place {
+    Object,
+    Operand,
+    Variable,
+    Length,
+    Ticks,
+    Time,
+    Null,
+}
+
+impl Place {
+    /// What a message calls it.
+    pub(crate) fn text(self) -> &'static str {
+        match self {
+            Place::Object => "an object",
+            Place::Operand => "a number or variable",
+            Place::Variable => "a variable",
+            Place::Length => "a length in bytes",
+            Place::Ticks => "ticks",
+            Place::Time => "a block time",
+            Place::Null => "NULL",
+        }
+    }
+}
+
+/// What a call answers: nothing, whether it worked, the same as a handle that may be NULL, or a number of bytes.
+#[derive(Clone, Copy)]
+pub(crate) enum Answer {
+    Nothing,
+    Success,
+    Handle,
+    Bytes,
+}
+
+/// A call of the kernel: its name, what its arguments are, the kinds that its object may have, and what it answers.
+#[derive(Clone, Copy)]
+pub(crate) struct Kernel {
+    pub(crate) name: &'static str,
+    pub(crate) places: &'static [Place],
+    pub(crate) kinds: &'static [ObjectKind],
+    pub(crate) answer: Answer,
+}
+
+impl Kernel {
+    /// Whether the call answers if it worked.
+    pub(crate) fn may_fail(&self) -> bool {
+        matches!(self.answer, Answer::Success | Answer::Handle)
+    }
+}
+
+/// The rows of a table, a row a line.
+macro_rules! rows {
+    ($($name:literal [$($place:ident)*] [$($kind:ident)*] $answer:ident;)*) => {
+        [$(Kernel {
+            name: $name,
+            places: &[$(Place::$place),*],
+            kinds: &[$(ObjectKind::$kind),*],
+            answer: Answer::$answer,
+        }),*]
+    };
+}
+
+/// Every call once.
+static CALLS: [Kernel; 40] = rows! {
+    "taskENTER_CRITICAL"             [] [] Nothing;
+    "taskENTER_CRITICAL_FROM_ISR"    [] [] Nothing;
+    "taskEXIT_CRITICAL"              [] [] Nothing;
+    "taskEXIT_CRITICAL_FROM_ISR"     [] [] Nothing;
+    "vTaskSuspendAll"                [] [] Nothing;
+    "xTaskResumeAll"                 [] [] Nothing;
+    "taskYIELD"                      [] [] Nothing;
+    "vTaskDelay"                     [Ticks] [] Nothing;
+    "vTaskDelete"                    [Null] [] Nothing;
+    "xQueueCreate"                   [Object] [Queue] Handle;
+    "xSemaphoreCreateBinary"         [Object] [Binary] Handle;
+    "xSemaphoreCreateCounting"       [Object] [Counting] Handle;
+    "xSemaphoreCreateMutex"          [Object] [Mutex] Handle;
+    "xSemaphoreCreateRecursiveMutex" [Object] [Recursive] Handle;
+    "xStreamBufferCreate"            [Object] [Stream] Handle;
+    "xMessageBufferCreate"           [Object] [Message] Handle;
+    "vQueueDelete"                   [Object] [Queue] Nothing;
+    "vSemaphoreDelete"               [Object] [Binary Counting Mutex Recursive] Nothing;
+    "vStreamBufferDelete"            [Object] [Stream] Nothing;
+    "vMessageBufferDelete"           [Object] [Message] Nothing;
+    "xQueueSend"                     [Object Operand Time] [Queue] Success;
+    "xQueueSendFromISR"              [Object Operand] [Queue] Success;
+    "xQueueReceive"                  [Object Variable Time] [Queue] Success;
+    "xQueueReceiveFromISR"           [Object Variable] [Queue] Success;
+    "xSemaphoreTake"                 [Object Time] [Binary Counting Mutex Recursive] Success;
+    "xSemaphoreTakeRecursive"        [Object Time] [Binary Counting Mutex Recursive] Success;
+    "xSemaphoreTakeFromISR"          [Object] [Binary Counting Mutex Recursive] Success;
+    "xSemaphoreGive"                 [Object] [Binary Counting Mutex Recursive] Success;
+    "xSemaphoreGiveRecursive"        [Object] [Binary Counting Mutex Recursive] Success;
+    "xSemaphoreGiveFromISR"          [Object] [Binary Counting Mutex Recursive] Success;
+    "xStreamBufferSend"              [Object Length Time] [Stream] Bytes;
+    "xStreamBufferSendFromISR"       [Object Length] [Stream] Bytes;
+    "xStreamBufferReceive"           [Object Length Time] [Stream] Bytes;
+    "xStreamBufferReceiveFromISR"    [Object Length] [Stream] Bytes;
+    "xStreamBufferReset"             [Object] [Stream] Success;
+    "xMessageBufferSend"             [Object Length Time] [Message] Bytes;
+    "xMessageBufferSendFromISR"      [Object Length] [Message] Bytes;
+    "xMessageBufferReceive"          [Object Length Time] [Message] Bytes;
+    "xMessageBufferReceiveFromISR"   [Object Length] [Message] Bytes;
+    "xMessageBufferReset"            [Object] [Message] Success;
+};
+
+/// The call of the kernel with this name.
+pub(crate) fn kernel_named(name: &str) -> Option<&'static Kernel> {
+    CALLS.iter().find(|row| row.name == name)
+}
+
+/// The name of a call of the kernel that a word is near to.
+pub(crate) fn kernel_near(word: &str) -> Option<&'static str> {
+    CALLS
+        .iter()
+        .find(|row| is_near(word, row.name))
+        .map(|row| row.name)
+}
+
+/// The words of statements, and those that a line of the application has: no name may be one.
+static WORDS: [&str; 21] = [
+    "if",
+    "else",
+    "while",
+    "for",
+    "do",
+    "switch",
+    "case",
+    "default",
+    "break",
+    "continue",
+    "goto",
+    "return",
+    "var",
+    "static",
+    "any",
+    "set",
+    "pick",
+    "NULL",
+    "portMAX_DELAY",
+    "pdMS_TO_TICKS",
+    "configASSERT",
+];
+
+/// Whether the text is a word of statements.
+pub(crate) fn is_reserved(text: &str) -> bool {
+    WORDS.iter().any(|word| *word == text)
+}
+
+/// The number that the kernel's headers give this word.
+pub(crate) fn value_of(text: &str) -> Option<i64> {
+    if ["pdTRUE", "pdPASS", "true"]
+        .iter()
+        .any(|word| *word == text)
+    {
+        Some(1)
+    } else if [
+        "pdFALSE",
+        "pdFAIL",
+        "false",
+        "errQUEUE_FULL",
+        "errQUEUE_EMPTY",
+    ]
+    .iter()
+    .any(|word| *word == text)
+    {
+        Some(0)
+    } else {
+        None
+    }
+}
+
+/// The types of C that a reader may expect.
+static TYPES: [&str; 20] = [
+    "int",
+    "uint",
+    "unsigned",
+    "signed",
+    "char",
+    "short",
+    "long",
+    "bool",
+    "size_t",
+    "float",
+    "double",
+    "int8_t",
+    "int16_t",
+    "int32_t",
+    "int64_t",
+    "uint8_t",
+    "uint16_t",
+    "uint32_t",
+    "BaseType_t",
+    "UBaseType_t",
+];
+
+/// Whether the text is a type of C.
+pub(crate) fn is_type(text: &str) -> bool {
+    TYPES.iter().any(|word| *word == text)
+}

@@ -1,0 +1,103 @@
+// What is printed of a source that is refused, or of a line of it that is left out.
+
+use crate::fault::{Fault, Spot};
+use crate::source::Source;
+use std::alloc::{AllocError, AllocFailed, Global};
+
+/// A place in a source, and what is to be said of it. All texts are printable ASCII and tabs.
+#[derive(Drop)]
+pub struct Message {
+    /// The line, from 1.
+    pub line: usize,
+    /// The column in characters, from 1.
+    pub column: usize,
+    /// What is wrong, and what was expected.
+    pub text: String,
+    /// The line of the source, up to 240 bytes, with a question mark for each character that isn't plain.
+    pub shown: String,
+    /// Blanks and tabs, and a `^` under the place. Empty where the place is beyond what is shown.
+    pub mark: String,
+}
+
+/// Why a source isn't translated.
+#[derive(Drop)]
+pub enum Refused {
+    /// What is wrong in it.
+    Source(Message),
+    /// An allocation was refused.
+    Memory,
+}
+
+impl From<AllocError> for Refused {
+    fn from(_refused: AllocError) -> Refused {
+        Refused::Memory
+    }
+}
+
+impl<T: Drop> From<AllocFailed<T>> for Refused {
+    fn from(_refused: AllocFailed<T>) -> Refused {
+        Refused::Memory
+    }
+}
+
+/// The mark under a place of a line.
+fn mark_under(alloc: Global, shown: &str, column: usize) -> Result<String, AllocError> {
+    let mut mark = String::new(alloc);
+    let before = column.saturating_sub(1);
+    if before > shown.len() {
+        return Ok(mark);
+    }
+    for character in shown.chars().take(before) {
+        mark.push(if character == '\t' { '\t' } else { ' ' })?;
+    }
+    mark.push('^')?;
+    Ok(mark)
+}
+
+/// The message that a text is about a place.
+pub(crate) fn message_at(
+    alloc: Global,
+    source: &Source<'_>,
+    spot: Spot,
+    text: String,
+) -> Result<Message, AllocError> {
+    let Spot { line, column } = spot;
+    let shown = source.line_shown(alloc, spot)?;
+    let mark = mark_under(alloc, shown.as_str(), column)?;
+    Ok(Message {
+        line,
+        column,
+        text,
+        shown,
+        mark,
+    })
+}
+
+/// Why a source with this fault isn't translated.
+pub(crate) fn refused_by(alloc: Global, source: &Source<'_>, fault: Fault) -> Refused {
+    match fault {
+        Fault::Wrong(spot, text) => match message_at(alloc, source, spot, text) {
+            Ok(message) => Refused::Source(message),
+            Err(_) => Refused::Memory,
+        },
+        Fault::Memory => Refused::Memory,
+    }
+}
+
+impl Message {
+    /// The lines to print: `FILE:LINE:COLUMN: text`, the line of the source, and the mark under its place. Of the name of
+    /// the file, control characters and what isn't ASCII are question marks.
+    ///
+    /// # Errors
+    ///
+    /// Only where memory is refused.
+    pub fn report(&self, alloc: Global, file: &str) -> Result<String, AllocError> {
+        let file = crate::source::plain(alloc, file.as_bytes())?;
+        let line = self.line;
+        let column = self.column;
+        let text = self.text.as_str();
+        let shown = self.shown.as_str();
+        let mark = self.mark.as_str();
+        format!(in alloc; "{file}:{line}:{column}: {text}\n{line:>5} | {shown}\n      | {mark}\n")
+    }
+}

@@ -1,0 +1,68 @@
+// The constructs of a source whose end isn't read yet.
+
+use crate::fault::Spot;
+use crate::simple::Simple;
+
+/// Where the body of a construct begins, so that what is after a body without braces can't look as if it belonged to it.
+#[derive(Clone, Copy)]
+pub(crate) struct Margin {
+    /// The word of the construct.
+    pub(crate) word: &'static str,
+    pub(crate) head_line: usize,
+    pub(crate) first_line: usize,
+    pub(crate) indent: usize,
+    pub(crate) has_braces: bool,
+}
+
+/// A simple statement after a body, as the step of a `for`.
+#[derive(Clone, Copy)]
+pub(crate) struct Step {
+    pub(crate) simple: Simple,
+    pub(crate) spot: Spot,
+}
+
+/// A construct whose end isn't read yet, with the labels that are placed or named there.
+#[derive(Clone, Copy)]
+pub(crate) enum Open {
+    Block,
+    If {
+        no: usize,
+        margin: Margin,
+        spot: Spot,
+    },
+    Else {
+        end: usize,
+        margin: Margin,
+    },
+    /// A `while` or a `for`.
+    Loop {
+        top: usize,
+        again: usize,
+        end: usize,
+        step: Option<Step>,
+        margin: Margin,
+        spot: Spot,
+    },
+    Do {
+        top: usize,
+        again: usize,
+        end: usize,
+        margin: Margin,
+    },
+    /// `first_item` is where its tests belong among the items of the body, `first_case` its first case among all.
+    Switch {
+        variable: usize,
+        end: usize,
+        first_item: usize,
+        first_case: usize,
+        spot: Spot,
+    },
+}
+
+/// A `case` or a `default` of a switch.
+#[derive(Clone, Copy)]
+pub(crate) struct Case {
+    pub(crate) value: Option<i64>,
+    pub(crate) label: usize,
+    pub(crate) spot: Spot,
+}

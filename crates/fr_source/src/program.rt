@@ -1,0 +1,330 @@
+// What a source says, once it is read: its variables and objects, and the bodies of its actors and functions.
+
+use crate::fault::Spot;
+use crate::kernel::Kernel;
+use std::alloc::Global;
+
+/// The most variables of an application.
+pub(crate) const MOST_VARIABLES: usize = 64;
+
+/// The most lines, labels and calls of functions of a body, and of an actor with all its functions, before it is tidied.
+pub(crate) const MOST_ITEMS: usize = 4096;
+
+/// The numbers from `low` to `high`.
+#[derive(Clone, Copy)]
+pub(crate) struct Range {
+    pub(crate) low: i64,
+    pub(crate) high: i64,
+}
+
+impl Range {
+    pub(crate) fn holds(self, number: i64) -> bool {
+        self.low <= number && number <= self.high
+    }
+
+    /// Whether every number of another range is in this one.
+    pub(crate) fn includes(self, other: Range) -> bool {
+        self.low <= other.low && other.high <= self.high
+    }
+}
+
+/// Who may use a variable: every actor, the actor with this number, or each actor that calls the function of this body,
+/// as a variable of its own.
+#[derive(Clone, Copy)]
+pub(crate) enum Owner {
+    Everyone,
+    Actor(usize),
+    Function(usize),
+}
+
+#[derive(Clone, Copy)]
+pub(crate) struct Variable<'a> {
+    pub(crate) name: &'a str,
+    pub(crate) spot: Spot,
+    pub(crate) range: Range,
+    pub(crate) first: i64,
+    pub(crate) owner: Owner,
+    /// The name of the function that declares it.
+    pub(crate) function: Option<&'a str>,
+}
+
+impl Variable<'_> {
+    pub(crate) fn is_shared(&self) -> bool {
+        matches!(self.owner, Owner::Everyone)
+    }
+}
+
+#[derive(Clone, Copy)]
+pub(crate) enum ObjectKind {
+    Queue,
+    Binary,
+    Counting,
+    Mutex,
+    Recursive,
+    Stream,
+    Message,
+}
+
+impl ObjectKind {
+    /// The kind that the word declares.
+    pub(crate) fn of(word: &str) -> Option<ObjectKind> {
+        match word {
+            "queue" => Some(ObjectKind::Queue),
+            "binary" => Some(ObjectKind::Binary),
+            "counting" => Some(ObjectKind::Counting),
+            "mutex" => Some(ObjectKind::Mutex),
+            "recursive" => Some(ObjectKind::Recursive),
+            "stream" => Some(ObjectKind::Stream),
+            "message" => Some(ObjectKind::Message),
+            _ => None,
+        }
+    }
+
+    pub(crate) fn text(self) -> &'static str {
+        match self {
+            ObjectKind::Queue => "queue",
+            ObjectKind::Binary => "binary",
+            ObjectKind::Counting => "counting",
+            ObjectKind::Mutex => "mutex",
+            ObjectKind::Recursive => "recursive",
+            ObjectKind::Stream => "stream",
+            ObjectKind::Message => "message",
+        }
+    }
+}
+
+#[derive(Clone, Copy)]
+pub(crate) struct Object<'a> {
+    pub(crate) name: &'a str,
+    pub(crate) kind: ObjectKind,
+    /// How many items, counts or bytes it has room for, where its kind has a size.
+    pub(crate) size: Option<i64>,
+    /// What a queue's items may be.
+    pub(crate) items: Option<Range>,
+    /// The first count of a counting semaphore.
+    pub(crate) first: Option<i64>,
+    pub(crate) is_live: bool,
+}
+
+/// A variable, by its place among all variables, or a number.
+#[derive(Clone, Copy)]
+pub(crate) enum Operand {
+    Number(i64),
+    Variable(usize),
+}
+
+#[derive(Clone, Copy)]
+pub(crate) enum Comparison {
+    Equal,
+    Unequal,
+    Less,
+    AtMost,
+    Greater,
+    AtLeast,
+}
+
+impl Comparison {
+    /// The comparison that holds where this one doesn't.
+    pub(crate) fn inverse(self) -> Comparison {
+        match self {
+            Comparison::Equal => Comparison::Unequal,
+            Comparison::Unequal => Comparison::Equal,
+            Comparison::Less => Comparison::AtLeast,
+            Comparison::AtMost => Comparison::Greater,
+            Comparison::Greater => Comparison::AtMost,
+            Comparison::AtLeast => Comparison::Less,
+        }
+    }
+
+    /// The comparison that says the same with its sides exchanged.
+    pub(crate) fn turned(self) -> Comparison {
+        match self {
+            Comparison::Equal => Comparison::Equal,
+            Comparison::Unequal => Comparison::Unequal,
+            Comparison::Less => Comparison::Greater,
+            Comparison::AtMost => Comparison::AtLeast,
+            Comparison::Greater => Comparison::Less,
+            Comparison::AtLeast => Comparison::AtMost,
+        }
+    }
+
+    pub(crate) fn holds(self, left: i64, right: i64) -> bool {
+        match self {
+            Comparison::Equal => left == right,
+            Comparison::Unequal => left != right,
+            Comparison::Less => left < right,
+            Comparison::AtMost => left <= right,
+            Comparison::Greater => left > right,
+            Comparison::AtLeast => left >= right,
+        }
+    }
+
+    pub(crate) fn text(self) -> &'static str {
+        match self {
+            Comparison::Equal => "==",
+            Comparison::Unequal => "!=",
+            Comparison::Less => "<",
+            Comparison::AtMost => "<=",
+            Comparison::Greater => ">",
+            Comparison::AtLeast => ">=",
+        }
+    }
+}
+
+/// An operator between two numbers.
+#[derive(Clone, Copy)]
+pub(crate) enum Arithmetic {
+    Plus,
+    Minus,
+    Times,
+    Divide,
+    Remainder,
+}
+
+impl Arithmetic {
+    pub(crate) fn text(self) -> &'static str {
+        match self {
+            Arithmetic::Plus => "+",
+            Arithmetic::Minus => "-",
+            Arithmetic::Times => "*",
+            Arithmetic::Divide => "/",
+            Arithmetic::Remainder => "%",
+        }
+    }
+}
+
+/// What is in an argument's place of a call.
+#[derive(Clone, Copy)]
+pub(crate) enum Argument {
+    Absent,
+    Object(usize),
+    Operand(Operand),
+    Forever,
+    Null,
+}
+
+/// A call of the kernel with its arguments. `length` is the greatest number that it can answer.
+#[derive(Clone, Copy)]
+pub(crate) struct Call {
+    pub(crate) kernel: &'static Kernel,
+    pub(crate) arguments: [Argument; 3],
+    pub(crate) length: i64,
+}
+
+/// What a line of the application does. Where an `If`, a `Goto` or a failed call goes is kept beside it. `End` is the
+/// end of a task: no line of the application.
+#[derive(Clone, Copy)]
+pub(crate) enum Action {
+    Set {
+        variable: usize,
+        left: Operand,
+        more: Option<(Arithmetic, Operand)>,
+    },
+    Pick {
+        variable: usize,
+        range: Range,
+    },
+    Call {
+        answer: Option<usize>,
+        call: Call,
+    },
+    If {
+        left: Operand,
+        comparison: Comparison,
+        right: Operand,
+    },
+    Goto,
+    Return,
+    End,
+}
+
+/// A piece of a body, in order: a line with the label it may go to, the place of a label, or a call of a function.
+#[derive(Clone, Copy)]
+pub(crate) enum Item {
+    Line {
+        action: Action,
+        to: Option<usize>,
+        spot: Spot,
+    },
+    Label(usize),
+    Expand {
+        function: usize,
+        spot: Spot,
+    },
+}
+
+/// The body of an actor or a function. Its labels are numbered from 0; label 0 is its end.
+#[derive(Drop)]
+pub(crate) struct Body {
+    pub(crate) items: Vec<Item>,
+    pub(crate) labels: usize,
+    /// The variables that it declares.
+    pub(crate) variables: Vec<usize>,
+}
+
+impl Body {
+    pub(crate) fn new(alloc: Global) -> Body {
+        Body {
+            items: Vec::new(alloc),
+            labels: 1,
+            variables: Vec::new(alloc),
+        }
+    }
+}
+
+#[derive(Clone, Copy)]
+pub(crate) enum ActorKind {
+    Task,
+    Interrupt,
+}
+
+impl ActorKind {
+    pub(crate) fn text(self) -> &'static str {
+        match self {
+            ActorKind::Task => "task",
+            ActorKind::Interrupt => "interrupt",
+        }
+    }
+}
+
+/// A task or an interrupt, with the place of its body among all bodies and where it ends in the source.
+#[derive(Clone, Copy)]
+pub(crate) struct Actor<'a> {
+    pub(crate) name: &'a str,
+    pub(crate) kind: ActorKind,
+    pub(crate) body: usize,
+    pub(crate) end: Spot,
+}
+
+/// All that a source declares. Variables of functions are among `variables`, and each actor that calls the function has
+/// its own copy of them: `written` has the variables of the application, in order.
+#[derive(Drop)]
+pub(crate) struct Program<'a> {
+    pub(crate) variables: Vec<Variable<'a>>,
+    pub(crate) written: Vec<usize>,
+    pub(crate) objects: Vec<Object<'a>>,
+    pub(crate) actors: Vec<Actor<'a>>,
+    pub(crate) bodies: Vec<Body>,
+}
+
+impl<'a> Program<'a> {
+    pub(crate) fn new(alloc: Global) -> Program<'a> {
+        Program {
+            variables: Vec::new(alloc),
+            written: Vec::new(alloc),
+            objects: Vec::new(alloc),
+            actors: Vec::new(alloc),
+            bodies: Vec::new(alloc),
+        }
+    }
+
+    pub(crate) fn variable(&self, place: usize) -> Option<Variable<'a>> {
+        self.variables.get(place).copied()
+    }
+
+    pub(crate) fn is_shared(&self, place: usize) -> bool {
+        self.variables
+            .get(place)
+            .is_some_and(|variable| variable.is_shared())
+    }
+}

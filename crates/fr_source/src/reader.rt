@@ -1,0 +1,219 @@
+// What reads a source: its tokens, the names so far, and the body that is being read.
+
+use crate::cursor::{Cursor, clipped};
+use crate::fault::{Fault, Spot, wrong};
+use crate::kernel::{Kernel, is_reserved, is_type, kernel_named, value_of};
+use crate::lines::Lines;
+use crate::near::hint;
+use crate::open::{Case, Open};
+use crate::program::{Program, Variable};
+use crate::scope::{Meaning, Scope};
+use crate::token::Token;
+use std::alloc::{AllocError, Global};
+
+/// The most characters of a name.
+const LONGEST_NAME: usize = 32;
+
+/// The most constructs and brackets inside one another.
+pub(crate) const DEEPEST: usize = 40;
+
+/// The most operators of a statement.
+const MOST_OPERATORS: usize = 256;
+
+/// Whose body is read.
+#[derive(Clone, Copy)]
+pub(crate) enum Home {
+    Task,
+    Interrupt,
+    Function,
+}
+
+impl Home {
+    pub(crate) fn text(self) -> &'static str {
+        match self {
+            Home::Task => "task",
+            Home::Interrupt => "interrupt",
+            Home::Function => "function",
+        }
+    }
+}
+
+/// A label that the source names. It may be named before it is there.
+#[derive(Clone, Copy)]
+pub(crate) struct NamedLabel<'a> {
+    pub(crate) text: &'a str,
+    pub(crate) label: usize,
+    pub(crate) spot: Spot,
+    pub(crate) is_placed: bool,
+}
+
+#[derive(Drop)]
+pub(crate) struct Reader<'a> {
+    pub(crate) alloc: Global,
+    pub(crate) cursor: Cursor<'a>,
+    pub(crate) scope: Scope<'a>,
+    pub(crate) program: Program<'a>,
+    pub(crate) lines: Lines,
+    pub(crate) labels: Vec<NamedLabel<'a>>,
+    /// The constructs whose end isn't read yet, the innermost last, and the cases of the switches among them.
+    pub(crate) open: Vec<Open>,
+    pub(crate) cases: Vec<Case>,
+    pub(crate) home: Home,
+    /// The name of the actor or function that is read.
+    pub(crate) name: &'a str,
+    /// The operators of this statement so far.
+    operators: usize,
+    /// The variable of `configASSERT`, once there is one.
+    pub(crate) assertion: Option<usize>,
+    /// The call whose arguments are read.
+    pub(crate) call: Option<&'static Kernel>,
+}
+
+impl<'a> Reader<'a> {
+    pub(crate) fn new(alloc: Global, cursor: Cursor<'a>) -> Reader<'a> {
+        Reader {
+            alloc,
+            cursor,
+            scope: Scope::new(alloc),
+            program: Program::new(alloc),
+            lines: Lines::new(alloc),
+            labels: Vec::new(alloc),
+            open: Vec::new(alloc),
+            cases: Vec::new(alloc),
+            home: Home::Function,
+            name: "",
+            operators: 0,
+            assertion: None,
+            call: None,
+        }
+    }
+
+    /// Begins the count of operators anew.
+    pub(crate) fn begin_statement(&mut self) {
+        self.operators = 0;
+    }
+
+    /// Counts an operator of this statement.
+    pub(crate) fn count_operator(&mut self, spot: Spot) -> Result<(), Fault> {
+        self.operators = self.operators.saturating_add(1);
+        if self.operators > MOST_OPERATORS {
+            return Err(
+                self.cursor
+                    .refused(spot, "more than 256 operators in one statement"),
+            );
+        }
+        Ok(())
+    }
+
+    /// Refuses what is too deep: so many brackets in the constructs that are open.
+    pub(crate) fn check_depth(&self, brackets: usize, spot: Spot) -> Result<(), Fault> {
+        if self.open.len().saturating_add(brackets) > DEEPEST {
+            return Err(self.cursor.refused(spot, "nested more than 40 deep"));
+        }
+        Ok(())
+    }
+
+    /// Takes the name of something new.
+    pub(crate) fn new_name(&mut self, what: &str) -> Result<Token<'a>, Fault> {
+        let token = self.cursor.token();
+        let Token { text, spot, .. } = token;
+        let shown = clipped(text);
+        if !self.cursor.is_at_word() {
+            return Err(
+                self.cursor
+                    .expected(format!(in self.alloc; "the name of {what}")),
+            );
+        }
+        if is_reserved(text) || value_of(text).is_some() || kernel_named(text).is_some() {
+            return Err(wrong(
+                spot,
+                format!(in self.alloc;
+                    "'{shown}' is a word of this notation or of the kernel: choose another name"
+                ),
+            ));
+        }
+        if text.len() > LONGEST_NAME {
+            let length = text.len();
+            return Err(wrong(
+                spot,
+                format!(in self.alloc; "a name has at most 32 characters, this one {length}"),
+            ));
+        }
+        if let Some(meaning) = self.scope.meaning(text) {
+            let kind = meaning.text();
+            return Err(wrong(
+                spot,
+                format!(in self.alloc; "'{shown}' is already the name of a {kind}"),
+            ));
+        }
+        self.cursor.advance();
+        Ok(token)
+    }
+
+    /// What a name means here.
+    pub(crate) fn meaning_of(&self, token: Token<'a>) -> Result<Meaning, Fault> {
+        match self.scope.meaning(token.text) {
+            Some(meaning) => Ok(meaning),
+            None => Err(self.undeclared(token)),
+        }
+    }
+
+    /// The fault that a name isn't declared.
+    fn undeclared(&self, token: Token<'a>) -> Fault {
+        let shown = clipped(token.text);
+        if is_type(token.text) {
+            let text = format!(in self.alloc;
+                "'{shown}' isn't declared: there are no types, write 'var n in 0..9;'"
+            );
+            return wrong(token.spot, text);
+        }
+        let near = self.scope.near(token.text);
+        match self.call {
+            Some(kernel) if near.is_none() => wrong(token.spot, self.undeclared_in(shown, kernel)),
+            _ => wrong(token.spot, self.undeclared_near(shown, near)),
+        }
+    }
+
+    /// What is said of a name that isn't declared, and may be meant for another.
+    fn undeclared_near(&self, shown: &str, near: Option<&str>) -> Result<String, AllocError> {
+        let hint = hint(self.alloc, near)?;
+        format!(in self.alloc; "'{shown}' isn't declared{hint}")
+    }
+
+    /// What is said of a name in a call that isn't declared.
+    fn undeclared_in(&self, shown: &str, kernel: &Kernel) -> Result<String, AllocError> {
+        let shape = self.shape(kernel)?;
+        format!(in self.alloc;
+            "'{shown}' isn't declared: data pointers are left out, as in {shape}"
+        )
+    }
+
+    /// The fault that a name means something else than what is expected.
+    pub(crate) fn other_meaning(&self, token: Token<'a>, what: &str, meaning: Meaning) -> Fault {
+        let shown = clipped(token.text);
+        let kind = meaning.text();
+        wrong(
+            token.spot,
+            format!(in self.alloc;
+                "expected the name of {what}, and '{shown}' is the name of a {kind}"
+            ),
+        )
+    }
+
+    /// Takes the name of a variable.
+    pub(crate) fn variable_named(&mut self, what: &str) -> Result<usize, Fault> {
+        let token = self.cursor.word(what)?;
+        match self.meaning_of(token)? {
+            Meaning::Variable(variable) => Ok(variable),
+            meaning => Err(self.other_meaning(token, "a variable", meaning)),
+        }
+    }
+
+    /// The variable with this place.
+    pub(crate) fn variable(&self, place: usize, spot: Spot) -> Result<Variable<'a>, Fault> {
+        match self.program.variable(place) {
+            Some(variable) => Ok(variable),
+            None => Err(self.cursor.refused(spot, "this variable isn't there")),
+        }
+    }
+}

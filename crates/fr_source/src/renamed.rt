@@ -1,0 +1,125 @@
+// The names of an application's variables. A name in two places of the source becomes one of its actor's own.
+
+use crate::program::{Owner, Program, Variable};
+use std::alloc::{AllocError, Global};
+
+/// The most characters of a name.
+const LONGEST_NAME: usize = 32;
+
+/// The most numbers that are tried after a name. Fewer names are taken.
+const MOST_TRIES: usize = 1000;
+
+/// How many variables, objects and actors of the application have a name.
+fn count_of(program: &Program<'_>, name: &str) -> usize {
+    let variables = program
+        .written
+        .iter()
+        .filter(|place| name_at(program, **place) == name)
+        .count();
+    let objects = program
+        .objects
+        .iter()
+        .filter(|object| object.name == name)
+        .count();
+    let actors = program
+        .actors
+        .iter()
+        .filter(|actor| actor.name == name)
+        .count();
+    variables.saturating_add(objects).saturating_add(actors)
+}
+
+/// The name of a variable in the source.
+fn name_at<'a>(program: &Program<'a>, place: usize) -> &'a str {
+    match program.variable(place) {
+        Some(variable) => variable.name,
+        None => "",
+    }
+}
+
+/// How many variables of an actor have a name.
+fn count_of_actor(program: &Program<'_>, number: usize, name: &str) -> usize {
+    let mut count = 0usize;
+    for place in &program.written {
+        if let Some(variable) = program.variable(*place) {
+            if variable.name == name
+                && matches!(variable.owner, Owner::Actor(owner) if owner == number)
+            {
+                count = count.saturating_add(1);
+            }
+        }
+    }
+    count
+}
+
+/// The name of an actor's own variable: the actor's, and its own after it.
+fn joined(
+    alloc: Global,
+    program: &Program<'_>,
+    variable: Variable<'_>,
+    number: usize,
+) -> Result<String, AllocError> {
+    let actor = program.actors.get(number).map_or("", |actor| actor.name);
+    let name = variable.name;
+    match variable.function {
+        Some(function) if count_of_actor(program, number, name) > 1 => {
+            format!(in alloc; "{actor}_{function}_{name}")
+        }
+        _ => format!(in alloc; "{actor}_{name}"),
+    }
+}
+
+/// Whether a text can be a variable's name: it is short, and no other name.
+fn is_free(program: &Program<'_>, names: &[String], text: &str) -> bool {
+    text.len() <= LONGEST_NAME
+        && count_of(program, text) == 0
+        && !names.iter().any(|name| name.as_str() == text)
+}
+
+/// A name for an actor's own variable that no other has.
+fn free_name(
+    alloc: Global,
+    program: &Program<'_>,
+    names: &[String],
+    variable: Variable<'_>,
+    number: usize,
+) -> Result<String, AllocError> {
+    let mut text = joined(alloc, program, variable, number)?;
+    let short = variable.name.get(..28).unwrap_or(variable.name);
+    for number in 2..MOST_TRIES {
+        if is_free(program, names, text.as_str()) {
+            break;
+        }
+        text = format!(in alloc; "{short}_{number}")?;
+    }
+    Ok(text)
+}
+
+/// The name of each variable in the source, by its place.
+fn names_in_source(alloc: Global, program: &Program<'_>) -> Result<Vec<String>, AllocError> {
+    let mut names = Vec::new(alloc);
+    for variable in &program.variables {
+        names.push(String::from_str(alloc, variable.name)?)?;
+    }
+    Ok(names)
+}
+
+/// The name of each variable in the application, by its place.
+pub(crate) fn names_of(alloc: Global, program: &Program<'_>) -> Result<Vec<String>, AllocError> {
+    let mut names = names_in_source(alloc, program)?;
+    for place in &program.written {
+        let Some(variable) = program.variable(*place) else {
+            continue;
+        };
+        let Owner::Actor(number) = variable.owner else {
+            continue;
+        };
+        if count_of(program, variable.name) > 1 {
+            let text = free_name(alloc, program, &names, variable, number)?;
+            if let Some(slot) = names.get_mut(*place) {
+                *slot = text;
+            }
+        }
+    }
+    Ok(names)
+}

@@ -1,0 +1,112 @@
+// The names that a source declares.
+
+use crate::fault::Fault;
+use crate::kernel::kernel_near;
+use crate::near::is_near;
+use std::alloc::Global;
+
+/// What a name means. A variable, an object or a function is named by its place among all of them.
+#[derive(Clone, Copy)]
+pub(crate) enum Meaning {
+    Constant(i64),
+    Variable(usize),
+    Object(usize),
+    Function(usize),
+    Task,
+    Interrupt,
+}
+
+impl Meaning {
+    /// What a message calls it.
+    pub(crate) fn text(self) -> &'static str {
+        match self {
+            Meaning::Constant(_) => "constant",
+            Meaning::Variable(_) => "variable",
+            Meaning::Object(_) => "object",
+            Meaning::Function(_) => "function",
+            Meaning::Task => "task",
+            Meaning::Interrupt => "interrupt",
+        }
+    }
+}
+
+#[derive(Clone, Copy)]
+struct Name<'a> {
+    text: &'a str,
+    meaning: Meaning,
+}
+
+/// What the text means among some names.
+fn meaning_among(names: &[Name<'_>], text: &str) -> Option<Meaning> {
+    for name in names {
+        if name.text == text {
+            return Some(name.meaning);
+        }
+    }
+    None
+}
+
+/// The first of some names that a word is near to.
+fn near_among<'a>(names: &[Name<'a>], word: &str) -> Option<&'a str> {
+    for name in names {
+        if is_near(word, name.text) {
+            return Some(name.text);
+        }
+    }
+    None
+}
+
+/// The names outside, and those of the actor or function that is read.
+#[derive(Drop)]
+pub(crate) struct Scope<'a> {
+    outside: Vec<Name<'a>>,
+    inside: Vec<Name<'a>>,
+}
+
+impl<'a> Scope<'a> {
+    pub(crate) fn new(alloc: Global) -> Scope<'a> {
+        Scope {
+            outside: Vec::new(alloc),
+            inside: Vec::new(alloc),
+        }
+    }
+
+    /// What the text means here.
+    pub(crate) fn meaning(&self, text: &str) -> Option<Meaning> {
+        match meaning_among(&self.inside, text) {
+            Some(meaning) => Some(meaning),
+            None => meaning_among(&self.outside, text),
+        }
+    }
+
+    /// A name or a call of the kernel that a word is near to.
+    pub(crate) fn near(&self, word: &str) -> Option<&'a str> {
+        match near_among(&self.inside, word) {
+            Some(name) => Some(name),
+            None => match near_among(&self.outside, word) {
+                Some(name) => Some(name),
+                None => kernel_near(word),
+            },
+        }
+    }
+
+    /// The number of names outside.
+    pub(crate) fn count(&self) -> usize {
+        self.outside.len()
+    }
+
+    pub(crate) fn add_outside(&mut self, text: &'a str, meaning: Meaning) -> Result<(), Fault> {
+        self.outside.push(Name { text, meaning })?;
+        Ok(())
+    }
+
+    pub(crate) fn add_inside(&mut self, text: &'a str, meaning: Meaning) -> Result<(), Fault> {
+        self.inside.push(Name { text, meaning })?;
+        Ok(())
+    }
+
+    /// Forgets the names of the actor or function that was read.
+    pub(crate) fn leave(&mut self) {
+        self.inside.clear();
+    }
+}

@@ -1,0 +1,84 @@
+// The text of a source: its lines, as comments and messages show them.
+
+use crate::fault::Spot;
+use std::alloc::{AllocError, Global};
+
+/// The most bytes of a line that a message or a comment looks at.
+const LONGEST_LINE: usize = 240;
+
+/// A source: the name of its file, its bytes, the same with blanks in place of its comments, and where its lines begin.
+#[derive(Drop)]
+pub(crate) struct Source<'a> {
+    pub(crate) file: &'a str,
+    bytes: &'a [u8],
+    pub(crate) blank: Vec<u8>,
+    starts: Vec<usize>,
+}
+
+impl<'a> Source<'a> {
+    pub(crate) fn new(
+        alloc: Global,
+        file: &'a str,
+        bytes: &'a [u8],
+    ) -> Result<Source<'a>, AllocError> {
+        let mut starts = vec![in alloc; 0usize]?;
+        for (place, byte) in bytes.iter().enumerate() {
+            if *byte == b'\n' {
+                starts.push(place.saturating_add(1))?;
+            }
+        }
+        Ok(Source {
+            file,
+            bytes,
+            blank: Vec::new(alloc),
+            starts,
+        })
+    }
+
+    /// What the line with this number, from 1, has of some bytes: its beginning, where it is long.
+    fn line_of<'b>(&self, bytes: &'b [u8], number: usize) -> &'b [u8] {
+        let start = self
+            .starts
+            .get(number.saturating_sub(1))
+            .copied()
+            .unwrap_or(0);
+        let end = self
+            .starts
+            .get(number)
+            .map_or(bytes.len(), |next| next.saturating_sub(1));
+        bytes
+            .get(start..end.min(start.saturating_add(LONGEST_LINE)))
+            .unwrap_or(&[])
+    }
+
+    /// The words of a line, without comments.
+    pub(crate) fn excerpt(&self, alloc: Global, line: usize) -> Result<String, AllocError> {
+        let mut shown = String::new(alloc);
+        let text = std::str::from_utf8(self.line_of(&self.blank, line)).unwrap_or("");
+        for word in text.split_ascii_whitespace() {
+            if !shown.is_empty() {
+                shown.push_str(" ")?;
+            }
+            shown.push_str(word)?;
+        }
+        Ok(shown)
+    }
+
+    /// The line of a place, with a question mark for each character that isn't plain.
+    pub(crate) fn line_shown(&self, alloc: Global, spot: Spot) -> Result<String, AllocError> {
+        plain(alloc, self.line_of(self.bytes, spot.line))
+    }
+}
+
+/// Printable ASCII and tabs as they are, and a question mark for each other character.
+pub(crate) fn plain(alloc: Global, bytes: &[u8]) -> Result<String, AllocError> {
+    let mut shown = String::new(alloc);
+    for byte in bytes {
+        match *byte {
+            b'\t' | b' '..=b'~' => shown.push(char::from(*byte))?,
+            b'\r' | 0x80..=0xbf => {}
+            _ => shown.push('?')?,
+        }
+    }
+    Ok(shown)
+}

@@ -1,0 +1,476 @@
+// Statements. The constructs whose end isn't read yet are on a list, and no call goes into itself.
+
+use crate::cursor::clipped;
+use crate::fault::{Fault, Spot, wrong};
+use crate::kernel::{is_reserved, value_of};
+use crate::open::{Margin, Open, Step};
+use crate::program::MOST_ITEMS;
+use crate::reader::{Home, NamedLabel, Reader};
+use crate::token::{Kind, Token};
+
+/// Whether a construct holds statements up to its closing brace.
+fn holds_many(open: Option<&Open>) -> bool {
+    matches!(open, Some(Open::Block | Open::Switch { .. }))
+}
+
+impl<'a> Reader<'a> {
+    /// Reads statements up to the closing brace of the body, and gives its place.
+    pub(crate) fn statements(&mut self) -> Result<Spot, Fault> {
+        for _ in 0..=self.cursor.left() {
+            let spot = self.cursor.spot();
+            if self.open.is_empty() && self.cursor.accepts("}") {
+                return Ok(spot);
+            }
+            self.begin_statement();
+            if self.statement()? {
+                self.close_all()?;
+            }
+            if self.lines.body.items.len() > MOST_ITEMS {
+                return Err(self.too_large(spot));
+            }
+        }
+        Err(self.cursor.expected(String::from_str(self.alloc, "'}'")))
+    }
+
+    /// The fault that a body is too large.
+    fn too_large(&self, spot: Spot) -> Fault {
+        let kind = self.home.text();
+        let name = self.name;
+        wrong(
+            spot,
+            format!(in self.alloc;
+                "{kind} '{name}' grows to more than 4096 lines and labels: this passed the limit"
+            ),
+        )
+    }
+
+    /// Reads a statement, or the head of a construct. Answers whether a statement ends here.
+    fn statement(&mut self) -> Result<bool, Fault> {
+        let Token { kind, text, .. } = self.cursor.token();
+        if matches!(kind, Kind::End) {
+            return Err(self.cursor.expected(String::from_str(self.alloc, "'}'")));
+        }
+        if let Some(Open::Switch { first_case, .. }) = self.open.last() {
+            let has_case = self.cases.len() > *first_case;
+            if !has_case && !["case", "default", "}"].iter().any(|word| *word == text) {
+                return Err(
+                    self.cursor
+                        .expected(String::from_str(self.alloc, "'case' or 'default'")),
+                );
+            }
+        }
+        match text {
+            "{" => self.block(),
+            "}" if holds_many(self.open.last()) => self.end_of_block(),
+            ";" => {
+                self.cursor.advance();
+                Ok(true)
+            }
+            "case" | "default" => self.case(),
+            "if" | "while" | "do" | "for" | "switch" => self.construct(),
+            _ => {
+                self.jump_or_simple()?;
+                Ok(true)
+            }
+        }
+    }
+
+    /// Takes the brace that begins a block.
+    fn block(&mut self) -> Result<bool, Fault> {
+        self.cursor.advance();
+        self.enter(Open::Block)?;
+        Ok(false)
+    }
+
+    /// Notes that a construct is open.
+    fn enter(&mut self, open: Open) -> Result<(), Fault> {
+        self.open.push(open)?;
+        self.check_depth(0, self.cursor.spot())
+    }
+
+    /// Takes the brace that ends a block or a switch.
+    fn end_of_block(&mut self) -> Result<bool, Fault> {
+        self.cursor.advance();
+        if let Some(
+            Open::Switch {
+                variable,
+                end,
+                first_item,
+                first_case,
+                spot,
+            },
+        ) = self.open.pop()
+        {
+            self.write_switch(variable, end, (first_item, first_case), spot)?;
+        }
+        Ok(true)
+    }
+
+    /// Reads the head of a construct.
+    fn construct(&mut self) -> Result<bool, Fault> {
+        let Token { text, spot, .. } = self.cursor.token();
+        self.cursor.advance();
+        match text {
+            "if" => self.if_head(spot)?,
+            "while" => self.while_head(spot)?,
+            "do" => self.do_head()?,
+            "for" => self.for_head(spot)?,
+            _ => self.switch_head(spot)?,
+        }
+        Ok(false)
+    }
+
+    fn if_head(&mut self, spot: Spot) -> Result<(), Fault> {
+        let test = self.condition()?;
+        let yes = self.lines.label();
+        let no = self.lines.label();
+        self.lines.branch(test, spot, yes, no, yes)?;
+        self.lines.place(yes)?;
+        let margin = self.margin("if")?;
+        self.enter(Open::If { no, margin, spot })
+    }
+
+    fn while_head(&mut self, spot: Spot) -> Result<(), Fault> {
+        let top = self.lines.label();
+        self.lines.place(top)?;
+        let test = self.condition()?;
+        self.loop_head(Some(test), top, None, "while", spot)
+    }
+
+    fn for_head(&mut self, spot: Spot) -> Result<(), Fault> {
+        self.cursor.take("(", "")?;
+        if let Some(first) = self.step(";")? {
+            self.write_simple(first.simple, first.spot)?;
+        }
+        self.cursor.take(";", "")?;
+        let top = self.lines.label();
+        self.lines.place(top)?;
+        let test = if self.cursor.sees(";") {
+            None
+        } else {
+            Some(self.bare_condition()?)
+        };
+        self.cursor.take(";", "")?;
+        let step = self.step(")")?;
+        self.cursor.take(")", "")?;
+        self.loop_head(test, top, step, "for", spot)
+    }
+
+    /// Takes a simple statement, unless the sign after it is next.
+    fn step(&mut self, after: &str) -> Result<Option<Step>, Fault> {
+        if self.cursor.sees(after) {
+            return Ok(None);
+        }
+        let spot = self.cursor.spot();
+        let simple = self.simple()?;
+        Ok(Some(Step { simple, spot }))
+    }
+
+    /// Writes the test of a loop, and notes that its body comes.
+    fn loop_head(
+        &mut self,
+        test: Option<usize>,
+        top: usize,
+        step: Option<Step>,
+        word: &'static str,
+        spot: Spot,
+    ) -> Result<(), Fault> {
+        let body = self.lines.label();
+        let again = self.lines.label();
+        let end = self.lines.label();
+        if let Some(test) = test {
+            self.lines.branch(test, spot, body, end, body)?;
+        }
+        self.lines.place(body)?;
+        let margin = self.margin(word)?;
+        self.enter(Open::Loop {
+            top,
+            again,
+            end,
+            step,
+            margin,
+            spot,
+        })
+    }
+
+    fn do_head(&mut self) -> Result<(), Fault> {
+        let top = self.lines.label();
+        let again = self.lines.label();
+        let end = self.lines.label();
+        self.lines.place(top)?;
+        let margin = self.margin("do")?;
+        self.enter(Open::Do {
+            top,
+            again,
+            end,
+            margin,
+        })
+    }
+
+    /// Where the body of a construct begins.
+    fn margin(&self, word: &'static str) -> Result<Margin, Fault> {
+        let head = self.cursor.previous();
+        let first = self.cursor.token();
+        if (word == "if" || word == "else") && first.text == ";" {
+            let text = format!(in self.alloc;
+                "an '{word}' with nothing but ';': write '{{ }}' if this is meant"
+            );
+            return Err(wrong(first.spot, text));
+        }
+        Ok(Margin {
+            word,
+            head_line: head.spot.line,
+            first_line: first.spot.line,
+            indent: first.indent,
+            has_braces: first.text == "{",
+        })
+    }
+
+    /// Refuses what is after a body without braces and looks as if it belonged to it.
+    fn check_margin(&self, margin: Margin) -> Result<(), Fault> {
+        let last = self.cursor.previous();
+        let after = self.cursor.token();
+        let is_apart = margin.has_braces
+            || margin.first_line <= margin.head_line
+            || after.spot.line <= last.spot.line
+            || after.indent < margin.indent
+            || after.text == "else"
+            || after.text == "}";
+        if is_apart {
+            return Ok(());
+        }
+        let word = margin.word;
+        let text = format!(in self.alloc;
+            "this looks as if it were in the '{word}' above, and isn't: put braces around its body, or move this to the left"
+        );
+        Err(wrong(after.spot, text))
+    }
+
+    /// Closes the constructs that the end of a statement ends.
+    fn close_all(&mut self) -> Result<(), Fault> {
+        for _ in 0..=self.open.len() {
+            if self.open.is_empty() || holds_many(self.open.last()) {
+                break;
+            }
+            let Some(open) = self.open.pop() else {
+                break;
+            };
+            if !self.close_one(open)? {
+                break;
+            }
+        }
+        Ok(())
+    }
+
+    /// Writes the end of a construct. Answers whether it ends here, and has no `else`.
+    fn close_one(&mut self, open: Open) -> Result<bool, Fault> {
+        match open {
+            Open::If { no, margin, spot } => self.close_if(no, margin, spot),
+            Open::Else { end, margin } => {
+                self.check_margin(margin)?;
+                self.lines.place(end)?;
+                Ok(true)
+            }
+            Open::Loop {
+                top,
+                again,
+                end,
+                step,
+                margin,
+                spot,
+            } => {
+                self.check_margin(margin)?;
+                self.lines.place(again)?;
+                if let Some(Step { simple, spot }) = step {
+                    self.write_simple(simple, spot)?;
+                }
+                self.lines.goto(top, spot)?;
+                self.lines.place(end)?;
+                Ok(true)
+            }
+            Open::Do {
+                top,
+                again,
+                end,
+                margin,
+            } => self.close_do((top, again, end), margin),
+            Open::Block | Open::Switch { .. } => Ok(true),
+        }
+    }
+
+    fn close_if(&mut self, no: usize, margin: Margin, spot: Spot) -> Result<bool, Fault> {
+        self.check_margin(margin)?;
+        if !self.cursor.accepts("else") {
+            self.lines.place(no)?;
+            return Ok(true);
+        }
+        let end = self.lines.label();
+        self.lines.goto(end, spot)?;
+        self.lines.place(no)?;
+        let margin = self.margin("else")?;
+        self.enter(Open::Else { end, margin })?;
+        Ok(false)
+    }
+
+    fn close_do(&mut self, labels: (usize, usize, usize), margin: Margin) -> Result<bool, Fault> {
+        let (top, again, end) = labels;
+        self.check_margin(margin)?;
+        if !self.cursor.accepts("while") {
+            let what = String::from_str(self.alloc, "'while' and the condition of the 'do' loop");
+            return Err(self.cursor.expected(what));
+        }
+        self.begin_statement();
+        let spot = self.cursor.spot();
+        let test = self.condition()?;
+        self.cursor.take(";", " after the 'do' loop")?;
+        let spot = self.lines.test_spot(test, spot);
+        self.lines.place(again)?;
+        self.lines.branch(test, spot, top, end, end)?;
+        self.lines.place(end)?;
+        Ok(true)
+    }
+
+    /// Reads a jump, a label or a simple statement.
+    fn jump_or_simple(&mut self) -> Result<(), Fault> {
+        let Token {
+            kind,
+            text,
+            spot,
+            ..
+        } = self.cursor.token();
+        if matches!(kind, Kind::Word) && self.cursor.following().text == ":" {
+            return self.named_label(text, spot);
+        }
+        match text {
+            "break" => self.break_here(spot)?,
+            "continue" => self.continue_here(spot)?,
+            "return" => self.return_here(spot)?,
+            "goto" => self.goto_here(spot)?,
+            "var" | "static" => {
+                let kind = self.home.text();
+                let text = format!(in self.alloc;
+                    "variables are declared at the beginning of the {kind}"
+                );
+                return Err(wrong(spot, text));
+            }
+            _ => {
+                let simple = self.simple()?;
+                self.write_simple(simple, spot)?;
+            }
+        }
+        self.cursor.take(";", " after the statement")
+    }
+
+    /// Takes a `break`.
+    fn break_here(&mut self, spot: Spot) -> Result<(), Fault> {
+        let target = self.open.iter().rev().find_map(|open| match open {
+            Open::Loop { end, .. } | Open::Do { end, .. } | Open::Switch { end, .. } => Some(*end),
+            _ => None,
+        });
+        let Some(label) = target else {
+            return Err(
+                self.cursor
+                    .refused(spot, "'break' outside a loop and a switch"),
+            );
+        };
+        self.cursor.advance();
+        self.lines.goto(label, spot)
+    }
+
+    /// Takes a `continue`.
+    fn continue_here(&mut self, spot: Spot) -> Result<(), Fault> {
+        let target = self.open.iter().rev().find_map(|open| match open {
+            Open::Loop { again, .. } | Open::Do { again, .. } => Some(*again),
+            _ => None,
+        });
+        let Some(label) = target else {
+            return Err(self.cursor.refused(spot, "'continue' outside a loop"));
+        };
+        self.cursor.advance();
+        self.lines.goto(label, spot)
+    }
+
+    /// Takes a `return`: label 0 is the end of the body.
+    fn return_here(&mut self, spot: Spot) -> Result<(), Fault> {
+        if matches!(self.home, Home::Task) {
+            return Err(
+                self.cursor.refused(
+                    spot,
+                    "a task doesn't return (rule 11): end it with vTaskDelete(NULL)",
+                ),
+            );
+        }
+        self.cursor.advance();
+        self.lines.goto(0, spot)
+    }
+
+    /// Takes a `goto` and its label.
+    fn goto_here(&mut self, spot: Spot) -> Result<(), Fault> {
+        self.cursor.advance();
+        let Token {
+            text,
+            spot: name_spot,
+            ..
+        } = self.cursor.word("a label")?;
+        let label = match self.labels.iter().find(|one| one.text == text) {
+            Some(one) => one.label,
+            None => {
+                let label = self.lines.label();
+                self.labels.push(NamedLabel {
+                    text,
+                    label,
+                    spot: name_spot,
+                    is_placed: false,
+                })?;
+                label
+            }
+        };
+        self.lines.goto(label, spot)
+    }
+
+    /// Takes a label that the source names.
+    fn named_label(&mut self, text: &'a str, spot: Spot) -> Result<(), Fault> {
+        self.cursor.advance();
+        self.cursor.advance();
+        let shown = clipped(text);
+        if is_reserved(text) || value_of(text).is_some() {
+            let text = format!(in self.alloc;
+                "'{shown}' is a word of this notation: choose another label"
+            );
+            return Err(wrong(spot, text));
+        }
+        let place = self.labels.iter().position(|one| one.text == text);
+        if let Some(one) = place.and_then(|place| self.labels.get_mut(place)) {
+            if one.is_placed {
+                return Err(wrong(
+                    spot,
+                    format!(in self.alloc; "the label '{shown}' is there already"),
+                ));
+            }
+            one.is_placed = true;
+            let label = one.label;
+            return self.lines.place(label);
+        }
+        let label = self.lines.label();
+        self.labels.push(NamedLabel {
+            text,
+            label,
+            spot,
+            is_placed: true,
+        })?;
+        self.lines.place(label)
+    }
+
+    /// Refuses a `goto` whose label isn't there.
+    pub(crate) fn check_labels(&self) -> Result<(), Fault> {
+        let Some(missing) = self.labels.iter().find(|one| !one.is_placed) else {
+            return Ok(());
+        };
+        let name = clipped(missing.text);
+        let kind = self.home.text();
+        Err(wrong(
+            missing.spot,
+            format!(in self.alloc; "no label '{name}' in this {kind}"),
+        ))
+    }
+}

@@ -1,0 +1,149 @@
+// Switches: their tests are written once all cases are read, and put before the bodies.
+
+use crate::fault::{Fault, Spot, wrong};
+use crate::open::{Case, Open};
+use crate::program::{Action, Comparison, Item, Operand, Range};
+use crate::reader::Reader;
+use crate::token::Token;
+
+/// The last number among the cases, if the cases have every number of the range: its test would always hold.
+fn last_of_all(cases: &[Case], range: Range) -> Option<i64> {
+    let mut count = 0i64;
+    let mut last = None;
+    for case in cases {
+        match case.value {
+            Some(value) if range.holds(value) => {
+                count = count.saturating_add(1);
+                last = Some(value);
+            }
+            _ => {}
+        }
+    }
+    let width = range.high.checked_sub(range.low)?.checked_add(1)?;
+    if count == width { last } else { None }
+}
+
+/// The line that goes to a case if the variable has its value.
+fn test_item(variable: usize, value: i64, case: Case) -> Item {
+    let action = Action::If {
+        left: Operand::Variable(variable),
+        comparison: Comparison::Equal,
+        right: Operand::Number(value),
+    };
+    Item::Line {
+        action,
+        to: Some(case.label),
+        spot: case.spot,
+    }
+}
+
+impl<'a> Reader<'a> {
+    /// Reads the head of a switch.
+    pub(crate) fn switch_head(&mut self, spot: Spot) -> Result<(), Fault> {
+        self.cursor.take("(", "")?;
+        let variable_spot = self.cursor.spot();
+        let variable = self.variable_named("a variable")?;
+        if self.program.is_shared(variable) {
+            let name = self.variable(variable, variable_spot)?.name;
+            let text = format!(in self.alloc;
+                "'{name}' is shared, and each 'case' would read it again: copy it to a 'var' and switch on that"
+            );
+            return Err(wrong(variable_spot, text));
+        }
+        self.cursor.take(")", "")?;
+        self.cursor.take("{", "")?;
+        let end = self.lines.label();
+        let first_item = self.lines.body.items.len();
+        let first_case = self.cases.len();
+        self.open.push(Open::Switch {
+            variable,
+            end,
+            first_item,
+            first_case,
+            spot,
+        })?;
+        self.check_depth(0, spot)
+    }
+
+    /// Takes a `case` or a `default` with its colon.
+    pub(crate) fn case(&mut self) -> Result<bool, Fault> {
+        let Token { text, spot, .. } = self.cursor.token();
+        let Some(Open::Switch { first_case, .. }) = self.open.last().copied() else {
+            return Err(
+                self.cursor
+                    .expected(String::from_str(self.alloc, "a statement")),
+            );
+        };
+        self.cursor.advance();
+        let value = if text == "case" {
+            Some(self.constant()?)
+        } else {
+            None
+        };
+        self.cursor.take(":", "")?;
+        self.check_new_case(first_case, value, spot)?;
+        let label = self.lines.label();
+        self.lines.place(label)?;
+        self.cases.push(Case { value, label, spot })?;
+        Ok(false)
+    }
+
+    /// Refuses a case that is there already.
+    fn check_new_case(
+        &self,
+        first_case: usize,
+        value: Option<i64>,
+        spot: Spot,
+    ) -> Result<(), Fault> {
+        let is_there = self
+            .cases
+            .iter()
+            .skip(first_case)
+            .any(|case| case.value == value);
+        match value {
+            _ if !is_there => Ok(()),
+            Some(number) => Err(wrong(
+                spot,
+                format!(in self.alloc; "this case {number} is there already"),
+            )),
+            None => Err(self.cursor.refused(spot, "this default is there already")),
+        }
+    }
+
+    /// Writes the tests of a switch before its bodies, and its end.
+    pub(crate) fn write_switch(
+        &mut self,
+        variable: usize,
+        end: usize,
+        firsts: (usize, usize),
+        spot: Spot,
+    ) -> Result<(), Fault> {
+        let (first_item, first_case) = firsts;
+        let range = self.variable(variable, spot)?.range;
+        let Some(cases) = self.cases.get(first_case..) else {
+            return self.lines.place(end);
+        };
+        let last = last_of_all(cases, range);
+        let mut other = end;
+        let mut place = first_item;
+        for number in first_case..self.cases.len() {
+            let Some(case) = self.cases.get(number).copied() else {
+                break;
+            };
+            match case.value {
+                Some(value) if last != Some(value) => {
+                    self.lines.insert(place, test_item(variable, value, case))?;
+                    place = place.saturating_add(1);
+                }
+                Some(_) => other = case.label,
+                None if last.is_none() => other = case.label,
+                None => {}
+            }
+        }
+        self.cases.truncate(first_case);
+        let action = Action::Goto;
+        let to = Some(other);
+        self.lines.insert(place, Item::Line { action, to, spot })?;
+        self.lines.place(end)
+    }
+}

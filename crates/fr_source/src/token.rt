@@ -1,0 +1,284 @@
+// The words, numbers and signs of a source, with their places.
+
+use crate::fault::{Fault, Spot, wrong};
+use std::alloc::{AllocError, Global};
+
+/// What a token is.
+#[derive(Clone, Copy)]
+pub(crate) enum Kind {
+    Word,
+    Number,
+    Sign,
+    End,
+}
+
+/// A word, a number or a sign of the source, or its end.
+#[derive(Clone, Copy)]
+pub(crate) struct Token<'a> {
+    pub(crate) kind: Kind,
+    pub(crate) text: &'a str,
+    pub(crate) spot: Spot,
+    /// The column from 0, where a tab counts to the next multiple of 8.
+    pub(crate) indent: usize,
+}
+
+/// What a piece of the source is: space and comments are no tokens.
+#[derive(Clone, Copy)]
+enum Piece {
+    Space,
+    Comment,
+    Token(Kind),
+    Unended,
+    Unknown,
+}
+
+/// The signs of two characters.
+static PAIRS: [[u8; 2]; 12] = [
+    *b"..", *b"++", *b"--", *b"-=", *b"+=", *b"*=", *b"==", *b"!=", *b"<=", *b">=", *b"&&", *b"||",
+];
+
+/// Where the scanner is in the source.
+#[derive(Clone, Copy)]
+struct Position {
+    spot: Spot,
+    indent: usize,
+}
+
+const START: Position = Position {
+    spot: Spot { line: 1, column: 1 },
+    indent: 0,
+};
+
+impl Position {
+    /// The position after a byte.
+    fn after(self, byte: u8) -> Position {
+        let Spot { line, column } = self.spot;
+        let (line, column, indent) = match byte {
+            b'\n' => (line.saturating_add(1), 1, 0),
+            b'\t' => (
+                line,
+                column.saturating_add(1),
+                (self.indent / 8).saturating_add(1).saturating_mul(8),
+            ),
+            0x80..=0xbf => (line, column, self.indent),
+            _ => (
+                line,
+                column.saturating_add(1),
+                self.indent.saturating_add(1),
+            ),
+        };
+        Position {
+            spot: Spot { line, column },
+            indent,
+        }
+    }
+
+    /// The position after some text.
+    fn past(self, text: &[u8]) -> Position {
+        let mut position = self;
+        for byte in text {
+            position = position.after(*byte);
+        }
+        position
+    }
+}
+
+fn is_space(byte: u8) -> bool {
+    matches!(byte, b' ' | b'\t' | b'\r' | b'\n')
+}
+
+fn is_of_word(byte: u8) -> bool {
+    byte.is_ascii_alphanumeric() || byte == b'_'
+}
+
+/// The number of bytes before the first line break, or of all.
+fn line_length(text: &[u8]) -> usize {
+    text.iter().take_while(|byte| **byte != b'\n').count()
+}
+
+/// The length of the comment that the text begins with, if it ends.
+fn comment_length(text: &[u8]) -> Option<usize> {
+    let end = text
+        .get(2..)?
+        .windows(2)
+        .position(|pair| pair == b"*/".as_slice())?;
+    Some(end.saturating_add(4))
+}
+
+/// The length of the number that the text begins with.
+fn number_length(text: &[u8]) -> usize {
+    let hexadecimal = text.starts_with(b"0x") || text.starts_with(b"0X");
+    let digits = text
+        .iter()
+        .skip(2)
+        .take_while(|byte| byte.is_ascii_hexdigit())
+        .count();
+    if hexadecimal && digits > 0 {
+        digits.saturating_add(2)
+    } else {
+        text.iter().take_while(|byte| byte.is_ascii_digit()).count()
+    }
+}
+
+/// The length of the sign that the text begins with: 0 if it begins with none.
+fn sign_length(text: &[u8], first: u8) -> usize {
+    let is_pair = PAIRS.iter().any(|pair| text.starts_with(pair));
+    if is_pair {
+        2
+    } else if b"-+*/%=!<>(){}[];:,".contains(&first) {
+        1
+    } else {
+        0
+    }
+}
+
+/// What the text begins with, and its length.
+fn piece_of(text: &[u8], first: u8) -> (Piece, usize) {
+    if is_space(first) {
+        (
+            Piece::Space,
+            text.iter().take_while(|byte| is_space(**byte)).count(),
+        )
+    } else if text.starts_with(b"//") {
+        (Piece::Comment, line_length(text))
+    } else if text.starts_with(b"/*") {
+        match comment_length(text) {
+            Some(length) => (Piece::Comment, length),
+            None => (Piece::Unended, 1),
+        }
+    } else if first.is_ascii_digit() {
+        (Piece::Token(Kind::Number), number_length(text))
+    } else if is_of_word(first) {
+        (
+            Piece::Token(Kind::Word),
+            text.iter().take_while(|byte| is_of_word(**byte)).count(),
+        )
+    } else {
+        match sign_length(text, first) {
+            0 => (Piece::Unknown, 1),
+            length => (Piece::Token(Kind::Sign), length),
+        }
+    }
+}
+
+fn unended_comment(alloc: Global, spot: Spot) -> Fault {
+    wrong(spot, String::from_str(alloc, "this comment doesn't end"))
+}
+
+/// Why a byte that begins no token is refused.
+fn unknown_sign(alloc: Global, spot: Spot, byte: u8) -> Fault {
+    let hint = if byte == b'&' {
+        ": data pointers and '&woken' are left out"
+    } else {
+        ""
+    };
+    if byte.is_ascii_graphic() {
+        let sign = char::from(byte);
+        wrong(
+            spot,
+            format!(in alloc; "the sign '{sign}' means nothing here{hint}"),
+        )
+    } else {
+        wrong(
+            spot,
+            format!(in alloc; "the sign of code {byte} means nothing here"),
+        )
+    }
+}
+
+/// Refuses numbers that C reads otherwise, and ones with a suffix.
+fn check_number(alloc: Global, spot: Spot, text: &[u8], rest: &[u8]) -> Result<(), Fault> {
+    if rest.iter().take(1).any(|byte| is_of_word(*byte)) {
+        return Err(wrong(
+            spot,
+            String::from_str(alloc, "this number has a suffix: write it without"),
+        ));
+    }
+    if text.len() > 1 && text.starts_with(b"0") && text.iter().all(|byte| byte.is_ascii_digit()) {
+        return Err(wrong(
+            spot,
+            String::from_str(
+                alloc,
+                "a number with a leading zero would be octal in C: write it without",
+            ),
+        ));
+    }
+    Ok(())
+}
+
+/// The tokens of a source, its end, and its bytes with blanks in place of comments.
+#[derive(Drop)]
+pub(crate) struct Scan<'a> {
+    pub(crate) tokens: Vec<Token<'a>>,
+    pub(crate) end: Token<'a>,
+    pub(crate) blank: Vec<u8>,
+}
+
+/// Appends a comment, with a blank for each byte but the line breaks.
+fn push_blanks(blank: &mut Vec<u8>, text: &[u8]) -> Result<(), AllocError> {
+    for byte in text {
+        blank.push(if *byte == b'\n' { b'\n' } else { b' ' })?;
+    }
+    Ok(())
+}
+
+/// The token that a piece of the source is.
+fn token_of<'a>(
+    alloc: Global,
+    kind: Kind,
+    position: Position,
+    text: &'a [u8],
+    after: &[u8],
+) -> Result<Token<'a>, Fault> {
+    let Position { spot, indent } = position;
+    if matches!(kind, Kind::Number) {
+        check_number(alloc, spot, text, after)?;
+    }
+    let text = std::str::from_utf8(text).unwrap_or("");
+    Ok(Token {
+        kind,
+        text,
+        spot,
+        indent,
+    })
+}
+
+/// The words, numbers and signs of a source.
+pub(crate) fn scanned<'a>(alloc: Global, source: &'a [u8]) -> Result<Scan<'a>, Fault> {
+    let mut tokens = Vec::new(alloc);
+    let mut blank = Vec::new(alloc);
+    let mut rest = source;
+    let mut position = START;
+    for _ in 0..source.len() {
+        let Some(first) = rest.first().copied() else {
+            break;
+        };
+        let (piece, length) = piece_of(rest, first);
+        let Some((text, after)) = rest.split_at_checked(length.max(1)) else {
+            break;
+        };
+        match piece {
+            Piece::Space => blank.extend_from_slice(text)?,
+            Piece::Comment => push_blanks(&mut blank, text)?,
+            Piece::Token(kind) => {
+                tokens.push(token_of(alloc, kind, position, text, after)?)?;
+                blank.extend_from_slice(text)?;
+            }
+            Piece::Unended => return Err(unended_comment(alloc, position.spot)),
+            Piece::Unknown => return Err(unknown_sign(alloc, position.spot, first)),
+        }
+        position = position.past(text);
+        rest = after;
+    }
+    let Position { spot, indent } = position;
+    Ok(Scan {
+        tokens,
+        end: Token {
+            kind: Kind::End,
+            text: "",
+            spot,
+            indent,
+        },
+        blank,
+    })
+}

@@ -1,0 +1,221 @@
+// A source, translated.
+ghost use Rattle.std.specs.Prelude.{◌≤◌, length, IfOk, string_bytes};
+
+use crate::declare::program_in;
+use crate::expand::{Code, Line, code_of, outermost};
+use crate::fault::{Fault, Spot, wrong};
+use crate::message::{Message, Refused, message_at, refused_by};
+use crate::program::{Action, Actor, Program};
+use crate::renamed::names_of;
+use crate::source::{Source, plain};
+use crate::text::Writer;
+use crate::tidy::{reached, tidy};
+use crate::token::{Scan, scanned};
+use std::alloc::{AllocError, Global};
+
+/// The most bytes of a source.
+pub const MOST_SOURCE_BYTES: usize = 1_048_576;
+
+/// The most bytes of an application.
+pub const MOST_APPLICATION_BYTES: usize = 1_048_576;
+
+/// The most lines of an actor.
+const MOST_LINES: usize = 512;
+
+/// The most warnings that are given.
+const MOST_WARNINGS: usize = 100;
+
+/// The text of an application, and what is left out of the source.
+#[derive(Drop)]
+pub struct Translation {
+    /// The application, as a TOML text.
+    pub text: String,
+    /// The places that are never reached, and left out: the first 100.
+    pub warnings: Vec<Message>,
+}
+
+/// Refuses a task that can come to its end, and an actor with too many lines.
+fn check_code(alloc: Global, actor: Actor<'_>, code: &Code) -> Result<(), Fault> {
+    let name = actor.name;
+    if code
+        .lines
+        .iter()
+        .any(|line| matches!(line.action, Action::End))
+    {
+        let text = format!(in alloc;
+            "task '{name}' can come to its end here, and a task doesn't return (rule 11): write vTaskDelete(NULL) or an \
+             endless loop"
+        );
+        return Err(wrong(actor.end, text));
+    }
+    if let Some(line) = code.lines.get(MOST_LINES) {
+        let count = code.lines.len();
+        let kind = actor.kind.text();
+        let text = format!(in alloc;
+            "{kind} '{name}' has {count} lines, at most 512 are allowed: this construct passed the limit"
+        );
+        return Err(wrong(outermost(&code.calls, line.place), text));
+    }
+    Ok(())
+}
+
+/// The places of lines that no way leads to, once for lines that follow each other.
+fn unreached(alloc: Global, lines: &[Line]) -> Result<Vec<Spot>, AllocError> {
+    let seen = reached(alloc, lines)?;
+    let mut spots = Vec::new(alloc);
+    let mut was_dropped = false;
+    for (number, line) in lines.iter().enumerate() {
+        let is_reached = seen.get(number) == Some(&true);
+        if line.is_goto() || number.saturating_add(1) == lines.len() {
+            was_dropped = was_dropped && !is_reached;
+            continue;
+        }
+        let is_kept = lines
+            .iter()
+            .zip(&seen)
+            .any(|(other, is_seen)| *is_seen && other.place.is(line.place));
+        if !is_kept && !was_dropped {
+            spots.push(line.place.spot)?;
+        }
+        was_dropped = !is_kept;
+    }
+    Ok(spots)
+}
+
+/// The warnings of an actor: what is never reached in it.
+fn warn(
+    alloc: Global,
+    source: &Source<'_>,
+    actor: Actor<'_>,
+    code: &Code,
+    warnings: &mut Vec<Message>,
+) -> Result<(), AllocError> {
+    let spots = unreached(alloc, &code.lines)?;
+    let kind = actor.kind.text();
+    let name = actor.name;
+    for spot in &spots {
+        if warnings.len() >= MOST_WARNINGS {
+            break;
+        }
+        let text = format!(in alloc; "this is never reached in {kind} '{name}', and left out")?;
+        warnings.push(message_at(alloc, source, *spot, text)?)?;
+    }
+    Ok(())
+}
+
+/// The code of each actor, and the warnings.
+fn codes_of(
+    alloc: Global,
+    source: &Source<'_>,
+    program: &mut Program<'_>,
+    warnings: &mut Vec<Message>,
+) -> Result<Vec<Code>, Fault> {
+    let mut codes = Vec::new(alloc);
+    for number in 0..program.actors.len() {
+        let Some(actor) = program.actors.get(number).copied() else {
+            break;
+        };
+        let mut code = code_of(alloc, program, actor, number)?;
+        warn(alloc, source, actor, &code, warnings)?;
+        tidy(alloc, program, &mut code.lines)?;
+        check_code(alloc, actor, &code)?;
+        codes.push(code)?;
+    }
+    Ok(codes)
+}
+
+/// The text of an application.
+fn text_of(
+    alloc: Global,
+    source: &Source<'_>,
+    program: &Program<'_>,
+    codes: &[Code],
+) -> Result<String, Fault> {
+    let names = names_of(alloc, program)?;
+    let mut writer = Writer::new(alloc, source.file, names)?;
+    writer.variables(program)?;
+    writer.objects(program)?;
+    for (actor, code) in program.actors.iter().zip(codes) {
+        writer.actor(program, source, *actor, code)?;
+    }
+    Ok(writer.into_text())
+}
+
+/// A source, translated.
+fn translation_of(
+    alloc: Global,
+    source: &mut Source<'_>,
+    bytes: &[u8],
+) -> Result<Translation, Fault>
+    ensures { IfOk result (λ translation. length (string_bytes translation.text) ≤ 1048576) }
+{
+    if bytes.len() > MOST_SOURCE_BYTES {
+        let text = String::from_str(alloc, "the source has more than 1 MiB");
+        return Err(wrong(Spot { line: 1, column: 1 }, text));
+    }
+    let Scan { tokens, end, blank } = scanned(alloc, bytes)?;
+    source.blank = blank;
+    let mut program = program_in(alloc, tokens, end)?;
+    let mut warnings = Vec::new(alloc);
+    let codes = codes_of(alloc, source, &mut program, &mut warnings)?;
+    let text = text_of(alloc, source, &program, &codes)?;
+    if text.len() > MOST_APPLICATION_BYTES {
+        let text = String::from_str(alloc, "the translation has more than 1 MiB");
+        return Err(wrong(Spot { line: 1, column: 1 }, text));
+    }
+    Ok(Translation { text, warnings })
+}
+
+/// Translates a source (docs/SOURCE.md) into the text of an application. `file` is the name of its file, as comments show
+/// it: of it, control characters and what isn't ASCII are question marks. The text has at most 1,048,576 bytes.
+///
+/// # Errors
+///
+/// `Source` says what is wrong in the source, and where. `Memory`: an allocation was refused.
+pub fn translated(alloc: Global, file: &str, source: &[u8]) -> Result<Translation, Refused>
+    ensures { IfOk result (λ translation. length (string_bytes translation.text) ≤ 1048576) }
+{
+    let file = plain(alloc, file.as_bytes())?;
+    let mut text = Source::new(alloc, file.as_str(), source)?;
+    match translation_of(alloc, &mut text, source) {
+        Ok(translation) => Ok(translation),
+        Err(fault) => Err(refused_by(alloc, &text, fault)),
+    }
+}
+
+#[cfg(test)]
+mod tests {
+    use super::translated;
+    use crate::message::Refused;
+    use std::test::Fail;
+
+    #[test]
+    fn writes_an_application(rt: HostRuntime) -> Result<(), Fail> {
+        let source =
+            b"stream s[8];\ntask a {\n  var n in 0..8;\n  for (;;) {\n    n = xStreamBufferReceive(s, 8, 10);\n    if (n == 0) continue; // again\n    taskYIELD();\n  }\n}\n";
+        let Ok(translation) = translated(rt.alloc(), "a.frc", source) else {
+            return Err(Fail::from("refused"));
+        };
+        let code = "code = [
+  \"n = xStreamBufferReceive(s, 8, 10)\",  # 0  a.frc:5: n = xStreamBufferReceive(s, 8, 10);
+  \"if n == 0 goto 0\",                    # 1  a.frc:6: if (n == 0) continue;
+  \"taskYIELD()\",                         # 2  a.frc:7: taskYIELD();
+  \"goto 0\",                              # 3  a.frc:4: for (;;) {
+]
+";
+        assert!(rt; translation.text.as_str().ends_with(code));
+        Ok(())
+    }
+
+    #[test]
+    fn shows_the_place(rt: HostRuntime) -> Result<(), Fail> {
+        let source = b"task a {\n\tx = 1;\n}\n";
+        let Err(Refused::Source(message)) = translated(rt.alloc(), "a.frc", source) else {
+            return Err(Fail::from("not refused"));
+        };
+        let report = message.report(rt.alloc(), "a.frc")?;
+        let wanted = "a.frc:2:2: 'x' isn't declared\n    2 | \tx = 1;\n      | \t^\n";
+        assert_eq!(rt; report.as_str(), wanted);
+        Ok(())
+    }
+}
