@@ -99,6 +99,17 @@ fn written_by(instr: &Instr) -> Option<(VarId, Side)> {
     }
 }
 
+/// Whether the line gives the variable a number that isn't worked out from the one that it has.
+fn overwrites(instr: &Instr, x: VarId) -> bool {
+    match *instr {
+        Instr::Set { left, right, .. } if is_variable(left, x) || is_variable(right, x) => false,
+        _ => match written_by(instr) {
+            Some((y, _)) => x == y,
+            None => false,
+        },
+    }
+}
+
 /// The lines to which the line at this place can lead, one or two.
 fn lines_after(instr: &Instr, pc: usize) -> (Option<usize>, Option<usize>) {
     let next = pc.checked_add(1);
@@ -135,15 +146,13 @@ impl Walk {
         Ok(())
     }
 
-    /// Looks at the line, and goes on from it unless it sets the variable or the copy.
+    /// Looks at the line, and goes on from it unless it sets the variable, or gives the copy another number.
     fn visit(&mut self, code: &[Instr], pc: usize, copied: Copied) -> Result<(), AllocError> {
         let (Some(instr), Some(false)) = (code.get(pc), self.seen.get(pc).copied()) else {
             return Ok(());
         };
         self.seen[pc] = true;
-        if let Some((x, _)) = written_by(instr)
-            && x == copied.copy
-        {
+        if overwrites(instr, copied.copy) {
             return Ok(());
         }
         self.between.push(pc)?;
@@ -295,8 +304,8 @@ fn add_updates(
     Ok(())
 }
 
-/// The warnings for updates that can be lost, a line each: an actor copies a shared variable, and sets it from the copy, and another actor
-/// can set it in between, by what their notes say. An error says that an allocation was refused. The lines' form is this project's own.
+/// The warnings for updates that can be lost, a line each: an actor copies a shared variable, and sets it from the copy, which it may have
+/// changed, and another actor can set it in between, by what their notes say. An error says that an allocation was refused. The lines' form is this project's own.
 pub fn lost_updates(alloc: Global, app: &App, notes: &Notes) -> Result<Vec<String>, AllocError> {
     let mut lines = Vec::new(alloc);
     for (number, actor) in app.actors().iter().enumerate() {
