@@ -9,6 +9,9 @@ use std::alloc::AllocError;
 const NOTES: &str =
     "<p>Below each line are its points, with what the certificate's note says is so there.</p>\n";
 
+/// The most actors that are all open where a point fails.
+const MOST_OPEN: usize = 4;
+
 /// Writes what the note of a point says, an item for each alternative.
 fn put_notes(page: &mut Writer, notes: &[String]) -> Result<(), AllocError>
     ensures { OnOk result (string_bytes page.new.out
@@ -89,17 +92,99 @@ fn put_line(page: &mut Writer, line: &LineShown) -> Result<(), AllocError> {
     page.markup("</tbody>\n")
 }
 
-/// Writes an actor with its code.
-fn put_actor(page: &mut Writer, actor: &ActorShown) -> Result<(), AllocError> {
-    page.between("<article>\n<h3>", actor.name.as_str(), "")?;
-    page.between(" <small>", actor.kind.as_str(), "</small></h3>\n<table>\n")?;
+/// Whether the point fails.
+fn fails(point: &PointShown) -> bool {
+    matches!(&point.standing, Standing::Fails(_))
+}
+
+/// Whether a point of the actor fails.
+fn has_failure(actor: &ActorShown) -> bool {
+    actor
+        .lines
+        .iter()
+        .any(|line| line.points.iter().any(|point| fails(point)))
+}
+
+/// Writes a link to a point that fails.
+fn put_link(
+    page: &mut Writer,
+    actor: &ActorShown,
+    line: &LineShown,
+    point: &PointShown,
+) -> Result<(), AllocError> {
+    page.markup("<li><a href='#point-")?;
+    page.number(point.number)?;
+    page.between("'>", actor.name.as_str(), " ")?;
+    page.number(line.number)?;
+    page.between(" ", point.side.as_str(), "</a>")?;
+    if let Standing::Fails(why) = &point.standing {
+        page.between(": ", why.as_str(), "")?;
+    }
+    page.markup("</li>\n")
+}
+
+/// Writes a link to each point of the line that fails.
+fn put_links(page: &mut Writer, actor: &ActorShown, line: &LineShown) -> Result<(), AllocError> {
+    for point in &line.points {
+        if fails(point) {
+            put_link(page, actor, line, point)?;
+        }
+    }
+    Ok(())
+}
+
+/// Writes a link to each point of the actor that fails.
+fn put_actor_links(page: &mut Writer, actor: &ActorShown) -> Result<(), AllocError> {
+    for line in &actor.lines {
+        put_links(page, actor, line)?;
+    }
+    Ok(())
+}
+
+/// Writes the list of the points that fail, with a link to each; nothing where none does.
+fn put_failing(page: &mut Writer, actors: &[ActorShown]) -> Result<(), AllocError> {
+    if !actors.iter().any(|actor| has_failure(actor)) {
+        return Ok(());
+    }
+    page.markup("<ol class='failing'>\n")?;
+    for actor in actors {
+        put_actor_links(page, actor)?;
+    }
+    page.markup("</ol>\n")
+}
+
+/// Writes an actor with its code, which is folded unless it is to be open.
+fn put_actor(page: &mut Writer, actor: &ActorShown, is_open: bool) -> Result<(), AllocError> {
+    page.markup(if is_open {
+        "<article>\n<details open><summary><h3>"
+    } else {
+        "<article>\n<details><summary><h3>"
+    })?;
+    page.between("", actor.name.as_str(), " <small>")?;
+    page.between(
+        "",
+        actor.kind.as_str(),
+        "</small></h3></summary>\n<table>\n",
+    )?;
     for line in &actor.lines {
         put_line(page, line)?;
     }
-    page.markup("</table>\n</article>\n")
+    page.markup("</table>\n</details>\n</article>\n")
 }
 
-/// Writes all actors; nothing where there are none. Where notes are shown, a line says what they are.
+/// Writes the actors side by side. Where there are more than four and a point fails, those without such a point are folded.
+fn put_actors(page: &mut Writer, actors: &[ActorShown]) -> Result<(), AllocError> {
+    let folds = actors.len() > MOST_OPEN && actors.iter().any(|actor| has_failure(actor));
+    page.markup("<div class='actors' style='--count: ")?;
+    page.number(actors.len())?;
+    page.markup("'>\n")?;
+    for actor in actors {
+        put_actor(page, actor, !folds || has_failure(actor))?;
+    }
+    page.markup("</div>\n")
+}
+
+/// Writes all actors; nothing where there are none. Where notes are shown, a line says what they are, and points that fail are listed.
 pub fn put_code(
     page: &mut Writer,
     actors: &[ActorShown],
@@ -111,12 +196,8 @@ pub fn put_code(
     page.markup("<section>\n<h2>The code</h2>\n")?;
     if has_notes {
         page.markup(NOTES)?;
+        put_failing(page, actors)?;
     }
-    page.markup("<div class='actors' style='--count: ")?;
-    page.number(actors.len())?;
-    page.markup("'>\n")?;
-    for actor in actors {
-        put_actor(page, actor)?;
-    }
-    page.markup("</div>\n</section>\n")
+    put_actors(page, actors)?;
+    page.markup("</section>\n")
 }

@@ -5,14 +5,14 @@ use std::alloc::{AllocError, Global};
 
 const RUN: &str = "<section>
 <h2>The run</h2>
-<p>Time goes down, and each actor has a lane. A bar runs as long as its actor is in the critical section, has suspended
+<p>Time goes down, and each actor with a step has a lane. A bar runs as long as its actor is in the critical section, has suspended
 the scheduler or holds a mutex; a number on it is the depth.</p>
 ";
 
 const PLAYER: &str = "<div class='player' hidden>
 <p><button type='button'>First</button> <button type='button'>Back</button> <button type='button'>Next</button>
 <button type='button'>Last</button> <output aria-live='polite'></output> <small>or the keys &larr; and &rarr;</small></p>
-<div></div>
+<details open><summary>The state then</summary><div></div></details>
 </div>
 <details class='states'>
 <summary>The state after each step</summary>
@@ -47,6 +47,14 @@ fn has_bar(steps: &[StepShown], actor: usize, track: usize) -> bool {
     false
 }
 
+/// Whether the actor does something in a step, or after the last one.
+fn does_something(steps: &[StepShown], actor: usize) -> bool {
+    steps.iter().any(|step| match &step.moved {
+        Some(moved) => moved.actor == actor,
+        None => false,
+    })
+}
+
 /// The lane of an actor.
 fn lane_of<'a>(
     alloc: Global,
@@ -67,7 +75,7 @@ fn lane_of<'a>(
     })
 }
 
-/// The lanes of all actors.
+/// The lanes of the actors that do something in the steps.
 fn lanes_of<'a>(
     alloc: Global,
     actors: &'a [ActorShown],
@@ -75,9 +83,32 @@ fn lanes_of<'a>(
 ) -> Result<Vec<Lane<'a>>, AllocError> {
     let mut lanes = Vec::new(alloc);
     for (number, actor) in actors.iter().enumerate() {
-        lanes.push(lane_of(alloc, steps, number, actor)?)?;
+        if does_something(steps, number) {
+            lanes.push(lane_of(alloc, steps, number, actor)?)?;
+        }
     }
     Ok(lanes)
+}
+
+/// Writes the names of the actors that have no lane, folded; nothing where each has one.
+fn put_still(
+    page: &mut Writer,
+    actors: &[ActorShown],
+    steps: &[StepShown],
+    still: usize,
+) -> Result<(), AllocError> {
+    if still == 0 {
+        return Ok(());
+    }
+    page.markup("<details class='still'><summary>")?;
+    page.number(still)?;
+    page.markup(" more, without a step here</summary>\n<p>")?;
+    for (number, actor) in actors.iter().enumerate() {
+        if !does_something(steps, number) {
+            page.between("<span>", actor.name.as_str(), "</span> ")?;
+        }
+    }
+    page.markup("</p></details>\n")
 }
 
 /// What a bar looks like, by its class.
@@ -225,19 +256,21 @@ fn put_space(page: &mut Writer, lanes: usize) -> Result<(), AllocError> {
     page.markup("'></td>\n")
 }
 
-/// The name of an actor.
-fn name_of<'a>(lanes: &'a [Lane], number: usize) -> &'a str {
-    match lanes.get(number) {
-        Some(lane) => lane.actor.name.as_str(),
-        None => "",
+/// The place of an actor's lane among all of them, and the actor's name.
+fn lane_with<'a>(lanes: &'a [Lane], number: usize) -> (usize, &'a str) {
+    for (place, lane) in lanes.iter().enumerate() {
+        if lane.number == number {
+            return (place, lane.actor.name.as_str());
+        }
     }
+    (0, "")
 }
 
-/// The begin of the cell of an arrow, which points from the lane of the actor that waits to the lane of the one that holds the mutex.
-fn arrow_of(wait: &WaitShown) -> &'static str {
-    if wait.actor < wait.holder {
+/// The begin of the cell of an arrow, which points from one lane to another one, or to the same.
+fn arrow_of(from: usize, to: usize) -> &'static str {
+    if from < to {
         "<td class='right' colspan='"
-    } else if wait.actor > wait.holder {
+    } else if from > to {
         "<td class='left' colspan='"
     } else {
         "<td class='own' colspan='"
@@ -246,15 +279,16 @@ fn arrow_of(wait: &WaitShown) -> &'static str {
 
 /// Writes an arrow from the lane of an actor to the lane of the one that holds the mutex that it waits for.
 fn put_wait(page: &mut Writer, lanes: &[Lane], wait: &WaitShown) -> Result<(), AllocError> {
-    let (first, last) = (wait.actor.min(wait.holder), wait.actor.max(wait.holder));
-    let end = last.saturating_add(1);
+    let (from, actor) = lane_with(lanes, wait.actor);
+    let (to, holder) = lane_with(lanes, wait.holder);
+    let (first, end) = (from.min(to), from.max(to).saturating_add(1));
     page.markup("<tr class='wait'><th></th>\n")?;
     put_space(page, first)?;
-    page.markup(arrow_of(wait))?;
+    page.markup(arrow_of(from, to))?;
     page.number(end.saturating_sub(first))?;
-    page.between("'><p>", name_of(lanes, wait.actor), " waits for ")?;
+    page.between("'><p>", actor, " waits for ")?;
     page.between("<b>", wait.mutex.as_str(), "</b>, held by ")?;
-    page.between("", name_of(lanes, wait.holder), "</p></td>\n")?;
+    page.between("", holder, "</p></td>\n")?;
     put_space(page, lanes.len().saturating_sub(end))?;
     page.markup("</tr>\n")
 }
@@ -327,6 +361,8 @@ pub fn put_run(alloc: Global, page: &mut Writer, shown: &Page) -> Result<(), All
     let lanes = lanes_of(alloc, &shown.actors, &shown.steps)?;
     page.markup(RUN)?;
     put_lanes(page, &shown.steps, &lanes, &shown.waits)?;
+    let still = shown.actors.len().saturating_sub(lanes.len());
+    put_still(page, &shown.actors, &shown.steps, still)?;
     page.markup(PLAYER)?;
     for step in &shown.steps {
         put_state(page, &shown.actors, step)?;

@@ -1,7 +1,10 @@
-// Stepping through a run, by buttons and by keys. A page without a run has no player, and nothing happens.
+// Stepping through a run, by buttons and by keys; a page without a run has no player, and opens at the first point that
+// fails, if one does.
 
 pub const STEPS: &str = "'use strict';
 const player = document.querySelector('.player');
+const failing = document.querySelector('.fails');
+if (failing && !player && !location.hash) failing.scrollIntoView({ block: 'center' });
 if (player) {
   const steps = document.querySelectorAll('.step');
   const states = document.querySelectorAll('.states dl');
@@ -18,7 +21,7 @@ if (player) {
   };
   const go = (number) => {
     show(number);
-    steps[at].scrollIntoView({ block: 'center' });
+    (steps[at].querySelector('.does') || steps[at]).scrollIntoView({ block: 'center', inline: 'nearest' });
   };
   first.onclick = () => go(0);
   back.onclick = () => go(at - 1);

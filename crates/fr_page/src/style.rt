@@ -43,7 +43,10 @@ th, td { text-align: left; vertical-align: baseline; }
 .actors { columns: 23rem var(--count); column-gap: 1.2rem; max-width: calc(var(--count) * 44rem); }
 h2 + .actors { margin-top: .9rem; }
 article { margin-bottom: 1.2rem; border: 1px solid var(--rule); border-radius: 10px; background: var(--card); overflow: hidden; break-inside: avoid; }
-article h3 { padding: .6rem 1rem; border-bottom: 1px solid var(--rule); }
+article summary { padding: .6rem 1rem; }
+article h3 { display: inline; }
+article table { border-top: 1px solid var(--rule); }
+.failing { margin: 0 0 1rem 1.2rem; }
 article table { width: 100%; }
 article tbody + tbody { border-top: 1px solid var(--rule); }
 article th { width: 3rem; padding: .4rem .9rem .4rem 0; text-align: right; font: 13px/1.5 ui-monospace, SFMono-Regular, Menlo, Consolas, 'DejaVu Sans Mono', monospace; }
@@ -90,13 +93,16 @@ article .fails td { padding-top: .4rem; }
 .wait .left p::after { content: '\\25C0'; left: -.3rem; }
 .wait .own p::after { content: '\\21BA'; right: -.3rem; }
 .current { outline: 2px solid var(--held); outline-offset: -2px; }
+.still { border: 1px solid var(--rule); border-top: 0; background: var(--card); }
+.still p { padding: 0 1rem .6rem; }
+.still span { margin-right: 1rem; }
 .states { margin-top: 1rem; border: 1px solid var(--rule); border-radius: 10px; background: var(--card); }
 .states details { border-top: 1px solid var(--rule); padding-left: 1rem; }
 summary { padding: .4rem 1rem; cursor: pointer; font-size: 13px; }
 dl { display: grid; grid-template-columns: max-content 1fr; gap: .1rem 1.2rem; padding: .2rem 1rem .7rem; }
 dd span { display: inline-block; margin-right: 1rem; }
 dd code + span { margin-left: 1rem; }
-.player { position: sticky; bottom: 0; max-height: 45vh; margin-top: 1rem; border: 1px solid var(--rule); border-radius: 10px; background: var(--card); box-shadow: 0 -3px 16px rgb(0 0 0 / .13); overflow: auto; }
+.player { position: sticky; bottom: 0; max-height: 33vh; margin-top: 1rem; border: 1px solid var(--rule); border-radius: 10px; background: var(--card); box-shadow: 0 -3px 16px rgb(0 0 0 / .13); overflow: auto; }
 .player p { padding: .6rem 1rem .3rem; }
 button { padding: .15rem .8rem; border: 1px solid var(--rule); border-radius: 6px; background: var(--fill); color: inherit; font: inherit; cursor: pointer; }
 button:disabled { opacity: .45; cursor: default; }

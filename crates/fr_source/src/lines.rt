@@ -86,10 +86,12 @@ impl Lines {
         Ok(())
     }
 
-    /// Puts an item before the one with this place.
-    pub(crate) fn insert(&mut self, place: usize, item: Item) -> Result<(), Fault> {
+    /// Puts items before the one with this place.
+    pub(crate) fn insert(&mut self, place: usize, mut items: Vec<Item>) -> Result<(), Fault> {
         let place = place.min(self.body.items.len());
-        self.body.items.insert(place, item)?;
+        let mut rest = self.body.items.split_off(place)?;
+        self.body.items.append(&mut items)?;
+        self.body.items.append(&mut rest)?;
         Ok(())
     }
 

@@ -54,12 +54,17 @@ impl<'a> Source<'a> {
     /// The words of a line, without comments.
     pub(crate) fn excerpt(&self, alloc: Global, line: usize) -> Result<String, AllocError> {
         let mut shown = String::new(alloc);
-        let text = std::str::from_utf8(self.line_of(&self.blank, line)).unwrap_or("");
-        for word in text.split_ascii_whitespace() {
-            if !shown.is_empty() {
-                shown.push_str(" ")?;
+        let mut has_gap = false;
+        for byte in self.line_of(&self.blank, line) {
+            if byte.is_ascii_whitespace() {
+                has_gap = !shown.is_empty();
+                continue;
             }
-            shown.push_str(word)?;
+            if has_gap {
+                shown.push(' ')?;
+            }
+            has_gap = false;
+            shown.push(char::from(*byte))?;
         }
         Ok(shown)
     }

@@ -5,6 +5,7 @@ use crate::open::{Case, Open};
 use crate::program::{Action, Comparison, Item, Operand, Range};
 use crate::reader::Reader;
 use crate::token::Token;
+use std::alloc::{AllocError, Global};
 
 /// The last number among the cases, if the cases have every number of the range: its test would always hold.
 fn last_of_all(cases: &[Case], range: Range) -> Option<i64> {
@@ -35,6 +36,33 @@ fn test_item(variable: usize, value: i64, case: Case) -> Item {
         to: Some(case.label),
         spot: case.spot,
     }
+}
+
+/// The tests of a switch, one for each number but the last one of all.
+fn tests_of(
+    alloc: Global,
+    variable: usize,
+    cases: &[Case],
+    last: Option<i64>,
+) -> Result<Vec<Item>, AllocError> {
+    let mut tests = Vec::new(alloc);
+    for case in cases {
+        match case.value {
+            Some(value) if last != case.value => tests.push(test_item(variable, value, *case))?,
+            _ => {}
+        }
+    }
+    Ok(tests)
+}
+
+/// The label to which a switch goes if no test holds: that of the last number of all, or else of `default`, if it is there.
+fn label_without_test(cases: &[Case], last: Option<i64>) -> Option<usize> {
+    for case in cases {
+        if case.value == last {
+            return Some(case.label);
+        }
+    }
+    None
 }
 
 impl<'a> Reader<'a> {
@@ -120,30 +148,14 @@ impl<'a> Reader<'a> {
     ) -> Result<(), Fault> {
         let (first_item, first_case) = firsts;
         let range = self.variable(variable, spot)?.range;
-        let Some(cases) = self.cases.get(first_case..) else {
-            return self.lines.place(end);
-        };
+        let cases = self.cases.get(first_case..).unwrap_or(&[]);
         let last = last_of_all(cases, range);
-        let mut other = end;
-        let mut place = first_item;
-        for number in first_case..self.cases.len() {
-            let Some(case) = self.cases.get(number).copied() else {
-                break;
-            };
-            match case.value {
-                Some(value) if last != Some(value) => {
-                    self.lines.insert(place, test_item(variable, value, case))?;
-                    place = place.saturating_add(1);
-                }
-                Some(_) => other = case.label,
-                None if last.is_none() => other = case.label,
-                None => {}
-            }
-        }
-        self.cases.truncate(first_case);
+        let mut tests = tests_of(self.alloc, variable, cases, last)?;
         let action = Action::Goto;
-        let to = Some(other);
-        self.lines.insert(place, Item::Line { action, to, spot })?;
+        let to = Some(label_without_test(cases, last).unwrap_or(end));
+        tests.push(Item::Line { action, to, spot })?;
+        self.cases.truncate(first_case);
+        self.lines.insert(first_item, tests)?;
         self.lines.place(end)
     }
 }

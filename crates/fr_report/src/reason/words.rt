@@ -4,7 +4,7 @@ ghost use Rattle.fr_calls.specs.State.{IsWellFormed};
 use crate::shown::{actor_name, object_name};
 use fr_calls::{Content, State, Stock};
 use fr_notes::{Alternative, Claim};
-use fr_program::{ActorId, App, Kind, ObjId, VarId};
+use fr_program::{ActorId, ActorKind, App, Kind, ObjId, VarId};
 use fr_witness::Subject;
 use std::alloc::{AllocError, Global};
 use std::collections::VecDeque;
@@ -96,13 +96,36 @@ pub(super) fn put_suspended(text: &mut String, actor: &str, depth: u32) -> Resul
     }
 }
 
+/// Whether the actor can hold the object: a task can hold mutexes, and nobody can hold anything else.
+fn can_hold(app: &App, actor: ActorId, object: ObjId) -> bool {
+    let is_mutex = match app.objects().get(object.0) {
+        Some(object) => matches!(object.kind, Kind::Mutex | Kind::Recursive),
+        None => false,
+    };
+    let is_task = match app.actors().get(actor.0) {
+        Some(actor) => matches!(actor.kind, ActorKind::Task),
+        None => false,
+    };
+    is_mutex && is_task
+}
+
 /// Appends a claim of an object.
-fn put_claim(text: &mut String, actor: &str, object: &str, claim: Claim) -> Result<(), AllocError> {
+fn put_claim(
+    text: &mut String,
+    app: &App,
+    actor: ActorId,
+    object: ObjId,
+    claim: Claim,
+) -> Result<(), AllocError> {
+    let (actor_name, name) = (actor_name(app, actor), object_name(app, object));
     match claim {
-        Claim::NotHeld => put_held(text, actor, object, 0),
-        Claim::Alive => write!(text, "{object} is live, and {actor} doesn't hold it"),
-        Claim::Gone => write!(text, "{object} is dead"),
-        Claim::HeldTimes(count) => put_held(text, actor, object, count),
+        Claim::NotHeld => put_held(text, actor_name, name, 0),
+        Claim::Alive if can_hold(app, actor, object) => {
+            write!(text, "{name} is live, and {actor_name} doesn't hold it")
+        }
+        Claim::Alive => write!(text, "{name} is live"),
+        Claim::Gone => write!(text, "{name} is dead"),
+        Claim::HeldTimes(count) => put_held(text, actor_name, name, count),
     }
 }
 
@@ -132,9 +155,7 @@ pub(super) fn put_said(
     match subject {
         Subject::Critical => put_critical(text, name, u32::from(says.critical())),
         Subject::Suspended => put_suspended(text, name, u32::from(says.suspended())),
-        Subject::Object(object) => {
-            put_claim(text, name, object_name(app, object), says.claim(object))
-        }
+        Subject::Object(object) => put_claim(text, app, actor, object, says.claim(object)),
         Subject::Variable(variable) => {
             let range = says.range(variable);
             put_range(text, variable_name(app, variable), range.lo, range.hi)
