@@ -148,7 +148,9 @@ impl<'a> Reader<'a> {
     ) -> Result<(), Fault> {
         let (first_item, first_case) = firsts;
         let range = self.variable(variable, spot)?.range;
-        let cases = self.cases.get(first_case..).unwrap_or(&[]);
+        let Some(cases) = self.cases.get(first_case..) else {
+            return self.lines.place(end);
+        };
         let last = last_of_all(cases, range);
         let mut tests = tests_of(self.alloc, variable, cases, last)?;
         let action = Action::Goto;
