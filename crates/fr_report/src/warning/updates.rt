@@ -20,7 +20,7 @@ struct Update {
     copied: Copied,
     /// The line that sets the variable.
     pc: usize,
-    /// That line, and those between.
+    /// That line, and those between that lead to it.
     between: Vec<usize>,
 }
 
@@ -128,7 +128,10 @@ fn lines_after(instr: &Instr, pc: usize) -> (Option<usize>, Option<usize>) {
 struct Walk {
     next: Vec<usize>,
     seen: Vec<bool>,
-    between: Vec<usize>,
+    /// The lines that were looked at.
+    visited: Vec<usize>,
+    /// Which lines lead to one that sets the variable from the copy.
+    leads: Vec<bool>,
     /// The line that sets the variable from the copy, once one was met.
     store: Option<usize>,
 }
@@ -155,25 +158,75 @@ impl Walk {
         if overwrites(instr, copied.copy) {
             return Ok(());
         }
-        self.between.push(pc)?;
+        self.visited.push(pc)?;
         if is_store(instr, copied) {
             self.store = Some(self.store.map_or(pc, |first| first.min(pc)));
+            self.set_leading(pc);
             return Ok(());
         }
         self.follow(instr, pc)
     }
+
+    /// Notes that the line leads to one that sets the variable.
+    fn set_leading(&mut self, pc: usize) {
+        if let Some(leads) = self.leads.get_mut(pc) {
+            *leads = true;
+        }
+    }
+
+    /// Whether the line, if there is one, leads to one that sets the variable.
+    fn is_leading(&self, pc: Option<usize>) -> bool {
+        match pc {
+            Some(pc) => self.leads.get(pc) == Some(&true),
+            None => false,
+        }
+    }
+
+    /// Whether the line goes to one that leads there.
+    fn goes_there(&self, code: &[Instr], pc: usize) -> bool {
+        match code.get(pc) {
+            Some(instr) => {
+                let (one, other) = lines_after(instr, pc);
+                self.is_leading(one) || self.is_leading(other)
+            }
+            None => false,
+        }
+    }
+
+    /// Marks each line that was looked at and goes to one that leads there. Says whether a line was marked.
+    fn mark(&mut self, code: &[Instr]) -> bool {
+        let mut has_marked = false;
+        for place in (0..self.visited.len()).rev() {
+            let Some(pc) = self.visited.get(place).copied() else {
+                continue;
+            };
+            if !self.is_leading(Some(pc)) && self.goes_there(code, pc) {
+                self.set_leading(pc);
+                has_marked = true;
+            }
+        }
+        has_marked
+    }
+
+    /// The lines that lead to one that sets the variable, that line with them.
+    fn leading(&self, alloc: Global) -> Result<Vec<usize>, AllocError> {
+        let mut leading = Vec::new(alloc);
+        for pc in &self.visited {
+            if self.is_leading(Some(*pc)) {
+                leading.push(*pc)?;
+            }
+        }
+        Ok(leading)
+    }
 }
 
-/// The update that begins with this copy; None where no line that can follow sets the variable from it.
-fn update_after(
-    alloc: Global,
-    code: &[Instr],
-    copied: Copied,
-) -> Result<Option<Update>, AllocError> {
+/// The walk from this copy on.
+fn walk_after(alloc: Global, code: &[Instr], copied: Copied) -> Result<Walk, AllocError> {
     let mut walk = Walk {
         next: Vec::new(alloc),
         seen: vec![in alloc; false; code.len()]?,
-        between: Vec::new(alloc),
+        visited: Vec::new(alloc),
+        leads: vec![in alloc; false; code.len()]?,
         store: None,
     };
     if let Some(instr) = code.get(copied.pc) {
@@ -186,14 +239,30 @@ fn update_after(
         };
         walk.visit(code, pc, copied)?;
     }
-    let between = walk.between;
-    Ok(
-        walk.store.map(|pc| Update {
-            copied,
-            pc,
-            between,
-        }),
-    )
+    Ok(walk)
+}
+
+/// The update that begins with this copy; None where no line that can follow sets the variable from it.
+fn update_after(
+    alloc: Global,
+    code: &[Instr],
+    copied: Copied,
+) -> Result<Option<Update>, AllocError> {
+    let mut walk = walk_after(alloc, code, copied)?;
+    let Some(pc) = walk.store else {
+        return Ok(None);
+    };
+    for _ in 0..code.len() {
+        if !walk.mark(code) {
+            break;
+        }
+    }
+    let between = walk.leading(alloc)?;
+    Ok(Some(Update {
+        copied,
+        pc,
+        between,
+    }))
 }
 
 /// Whether the alternative can hold beside one of the note's.
