@@ -81,8 +81,8 @@ fn write_to<F: Files, E: Write>(
     ensures text { IfOk result (λ _. (text : List ℕ) × IsApplication text) }
     ensures files { IsTranslatedTo F.Puts path.now files.old files.new }
 {
-    let (replaces, inputs) = (Holds::Anything, [asked.source]);
-    if let Err(fault) = files.check_outputs(&inputs, &[Some(Output { path, replaces })]) {
+    let replaces = Holds::Anything;
+    if let Err(fault) = files.check_outputs(&[asked.source], &[Some(Output { path, replaces })]) {
         return Err(Refusal::of_outputs(alloc, &fault, true));
     }
     let found = translation(alloc, asked, files)?;
