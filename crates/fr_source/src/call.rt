@@ -81,8 +81,7 @@ impl<'a> Reader<'a> {
     /// Refuses a task that makes a call of interrupts.
     fn check_home(&self, kernel: &Kernel, spot: Spot) -> Result<(), Fault> {
         let name = kernel.name;
-        let is_of_interrupts = name.ends_with("FromISR") || name.ends_with("_FROM_ISR");
-        if is_of_interrupts && matches!(self.home, Home::Task) {
+        if kernel.is_of_interrupts() && matches!(self.home, Home::Task) {
             let text = format!(in self.alloc;
                 "a task doesn't make the call {name}, which is for interrupts"
             );

@@ -372,7 +372,7 @@ impl<'a> Reader<'a> {
                 let shown = clipped(text);
                 let kind = meaning.text();
                 let fault = format!(in self.alloc;
-                    "'{shown}' is the name of a {kind}, and a variable or a number is expected"
+                    "'{shown}' is the name of {kind}, and a variable or a number is expected"
                 );
                 return Err(wrong(spot, fault));
             }

@@ -53,6 +53,11 @@ impl Kernel {
     pub(crate) fn may_fail(&self) -> bool {
         matches!(self.answer, Answer::Success | Answer::Handle)
     }
+
+    /// Whether the call is for interrupts alone.
+    pub(crate) fn is_of_interrupts(&self) -> bool {
+        self.name.ends_with("FromISR") || self.name.ends_with("_FROM_ISR")
+    }
 }
 
 /// The rows of a table, a row a line.

@@ -143,7 +143,7 @@ impl<'a> Reader<'a> {
             let kind = meaning.text();
             return Err(wrong(
                 spot,
-                format!(in self.alloc; "'{shown}' is already the name of a {kind}"),
+                format!(in self.alloc; "'{shown}' is already the name of {kind}"),
             ));
         }
         self.cursor.advance();
@@ -195,7 +195,7 @@ impl<'a> Reader<'a> {
         wrong(
             token.spot,
             format!(in self.alloc;
-                "expected the name of {what}, and '{shown}' is the name of a {kind}"
+                "expected the name of {what}, and '{shown}' is the name of {kind}"
             ),
         )
     }

@@ -1,5 +1,6 @@
 // The names of an application's variables. A name in two places of the source becomes one of its actor's own.
 
+use crate::kernel::{is_reserved, kernel_named, value_of};
 use crate::program::{Owner, Program, Variable};
 use std::alloc::{AllocError, Global};
 
@@ -69,9 +70,12 @@ fn joined(
     }
 }
 
-/// Whether a text can be a variable's name: it is short, and no other name.
+/// Whether a text can be a variable's name: it is short, no word of the notation or of the kernel, and no other name.
 fn is_free(program: &Program<'_>, names: &[String], text: &str) -> bool {
     text.len() <= LONGEST_NAME
+        && !is_reserved(text)
+        && value_of(text).is_none()
+        && kernel_named(text).is_none()
         && count_of(program, text) == 0
         && !names.iter().any(|name| name.as_str() == text)
 }

@@ -17,15 +17,15 @@ pub(crate) enum Meaning {
 }
 
 impl Meaning {
-    /// What a message calls it.
+    /// What a message calls it, with its article.
     pub(crate) fn text(self) -> &'static str {
         match self {
-            Meaning::Constant(_) => "constant",
-            Meaning::Variable(_) => "variable",
-            Meaning::Object(_) => "object",
-            Meaning::Function(_) => "function",
-            Meaning::Task => "task",
-            Meaning::Interrupt => "interrupt",
+            Meaning::Constant(_) => "a constant",
+            Meaning::Variable(_) => "a variable",
+            Meaning::Object(_) => "an object",
+            Meaning::Function(_) => "a function",
+            Meaning::Task => "a task",
+            Meaning::Interrupt => "an interrupt",
         }
     }
 }

@@ -68,11 +68,20 @@ impl<'a> Reader<'a> {
             }
             "case" | "default" => self.case(),
             "if" | "while" | "do" | "for" | "switch" => self.construct(),
+            _ if self.is_at_label() => {
+                self.named_label()?;
+                Ok(false)
+            }
             _ => {
                 self.jump_or_simple()?;
                 Ok(true)
             }
         }
+    }
+
+    /// Whether a label is next, which belongs to the statement after it.
+    fn is_at_label(&self) -> bool {
+        self.cursor.is_at_word() && self.cursor.following().text == ":"
     }
 
     /// Takes the brace that begins a block.
@@ -330,17 +339,9 @@ impl<'a> Reader<'a> {
         Ok(true)
     }
 
-    /// Reads a jump, a label or a simple statement.
+    /// Reads a jump or a simple statement.
     fn jump_or_simple(&mut self) -> Result<(), Fault> {
-        let Token {
-            kind,
-            text,
-            spot,
-            ..
-        } = self.cursor.token();
-        if matches!(kind, Kind::Word) && self.cursor.following().text == ":" {
-            return self.named_label(text, spot);
-        }
+        let Token { text, spot, .. } = self.cursor.token();
         match text {
             "break" => self.break_here(spot)?,
             "continue" => self.continue_here(spot)?,
@@ -429,7 +430,8 @@ impl<'a> Reader<'a> {
     }
 
     /// Takes a label that the source names.
-    fn named_label(&mut self, text: &'a str, spot: Spot) -> Result<(), Fault> {
+    fn named_label(&mut self) -> Result<(), Fault> {
+        let Token { text, spot, .. } = self.cursor.token();
         self.cursor.advance();
         self.cursor.advance();
         let shown = clipped(text);

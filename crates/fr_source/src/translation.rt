@@ -5,7 +5,7 @@ use crate::declare::program_in;
 use crate::expand::{Code, Line, code_of, outermost};
 use crate::fault::{Fault, Spot, wrong};
 use crate::message::{Message, Refused, message_at, refused_by};
-use crate::program::{Action, Actor, Program};
+use crate::program::{Action, Actor, ActorKind, Program};
 use crate::renamed::names_of;
 use crate::source::{Source, plain};
 use crate::text::Writer;
@@ -32,6 +32,24 @@ pub struct Translation {
     pub text: String,
     /// The places that are never reached, and left out: the first 100.
     pub warnings: Vec<Message>,
+}
+
+/// Refuses a task that makes a call of interrupts, in a function that it calls.
+fn check_calls(alloc: Global, actor: Actor<'_>, code: &Code) -> Result<(), Fault> {
+    let name = actor.name;
+    for line in &code.lines {
+        if let Action::Call { call, .. } = line.action
+            && call.kernel.is_of_interrupts()
+            && matches!(actor.kind, ActorKind::Task)
+        {
+            let made = call.kernel.name;
+            let text = format!(in alloc;
+                "task '{name}' makes the call {made} here, which is for interrupts"
+            );
+            return Err(wrong(outermost(&code.calls, line.place), text));
+        }
+    }
+    Ok(())
 }
 
 /// Refuses a task that can come to its end, and an actor with too many lines.
@@ -97,7 +115,9 @@ fn warn(
         if warnings.len() >= MOST_WARNINGS {
             break;
         }
-        let text = format!(in alloc; "this is never reached in {kind} '{name}', and left out")?;
+        let text = format!(in alloc;
+            "warning: this is never reached in {kind} '{name}', and left out"
+        )?;
         warnings.push(message_at(alloc, source, *spot, text)?)?;
     }
     Ok(())
@@ -116,6 +136,7 @@ fn codes_of(
             break;
         };
         let mut code = code_of(alloc, program, actor, number)?;
+        check_calls(alloc, actor, &code)?;
         warn(alloc, source, actor, &code, warnings)?;
         tidy(alloc, program, &mut code.lines)?;
         check_code(alloc, actor, &code)?;
