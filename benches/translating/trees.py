@@ -364,14 +364,16 @@ def things(chance):
     ]
 
 
-def random_source(chance):
-    """A source with two functions, of which the second may call the first, and one or two tasks or interrupts."""
+def random_source(chance, mixes_calls=False):
+    """A source with two functions, of which the second may call the first, and one or two tasks or interrupts. With `mixes_calls` the functions
+    have calls of interrupts too, which a task mustn't come to.
+    """
     shared = [Variable("s", 0, 1, chance.choice([0, 1])), Variable("t", 0, chance.choice([1, 1, 2]))]
     kinds = chance.choice([["task"], ["task"], ["interrupt"], ["task", "task"], ["interrupt", "task"]])
     functions = []
     for name in ("f", "g"):
         own = own_variables(chance)
-        calls = CALLS_OF_INTERRUPTS if kinds == ["interrupt"] else CALLS_OF_TASKS
+        calls = CALLS_OF_INTERRUPTS if mixes_calls or kinds == ["interrupt"] else CALLS_OF_TASKS
         functions.append(Body(name, "function", own, Maker(chance, "function", calls, own, shared, functions[:]).whole(1)))
     actors = []
     for number, kind in enumerate(kinds):
