@@ -86,7 +86,9 @@ def said(app, actor, says, subject):
         lo, hi = says.get("range", {}).get(name, app.declared(name))
         return f"{name} is {lo}" if lo == hi else f"{name} is from {lo} to {hi}"
     claim = model.claim(says, name)
-    words = {"gone": f"{name} is dead", "alive": f"{name} is live, and {who} doesn't hold it"}
+    can_hold = app.kind(name) in model.MUTEXES and not app.interrupts[actor]
+    alive = f"{name} is live, and {who} doesn't hold it" if can_hold else f"{name} is live"
+    words = {"gone": f"{name} is dead", "alive": alive}
     return words.get(claim) or held_text(who, name, 0 if claim == "not held" else claim)
 
 
