@@ -40,7 +40,7 @@ use Rattle.fr_order.specs.Graph.{ComesBefore, IsEnd}
 use Rattle.fr_order.specs.Peeled.{IsWithin}
 use Rattle.fr_order.specs.Settled.{IsSettled}
 use Rattle.fr_order.specs.Order.{IsInsideTake, IsEdge, IsOrderOf, NamesThings}
-use Rattle.fr_order.specs.Edges.{waits_to_take, inside_take, can_be_edge, AreInside, HasTakesBelow, AreTakes, CanBeEdge, IsEdgeOf, AreEdges, HasEdge, HasEdgesBelow, HasEdgesFrom}
+use Rattle.fr_order.specs.Edges.{waits_to_take, inside_take, inside_any_take, can_be_edge, AreInside, HasTakesBelow, AreTakes, ArePoints, AreAllTakes, CanBeEdge, IsEdgeOf, AreEdges, HasEdge, HasEdgesBelow, HasEdgesFrom}
 
 -- ---- takes
 
@@ -103,6 +103,53 @@ below-other P m takes n p at out below = λ k l q is t.
 
 pub below-all : (P : Program) (m : ℕ) (takes : List ℕ) (n more : ℕ) → more ≤ n → HasTakesBelow P m takes n → HasTakesBelow P m takes more
 below-all P m takes n more le below = λ k l. below k (omega (arith, l, le))
+
+-- where the actor is inside no take at all, it is inside none of this object
+pub not-inside : (s : Side) (i : Option Instr) (m : ℕ) → inside_any_take s i ≡ false → inside_take s i m ≡ false
+not-inside Inside (Some (Calls (On call))) m e = ap (λ b. nat_eq call.object.0 m && b) e ∙ and-false (nat_eq call.object.0 m)
+  where
+    and-false : (b : Bool) → (b && false) ≡ false
+    and-false true = refl
+    and-false false = refl
+not-inside s i m e = refl
+
+pub points-more : (P : Program) (takes : List ℕ) (n : ℕ) → n < length (points_of P) → ArePoints P takes → ArePoints P (takes ++ n ∷ [])
+points-more P takes n l points = All-push (λ k. k < length (points_of P)) takes n points l
+
+-- of the first n of these numbers, those of points inside a take of the object are among the takes
+abbrev pub HasTakesAmong : Program → ℕ → List ℕ → List ℕ → ℕ → Type 0
+HasTakesAmong P m all takes n = (i : ℕ) → i < n → (p : Point) → slice_get (points_of P) (get_or all i 0) ≡ Some p → IsInsideTake P p m → Contains takes (get_or all i 0)
+
+pub among-more : (P : Program) (m : ℕ) (all takes : List ℕ) (n : ℕ) → HasTakesAmong P m all takes n → HasTakesAmong P m all (takes ++ get_or all n 0 ∷ []) (n + 1)
+among-more P m all takes n among = λ i l p at t.
+    ⊎_elim
+    (λ less. Contains-append_left takes (get_or all n 0 ∷ []) (get_or all i 0) (among i less p at t))
+    (λ h. let same : n ≡ i = omega (arith, l, h) in subst (λ j. Contains (takes ++ get_or all n 0 ∷ []) (get_or all j 0)) same (Contains-push takes (get_or all n 0)))
+    (cases_lt i n)
+
+pub among-other : (P : Program) (m : ℕ) (all takes : List ℕ) (n : ℕ) (p : Point) → slice_get (points_of P) (get_or all n 0) ≡ Some p → inside_take p.side (instr_of P p) m ≡ false → HasTakesAmong P m all takes n → HasTakesAmong P m all takes (n + 1)
+among-other P m all takes n p at out among = λ i l q is t.
+    ⊎_elim
+    (λ less. among i less q is t)
+    (λ h.
+    let same : i ≡ n = omega (arith, l, h) in
+    let one : q ≡ p = same_Some _ _ (sym is ∙ ap (λ j. slice_get (points_of P) (get_or all j 0)) same ∙ at) in
+    let yes = inside-says P p m (subst (λ r. IsInsideTake P r m) one t) in absurd (cc))
+    (cases_lt i n)
+
+pub among-whole : (P : Program) (m : ℕ) (all takes : List ℕ) (n : ℕ) → length all ≤ n → HasTakesAmong P m all takes n → HasTakesAmong P m all takes (length all)
+among-whole P m all takes n le among = λ i l. among i (omega (arith, l, le))
+
+pub among-all : (P : Program) (m : ℕ) (all takes : List ℕ) → AreAllTakes P all → HasTakesAmong P m all takes (length all) → HasTakesBelow P m takes (length (points_of P))
+among-all P m all takes a among = λ k l p at t.
+    let c = a.all m k l p at t in
+    let is : get_or all c.0 0 ≡ k = any all c.0 c.1 k ∙ c.2 in
+    subst (λ j. Contains takes j) is (among c.0 c.1 p (subst (λ j. slice_get (points_of P) j ≡ Some p) (sym is) at) t)
+  where
+    any : (xs : List ℕ) (k : ℕ) → k < length xs → (d : ℕ) → get_or xs k 0 ≡ get_or xs k d
+    any [] k l d = absurd (omega arith)
+    any (x ∷ xs) zero l d = refl
+    any (x ∷ xs) (suc k) l d = any xs k (omega arith) d
 
 -- ---- kinds
 

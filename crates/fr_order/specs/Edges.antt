@@ -4,11 +4,13 @@
 -- |-------------------|--------------------------------------------------------------------------------|
 -- | waits_to_take     | a call's act and timing are a take that waits without limit                    |
 -- | inside_take       | an actor at a side of an instruction is inside such a take                     |
+-- | inside_any_take   | the same, of any object                                                        |
 -- | can_be_edge,      | an edge can lead from one object to the other, by their kinds                  |
 -- |   CanBeEdge       |                                                                                |
 -- | AreInside,        | the numbers of points inside such takes of a mutex, all of those               |
 -- |   AreTakes        |                                                                                |
 -- | HasTakesBelow     | each such number below a number is among these                                 |
+-- | ArePoints, AreAllTakes | the numbers of points inside such takes of any object, all of those       |
 -- | IsEdgeOf, AreEdges| edges of the application                                                       |
 -- | HasEdge           | one of them leads from a mutex to another one                                  |
 -- | HasEdgesBelow,    | each edge to a mutex, from a mutex with a number below a number is among them  |
@@ -52,6 +54,10 @@ can_be_edge Mutex h m = true
 can_be_edge Recursive h m = not (nat_eq h m)
 can_be_edge kind h m = false
 
+abbrev pub inside_any_take : Side → Option Instr → Bool
+inside_any_take Inside (Some (Calls (On call))) = waits_to_take call.act call.timing
+inside_any_take side i = false
+
 -- numbers of points, at each of which the actor is inside a take of the mutex
 abbrev pub AreInside : Program → ℕ → List ℕ → Type 0
 AreInside P m takes = All (λ k. (k < length (points_of P)) × ((p : Point) → slice_get (points_of P) k ≡ Some p → IsInsideTake P p m)) takes
@@ -64,6 +70,15 @@ HasTakesBelow P m takes n = (k : ℕ) → k < n → (p : Point) → slice_get (p
 pub record AreTakes (P : Program) (m : ℕ) (takes : List ℕ) : Type 0 where
   pub inside : AreInside P m takes
   pub all : HasTakesBelow P m takes (length (points_of P))
+
+-- numbers of points
+abbrev pub ArePoints : Program → List ℕ → Type 0
+ArePoints P takes = All (λ k. k < length (points_of P)) takes
+
+-- the numbers of points, among which are those of all points inside a take of any object
+pub record AreAllTakes (P : Program) (takes : List ℕ) : Type 0 where
+  pub points : ArePoints P takes
+  pub all : (m : ℕ) → HasTakesBelow P m takes (length (points_of P))
 
 -- an edge can lead from h to m, by their kinds
 pub record CanBeEdge (P : Program) (h m : ℕ) : Type 0 where

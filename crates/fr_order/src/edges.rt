@@ -6,7 +6,7 @@ ghost use Rattle.fr_program.specs.Points.{points_of};
 ghost use Rattle.fr_calls.specs.State.{kind_of};
 ghost use Rattle.fr_notes.specs.Fits.{NotesFit};
 ghost use Rattle.fr_order.specs.Order.{CanHold, IsEdge};
-ghost use Rattle.fr_order.specs.Edges.{waits_to_take, inside_take, can_be_edge, AreTakes, CanBeEdge, AreEdges, HasEdgesBelow};
+ghost use Rattle.fr_order.specs.Edges.{waits_to_take, inside_take, inside_any_take, can_be_edge, AreTakes, AreAllTakes, CanBeEdge, AreEdges, HasEdgesBelow};
 
 use crate::edge::Edge;
 use fr_notes::{Claim, Note, Notes};
@@ -50,14 +50,43 @@ fn is_inside_take(app: &App, point: Point, object: ObjId) -> bool
     }
 }
 
-/// The numbers of the points inside takes of the object that wait without limit.
-fn takes_of(alloc: Global, app: &App, object: ObjId) -> Result<Vec<usize>, AllocError>
-    ensures { IfOk result (λ takes. AreTakes app.now object.0 takes.items) }
+/// Whether the actor at the point is inside a take of any object that waits without limit.
+fn is_inside_any_take(app: &App, point: Point) -> bool
+    ensures { result ≡ inside_any_take point.side (instr_of app.now point) }
+{
+    match (point.side, app.instr(point)) {
+        (Side::Inside, Some(Instr::Call(Call::On(call)))) => waits_to_take(*call),
+        (_, _) => false,
+    }
+}
+
+/// The numbers of the points inside takes that wait without limit, of any object.
+fn all_takes(alloc: Global, app: &App) -> Result<Vec<usize>, AllocError>
+    ensures { IfOk result (λ takes. AreAllTakes app.now takes.items) }
 {
     let mut takes = Vec::new(alloc);
     for number in 0..app.points() {
-        if is_inside_take(app, app.point(number), object) {
+        if is_inside_any_take(app, app.point(number)) {
             takes.push(number)?;
+        }
+    }
+    Ok(takes)
+}
+
+/// Those of them that are inside takes of the object.
+fn takes_of(
+    alloc: Global,
+    app: &App,
+    all: &[usize],
+    object: ObjId,
+) -> Result<Vec<usize>, AllocError>
+    requires { AreAllTakes app.now all.now }
+    ensures { IfOk result (λ takes. AreTakes app.now object.0 takes.items) }
+{
+    let mut takes = Vec::new(alloc);
+    for number in all {
+        if is_inside_take(app, app.point(*number), object) {
+            takes.push(*number)?;
         }
     }
     Ok(takes)
@@ -113,17 +142,19 @@ fn add_edges(
     alloc: Global,
     app: &App,
     notes: &Notes,
+    all: &[usize],
     taken: ObjId,
     mut edges: Vec<Edge>,
 ) -> Result<Vec<Edge>, AllocError>
     requires fit { NotesFit app.now notes.now }
+    requires takes { AreAllTakes app.now all.now }
     requires taken { taken.0 < length app.now.objects }
     requires edges { AreEdges app.now notes.now edges.items }
     requires all { HasEdgesBelow app.now notes.now edges.items taken.0 }
     ensures edges { IfOk result (λ more. AreEdges app.now notes.now more.items) }
     ensures all { IfOk result (λ more. HasEdgesBelow app.now notes.now more.items (taken.0 + 1)) }
 {
-    let takes = takes_of(alloc, app, taken)?;
+    let takes = takes_of(alloc, app, all, taken)?;
     for number in 0..object_count(app) {
         let held = ObjId(number);
         if can_be_edge(app, held, taken) {
@@ -141,9 +172,10 @@ pub(crate) fn edges_of(alloc: Global, app: &App, notes: &Notes) -> Result<Vec<Ed
     ensures edges { IfOk result (λ edges. AreEdges app.now notes.now edges.items) }
     ensures all { IfOk result (λ edges. HasEdgesBelow app.now notes.now edges.items (length app.now.objects)) }
 {
+    let takes = all_takes(alloc, app)?;
     let mut edges = Vec::new(alloc);
     for number in 0..object_count(app) {
-        edges = add_edges(alloc, app, notes, ObjId(number), edges)?;
+        edges = add_edges(alloc, app, notes, &takes, ObjId(number), edges)?;
     }
     Ok(edges)
 }
