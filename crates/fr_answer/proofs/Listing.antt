@@ -10,6 +10,7 @@ use Rattle.std.specs.List.{concat}
 use Rattle.fr_formats.specs.declared.answer.AnswerShown.{AnswerShown}
 use Rattle.fr_list.specs.Means.{Entry}
 use Rattle.fr_list.specs.Beside.{beside}
+use Rattle.fr_answer.specs.Inputs.{Reading}
 use Rattle.fr_answer.specs.Answers.{what_status}
 use Rattle.fr_answer.specs.Commands.{AreAnswered, AreLinesPrinted, Each, IsLineAnswer, IsLineText, LineAnswer, Shows, greater_status}
 
@@ -30,36 +31,36 @@ printed-more explains list lines line text old mid new h own now =
       subst (Appends old new) (sym whole) (Appends-trans old mid new (concat h.0) text h.2 now),
     )
 
-module _ (gives : List ℕ → ℕ → List ℕ → Type 0) (asks : Bool) where
+module _ (reads : Reading → List ℕ → List ℕ → Type 0) (asks : Bool) where
   -- the answer to one line more
-  pub answered-more : (list : List ℕ) (entries : List Entry) (status : ℕ) (line : LineAnswer) (Was Is : List LineAnswer → Type 0) → AreAnswered gives asks list entries status Was
-      → IsLineAnswer gives asks list line → ((lines : List LineAnswer) → Was lines → Is (lines ++ line ∷ []))
-      → AreAnswered gives asks list (entries ++ line.entry ∷ []) (max status (what_status line.what)) Is
+  pub answered-more : (list : List ℕ) (entries : List Entry) (status : ℕ) (line : LineAnswer) (Was Is : List LineAnswer → Type 0) → AreAnswered reads asks list entries status Was
+      → IsLineAnswer reads asks list line → ((lines : List LineAnswer) → Was lines → Is (lines ++ line ∷ []))
+      → AreAnswered reads asks list (entries ++ line.entry ∷ []) (max status (what_status line.what)) Is
   answered-more list entries status line Was Is h own on = (
     h.0 ++ line ∷ [],
     map-append (λ l. l.entry) h.0 (line ∷ []) ∙ ap (λ es. es ++ line.entry ∷ []) h.1,
-    All-append (IsLineAnswer gives asks list) h.0 (line ∷ []) h.2 (All-cons (IsLineAnswer gives asks list) line [] own (All-nil (IsLineAnswer gives asks list))),
+    All-append (IsLineAnswer reads asks list) h.0 (line ∷ []) h.2 (All-cons (IsLineAnswer reads asks list) line [] own (All-nil (IsLineAnswer reads asks list))),
     ap (λ s. max s (what_status line.what)) h.3 ∙ sym (fold-append greater_status 0 h.0 (line ∷ [])),
     on h.0 h.4,
   )
 
   -- both of one line more that is printed
   pub printed-line : (explains : Bool) (list : List ℕ) (entries : List Entry) (status : ℕ) (line : LineAnswer) (text : List ℕ) (old mid new : Option (List ℕ))
-      → AreAnswered gives asks list entries status (λ lines. AreLinesPrinted None explains list lines old mid) → IsLineAnswer gives asks list line
+      → AreAnswered reads asks list entries status (λ lines. AreLinesPrinted None explains list lines old mid) → IsLineAnswer reads asks list line
       → IsLineText explains (beside list line.entry.application) line.what text → Appends mid new text
-      → AreAnswered gives asks list (entries ++ line.entry ∷ []) (max status (what_status line.what)) (λ lines. AreLinesPrinted None explains list lines old new)
+      → AreAnswered reads asks list (entries ++ line.entry ∷ []) (max status (what_status line.what)) (λ lines. AreLinesPrinted None explains list lines old new)
   printed-line explains list entries status line text old mid new h own told now =
       answered-more list entries status line (λ lines. AreLinesPrinted None explains list lines old mid) (λ lines. AreLinesPrinted None explains list lines old new) h own
       (λ lines was. printed-more explains list lines line text old mid new was told now)
 
   -- both of one line more whose answer a report shows
   pub shown-line : (list : List ℕ) (entries : List Entry) (status : ℕ) (line : LineAnswer) (shown new : List AnswerShown) (s : AnswerShown) → new ≡ shown ++ s ∷ []
-      → AreAnswered gives asks list entries status (λ lines. Each (λ l a. Shows l.what a) lines shown) → IsLineAnswer gives asks list line → Shows line.what s
-      → AreAnswered gives asks list (entries ++ line.entry ∷ []) (max status (what_status line.what)) (λ lines. Each (λ l a. Shows l.what a) lines new)
+      → AreAnswered reads asks list entries status (λ lines. Each (λ l a. Shows l.what a) lines shown) → IsLineAnswer reads asks list line → Shows line.what s
+      → AreAnswered reads asks list (entries ++ line.entry ∷ []) (max status (what_status line.what)) (λ lines. Each (λ l a. Shows l.what a) lines new)
   shown-line list entries status line shown new s pushed h own shows =
       answered-more list entries status line (λ lines. Each (λ l a. Shows l.what a) lines shown) (λ lines. Each (λ l a. Shows l.what a) lines new) h own
       (λ lines was. subst (λ answers. Each (λ l a. Shows l.what a) (lines ++ line ∷ []) answers) (sym pushed) (each-more (λ l a. Shows l.what a) lines shown line s was shows))
 
   -- the answers, of other lines and with another status that are the same
-  pub answered-at : (list : List ℕ) (one other : List Entry) (s t : ℕ) (Is : List LineAnswer → Type 0) → other ≡ one → t ≡ s → AreAnswered gives asks list one s Is → AreAnswered gives asks list other t Is
+  pub answered-at : (list : List ℕ) (one other : List Entry) (s t : ℕ) (Is : List LineAnswer → Type 0) → other ≡ one → t ≡ s → AreAnswered reads asks list one s Is → AreAnswered reads asks list other t Is
   answered-at list one other s t Is same next h = (h.0, h.1 ∙ sym same, h.2, next ∙ h.3, h.4)

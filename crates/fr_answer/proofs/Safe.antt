@@ -35,6 +35,7 @@ use Rattle.fr_list.specs.Beside.{beside}
 use Rattle.fr_request.specs.declared.format.Format.{Format}
 use Rattle.fr_request.specs.declared.request.Judged.{Judged as Named}
 use Rattle.fr_request.specs.declared.request.Judged.TheVariants.{One, Listed}
+use Rattle.fr_answer.specs.Inputs.{Reading}
 use Rattle.fr_answer.specs.declared.answer.What.{What}
 use Rattle.fr_answer.specs.declared.answer.What.TheVariants.{Judged, Searched, Refused}
 use Rattle.fr_answer.specs.Checked.{IsFreeText, IsSafeText}
@@ -135,23 +136,23 @@ pub safe-by : {Y : Type 0} (A : ℕ → Type 0) (B : Type 0) (r : Result ℕ Y) 
 safe-by A B (Ok s) h f = λ e. f s e h
 safe-by A B (Err y) h f = tt
 
-module _ (gives : List ℕ → ℕ → List ℕ → Type 0) (asks : Bool) where
+module _ (reads : Reading → List ℕ → List ℕ → Type 0) (asks : Bool) where
   -- the same of files
-  pub check-safe : (app certificate : List ℕ) (what : What) → IsCheckOf gives asks app certificate what → what_status what ≡ 0 → IsSafeAt gives asks app
+  pub check-safe : (app certificate : List ℕ) (what : What) → IsCheckOf reads asks app certificate what → what_status what ≡ 0 → IsSafeAt reads asks app
   check-safe app certificate what h e = let good = verdict-safe asks h.0 h.1 what h.4 e in (h.0, h.2, good.0, good.1)
 
-  pub proof-at-safe : (app : List ℕ) (searches : Bool) (c : List ℕ) (what : What) → IsProofAt gives asks app searches c what → what_status what ≡ 0 → IsSafeAt gives asks app
+  pub proof-at-safe : (app : List ℕ) (searches : Bool) (c : List ℕ) (what : What) → IsProofAt reads asks app searches c what → what_status what ≡ 0 → IsSafeAt reads asks app
   proof-at-safe app searches c what h e = let good = proof-safe asks h.0 searches c what h.2 e in (h.0, h.1, good.0, good.1)
 
-  pub search-at-safe : (app : List ℕ) (what : What) → IsSearchAt gives asks app what → what_status what ≡ 0 → IsSafeAt gives asks app
+  pub search-at-safe : (app : List ℕ) (what : What) → IsSearchAt reads asks app what → what_status what ≡ 0 → IsSafeAt reads asks app
   search-at-safe app what h e = let good = search-safe asks h.0 what h.2 e in (h.0, h.1, good.0, good.1)
 
   -- the same of lines of a list
-  answer-by-safe : (list app : List ℕ) (certificate : Option (List ℕ)) (what : What) → IsAnswerBy gives asks list app certificate what → what_status what ≡ 0 → IsSafeAt gives asks app
+  answer-by-safe : (list app : List ℕ) (certificate : Option (List ℕ)) (what : What) → IsAnswerBy reads asks list app certificate what → what_status what ≡ 0 → IsSafeAt reads asks app
   answer-by-safe list app (Some path) what h e = check-safe app (beside list path) what h e
   answer-by-safe list app None what h e = proof-at-safe app _ h.0 what h.1 e
 
-  line-safe : (list : List ℕ) (line : LineAnswer) → IsLineAnswer gives asks list line → what_status line.what ≡ 0 → IsSafeAt gives asks (beside list line.entry.application)
+  line-safe : (list : List ℕ) (line : LineAnswer) → IsLineAnswer reads asks list line → what_status line.what ≡ 0 → IsSafeAt reads asks (beside list line.entry.application)
   line-safe list line h e =
       let le : what_status line.what ≤ 1 = omega (arith, e) in
       answer-by-safe list (beside list line.entry.application) line.entry.certificate line.what (h.by le) e
@@ -161,20 +162,20 @@ module _ (gives : List ℕ → ℕ → List ℕ → Type 0) (asks : Bool) where
   from-start start [] = omega arith
   from-start start (line ∷ lines) = let rest = from-start (greater_status start line) lines in omega (arith, rest)
 
-  lines-safe : (list : List ℕ) (start : ℕ) (lines : List LineAnswer) → All (IsLineAnswer gives asks list) lines → fold greater_status start lines ≡ 0
-      → AreEachSafe gives asks list (map (λ line. line.entry) lines)
+  lines-safe : (list : List ℕ) (start : ℕ) (lines : List LineAnswer) → All (IsLineAnswer reads asks list) lines → fold greater_status start lines ≡ 0
+      → AreEachSafe reads asks list (map (λ line. line.entry) lines)
   lines-safe list start [] h e = tt
   lines-safe list start (line ∷ lines) h e =
       let least = from-start (greater_status start line) lines in
       let zero : what_status line.what ≡ 0 = omega (arith, e, least) in
-      (line-safe list line (All-head (IsLineAnswer gives asks list) line lines h) zero, lines-safe list (greater_status start line) lines (All-tail (IsLineAnswer gives asks list) line lines h) e)
+      (line-safe list line (All-head (IsLineAnswer reads asks list) line lines h) zero, lines-safe list (greater_status start line) lines (All-tail (IsLineAnswer reads asks list) line lines h) e)
 
-  answered-safe : (list : List ℕ) (entries : List Entry) (s : ℕ) (Is : List LineAnswer → Type 0) → s ≡ 0 → AreAnswered gives asks list entries s Is → AreEachSafe gives asks list entries
-  answered-safe list entries s Is e h = subst (λ es. AreEachSafe gives asks list es) h.1 (lines-safe list 0 h.0 h.2 (sym h.3 ∙ e))
+  answered-safe : (list : List ℕ) (entries : List Entry) (s : ℕ) (Is : List LineAnswer → Type 0) → s ≡ 0 → AreAnswered reads asks list entries s Is → AreEachSafe reads asks list entries
+  answered-safe list entries s Is e h = subst (λ es. AreEachSafe reads asks list es) h.1 (lines-safe list 0 h.0 h.2 (sym h.3 ∙ e))
 
   -- the same of what a request asks for
-  pub named-safe : (named : Named) (format : Option Format) (explains : Bool) (s : ℕ) (old new : Option (List ℕ)) → s ≡ 0 → IsCheckAnswered gives asks named format explains s old new
-      → AreNamedSafe gives asks named
+  pub named-safe : (named : Named) (format : Option Format) (explains : Bool) (s : ℕ) (old new : Option (List ℕ)) → s ≡ 0 → IsCheckAnswered reads asks named format explains s old new
+      → AreNamedSafe reads asks named
   named-safe (One app certificate) format explains s old new e h =
       let zero = sym h.2 ∙ e in
       check-safe app.now certificate.now h.0 (h.1 (omega (arith, zero))) zero
@@ -182,13 +183,13 @@ module _ (gives : List ℕ → ℕ → List ℕ → Type 0) (asks : Bool) where
       (h.0, h.1, h.2, h.3, answered-safe list.now h.2 s (λ lines. AreLinesPrinted format explains list.now lines old new) e h.4)
 
   pub proof-shown-safe : (app : List ℕ) (searches : Bool) (format : Option Format) (s : ℕ) (old new : Option (List ℕ)) → s ≡ 0
-      → IsShown (λ what. (certificate : List ℕ) × IsProofAt gives asks app searches certificate what) format s old new → IsSafeAt gives asks app
+      → IsShown (λ what. (certificate : List ℕ) × IsProofAt reads asks app searches certificate what) format s old new → IsSafeAt reads asks app
   proof-shown-safe app searches format s old new e h =
       let zero = sym h.2 ∙ e in
       let proof = h.1 (omega (arith, zero)) in
       proof-at-safe app searches proof.0 h.0 proof.1 zero
 
-  pub search-shown-safe : (app : List ℕ) (format : Option Format) (s : ℕ) (old new : Option (List ℕ)) → s ≡ 0 → IsShown (IsSearchAt gives asks app) format s old new → IsSafeAt gives asks app
+  pub search-shown-safe : (app : List ℕ) (format : Option Format) (s : ℕ) (old new : Option (List ℕ)) → s ≡ 0 → IsShown (IsSearchAt reads asks app) format s old new → IsSafeAt reads asks app
   search-shown-safe app format s old new e h =
       let zero = sym h.2 ∙ e in
       search-at-safe app h.0 (h.1 (omega (arith, zero))) zero

@@ -11,6 +11,7 @@ use Rattle.fr_program.specs.Program.{Program}
 use Rattle.fr_text.specs.Texts.{IsJudged}
 use Rattle.fr_list.specs.Beside.{beside}
 use Rattle.fr_request.specs.declared.format.Format.{Format}
+use Rattle.fr_answer.specs.Inputs.{Reading}
 use Rattle.fr_answer.specs.declared.answer.Answer.{Answer}
 use Rattle.fr_answer.specs.declared.answer.Refusal.{Refusal}
 use Rattle.fr_answer.specs.declared.answer.What.{What}
@@ -88,16 +89,16 @@ pub paged-found : {X E Z : Type 0} (puts : Z → List ℕ → List ℕ → Z →
     → IfOk found (λ x. Is x.1) → IsPaged puts (HasFound found) path old new → IsPaged puts Is path old new
 paged-found puts Is found path old new h paged = paged-as puts (HasFound found) Is path old new (λ w le has. from-found Is found w h has) paged
 
-module _ (gives : List ℕ → ℕ → List ℕ → Type 0) (asks : Bool) where
+module _ (reads : Reading → List ℕ → List ℕ → Type 0) (asks : Bool) where
   -- a line of a list
-  pub line-by : {Y : Type 0} (list app : List ℕ) (certificate : Option (List ℕ)) (r : Result Answer Y) → IfOk r (λ a. what_status a.what ≤ 1 → IsAnswerBy gives asks list (beside list app) certificate a.what)
-      → IfOk r (λ a. IsLineAnswer gives asks list (record { entry = record { application = app; certificate = certificate }; what = a.what }))
+  pub line-by : {Y : Type 0} (list app : List ℕ) (certificate : Option (List ℕ)) (r : Result Answer Y) → IfOk r (λ a. what_status a.what ≤ 1 → IsAnswerBy reads asks list (beside list app) certificate a.what)
+      → IfOk r (λ a. IsLineAnswer reads asks list (record { entry = record { application = app; certificate = certificate }; what = a.what }))
   line-by list app certificate (Ok a) h = record { by = h }
   line-by list app certificate (Err e) h = tt
 
   -- a certificate that is kept has a yes
   pub kept-yes : {Z : Type 0} (puts : Z → List ℕ → List ℕ → Z → Type 0) (app : List ℕ) (searches : Bool) (path : Option (List ℕ)) (what : What) (text : List ℕ) (old new : Z)
-      → IsProofAt gives asks app searches text what → IsGiven puts path what text old new → IsKept gives puts app path old new
+      → IsProofAt reads asks app searches text what → IsGiven puts path what text old new → IsKept reads puts app path old new
   kept-yes puts app searches None what text old new proof (inl same) = same
   kept-yes puts app searches None what text old new proof (inr given) = let no : ⊥ = (let e = given.1 in cc) in absurd no
   kept-yes puts app searches (Some path) what text old new proof (inl same) = inl same
@@ -119,20 +120,20 @@ module _ (gives : List ℕ → ℕ → List ℕ → Type 0) (asks : Bool) where
       yes a what (inl h) e = by-verdict a what h e
       yes a what (inr h) e = absurd (settled a what h.4 e)
 
-  pub kept-same : {Z : Type 0} (puts : Z → List ℕ → List ℕ → Z → Type 0) (app : List ℕ) (path : Option (List ℕ)) (old : Z) → IsKept gives puts app path old old
+  pub kept-same : {Z : Type 0} (puts : Z → List ℕ → List ℕ → Z → Type 0) (app : List ℕ) (path : Option (List ℕ)) (old : Z) → IsKept reads puts app path old old
   kept-same puts app None old = refl
   kept-same puts app (Some p) old = inl refl
 
   pub kept-by : {Z V : Type 0} (puts : Z → List ℕ → List ℕ → Z → Type 0) (app : List ℕ) (searches : Bool) (path : Option (List ℕ)) (proof : Result (V × What × String Global) Refusal) (old new : Z)
-      → IfOk proof (λ all. IsProofAt gives asks app searches (string_bytes all.2) all.1) → IfOk proof (λ all. IsGiven puts path all.1 (string_bytes all.2) old new)
-      → IfErr proof (λ _. new ≡ old) → IsKept gives puts app path old new
+      → IfOk proof (λ all. IsProofAt reads asks app searches (string_bytes all.2) all.1) → IfOk proof (λ all. IsGiven puts path all.1 (string_bytes all.2) old new)
+      → IfErr proof (λ _. new ≡ old) → IsKept reads puts app path old new
   kept-by puts app searches path (Ok all) old new h given same = kept-yes puts app searches path all.1 (string_bytes all.2) old new h given
-  kept-by puts app searches path (Err e) old new h given same = subst (λ z. IsKept gives puts app path old z) (sym same) (kept-same puts app path old)
+  kept-by puts app searches path (Err e) old new h given same = subst (λ z. IsKept reads puts app path old z) (sym same) (kept-same puts app path old)
 
   -- what is found of a proof is what was proved, with or without the certificate's text
   pub proof-found : {V : Type 0} (app : List ℕ) (searches : Bool) (proof : Result (V × What × String Global) Refusal) (found : Result (V × What) Refusal)
-      → IfOk proof (λ all. IsProofAt gives asks app searches (string_bytes all.2) all.1) → IfOk found (λ r. IfOk proof (λ all. r.1 ≡ all.1)) → IfErr proof (λ refusal. IsErr found)
-      → IfOk found (λ r. (certificate : List ℕ) × IsProofAt gives asks app searches certificate r.1)
-  proof-found app searches (Ok all) (Ok r) h same none = (string_bytes all.2, subst (λ w. IsProofAt gives asks app searches (string_bytes all.2) w) (sym same) h)
+      → IfOk proof (λ all. IsProofAt reads asks app searches (string_bytes all.2) all.1) → IfOk found (λ r. IfOk proof (λ all. r.1 ≡ all.1)) → IfErr proof (λ refusal. IsErr found)
+      → IfOk found (λ r. (certificate : List ℕ) × IsProofAt reads asks app searches certificate r.1)
+  proof-found app searches (Ok all) (Ok r) h same none = (string_bytes all.2, subst (λ w. IsProofAt reads asks app searches (string_bytes all.2) w) (sym same) h)
   proof-found app searches (Err e) (Ok r) h same none = absurd (false≢true none)
   proof-found app searches proof (Err e) h same none = tt

@@ -20,6 +20,7 @@
 -- | CanRefuseSearch, CanRefuseProof | this fault can be the answer to the bytes and the number of workers              |
 use Rattle.std.specs.Prelude.{◌≡◌, ◌⊎◌, ◌++◌, ◌==◌, ℕ, Bool, true, false, IsTrue, List, [], codes, Option, None, Some, IfSome, IsSome, Result, Ok, Err, String, if◌then◌else◌}
 use Rattle.std.specs.declared.alloc.Global.{Global}
+use Rattle.std.specs.Option.{is_some}
 use Rattle.fr_program.specs.Program.{Program}
 use Rattle.fr_reader.specs.Meaning.{Means as AppMeans}
 use Rattle.fr_cert.specs.Meaning.{Means as CertMeans}
@@ -112,7 +113,7 @@ shown_line what = first_line what
 -- found; or where the fault is
 abbrev pub AreLinesOf : What → List ℕ → Type 0
 AreLinesOf (Judged j) more = j.why ≡ None → more ≡ waits_text j.app j.waits
-AreLinesOf (Searched P found explains) more = IsRunText explains P found more
+AreLinesOf (Searched P found explains) more = IsRunText (is_some explains) P found more
 AreLinesOf (NoAnswer r) more = more ≡ place_text r.place
 
 -- the text of an answer: all its lines

@@ -2,7 +2,6 @@
 --
 -- | word                              | meaning                                                                        |
 -- |-----------------------------------|--------------------------------------------------------------------------------|
--- | most_app_bytes, most_certificate_bytes, most_list_bytes, most_source_bytes | the most bytes of each kind of file   |
 -- | detail_in                         | how much is explained in this form                                             |
 -- | IsCheckOf                         | the verdict on the application and the certificate in two files                |
 -- | IsProofAt                         | the verdict on the application in a file by a certificate, or a run instead    |
@@ -14,11 +13,12 @@
 -- | heading, IsLineText               | what is printed of a line: the path, and the answer's lines                    |
 -- | AreLinesPrinted, IsListAnswered   | the lines of a list, each answered and printed, in their order                 |
 -- | AreRunWords                       | the words of a run that are asked for                                          |
--- | IsListing                         | the points of the application in a file were written                           |
--- | IsApplication, IsTranslated       | the text of an application was written, or is in a file                        |
+-- | AreShown, IsListed, IsListing     | the points of the application in a file, with places in a source where that is asked |
+-- | IsApplication, IsTranslated       | the text of the application that a source means was written, or is in a file   |
 -- | IsAnswered                        | the exit status, and what was written, are those of the request                |
 -- | IsSafeIn, IsSafeAt, AreSafe       | the application in a file is safe; each that a verdict is asked for on         |
 -- | IsText                            | the answer is a text about one application                                     |
+-- | PutsFound, PutsTranslated, PutsOutput, IsDone | the file that is asked for was given what was found, or what a source means |
 -- | IsPaged, IsKept, IsWritten        | the files are as they were, but for a page, for a certificate with a yes; for what the request names |
 use Rattle.std.specs.Prelude.{◌≡◌, ◌≤◌, ◌⊎◌, ◌++◌, ℕ, Bool, true, false, IsTrue, List, [], ◌∷◌, All, Option, None, Some, codes, encode_utf8_all, fold, if◌then◌else◌, map, max, nat_eq, option_copied, string_bytes}
 use Rattle.std.specs.List.{concat, starts_with}
@@ -34,6 +34,7 @@ use Rattle.fr_formats.specs.Reports.{IsReport}
 use Rattle.fr_list.specs.Means.{Entry, ListMeans}
 use Rattle.fr_list.specs.Beside.{beside}
 use Rattle.fr_report.specs.Listing.{points_text}
+use Rattle.fr_report.specs.declared.sources.Sources.{Sources}
 use Rattle.fr_request.specs.declared.detail.Detail.{Detail}
 use Rattle.fr_request.specs.declared.detail.Detail.TheVariants.{Told}
 use Rattle.fr_request.specs.declared.format.Format.{Format}
@@ -43,26 +44,13 @@ use Rattle.fr_request.specs.declared.request.Request.{Request}
 use Rattle.fr_request.specs.declared.request.Request.TheVariants.{Check, Find, Prove, Points, Refute, Run, Translate}
 use Rattle.fr_answer.specs.declared.answer.What.{What}
 use Rattle.fr_answer.specs.declared.found.Found.{Found}
+use Rattle.fr_answer.specs.Inputs.{Reading, AsApp, AsCertificate, AsList, AsSource}
 use Rattle.fr_answer.specs.Answers.{AreLinesOf, IsProofOf, IsSearchOf, IsTextOf, IsVerdictOn, IsYes, first_line, second_text, shown_line, kind_of, what_status}
 use Rattle.fr_answer.specs.Checked.{IsFreeText, IsSafeText}
 use Rattle.fr_answer.specs.Pages.{IsPageOf}
 use Rattle.fr_answer.specs.Found.{IsCertificateFor, IsFound, found_line, found_status}
 use Rattle.fr_answer.specs.Ran.{IsRunText}
 use Rattle.fr_answer.specs.Words.{AreWords}
-
--- the most bytes of an application, of a certificate, and of a list
-abbrev pub most_app_bytes : ℕ
-most_app_bytes = 1048576
-
-abbrev pub most_certificate_bytes : ℕ
-most_certificate_bytes = 16777216
-
-abbrev pub most_list_bytes : ℕ
-most_list_bytes = 1048576
-
--- the most bytes of a source
-abbrev pub most_source_bytes : ℕ
-most_source_bytes = 1048576
 
 -- what is asked for, and where a machine reads the answer never less than what matters
 abbrev pub detail_in : Option Format → Option Detail → Option Detail
@@ -71,18 +59,18 @@ detail_in (Some format) None = Some Told
 detail_in (Some format) (Some detail) = Some detail
 
 -- the verdict on the application and the certificate in these two files
-abbrev pub IsCheckOf : (List ℕ → ℕ → List ℕ → Type 0) → Bool → List ℕ → List ℕ → What → Type 0
-IsCheckOf gives asks app certificate what =
-    (a c : List ℕ) × gives app most_app_bytes a × gives certificate most_certificate_bytes c × IsVerdictOn asks a c what
+abbrev pub IsCheckOf : (Reading → List ℕ → List ℕ → Type 0) → Bool → List ℕ → List ℕ → What → Type 0
+IsCheckOf reads asks app certificate what =
+    (a c : List ℕ) × reads AsApp app a × reads AsCertificate certificate c × IsVerdictOn asks a c what
 
 -- the verdict on the application in this file by this certificate; or in place of a no, where there is a search, a run into a breach or
 -- that no state of any run breaches a rule
-abbrev pub IsProofAt : (List ℕ → ℕ → List ℕ → Type 0) → Bool → List ℕ → Bool → List ℕ → What → Type 0
-IsProofAt gives asks app searches certificate what = (a : List ℕ) × gives app most_app_bytes a × IsProofOf asks a searches certificate what
+abbrev pub IsProofAt : (Reading → List ℕ → List ℕ → Type 0) → Bool → List ℕ → Bool → List ℕ → What → Type 0
+IsProofAt reads asks app searches certificate what = (a : List ℕ) × reads AsApp app a × IsProofOf asks a searches certificate what
 
 -- what a search found in the application in this file
-abbrev pub IsSearchAt : (List ℕ → ℕ → List ℕ → Type 0) → Bool → List ℕ → What → Type 0
-IsSearchAt gives asks app what = (a : List ℕ) × gives app most_app_bytes a × IsSearchOf asks a what
+abbrev pub IsSearchAt : (Reading → List ℕ → List ℕ → Type 0) → Bool → List ℕ → What → Type 0
+IsSearchAt reads asks app what = (a : List ℕ) × reads AsApp app a × IsSearchOf asks a what
 
 -- what a report shows of an answer: its kind and its first line, or in place of a yes that a deadlock isn't excluded
 pub record Shows (what : What) (shown : AnswerShown) : Type 0 where
@@ -102,9 +90,9 @@ IsShown Is format status old new = (what : What) × (what_status what ≤ 1 → 
 
 -- the verdict on the application in a file, by the certificate in another one that the list names, or by one that was worked out; or
 -- what a search found instead
-abbrev pub IsAnswerBy : (List ℕ → ℕ → List ℕ → Type 0) → Bool → List ℕ → List ℕ → Option (List ℕ) → What → Type 0
-IsAnswerBy gives asks list app (Some path) what = IsCheckOf gives asks app (beside list path) what
-IsAnswerBy gives asks list app None what = (certificate : List ℕ) × IsProofAt gives asks app true certificate what
+abbrev pub IsAnswerBy : (Reading → List ℕ → List ℕ → Type 0) → Bool → List ℕ → List ℕ → Option (List ℕ) → What → Type 0
+IsAnswerBy reads asks list app (Some path) what = IsCheckOf reads asks app (beside list path) what
+IsAnswerBy reads asks list app None what = (certificate : List ℕ) × IsProofAt reads asks app true certificate what
 
 -- a line of a list with the answer to it
 pub record LineAnswer : Type 0 where
@@ -112,8 +100,8 @@ pub record LineAnswer : Type 0 where
   pub what : What
 
 -- where it is a verdict, it is that on the files that the line names
-pub record IsLineAnswer (gives : List ℕ → ℕ → List ℕ → Type 0) (asks : Bool) (list : List ℕ) (line : LineAnswer) : Type 0 where
-  pub by : what_status line.what ≤ 1 → IsAnswerBy gives asks list (beside list line.entry.application) line.entry.certificate line.what
+pub record IsLineAnswer (reads : Reading → List ℕ → List ℕ → Type 0) (asks : Bool) (list : List ℕ) (line : LineAnswer) : Type 0 where
+  pub by : what_status line.what ≤ 1 → IsAnswerBy reads asks list (beside list line.entry.application) line.entry.certificate line.what
 
 -- the greatest of their exit statuses, 0 where there is no line
 abbrev pub greater_status : ℕ → LineAnswer → ℕ
@@ -152,15 +140,15 @@ AreLinesPrinted (Some format) explains list lines old new =
     (shown : List AnswerShown) × (text : List ℕ) × Each (λ line s. Shows line.what s) lines shown × IsReport format shown text × Appends old new text
 
 -- these lines are answered, this is the greatest exit status, and this is so of the answers
-abbrev pub AreAnswered : (List ℕ → ℕ → List ℕ → Type 0) → Bool → List ℕ → List Entry → ℕ → (List LineAnswer → Type 0) → Type 0
-AreAnswered gives asks list entries status Is =
-    (lines : List LineAnswer) × (map (λ line. line.entry) lines ≡ entries) × All (IsLineAnswer gives asks list) lines × (status ≡ greatest_status lines) × Is lines
+abbrev pub AreAnswered : (Reading → List ℕ → List ℕ → Type 0) → Bool → List ℕ → List Entry → ℕ → (List LineAnswer → Type 0) → Type 0
+AreAnswered reads asks list entries status Is =
+    (lines : List LineAnswer) × (map (λ line. line.entry) lines ≡ entries) × All (IsLineAnswer reads asks list) lines × (status ≡ greatest_status lines) × Is lines
 
 -- the file has a list, of which each line is answered and printed
-abbrev pub IsListAnswered : (List ℕ → ℕ → List ℕ → Type 0) → Bool → List ℕ → Option Format → Bool → ℕ → Option (List ℕ) → Option (List ℕ) → Type 0
-IsListAnswered gives asks list format explains status old new =
-    (text : List ℕ) × gives list most_list_bytes text × (entries : List Entry) × ListMeans text entries
-    × AreAnswered gives asks list entries status (λ lines. AreLinesPrinted format explains list lines old new)
+abbrev pub IsListAnswered : (Reading → List ℕ → List ℕ → Type 0) → Bool → List ℕ → Option Format → Bool → ℕ → Option (List ℕ) → Option (List ℕ) → Type 0
+IsListAnswered reads asks list format explains status old new =
+    (text : List ℕ) × reads AsList list text × (entries : List Entry) × ListMeans text entries
+    × AreAnswered reads asks list entries status (λ lines. AreLinesPrinted format explains list lines old new)
 
 -- no words where none are given, and else those of the text
 abbrev pub AreRunWords : Option (List ℕ) → List ℕ → Type 0
@@ -168,71 +156,80 @@ AreRunWords None words = words ≡ []
 AreRunWords (Some text) words = AreWords text words
 
 -- the verdict on two files, or on each line of a list
-abbrev pub IsCheckAnswered : (List ℕ → ℕ → List ℕ → Type 0) → Bool → Named → Option Format → Bool → ℕ → Option (List ℕ) → Option (List ℕ) → Type 0
-IsCheckAnswered gives asks (One app certificate) format explains status old new = IsShown (IsCheckOf gives asks app.now certificate.now) format status old new
-IsCheckAnswered gives asks (Listed list) format explains status old new = IsListAnswered gives asks list.now format explains status old new
+abbrev pub IsCheckAnswered : (Reading → List ℕ → List ℕ → Type 0) → Bool → Named → Option Format → Bool → ℕ → Option (List ℕ) → Option (List ℕ) → Type 0
+IsCheckAnswered reads asks (One app certificate) format explains status old new = IsShown (IsCheckOf reads asks app.now certificate.now) format status old new
+IsCheckAnswered reads asks (Listed list) format explains status old new = IsListAnswered reads asks list.now format explains status old new
 
--- the points of the application in a file
-abbrev pub IsListing : (List ℕ → ℕ → List ℕ → Type 0) → List ℕ → ℕ → Option (List ℕ) → Option (List ℕ) → Type 0
-IsListing gives app status old new =
-    (a : List ℕ) × gives app most_app_bytes a × (P : Program) × AppMeans a P × (status ≡ 0) × Appends old new (points_text P)
+-- places in a source are shown only where that is asked for
+abbrev pub AreShown : Bool → Sources → Type 0
+AreShown true sources = Unit {0}
+AreShown false sources = sources.places.items ≡ []
+
+-- the points of the application, each with its place in the source where that is asked for
+abbrev pub IsListed : Bool → Program → List ℕ → Type 0
+IsListed explains P text = (sources : Sources) × AreShown explains sources × (text ≡ points_text sources P)
+
+-- the points of the application in a file were written
+abbrev pub IsListing : (Reading → List ℕ → List ℕ → Type 0) → List ℕ → Bool → ℕ → Option (List ℕ) → Option (List ℕ) → Type 0
+IsListing reads app explains status old new =
+    (a text : List ℕ) × reads AsApp app a × (P : Program) × AppMeans a P × IsListed explains P text × (status ≡ 0) × Appends old new text
 
 -- the text means an application
 abbrev pub IsApplication : List ℕ → Type 0
 IsApplication text = (P : Program) × AppMeans text P
 
--- the text of an application was written after what the writer had, where no file is named for it
-abbrev pub IsTranslated : Option (List ℕ) → Option (List ℕ) → Option (List ℕ) → Type 0
-IsTranslated None old new = (text : List ℕ) × IsApplication text × Appends old new text
-IsTranslated (Some path) old new = (text : List ℕ) × IsApplication text
+-- the text of the application that a source means was written after what the writer had, where no file is named for it
+abbrev pub IsTranslated : (Reading → List ℕ → List ℕ → Type 0) → List ℕ → Option (List ℕ) → Option (List ℕ) → Option (List ℕ) → Type 0
+IsTranslated reads source None old new = (text : List ℕ) × reads AsSource source text × IsApplication text × Appends old new text
+IsTranslated reads source (Some path) old new = (text : List ℕ) × reads AsSource source text × IsApplication text
 
 -- the exit status, and what was written after what the writer had, are those of the request
-abbrev pub IsAnswered : (List ℕ → ℕ → List ℕ → Type 0) → Request → ℕ → Option (List ℕ) → Option (List ℕ) → Type 0
-IsAnswered gives (Check asked) status old new = IsCheckAnswered gives asked.deadlock asked.files asked.format (is_some asked.detail) status old new
-IsAnswered gives (Prove asked) status old new =
-    IsShown (λ what. (certificate : List ℕ) × IsProofAt gives asked.deadlock asked.app.now asked.searches certificate what) asked.format status old new
-IsAnswered gives (Refute asked) status old new = IsShown (IsSearchAt gives asked.deadlock asked.app.now) asked.format status old new
-IsAnswered gives (Find asked) status old new =
-    (a : List ℕ) × gives asked.app.now most_app_bytes a × (found : Found) × IsFound a found × (status ≡ found_status found)
+abbrev pub IsAnswered : (Reading → List ℕ → List ℕ → Type 0) → Request → ℕ → Option (List ℕ) → Option (List ℕ) → Type 0
+IsAnswered reads (Check asked) status old new = IsCheckAnswered reads asked.deadlock asked.files asked.format (is_some asked.detail) status old new
+IsAnswered reads (Prove asked) status old new =
+    IsShown (λ what. (certificate : List ℕ) × IsProofAt reads asked.deadlock asked.app.now asked.searches certificate what) asked.format status old new
+IsAnswered reads (Refute asked) status old new = IsShown (IsSearchAt reads asked.deadlock asked.app.now) asked.format status old new
+IsAnswered reads (Find asked) status old new =
+    (a : List ℕ) × reads AsApp asked.app.now a × (found : Found) × IsFound a found × (status ≡ found_status found)
     × Appends old new (found_line found)
-IsAnswered gives (Points app explains) status old new = IsListing gives app.now status old new
-IsAnswered gives (Run asked) status old new =
-    (a c words text : List ℕ) × gives asked.app.now most_app_bytes a × gives asked.certificate.now most_certificate_bytes c
+IsAnswered reads (Points app explains) status old new = IsListing reads app.now explains status old new
+IsAnswered reads (Run asked) status old new =
+    (a c words text : List ℕ) × reads AsApp asked.app.now a × reads AsCertificate asked.certificate.now c
     × AreRunWords (option_copied asked.words) words × IsRunText a c asked.polls words asked.detail status text × Appends old new text
-IsAnswered gives (Translate asked) status old new =
-    (status ≡ 0) × ((source : List ℕ) × gives asked.source.now most_source_bytes source) × IsTranslated (option_copied asked.out) old new
+IsAnswered reads (Translate asked) status old new =
+    (status ≡ 0) × IsTranslated reads asked.source.now (option_copied asked.out) old new
 
 -- the application in the file breaks no rule in any state of any run
-abbrev pub IsSafeIn : (List ℕ → ℕ → List ℕ → Type 0) → List ℕ → Type 0
-IsSafeIn gives app = (a : List ℕ) × gives app most_app_bytes a × IsSafeText a
+abbrev pub IsSafeIn : (Reading → List ℕ → List ℕ → Type 0) → List ℕ → Type 0
+IsSafeIn reads app = (a : List ℕ) × reads AsApp app a × IsSafeText a
 
 -- so does it, and it is never deadlocked where that is asked
-abbrev pub IsSafeAt : (List ℕ → ℕ → List ℕ → Type 0) → Bool → List ℕ → Type 0
-IsSafeAt gives asks app = (a : List ℕ) × gives app most_app_bytes a × IsSafeText a × (IsTrue asks → IsFreeText a)
+abbrev pub IsSafeAt : (Reading → List ℕ → List ℕ → Type 0) → Bool → List ℕ → Type 0
+IsSafeAt reads asks app = (a : List ℕ) × reads AsApp app a × IsSafeText a × (IsTrue asks → IsFreeText a)
 
 -- so does each application that these lines of a list name
-abbrev pub AreEachSafe : (List ℕ → ℕ → List ℕ → Type 0) → Bool → List ℕ → List Entry → Type 0
-AreEachSafe gives asks list [] = Unit {0}
-AreEachSafe gives asks list (e ∷ entries) = IsSafeAt gives asks (beside list e.application) × AreEachSafe gives asks list entries
+abbrev pub AreEachSafe : (Reading → List ℕ → List ℕ → Type 0) → Bool → List ℕ → List Entry → Type 0
+AreEachSafe reads asks list [] = Unit {0}
+AreEachSafe reads asks list (e ∷ entries) = IsSafeAt reads asks (beside list e.application) × AreEachSafe reads asks list entries
 
 -- so does each application that the list in the file names
-abbrev pub AreListedSafe : (List ℕ → ℕ → List ℕ → Type 0) → Bool → List ℕ → Type 0
-AreListedSafe gives asks list =
-    (text : List ℕ) × gives list most_list_bytes text × (entries : List Entry) × ListMeans text entries × AreEachSafe gives asks list entries
+abbrev pub AreListedSafe : (Reading → List ℕ → List ℕ → Type 0) → Bool → List ℕ → Type 0
+AreListedSafe reads asks list =
+    (text : List ℕ) × reads AsList list text × (entries : List Entry) × ListMeans text entries × AreEachSafe reads asks list entries
 
-abbrev pub AreNamedSafe : (List ℕ → ℕ → List ℕ → Type 0) → Bool → Named → Type 0
-AreNamedSafe gives asks (One app certificate) = IsSafeAt gives asks app.now
-AreNamedSafe gives asks (Listed list) = AreListedSafe gives asks list.now
+abbrev pub AreNamedSafe : (Reading → List ℕ → List ℕ → Type 0) → Bool → Named → Type 0
+AreNamedSafe reads asks (One app certificate) = IsSafeAt reads asks app.now
+AreNamedSafe reads asks (Listed list) = AreListedSafe reads asks list.now
 
 -- so does each application on which the request asks for a verdict
-abbrev pub AreSafe : (List ℕ → ℕ → List ℕ → Type 0) → Request → Type 0
-AreSafe gives (Check asked) = AreNamedSafe gives asked.deadlock asked.files
-AreSafe gives (Prove asked) = IsSafeAt gives asked.deadlock asked.app.now
-AreSafe gives (Refute asked) = IsSafeAt gives asked.deadlock asked.app.now
-AreSafe gives (Run asked) = IsSafeIn gives asked.app.now
-AreSafe gives (Find asked) = Unit {0}
-AreSafe gives (Points app explains) = Unit {0}
-AreSafe gives (Translate asked) = Unit {0}
+abbrev pub AreSafe : (Reading → List ℕ → List ℕ → Type 0) → Request → Type 0
+AreSafe reads (Check asked) = AreNamedSafe reads asked.deadlock asked.files
+AreSafe reads (Prove asked) = IsSafeAt reads asked.deadlock asked.app.now
+AreSafe reads (Refute asked) = IsSafeAt reads asked.deadlock asked.app.now
+AreSafe reads (Run asked) = IsSafeIn reads asked.app.now
+AreSafe reads (Find asked) = Unit {0}
+AreSafe reads (Points app explains) = Unit {0}
+AreSafe reads (Translate asked) = Unit {0}
 
 -- what is asked for is a text for a person about one application
 abbrev pub IsNamedText : Named → Option Format → Type 0
@@ -256,38 +253,52 @@ IsPaged puts Is (Some path) old new =
     (new ≡ old) ⊎ ((what : What) × (text : List ℕ) × (what_status what ≤ 1 → Is what) × IsPageOf what text × puts old path text new)
 
 -- an answer of which a page may be asked for: the verdict on two files, which a list doesn't have
-abbrev pub IsNamedAnswer : (List ℕ → ℕ → List ℕ → Type 0) → Bool → Named → What → Type 0
-IsNamedAnswer gives asks (One app certificate) what = IsCheckOf gives asks app.now certificate.now what
-IsNamedAnswer gives asks (Listed list) what = ⊥
+abbrev pub IsNamedAnswer : (Reading → List ℕ → List ℕ → Type 0) → Bool → Named → What → Type 0
+IsNamedAnswer reads asks (One app certificate) what = IsCheckOf reads asks app.now certificate.now what
+IsNamedAnswer reads asks (Listed list) what = ⊥
 
 -- the files are as they were, but that the one at the path, if there is one, may have been given this text where the verdict is yes
 abbrev pub IsGiven : {Z : Type 0} → (Z → List ℕ → List ℕ → Z → Type 0) → Option (List ℕ) → What → List ℕ → Z → Z → Type 0
 IsGiven puts path what text old new = (new ≡ old) ⊎ ((p : List ℕ) × (path ≡ Some p) × IsYes what × puts old p text new)
 
 -- the files are as they were, but that the one for the certificate may have been given one on which the verdict is yes
-abbrev pub IsKept : {Z : Type 0} → (List ℕ → ℕ → List ℕ → Type 0) → (Z → List ℕ → List ℕ → Z → Type 0) → List ℕ → Option (List ℕ) → Z → Z → Type 0
-IsKept gives puts app None old new = new ≡ old
-IsKept gives puts app (Some path) old new =
-    (new ≡ old) ⊎ ((a text : List ℕ) × gives app most_app_bytes a × ((P : Program) × IsJudged a text P Yes) × puts old path text new)
+abbrev pub IsKept : {Z : Type 0} → (Reading → List ℕ → List ℕ → Type 0) → (Z → List ℕ → List ℕ → Z → Type 0) → List ℕ → Option (List ℕ) → Z → Z → Type 0
+IsKept reads puts app None old new = new ≡ old
+IsKept reads puts app (Some path) old new =
+    (new ≡ old) ⊎ ((a text : List ℕ) × reads AsApp app a × ((P : Program) × IsJudged a text P Yes) × puts old path text new)
 
--- the files are as they were, but that the one at the path may have been given the text of an application
-abbrev pub IsTranslatedTo : {Z : Type 0} → (Z → List ℕ → List ℕ → Z → Type 0) → List ℕ → Z → Z → Type 0
-IsTranslatedTo puts path old new = (new ≡ old) ⊎ ((text : List ℕ) × IsApplication text × puts old path text new)
+-- the file at the path was given a certificate that was found for the application in the other one
+abbrev pub PutsFound : {Z : Type 0} → (Reading → List ℕ → List ℕ → Type 0) → (Z → List ℕ → List ℕ → Z → Type 0) → List ℕ → List ℕ → Z → Z → Type 0
+PutsFound reads puts app path old new =
+    (a text : List ℕ) × reads AsApp app a × ((P : Program) × AppMeans a P × IsCertificateFor P text) × puts old path text new
 
--- the same of the path that is named, if one is
-abbrev pub IsOutput : {Z : Type 0} → (Z → List ℕ → List ℕ → Z → Type 0) → Option (List ℕ) → Z → Z → Type 0
-IsOutput puts None old new = new ≡ old
-IsOutput puts (Some path) old new = IsTranslatedTo puts path old new
+-- the file at the path was given the text of the application that a source means
+abbrev pub PutsTranslated : {Z : Type 0} → (Reading → List ℕ → List ℕ → Type 0) → (Z → List ℕ → List ℕ → Z → Type 0) → List ℕ → List ℕ → Z → Z → Type 0
+PutsTranslated reads puts source path old new = (text : List ℕ) × reads AsSource source text × IsApplication text × puts old path text new
+
+-- the same of the path that is named; where none is, the files are as they were
+abbrev pub PutsOutput : {Z : Type 0} → (Reading → List ℕ → List ℕ → Type 0) → (Z → List ℕ → List ℕ → Z → Type 0) → List ℕ → Option (List ℕ) → Z → Z → Type 0
+PutsOutput reads puts source None old new = new ≡ old
+PutsOutput reads puts source (Some path) old new = PutsTranslated reads puts source path old new
+
+-- what an exit status of 0 promises of the file that is asked for: it was given the certificate that was found, or the application
+abbrev pub IsDone : {Z : Type 0} → (Reading → List ℕ → List ℕ → Type 0) → (Z → List ℕ → List ℕ → Z → Type 0) → Request → Z → Z → Type 0
+IsDone reads puts (Find asked) old new = PutsFound reads puts asked.app.now asked.out.now old new
+IsDone reads puts (Translate asked) old new = PutsOutput reads puts asked.source.now (option_copied asked.out) old new
+IsDone reads puts (Check asked) old new = Unit {0}
+IsDone reads puts (Prove asked) old new = Unit {0}
+IsDone reads puts (Refute asked) old new = Unit {0}
+IsDone reads puts (Points app explains) old new = Unit {0}
+IsDone reads puts (Run asked) old new = Unit {0}
 
 -- the files are as they were, but that those that the request names were given what it asks for
-abbrev pub IsWritten : {Z : Type 0} → (List ℕ → ℕ → List ℕ → Type 0) → (Z → List ℕ → List ℕ → Z → Type 0) → Request → Z → Z → Type 0
-IsWritten gives puts (Check asked) old new = IsPaged puts (IsNamedAnswer gives asked.deadlock asked.files) (option_copied asked.html) old new
-IsWritten {Z} gives puts (Prove asked) old new =
-    (mid : Z) × IsKept gives puts asked.app.now (option_copied asked.out) old mid
-    × IsPaged puts (λ what. (certificate : List ℕ) × IsProofAt gives asked.deadlock asked.app.now asked.searches certificate what) (option_copied asked.html) mid new
-IsWritten gives puts (Refute asked) old new = IsPaged puts (IsSearchAt gives asked.deadlock asked.app.now) (option_copied asked.html) old new
-IsWritten gives puts (Find asked) old new =
-    (new ≡ old) ⊎ ((a text : List ℕ) × gives asked.app.now most_app_bytes a × ((P : Program) × AppMeans a P × IsCertificateFor P text) × puts old asked.out.now text new)
-IsWritten gives puts (Points app explains) old new = new ≡ old
-IsWritten gives puts (Run asked) old new = new ≡ old
-IsWritten gives puts (Translate asked) old new = IsOutput puts (option_copied asked.out) old new
+abbrev pub IsWritten : {Z : Type 0} → (Reading → List ℕ → List ℕ → Type 0) → (Z → List ℕ → List ℕ → Z → Type 0) → Request → Z → Z → Type 0
+IsWritten reads puts (Check asked) old new = IsPaged puts (IsNamedAnswer reads asked.deadlock asked.files) (option_copied asked.html) old new
+IsWritten {Z} reads puts (Prove asked) old new =
+    (mid : Z) × IsKept reads puts asked.app.now (option_copied asked.out) old mid
+    × IsPaged puts (λ what. (certificate : List ℕ) × IsProofAt reads asked.deadlock asked.app.now asked.searches certificate what) (option_copied asked.html) mid new
+IsWritten reads puts (Refute asked) old new = IsPaged puts (IsSearchAt reads asked.deadlock asked.app.now) (option_copied asked.html) old new
+IsWritten reads puts (Find asked) old new = (new ≡ old) ⊎ PutsFound reads puts asked.app.now asked.out.now old new
+IsWritten reads puts (Points app explains) old new = new ≡ old
+IsWritten reads puts (Run asked) old new = new ≡ old
+IsWritten reads puts (Translate asked) old new = (new ≡ old) ⊎ PutsOutput reads puts asked.source.now (option_copied asked.out) old new

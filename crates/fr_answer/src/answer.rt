@@ -1,5 +1,6 @@
 // What a command found out about an application.
 ghost use Rattle.std.specs.Prelude.{◌≡◌, IfOk, IsTrue, None, string_bytes};
+ghost use Rattle.std.specs.Option.{is_some};
 ghost use Rattle.fr_report.specs.Lines.{lines_text};
 ghost use Rattle.fr_report.specs.Refuted.{IsRunText};
 ghost use Rattle.fr_answer.specs.Answers.{
@@ -29,7 +30,9 @@ use fr_order::Order;
 use fr_place::Place;
 use fr_program::App;
 use fr_refuter::Finding;
-use fr_report::{explain_deadlock, explain_run, finding_line, order_line, text_of, verdict_line};
+use fr_report::{
+    Sources, explain_deadlock, explain_run, finding_line, order_line, text_of, verdict_line,
+};
 use std::alloc::{AllocError, Global};
 
 /// Why there is no verdict, and where: a text that is refused, or the machine that failed.
@@ -45,11 +48,12 @@ pub struct Refusal {
 pub enum What {
     /// The verdict by a certificate.
     Judged(Judged),
-    /// What a search for a breach, or for a deadlock too, found, whose steps are explained where that is asked for.
+    /// What a search for a breach, or for a deadlock too, found. Its steps are explained where that is asked for, with their places in
+    /// the source.
     Searched {
         app: App,
         found: Finding,
-        explains: bool,
+        explains: Option<Sources>,
     },
     /// There is no verdict.
     Refused(Refusal),
@@ -166,16 +170,34 @@ fn run_lines(
     alloc: Global,
     app: &App,
     found: &Finding,
+    sources: &Sources,
     explains: bool,
 ) -> Result<Vec<String>, AllocError>
     ensures { IfOk result (λ lines. IsRunText explains app.now found.now (lines_text lines.items)) }
 {
     match found {
-        Finding::Breach(run) => explain_run(alloc, app, run)?.lines(alloc, app, explains),
-        Finding::Deadlock(run) => explain_deadlock(alloc, app, run)?.lines(alloc, app, explains),
+        Finding::Breach(run) => explain_run(alloc, app, sources, run)?.lines(alloc, app, explains),
+        Finding::Deadlock(run) => {
+            explain_deadlock(alloc, app, sources, run)?.lines(alloc, app, explains)
+        }
         Finding::Safe { .. } | Finding::Free { .. } | Finding::Unknown { .. } => {
             Ok(Vec::new(alloc))
         }
+    }
+}
+
+/// The same, explained with their places in the source where that is asked for.
+fn searched_lines(
+    alloc: Global,
+    app: &App,
+    found: &Finding,
+    explains: &Option<Sources>,
+) -> Result<Vec<String>, AllocError>
+    ensures { IfOk result (λ lines. IsRunText (is_some explains.now) app.now found.now (lines_text lines.items)) }
+{
+    match explains {
+        Some(sources) => run_lines(alloc, app, found, sources, true),
+        None => run_lines(alloc, app, found, &Sources::none(alloc), false),
     }
 }
 
@@ -278,7 +300,7 @@ impl What {
                 app,
                 found,
                 explains,
-            } => run_lines(alloc, app, found, *explains),
+            } => searched_lines(alloc, app, found, explains),
             What::Refused(refusal) => place_lines(alloc, refusal),
         }
     }

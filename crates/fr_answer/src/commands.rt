@@ -1,7 +1,8 @@
 // The one entry, and the commands: from what the words ask for to the exit status.
 ghost use Rattle.std.specs.Prelude.{◌≡◌, ◌≤◌, ◌⊎◌, IfErr, IfOk};
 ghost use Rattle.fr_answer.specs.Checked.{fault_status};
-ghost use Rattle.fr_answer.specs.Commands.{AreSafe, IsAnswered, IsText, IsWritten};
+ghost use Rattle.fr_answer.specs.Commands.{AreSafe, IsAnswered, IsDone, IsText, IsWritten};
+ghost use Rattle.fr_answer.specs.Inputs.{Reads};
 
 mod check;
 mod find;
@@ -38,12 +39,14 @@ fn answered<R: Threads + Wait + Sync, F: Files, O: Write, E: Write>(
     err: &mut E,
 ) -> Result<u8, Refusal>
     ensures answered { IfOk result
-        (λ status. IsAnswered (F.Gives files.old) request.now status (O.contents out.old) (O.contents out.new)) }
-    ensures safe { IfOk result (λ status. status ≡ 0 → AreSafe (F.Gives files.old) request.now) }
+        (λ status. IsAnswered (Reads (F.Gives files.old) F.Means) request.now status (O.contents out.old) (O.contents out.new)) }
+    ensures safe { IfOk result (λ status. status ≡ 0 → AreSafe (Reads (F.Gives files.old) F.Means) request.now) }
+    ensures done { IfOk result (λ status. status ≡ 0
+        → IsDone (Reads (F.Gives files.old) F.Means) F.Puts request.now files.old files.new) }
     ensures kept { IfOk result (λ status. 2 ≤ status → IsText request.now → out.new ≡ out.old) }
     ensures refused { IfErr result (λ refusal. fault_status refusal.fault ≡ 2 → out.new ≡ out.old) }
     ensures most { IfOk result (λ status. status ≤ 3) }
-    ensures files { IsWritten (F.Gives files.old) F.Puts request.now files.old files.new }
+    ensures files { IsWritten (Reads (F.Gives files.old) F.Means) F.Puts request.now files.old files.new }
 {
     match request {
         Request::Check(asked) => check(rt, alloc, asked, files, out, err),
@@ -60,8 +63,9 @@ fn answered<R: Threads + Wait + Sync, F: Files, O: Write, E: Write>(
 /// the files that are asked for, and gives the exit status.
 ///
 /// It is 0 for `check`, `prove`, `refute` and `run` only where each application that is named breaks none of the twelve rules in any
-/// state of any run, and where that is asked is never deadlocked: for a list, each of its lines. It is 1 where that isn't shown; for `find`, where no certificate was found. It
-/// is 2 where the words, a file or an output is refused. Then either the answer was written all the same, as a report that says what is
+/// state of any run, and where that is asked is never deadlocked: for a list, each of its lines. Where a file's name ends in `.frc`, the
+/// application is the one that the source in it means. It is 0 for `find` and `translate` only where the file that is named was written. It
+/// is 1 where that isn't shown; for `find`, where no certificate was found. It is 2 where the words, a file or an output is refused. Then either the answer was written all the same, as a report that says what is
 /// refused, or as the lines of a list, of which each is answered; or nothing was written to `out`, and `err` says why. So it is where the
 /// answer is a text for a person about one application. It is 3 where the machine failed: what was written then is open, unless it is
 /// such an answer.
@@ -76,12 +80,13 @@ pub fn run<R: Threads + Wait + Sync, F: Files, O: Write, E: Write>(
     out: &mut O,
     err: &mut E,
 ) -> u8
-    ensures answered { IsAnswered (F.Gives files.old) request.now result (O.contents out.old) (O.contents out.new)
+    ensures answered { IsAnswered (Reads (F.Gives files.old) F.Means) request.now result (O.contents out.old) (O.contents out.new)
         ⊎ (2 ≤ result × (result ≡ 2 → out.new ≡ out.old)) }
-    ensures safe { result ≡ 0 → AreSafe (F.Gives files.old) request.now }
+    ensures safe { result ≡ 0 → AreSafe (Reads (F.Gives files.old) F.Means) request.now }
+    ensures done { result ≡ 0 → IsDone (Reads (F.Gives files.old) F.Means) F.Puts request.now files.old files.new }
     ensures kept { result ≡ 2 → IsText request.now → out.new ≡ out.old }
     ensures most { result ≤ 3 }
-    ensures files { IsWritten (F.Gives files.old) F.Puts request.now files.old files.new }
+    ensures files { IsWritten (Reads (F.Gives files.old) F.Means) F.Puts request.now files.old files.new }
 {
     match answered(rt, alloc, request, files, out, err) {
         Ok(status) => status,

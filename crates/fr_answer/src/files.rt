@@ -1,9 +1,12 @@
 // The files that a command reads and writes.
-ghost use Rattle.std.specs.Prelude.{◌≡◌, ◌<◌, ◌^◌, IfOk, IfErr, OnOk, Some, slice_get};
+ghost use Rattle.std.specs.Prelude.{◌≡◌, ◌<◌, ◌^◌, IfOk, IfErr, OnOk, Some, slice_get, string_bytes};
 
 use fr_files::{FileFault, Output, OutputFault};
+use fr_source::{Refused, Translation};
+use std::alloc::Global;
 
-/// Files by their paths: the host's, or others that whoever runs a command has.
+/// Files by their paths: the host's, or others that whoever runs a command has. They also say what a source means, so that the promise of a
+/// command can speak of it.
 pub trait Files {
     ghost use Rattle.std.specs.Prelude.{ℕ, List};
 
@@ -13,6 +16,9 @@ pub trait Files {
     // What the files can be after the one at this path was given these bytes.
     ghost Puts: { Self → List ℕ → List ℕ → Self → Type 0 };
 
+    // These bytes of a source mean the application with this text.
+    ghost Means: { List ℕ → List ℕ → Type 0 };
+
     // The file at this path was looked at, and may be replaced.
     ghost May: { Self → List ℕ → Type 0 };
 
@@ -21,6 +27,11 @@ pub trait Files {
     fn read(&self, path: &str, limit: usize) -> Result<Vec<u8>, FileFault>
         requires { limit < 2 ^ 32 }
         ensures { IfOk result (λ bytes. Gives self.now path.now limit bytes.items) };
+
+    /// The application that these bytes of the source at this path mean. Its error says what is wrong in the source, and where, or that
+    /// an allocation was refused.
+    fn translate(&self, alloc: Global, path: &str, source: &[u8]) -> Result<Translation, Refused>
+        ensures { IfOk result (λ found. Means source.now (string_bytes found.text)) };
 
     /// Gives the file at this path, which was looked at, these bytes in place of what it had, whole or not at all. Its error says
     /// that it can't be written, and why; all files are as they were then.

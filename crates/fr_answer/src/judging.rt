@@ -9,6 +9,7 @@ ghost use Rattle.fr_answer.specs.Checked.{CanRefuse};
 use crate::answer::What;
 use crate::fault::CheckFault;
 use crate::judged::Judged;
+use crate::sources::sources_in;
 use fr_ends::Certificate;
 use fr_judge::{Judging, Lists, Verdict};
 use fr_order::{Order, order_of};
@@ -54,10 +55,11 @@ fn add_others(
     Ok(())
 }
 
-/// Why the verdict is no, as it is asked for: None where nobody asks, or where it is yes. With all details the other points that
-/// fail follow, a line each, 1,000 at the most.
+/// Why the verdict on the application with this text is no, as it is asked for: None where nobody asks, or where it is yes. With all
+/// details the other points that fail follow, a line each, 1,000 at the most.
 pub(crate) fn why(
     alloc: Global,
+    text: &[u8],
     app: &App,
     certificate: &Certificate,
     verdict: Verdict,
@@ -70,7 +72,8 @@ pub(crate) fn why(
     let (Some(detail), Verdict::No { point, .. }) = (detail, verdict) else {
         return Ok(None);
     };
-    let Some(mut found) = explain(alloc, app, certificate, verdict, detail)? else {
+    let sources = sources_in(alloc, text)?;
+    let Some(mut found) = explain(alloc, app, certificate, &sources, verdict, detail)? else {
         return Ok(None);
     };
     if detail == Detail::Whole {
@@ -121,9 +124,10 @@ pub(crate) fn judged<R: Threads + Wait + Sync, G: Gate>(
     ensures judged { IfOk result (IsVerdictOn asks app.now certificate.now) }
     ensures refused { IfErr result (CanRefuse app.now certificate.now workers) }
 {
-    let reading = judge_reading(rt, alloc, app, certificate, workers, gate)?;
+    let text = app;
+    let reading = judge_reading(rt, alloc, text, certificate, workers, gate)?;
     let (app, certificate) = (&reading.app, &reading.certificate);
-    let why = why(alloc, app, certificate, reading.verdict, detail)?;
+    let why = why(alloc, text, app, certificate, reading.verdict, detail)?;
     let waits = waits(alloc, app, certificate, reading.verdict, asks)?;
     let judged = Judged::new(
         reading.app,

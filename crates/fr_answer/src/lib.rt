@@ -23,6 +23,8 @@ mod reading;
 mod refuting;
 mod running;
 mod shown;
+mod source;
+mod sources;
 mod warning;
 mod ways;
 mod words;

@@ -8,6 +8,7 @@ mod points;
 mod steps;
 
 use crate::answer::{Answer, What};
+use crate::sources::sources_in;
 use actors::put_actors;
 use fr_formats::{AnswerKind, Command};
 use fr_page::{ActorShown, Kind, Page, StepShown, WaitShown, page_text};
@@ -71,22 +72,25 @@ fn empty_body(alloc: Global) -> Body {
 }
 
 /// What the page shows below the answer: the actors side by side, with a certificate what each note says, which points fail and
-/// which are never reached; with a run into a breach the run, step by step; and where a text is refused, where.
-fn body_of(alloc: Global, what: &What) -> Result<Body, AllocError> {
+/// which are never reached; with a run into a breach the run, step by step; and where a text is refused, where. Lines of code have their
+/// places in the source, where the application was translated from one.
+fn body_of(alloc: Global, answer: &Answer) -> Result<Body, AllocError> {
     let mut body = empty_body(alloc);
+    let what = &answer.what;
+    let sources = sources_in(alloc, &answer.text)?;
     match what {
         What::Judged(judged) => {
-            put_actors(alloc, &mut body, judged.app())?;
-            put_judged(alloc, &mut body, judged)?;
+            put_actors(alloc, &mut body, judged.app(), &sources)?;
+            put_judged(alloc, &mut body, judged, &sources)?;
             if matches!(what.kind(), AnswerKind::Yes) {
                 body.details = what.second_lines(alloc)?;
             }
         }
         What::Searched { app, found, .. } => {
-            put_actors(alloc, &mut body, app)?;
+            put_actors(alloc, &mut body, app, &sources)?;
             match found {
-                Finding::Breach(run) => put_run(alloc, &mut body, app, run)?,
-                Finding::Deadlock(run) => put_deadlock(alloc, &mut body, app, run)?,
+                Finding::Breach(run) => put_run(alloc, &mut body, app, &sources, run)?,
+                Finding::Deadlock(run) => put_deadlock(alloc, &mut body, app, &sources, run)?,
                 _ => {}
             }
         }
@@ -118,7 +122,7 @@ fn headed(alloc: Global, answer: &Answer, body: Body) -> Result<Page, AllocError
 pub fn page_of(alloc: Global, answer: &Answer) -> Result<String, AllocError>
     ensures { IfOk result (λ text. IsPageOf answer.now.what (string_bytes text)) }
 {
-    let body = body_of(alloc, &answer.what)?;
+    let body = body_of(alloc, answer)?;
     let page = headed(alloc, answer, body)?;
     page_text(alloc, &page)
 }

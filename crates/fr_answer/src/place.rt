@@ -1,15 +1,17 @@
 // Why there is no answer, and where.
-ghost use Rattle.std.specs.Prelude.{◌≡◌, ◌≤◌};
+ghost use Rattle.std.specs.Prelude.{◌≡◌, ◌≤◌, IfOk};
 ghost use Rattle.fr_answer.specs.Checked.{fault_status};
 
 use crate::answer::Refusal;
 use crate::fault::CheckFault;
 use fr_files::{FileFault, OutputFault};
 use fr_place::{
-    Place, place_of_app, place_of_certificate, place_of_swapped, place_of_text, seem_swapped,
+    Place, place_of_app, place_of_certificate, place_of_swapped, place_of_texts, seem_swapped,
 };
 use fr_reader::read_app;
+use fr_source::{Message, Refused};
 use std::alloc::{AllocError, Global};
+use std::slice;
 
 /// Where the texts are at fault: line and column, table and key, the line of code with a mark, the path to a note, the nearest name
 /// that is known; or that the two seem to be swapped. None where neither is at fault.
@@ -35,7 +37,20 @@ fn place_in(
 /// The file that can't be read or written, and why.
 fn file_place(alloc: Global, fault: &FileFault) -> Result<Place, AllocError> {
     let text = format!(in alloc; "{fault}")?;
-    place_of_text(alloc, &text)
+    place_of_texts(alloc, slice::from_ref(&text))
+}
+
+/// What is wrong in the source at this path, and the line where it is.
+fn source_fault(
+    alloc: Global,
+    path: &str,
+    message: &Message,
+) -> Result<(CheckFault, Place), AllocError>
+    ensures { IfOk result (λ r. fault_status r.0 ≡ 2) }
+{
+    let fault = CheckFault::Source(message.report(alloc, path)?);
+    let excerpt = message.excerpt(alloc)?;
+    Ok((fault, place_of_texts(alloc, &excerpt)?))
 }
 
 /// A fault alone.
@@ -91,6 +106,22 @@ impl Refusal {
                 },
                 Err(_) => Refusal::from(CheckFault::Memory),
             },
+        }
+    }
+
+    /// The fault of the source at this path, and where it is.
+    pub(crate) fn of_source(alloc: Global, path: &str, refused: Refused) -> Refusal
+        ensures { 2 ≤ fault_status result.fault }
+    {
+        let Refused::Source(message) = refused else {
+            return Refusal::from(CheckFault::Memory);
+        };
+        match source_fault(alloc, path, &message) {
+            Ok((fault, place)) => Refusal {
+                fault,
+                place: Some(place),
+            },
+            Err(_) => Refusal::from(CheckFault::Memory),
         }
     }
 

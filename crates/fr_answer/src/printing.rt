@@ -10,6 +10,7 @@ use crate::exit::{MACHINE, NO, REFUSED};
 use crate::fault::CheckFault;
 use crate::files::Files;
 use crate::page::page_of;
+use crate::reading::AppText;
 use crate::shown::shown_of;
 use crate::ways::{Asked, Warns};
 use fr_files::OutputFault;
@@ -50,10 +51,11 @@ pub(crate) fn refuse<E: Write>(alloc: Global, refusal: Refusal, err: &mut E) -> 
     }
 }
 
-/// What is printed of an answer without a verdict: the fault's line, and where it is, which is always said of a file.
+/// What is printed of an answer without a verdict: the fault's line, and where it is, which is always said of a file and of a source.
 fn refusal_text(alloc: Global, what: &What, explains: bool) -> Result<String, AllocError> {
     match what {
-        What::Refused(refusal) if !explains && !matches!(refusal.fault, CheckFault::File) => {
+        What::Refused(Refusal { fault, .. })
+            if !explains && !matches!(fault, CheckFault::File | CheckFault::Source(_)) => {
             let line = what.line(alloc)?;
             format!(in alloc; "{line}\n")
         }
@@ -184,7 +186,7 @@ pub(crate) fn show<F: Files, O: Write, E: Write>(
 pub(crate) fn show_found<F: Files, O: Write, E: Write>(
     alloc: Global,
     source: Source,
-    found: Result<(Vec<u8>, What), Refusal>,
+    found: Result<(AppText, What), Refusal>,
     warns: Warns,
     asked: Asked,
     files: &mut F,

@@ -10,6 +10,7 @@ use crate::fault::CheckFault;
 use crate::judged::{Judged, Tried};
 use crate::judging::{waits, why};
 use crate::layout::laid_out;
+use crate::sources::sources_for;
 use crate::ways::Ways;
 use fr_cert::{MOST_BYTES, read_cert, write_cert};
 use fr_ends::Certificate;
@@ -150,7 +151,8 @@ pub(crate) fn proved<R: Threads + Wait + Sync, G: Gate>(
     if !is_crew(ways.workers) {
         return Err(CheckFault::Workers);
     }
-    let app = read_app(alloc, app)?;
+    let bytes = app;
+    let app = read_app(alloc, bytes)?;
     let text = certificate_text(alloc, &app)?;
     let certificate = read_cert(alloc, &app, text.as_bytes())?;
     let verdict = judge_with(rt, alloc, &app, &certificate, ways.workers, gate)?;
@@ -160,7 +162,7 @@ pub(crate) fn proved<R: Threads + Wait + Sync, G: Gate>(
         let suspects = suspects_among(verdict, &waits);
         match settled(rt, alloc, &app, suspects, ways)? {
             Ok(found) => {
-                let explains = ways.detail.is_some();
+                let explains = sources_for(alloc, bytes, ways.detail)?;
                 let what = What::Searched {
                     app,
                     found,
@@ -171,7 +173,7 @@ pub(crate) fn proved<R: Threads + Wait + Sync, G: Gate>(
             Err(left) => tried = Some(left),
         }
     }
-    let why = why(alloc, &app, &certificate, verdict, ways.detail)?;
+    let why = why(alloc, bytes, &app, &certificate, verdict, ways.detail)?;
     let judged = Judged::new(app, certificate, verdict, why, waits).after_search(tried);
     Ok((What::Judged(judged), text))
 }

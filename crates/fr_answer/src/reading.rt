@@ -2,19 +2,22 @@
 ghost use Rattle.std.specs.Prelude.{◌≡◌, ◌≤◌, ◌<◌, ◌^◌, ℕ, List, true, IfOk, IfErr, string_bytes};
 ghost use Rattle.fr_answer.specs.Answers.{HasFound, what_status};
 ghost use Rattle.fr_answer.specs.Checked.{fault_status};
-ghost use Rattle.fr_answer.specs.Commands.{IsCheckOf, IsProofAt, IsSearchAt, most_app_bytes, most_certificate_bytes};
+ghost use Rattle.fr_answer.specs.Commands.{IsCheckOf, IsProofAt, IsSearchAt};
+ghost use Rattle.fr_answer.specs.Inputs.{AsApp, Reads};
 
 use crate::answer::{Answer, Refusal, What};
 use crate::files::Files;
 use crate::judging::judged;
 use crate::proving::proved;
 use crate::refuting::searched;
+use crate::source::{is_source, translation};
 use crate::warning::said_beside;
 use crate::ways::{Warns, Ways};
 use fr_cert::MOST_BYTES as MOST_CERTIFICATE_BYTES;
 use fr_formats::Source;
 use fr_parallel::Open;
 use fr_reader::MOST_BYTES as MOST_APP_BYTES;
+use fr_source::{Message, Translation};
 use std::alloc::{AllocError, Global};
 use std::sync::Wait;
 use std::thread::Threads;
@@ -37,17 +40,45 @@ pub(crate) fn input<F: Files>(
     }
 }
 
-/// The bytes of an application's file.
+/// The text of an application.
+#[derive(Drop)]
+pub(crate) struct AppText {
+    pub bytes: Vec<u8>,
+    /// What is never reached in the source that the application was translated from, and left out.
+    pub left_out: Vec<Message>,
+}
+
+impl AppText {
+    /// No text.
+    fn none(alloc: Global) -> AppText {
+        AppText {
+            bytes: Vec::new(alloc),
+            left_out: Vec::new(alloc),
+        }
+    }
+}
+
+/// The text of the application in this file, or that the source in it means.
 pub(crate) fn application<F: Files>(
     alloc: Global,
     files: &F,
     path: &str,
     names: bool,
-) -> Result<Vec<u8>, Refusal>
-    ensures gives { IfOk result (λ bytes. F.Gives files.now path.now most_app_bytes bytes.items) }
-    ensures fault { IfErr result (λ refusal. fault_status refusal.fault ≡ 3) }
+) -> Result<AppText, Refusal>
+    ensures reads { IfOk result (λ text. Reads (F.Gives files.now) F.Means AsApp path.now text.bytes.items) }
+    ensures fault { IfErr result (λ refusal. 2 ≤ fault_status refusal.fault) }
 {
-    input(alloc, files, path, MOST_APP_BYTES, names)
+    if is_source(path) {
+        let Translation { text, warnings } = translation(alloc, files, path, names)?;
+        return Ok(AppText {
+            bytes: text.into_bytes(),
+            left_out: warnings,
+        });
+    }
+    Ok(AppText {
+        bytes: input(alloc, files, path, MOST_APP_BYTES, names)?,
+        left_out: Vec::new(alloc),
+    })
 }
 
 /// The verdict on the application and the certificate in these files, with the application's text.
@@ -58,8 +89,8 @@ pub(crate) fn checked_files<R: Threads + Wait + Sync, F: Files>(
     app: &str,
     certificate: &str,
     ways: Ways,
-) -> Result<(Vec<u8>, What), Refusal>
-    ensures verdict { IfOk result (λ r. IsCheckOf (F.Gives files.now) ways.deadlock app.now certificate.now r.1) }
+) -> Result<(AppText, What), Refusal>
+    ensures verdict { IfOk result (λ r. IsCheckOf (Reads (F.Gives files.now) F.Means) ways.deadlock app.now certificate.now r.1) }
     ensures fault { IfErr result (λ refusal. 2 ≤ fault_status refusal.fault) }
 {
     let app = application(alloc, files, app, ways.names)?;
@@ -73,7 +104,7 @@ pub(crate) fn checked_files<R: Threads + Wait + Sync, F: Files>(
     match judged(
         rt,
         alloc,
-        &app,
+        &app.bytes,
         &certificate,
         ways.workers,
         &Open,
@@ -83,7 +114,7 @@ pub(crate) fn checked_files<R: Threads + Wait + Sync, F: Files>(
         Ok(what) => Ok((app, what)),
         Err(fault) => {
             let certificate = Some(certificate.as_slice());
-            Err(Refusal::of_texts(alloc, &app, certificate, fault, ways.places))
+            Err(Refusal::of_texts(alloc, &app.bytes, certificate, fault, ways.places))
         }
     }
 }
@@ -97,14 +128,14 @@ pub(crate) fn proved_file<R: Threads + Wait + Sync, F: Files>(
     app: &str,
     searches: bool,
     ways: Ways,
-) -> Result<(Vec<u8>, What, String), Refusal>
-    ensures proof { IfOk result (λ r. IsProofAt (F.Gives files.now) ways.deadlock app.now searches (string_bytes r.2) r.1) }
+) -> Result<(AppText, What, String), Refusal>
+    ensures proof { IfOk result (λ r. IsProofAt (Reads (F.Gives files.now) F.Means) ways.deadlock app.now searches (string_bytes r.2) r.1) }
     ensures fault { IfErr result (λ refusal. 2 ≤ fault_status refusal.fault) }
 {
     let app = application(alloc, files, app, ways.names)?;
-    match proved(rt, alloc, &app, ways, &Open, searches) {
+    match proved(rt, alloc, &app.bytes, ways, &Open, searches) {
         Ok((what, certificate)) => Ok((app, what, certificate)),
-        Err(fault) => Err(Refusal::of_texts(alloc, &app, None, fault, ways.places)),
+        Err(fault) => Err(Refusal::of_texts(alloc, &app.bytes, None, fault, ways.places)),
     }
 }
 
@@ -115,8 +146,8 @@ pub(crate) fn proved_alone<R: Threads + Wait + Sync, F: Files>(
     files: &F,
     app: &str,
     ways: Ways,
-) -> Result<(Vec<u8>, What), Refusal>
-    ensures proof { IfOk result (λ r. (certificate : List ℕ) × IsProofAt (F.Gives files.now) ways.deadlock app.now true certificate r.1) }
+) -> Result<(AppText, What), Refusal>
+    ensures proof { IfOk result (λ r. (certificate : List ℕ) × IsProofAt (Reads (F.Gives files.now) F.Means) ways.deadlock app.now true certificate r.1) }
     ensures fault { IfErr result (λ refusal. 2 ≤ fault_status refusal.fault) }
 {
     let (text, what, _certificate) = proved_file(rt, alloc, files, app, true, ways)?;
@@ -130,14 +161,14 @@ pub(crate) fn searched_file<R: Threads + Sync, F: Files>(
     files: &F,
     app: &str,
     ways: Ways,
-) -> Result<(Vec<u8>, What), Refusal>
-    ensures found { IfOk result (λ r. IsSearchAt (F.Gives files.now) ways.deadlock app.now r.1) }
+) -> Result<(AppText, What), Refusal>
+    ensures found { IfOk result (λ r. IsSearchAt (Reads (F.Gives files.now) F.Means) ways.deadlock app.now r.1) }
     ensures fault { IfErr result (λ refusal. 2 ≤ fault_status refusal.fault) }
 {
     let app = application(alloc, files, app, ways.names)?;
-    match searched(rt, alloc, &app, ways) {
+    match searched(rt, alloc, &app.bytes, ways) {
         Ok(what) => Ok((app, what)),
-        Err(fault) => Err(Refusal::of_texts(alloc, &app, None, fault, ways.places)),
+        Err(fault) => Err(Refusal::of_texts(alloc, &app.bytes, None, fault, ways.places)),
     }
 }
 
@@ -146,7 +177,7 @@ impl Answer {
     pub(crate) fn new(
         alloc: Global,
         source: Source,
-        found: Result<(Vec<u8>, What), Refusal>,
+        found: Result<(AppText, What), Refusal>,
         warns: Warns,
     ) -> Result<Answer, AllocError>
         ensures path { IfOk result (λ a. string_bytes a.application ≡ source.entry.application.now) }
@@ -161,14 +192,14 @@ impl Answer {
         };
         let (text, what) = match found {
             Ok(found) => found,
-            Err(refusal) => (Vec::new(alloc), What::Refused(refusal)),
+            Err(refusal) => (AppText::none(alloc), What::Refused(refusal)),
         };
-        let (warnings, notes) = said_beside(alloc, source, &what, warns)?;
+        let (warnings, notes) = said_beside(alloc, source, &what, &text.left_out, warns)?;
         Ok(Answer {
             command: source.command,
             application,
             certificate,
-            text,
+            text: text.bytes,
             what,
             warnings,
             notes,

@@ -5,6 +5,7 @@ ghost use Rattle.fr_answer.specs.Answers.{CanRefuseSearch, IsSearchOf};
 
 use crate::answer::What;
 use crate::fault::CheckFault;
+use crate::sources::sources_for;
 use crate::ways::Ways;
 use fr_parallel::is_crew;
 use fr_reader::read_app;
@@ -33,7 +34,8 @@ pub(crate) fn searched<R: Threads + Sync>(
     if !is_crew(ways.workers) {
         return Err(CheckFault::Workers);
     }
-    let app = read_app(alloc, app)?;
+    let text = app;
+    let app = read_app(alloc, text)?;
     let search = Search {
         most_states: ways.states,
         most_bytes: ways.state_bytes,
@@ -43,9 +45,10 @@ pub(crate) fn searched<R: Threads + Sync>(
         wants_shortest: true,
     };
     let found = refute(rt, alloc, &app, search)?;
+    let explains = sources_for(alloc, text, ways.detail)?;
     Ok(What::Searched {
         app,
         found,
-        explains: ways.detail.is_some(),
+        explains,
     })
 }

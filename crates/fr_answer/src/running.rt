@@ -68,6 +68,7 @@ fn run_text<R: Threads + Wait + Sync, G: Gate>(
 /// The report of a verdict, and the lines of why it is no.
 fn refusal(
     alloc: Global,
+    text: &[u8],
     app: &App,
     certificate: &Certificate,
     verdict: Verdict,
@@ -78,10 +79,10 @@ fn refusal(
     ensures report { IfOk result (λ r. string_bytes r.0 ≡ report_text app.now verdict) }
     ensures unasked { IfOk result (λ r. detail ≡ None → string_bytes r.1 ≡ []) }
 {
-    let text = report(alloc, app, &verdict)?;
-    let explanation = why(alloc, app, certificate, verdict, detail)?;
+    let line = report(alloc, app, &verdict)?;
+    let explanation = why(alloc, text, app, certificate, verdict, detail)?;
     let more = explanation_text(alloc, app, &explanation)?;
-    Ok((text, more))
+    Ok((line, more))
 }
 
 /// What has to be written for the application, with the exit status: the text of a run where the verdict is yes, and the report
@@ -89,6 +90,7 @@ fn refusal(
 fn output<R: Threads + Wait + Sync, G: Gate>(
     rt: &R,
     alloc: Global,
+    text: &[u8],
     app: App,
     certificate: Certificate,
     polls: u64,
@@ -110,12 +112,12 @@ fn output<R: Threads + Wait + Sync, G: Gate>(
     };
     match Passed::check_by(app, certificate, &index) {
         Ok(passed) => match run_text(rt, alloc, &passed, polls, words, gate) {
-            Ok(text) => Ok((DONE, text, String::new(alloc))),
+            Ok(lines) => Ok((DONE, lines, String::new(alloc))),
             Err(fault) => Err(fault),
         },
         Err((app, certificate, verdict)) => {
-            match refusal(alloc, &app, &certificate, verdict, detail) {
-                Ok((text, more)) => Ok((NO, text, more)),
+            match refusal(alloc, text, &app, &certificate, verdict, detail) {
+                Ok((line, more)) => Ok((NO, line, more)),
                 Err(_) => Err(CheckFault::Memory),
             }
         }
@@ -148,8 +150,19 @@ pub(crate) fn ran<R: Threads + Wait + Sync, G: Gate>(
     if polls > MOST_POLLS {
         return Err(CheckFault::Polls);
     }
-    let (app, certificate) = read_both(alloc, app, certificate)?;
-    let (status, mut text, more) = output(rt, alloc, app, certificate, polls, words, gate, detail)?;
+    let bytes = app;
+    let (app, certificate) = read_both(alloc, bytes, certificate)?;
+    let (status, mut text, more) = output(
+        rt,
+        alloc,
+        bytes,
+        app,
+        certificate,
+        polls,
+        words,
+        gate,
+        detail,
+    )?;
     text.push_str(&more)?;
     Ok((status, text))
 }

@@ -11,6 +11,7 @@ use fr_report::{
     NO_ACTORS, held_while_waiting, lost_updates, never_given, never_reached, never_used,
     used_one_way,
 };
+use fr_source::Message;
 use std::alloc::{AllocError, Global};
 
 /// What is said where a certificate is asked for and the proof is by all states.
@@ -142,14 +143,35 @@ fn notes_of(alloc: Global, source: Source, what: &What) -> Result<Vec<String>, A
     Ok(notes)
 }
 
-/// What is said beside an answer: its warnings, as far as they are asked for, and what was tried besides. Its error is that an
-/// allocation was refused.
+/// Adds what is left out of the source, where any warning is asked for.
+fn add_left_out(
+    alloc: Global,
+    warnings: &mut Vec<WarningShown>,
+    path: &str,
+    left_out: &[Message],
+    warns: Warns,
+) -> Result<(), AllocError> {
+    if warns == Warns::Never {
+        return Ok(());
+    }
+    for message in left_out {
+        let text = message.report(alloc, path)?;
+        let kind = WarningKind::NeverReached;
+        warnings.push(WarningShown { kind, text })?;
+    }
+    Ok(())
+}
+
+/// What is said beside an answer: its warnings, as far as they are asked for, with what is left out of a source, and what was tried besides.
+/// Its error is that an allocation was refused.
 pub(crate) fn said_beside(
     alloc: Global,
     source: Source,
     what: &What,
+    left_out: &[Message],
     warns: Warns,
 ) -> Result<(Vec<WarningShown>, Vec<String>), AllocError> {
-    let warnings = warnings_of(alloc, what, warns)?;
+    let mut warnings = warnings_of(alloc, what, warns)?;
+    add_left_out(alloc, &mut warnings, source.application, left_out, warns)?;
     Ok((warnings, notes_of(alloc, source, what)?))
 }

@@ -3,6 +3,8 @@ ghost use Rattle.std.specs.Prelude.{ℕ, List};
 
 use fr_answer::Files;
 use fr_files::{FileFault, Output, OutputFault, check_outputs, read, replace};
+use fr_source::{Refused, Translation, translated};
+use std::alloc::Global;
 
 /// The host's files. No clause can say what a disk holds.
 #[derive(Drop)]
@@ -15,10 +17,16 @@ impl<'a> Files for HostFiles<'a> {
 
     ghost Puts = { λ _ _ _ _. Unit {0} };
 
+    ghost Means = { λ _ _. Unit {0} };
+
     ghost May = { λ _ _. Unit {0} };
 
     fn read(&self, path: &str, limit: usize) -> Result<Vec<u8>, FileFault> {
         read(self.rt, path, limit)
+    }
+
+    fn translate(&self, alloc: Global, path: &str, source: &[u8]) -> Result<Translation, Refused> {
+        translated(alloc, path, source)
     }
 
     fn replace(&mut self, path: &str, bytes: &[u8]) -> Result<(), FileFault> {

@@ -2,6 +2,8 @@
 --
 -- | word                              | meaning                                                                 |
 -- |-----------------------------------|-------------------------------------------------------------------------|
+-- | place_begins                      | a point with its line of code, and where that is in the application     |
+-- | source_tokens                     | the line in the source from which that was translated                   |
 -- | place_tokens, failure_tokens, step_tokens, lines_tokens, warnings_tokens | parts of an answer               |
 -- | answer_begins, answer_tokens      | an answer: its kind in a word, its status, and what it says             |
 -- | report_begins                     | the report up to its answers                                            |
@@ -13,17 +15,24 @@ use Rattle.fr_request.specs.declared.format.TheConstants.{VERSION}
 use Rattle.fr_formats.specs.declared.answer.AnswerShown.{AnswerShown}
 use Rattle.fr_formats.specs.declared.answer.Failure.{Failure}
 use Rattle.fr_formats.specs.declared.answer.PlaceShown.{PlaceShown}
+use Rattle.fr_formats.specs.declared.answer.SourceShown.{SourceShown}
 use Rattle.fr_formats.specs.declared.answer.StepShown.{StepShown}
 use Rattle.fr_formats.specs.declared.answer.WarningShown.{WarningShown}
 use Rattle.fr_formats.specs.Answers.{command_name, kind_name, side_name, status_of, greatest_status}
 use Rattle.fr_formats.specs.Tokens.{array, field, integer, number, maybe, listed, object, written}
 
-unfoldable pub place_tokens : PlaceShown → List Token
-place_tokens p =
+unfoldable pub place_begins : PlaceShown → List Token
+place_begins p =
     begin_object ∷ number (codes "point") p.point ++ field (codes "actor") (string_bytes p.actor)
     ++ number (codes "index") p.index ++ field (codes "side") (side_name p.side) ++ field (codes "code") (string_bytes p.code)
     ++ maybe (number (codes "line")) p.line ++ maybe (number (codes "column")) p.column ++ maybe (number (codes "length")) p.length
-    ++ end_object ∷ []
+
+unfoldable pub source_tokens : SourceShown → List Token
+source_tokens s =
+    object (codes "source") ++ field (codes "file") (string_bytes s.file) ++ number (codes "line") s.line ++ end_object ∷ []
+
+unfoldable pub place_tokens : PlaceShown → List Token
+place_tokens p = place_begins p ++ maybe source_tokens p.source ++ end_object ∷ []
 
 abbrev pub member_place : List ℕ → PlaceShown → List Token
 member_place name p = key name ∷ place_tokens p

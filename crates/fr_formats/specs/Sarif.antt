@@ -3,7 +3,9 @@
 -- | word                              | meaning                                                                 |
 -- |-----------------------------------|-------------------------------------------------------------------------|
 -- | uri_of, point_words               | a path as a URI, and a point in words                                   |
--- | file_location, point_location     | a whole file, and a point with what is said of it                       |
+-- | file_location                     | a whole file                                                            |
+-- | file_of, region_of                | the file and the lines of a point: its source's, where that is known    |
+-- | point_location                    | a point with what is said of it                                         |
 -- | Stop                              | a place of a way through the code, with what is said of it              |
 -- | run_stops, note_stops             | the run into a breach, and a state that the notes allow with a step     |
 -- | flow                              | a way under a text; nothing where it has no place                       |
@@ -25,6 +27,7 @@ use Rattle.fr_formats.specs.declared.answer.AnswerKind.TheVariants.{Yes, No, May
 use Rattle.fr_formats.specs.declared.answer.AnswerShown.{AnswerShown}
 use Rattle.fr_formats.specs.declared.answer.Failure.{Failure}
 use Rattle.fr_formats.specs.declared.answer.PlaceShown.{PlaceShown}
+use Rattle.fr_formats.specs.declared.answer.SourceShown.{SourceShown}
 use Rattle.fr_formats.specs.declared.answer.StepShown.{StepShown}
 use Rattle.fr_formats.specs.declared.answer.WarningShown.{WarningShown}
 use Rattle.fr_formats.specs.declared.ident.Ident.{Ident}
@@ -50,6 +53,20 @@ abbrev pub region : Option ℕ → Option ℕ → Option ℕ → List Token
 region (Some line) (Some column) (Some length) = range line column (min (column + length) (2 ^ 64 - 1))
 region line column length = []
 
+-- a line alone: of a source no columns are known
+unfoldable pub whole_line : ℕ → List Token
+whole_line line = object (codes "region") ++ number (codes "startLine") line ++ end_object ∷ []
+
+-- the file that a point is in: the source's, where that is known, and else the application's
+abbrev pub file_of : List ℕ → Option SourceShown → List ℕ
+file_of path None = path
+file_of path (Some s) = string_bytes s.file
+
+-- where the point is in that file
+abbrev pub region_of : Option SourceShown → PlaceShown → List Token
+region_of None p = region p.line p.column p.length
+region_of (Some s) p = whole_line s.line
+
 unfoldable pub file_begins : List ℕ → List Token
 file_begins address =
     begin_object ∷ object (codes "physicalLocation") ++ object (codes "artifactLocation")
@@ -70,7 +87,7 @@ said (c ∷ cs) = message (codes "message") (c ∷ cs)
 
 unfoldable pub point_location : List ℕ → PlaceShown → List ℕ → List Token
 point_location path p text =
-    file_begins (uri_of path) ++ region p.line p.column p.length ++ named (string_bytes p.actor) (point_words p)
+    file_begins (uri_of (file_of path p.source)) ++ region_of p.source p ++ named (string_bytes p.actor) (point_words p)
     ++ said text ++ end_object ∷ []
 
 unfoldable pub location : List ℕ → Option PlaceShown → List Token

@@ -65,6 +65,17 @@ pub struct PlaceShown {
     pub line: Option<usize>,
     pub column: Option<usize>,
     pub length: Option<usize>,
+    /// The line in the source that the application was translated from, where that is known.
+    pub source: Option<SourceShown>,
+}
+
+/// A line of a source from which an application was translated.
+#[derive(Drop)]
+pub struct SourceShown {
+    /// The source's file, as the application names it.
+    pub file: String,
+    /// The number of the line in it, from 1.
+    pub line: usize,
 }
 
 /// What fails, and where.

@@ -1,9 +1,11 @@
 // Answers as JSON.
 ghost use Rattle.std.specs.Prelude.{◌≡◌, ◌++◌, IfOk, OnOk, codes, string_bytes};
 ghost use Rattle.fr_formats.specs.Tokens.{listed, maybe};
-ghost use Rattle.fr_formats.specs.Json.{answer_begins, answer_tokens, failure_tokens, json_of, lines_tokens, member_place, place_tokens, report_begins, step_tokens, warnings_tokens};
+ghost use Rattle.fr_formats.specs.Json.{answer_begins, answer_tokens, failure_tokens, json_of, lines_tokens, member_place, place_begins, place_tokens, report_begins, source_tokens, step_tokens, warnings_tokens};
 
-use crate::answer::{AnswerShown, Failure, PlaceShown, StepShown, WarningShown, greatest_status};
+use crate::answer::{
+    AnswerShown, Failure, PlaceShown, SourceShown, StepShown, WarningShown, greatest_status,
+};
 use crate::piece::Piece::{
     Array, Field, Integer, Key, Marks, MaybeField, MaybeNumber, Number, Object, Text,
 };
@@ -14,15 +16,36 @@ use std::alloc::{AllocError, Global};
 /// The version of this form.
 const FORM: usize = 1;
 
+/// Appends the begin of a point: its line of code, and where that is in the application's file.
+#[tactic(auto, using(std::proofs::Common::append_assoc), unfolding(crate::specs::Json::place_begins))]
+fn begin_point(out: &mut Out, place: &PlaceShown) -> Result<(), AllocError>
+    ensures { OnOk result (out.new.tokens ≡ out.old.tokens ++ place_begins place.now) }
+{
+    put!(out; Marks("{"), Number("point", place.point), Field("actor", &place.actor),
+        Number("index", place.index), Field("side", place.side.name()), Field("code", &place.code),
+        MaybeNumber("line", place.line), MaybeNumber("column", place.column),
+        MaybeNumber("length", place.length))
+}
+
+/// Appends the line in the source; nothing where it isn't known.
+#[tactic(auto, using(std::proofs::Common::append_assoc), unfolding(crate::specs::Json::source_tokens))]
+fn put_source(out: &mut Out, source: &Option<SourceShown>) -> Result<(), AllocError>
+    ensures { OnOk result (out.new.tokens ≡ out.old.tokens ++ maybe source_tokens source.now) }
+{
+    let Some(source) = source else {
+        return Ok(());
+    };
+    put!(out; Object("source"), Field("file", &source.file), Number("line", source.line), Marks("}"))
+}
+
 /// Appends a point.
 #[tactic(auto, using(std::proofs::Common::append_assoc), unfolding(crate::specs::Json::place_tokens))]
 fn put_point(out: &mut Out, place: &PlaceShown) -> Result<(), AllocError>
     ensures { OnOk result (out.new.tokens ≡ out.old.tokens ++ place_tokens place.now) }
 {
-    put!(out; Marks("{"), Number("point", place.point), Field("actor", &place.actor),
-        Number("index", place.index), Field("side", place.side.name()), Field("code", &place.code),
-        MaybeNumber("line", place.line), MaybeNumber("column", place.column),
-        MaybeNumber("length", place.length), Marks("}"))
+    begin_point(out, place)?;
+    put_source(out, &place.source)?;
+    put!(out; Marks("}"))
 }
 
 /// Appends a point under this key; nothing where there is none.

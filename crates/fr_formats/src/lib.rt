@@ -14,8 +14,8 @@ mod piece;
 mod sarif;
 
 pub use answer::{
-    AnswerKind, AnswerShown, Command, Failure, PlaceShown, SideShown, Source, StepShown,
-    WarningKind, WarningShown, greatest_status,
+    AnswerKind, AnswerShown, Command, Failure, PlaceShown, SideShown, Source, SourceShown,
+    StepShown, WarningKind, WarningShown, greatest_status,
 };
 pub use format::answers_text;
 pub use ident::{part_name, rule_name};

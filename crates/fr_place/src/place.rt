@@ -52,12 +52,14 @@ impl Place {
     }
 }
 
-/// The text as the one line of a place, with what would steer a terminal written as in a literal. Its error is that an allocation
-/// was refused.
-pub fn place_of_text(alloc: Global, text: &str) -> Result<Place, AllocError> {
-    let mut line = String::from_str(alloc, "  ")?;
-    push_plain(&mut line, text)?;
+/// The texts as the lines of a place, with what would steer a terminal written as in a literal. Its error is that an allocation was
+/// refused.
+pub fn place_of_texts(alloc: Global, texts: &[String]) -> Result<Place, AllocError> {
     let mut place = Place::new(alloc);
-    place.add(line)?;
+    for text in texts {
+        let mut line = String::from_str(alloc, "  ")?;
+        push_plain(&mut line, text)?;
+        place.add(line)?;
+    }
     Ok(place)
 }

@@ -3,6 +3,7 @@ pub mod Listing
 pub mod Refuted
 pub mod Report
 pub mod Shown
+pub mod Sources
 pub mod Told
 pub mod Trace
 pub mod Waits

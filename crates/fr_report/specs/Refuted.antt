@@ -8,7 +8,7 @@
 -- | IsBelow          | a line that explains a step, and looks like none                                    |
 -- | IsStepTold       | the line of a step, as one of a run; if it is explained, other lines below it       |
 -- | AreStepLines     | the lines of steps, explained or not                                                |
--- | standing_text, IsHere, IsPlaced | where an actor is, with its line of code                             |
+-- | standing_text, IsHere, IsPlaced | where an actor is, with its line of code, and that line's place in a source where it is explained |
 -- | standings_text, AreWaiting | where actors are, a line each; those of the actors of a cycle                 |
 -- | shorter_text     | the line that says that a shorter run may exist, where it may and this is asked for |
 -- | AreRunLines      | the lines of steps, where actors are then, and that line                            |
@@ -31,6 +31,7 @@ use Rattle.fr_report.specs.declared.told.Standing.{Standing}
 use Rattle.fr_report.specs.Lines.{lines_text}
 use Rattle.fr_report.specs.Listing.{code_text}
 use Rattle.fr_report.specs.Report.{rule_text, side_text}
+use Rattle.fr_report.specs.Sources.{source_text}
 use Rattle.fr_report.specs.Trace.{entry_text}
 use Rattle.fr_report.specs.Waits.{deadlock_text}
 use Rattle.fr_waits.specs.declared.wait.Wait.{Wait}
@@ -74,16 +75,20 @@ AreStepLines explains P (step ∷ rest) text =
     (own others : List ℕ) × IsStepTold explains P step own × (text ≡ own ++ others) × AreStepLines explains P rest others
 
 -- where an actor is: `<actor> <instruction> <side>: <line>`, or `<actor> is done`
-abbrev pub standing_text : Program → Standing → List ℕ
-standing_text P s = elim s.point [
+abbrev pub at_text : Program → Standing → List ℕ
+at_text P s = elim s.point [
   | None ↦ (actor_at P s.actor.0).name ++ codes " is done"
   | Some p ↦ (actor_at P s.actor.0).name
       ++ (codes " " ++ (decimal p.pc ++ (codes " " ++ (side_text p.side ++ (codes ": " ++ string_bytes s.code)))))
 ]
 
+-- the same, with the place in the source where it is explained
+abbrev pub standing_text : Bool → Program → Standing → List ℕ
+standing_text explains P s = at_text P s ++ (if explains then source_text (string_bytes s.source) else [])
+
 -- the lines of several, each with its newline
-abbrev pub standings_text : Program → List Standing → List ℕ
-standings_text P lasts = flat_map (λ s. standing_text P s ++ codes "\n") lasts
+abbrev pub standings_text : Bool → Program → List Standing → List ℕ
+standings_text explains P lasts = flat_map (λ s. standing_text explains P s ++ codes "\n") lasts
 
 -- the point is one of its actor, and the line of code is that of the point
 abbrev pub IsHere : Program → Standing → Type 0
@@ -104,7 +109,7 @@ shorter_text explains shortest = if explains && not shortest then codes "a short
 -- the lines of the steps, explained or not, then those that say where actors are, and that a shorter run may exist
 abbrev pub AreRunLines : Bool → Program → List StepTaken → List Standing → Bool → List ℕ → Type 0
 AreRunLines explains P steps lasts shortest text =
-    (lines : List ℕ) × AreStepLines explains P steps lines × (text ≡ lines ++ (standings_text P lasts ++ shorter_text explains shortest))
+    (lines : List ℕ) × AreStepLines explains P steps lines × (text ≡ lines ++ (standings_text explains P lasts ++ shorter_text explains shortest))
 
 -- those lines of the steps that lead to a breach, and where the actor is that breaches the rule; or to a deadlock, and where the actors
 -- are that wait for one another; no text where no run was found

@@ -13,6 +13,7 @@ mod listing;
 mod reason;
 mod refuting;
 mod shown;
+mod sources;
 mod text;
 mod told;
 mod trace;
@@ -20,12 +21,13 @@ mod waits;
 mod warning;
 
 pub use lines::text_of;
-pub use listing::{line_of_code, points_text};
+pub use listing::{line_in_source, line_of_code, points_text};
 pub use reason::{
     Depth, ExplainedStep, depth_in, depths_of, explain, note_told, place_told, state_told,
 };
 pub use refuting::{ExplainedRun, breach_text, explain_deadlock, explain_run, finding_line};
 pub use shown::{actor_name, object_name, rule_text, side_name};
+pub use sources::Sources;
 pub use text::{part_text, report, verdict_line};
 pub use told::{Explained, Explanation, Line, ShownState, Standing, explanation_text};
 pub use trace::trace_text;

@@ -3,8 +3,10 @@ ghost use Rattle.std.specs.Prelude.{◌≡◌, ◌++◌, IfOk, OnOk, string_byte
 ghost use Rattle.fr_program.specs.Lookup.{IsPoint};
 ghost use Rattle.fr_instr.specs.AppNames.{names_in};
 ghost use Rattle.fr_report.specs.Listing.{code_text, listed_text, points_text};
+ghost use Rattle.fr_report.specs.Sources.{source_at, source_text};
 
 use crate::shown::{actor_name, number_of, side_name};
+use crate::sources::{Sources, put_source};
 use fr_instr::{Names, names_of, write_line};
 use fr_program::{App, Point};
 use std::alloc::{AllocError, Global};
@@ -34,37 +36,55 @@ pub fn line_of_code(alloc: Global, app: &App, point: Point) -> Result<String, Al
     code_text(alloc, app, &names, point)
 }
 
+/// The same, with its place in the source where that is known. An error says that an allocation was refused.
+pub fn line_in_source(
+    alloc: Global,
+    app: &App,
+    sources: &Sources,
+    point: Point,
+) -> Result<String, AllocError>
+    ensures { IfOk result (λ text. string_bytes text ≡ code_text app.now point ++ source_text (source_at sources.now point)) }
+{
+    let mut text = line_of_code(alloc, app, point)?;
+    put_source(&mut text, sources.at(point))?;
+    Ok(text)
+}
+
 /// Appends the line of a point.
 fn put_point(
     alloc: Global,
     text: &mut String,
     app: &App,
+    sources: &Sources,
     names: &Names,
     point: Point,
 ) -> Result<(), AllocError>
     requires names { names.now ≡ names_in app.now }
     requires point { IsPoint app.now point }
-    ensures { OnOk result (string_bytes text.new ≡ string_bytes text.old ++ listed_text app.now point) }
+    ensures { OnOk result (string_bytes text.new ≡ string_bytes text.old ++ listed_text sources.now app.now point) }
 {
     let code = code_text(alloc, app, names, point)?;
     let (number, actor) = (number_of(app, point), actor_name(app, point.actor));
     let (pc, side) = (point.pc, side_name(point.side));
-    write!(text, "{number} {actor} {pc} {side} {code}\n")
+    write!(text, "{number} {actor} {pc} {side} {code}")?;
+    put_source(text, sources.at(point))?;
+    text.push_str("\n")
 }
 
 /// The lines of the points of this application, in the order of their numbers, each with its newline:
 /// `<number> <actor> <instruction> <side> <line>`. The instruction is given by its place in the
-/// actor's code, from 0, the side is `before` or `inside`, and the line is as `write_line` writes it.
+/// actor's code, from 0, the side is `before` or `inside`, and the line is as `write_line` writes it. Where a line's place in a source
+/// is known, it follows as a comment: `  # uart.frc:12`.
 /// An application with no actor has no point, and the text is empty. An error says that an
 /// allocation was refused. The lines' form is this project's own.
-pub fn points_text(alloc: Global, app: &App) -> Result<String, AllocError>
-    ensures { IfOk result (λ text. string_bytes text ≡ points_text app.now) }
+pub fn points_text(alloc: Global, app: &App, sources: &Sources) -> Result<String, AllocError>
+    ensures { IfOk result (λ text. string_bytes text ≡ points_text sources.now app.now) }
 {
     app.recall_numbered();
     let names = names_of(alloc, app)?;
     let mut text = String::new(alloc);
     for number in 0..app.points() {
-        put_point(alloc, &mut text, app, &names, app.point(number))?;
+        put_point(alloc, &mut text, app, sources, &names, app.point(number))?;
     }
     Ok(text)
 }

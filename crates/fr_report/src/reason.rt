@@ -15,6 +15,7 @@ mod scene;
 mod steps;
 mod words;
 
+use crate::sources::Sources;
 use crate::told::{Explained, Explanation, ShownState};
 pub use changes::ExplainedStep;
 pub(crate) use changes::step_explained;
@@ -73,7 +74,7 @@ fn add_step(
     if !facts.is_empty() {
         items.push(Explained::Changed(facts))?;
     }
-    let after = standing_in(scene.alloc, scene.app, actor, &taken.after)?;
+    let after = standing_in(scene.alloc, scene.app, scene.sources, actor, &taken.after)?;
     Ok(items.push(Explained::Then(after))?)
 }
 
@@ -251,6 +252,7 @@ fn scene_of<'a>(
     alloc: Global,
     app: &'a App,
     certificate: &'a Certificate,
+    sources: &'a Sources,
     point: Point,
     part: Part,
     detail: Detail,
@@ -272,6 +274,7 @@ fn scene_of<'a>(
     Some(Scene {
         alloc,
         app,
+        sources,
         detail,
         site,
         other,
@@ -294,7 +297,7 @@ fn add_points(items: &mut Vec<Explained>, scene: &Scene) -> Result<(), AllocErro
 
 /// Why a verdict is no, in the order in which it is told: a state that the notes allow, and where the part is about
 /// a step the step, as `witness` of fr_witness finds them; each point with its line of code, what the note says, and
-/// what is so. None where the verdict is yes. The certificate fits the application.
+/// what is so. None where the verdict is yes. The certificate fits the application; `sources` says where its lines are in a source.
 ///
 /// # Errors
 ///
@@ -303,6 +306,7 @@ pub fn explain(
     alloc: Global,
     app: &App,
     certificate: &Certificate,
+    sources: &Sources,
     verdict: Verdict,
     detail: Detail,
 ) -> Result<Option<Explanation>, AllocError>
@@ -312,7 +316,7 @@ pub fn explain(
     let Verdict::No { point, part } = verdict else {
         return Ok(None);
     };
-    let Some(scene) = scene_of(alloc, app, certificate, point, part, detail) else {
+    let Some(scene) = scene_of(alloc, app, certificate, sources, point, part, detail) else {
         return Ok(None);
     };
     let mut items = Vec::new(alloc);

@@ -17,6 +17,7 @@ ghost use Rattle.fr_report.specs.Refuted.{
 
 use crate::reason::{ExplainedStep, standing_in, step_explained};
 use crate::shown::{actor_name, rule_text};
+use crate::sources::Sources;
 use crate::told::Standing;
 use crate::trace::put_entry;
 use crate::waits::deadlock_text;
@@ -43,6 +44,7 @@ pub struct ExplainedRun {
 fn step_told(
     alloc: Global,
     app: &App,
+    sources: &Sources,
     state: &mut State,
     step: StepTaken,
 ) -> Result<ExplainedStep, AllocError>
@@ -52,13 +54,14 @@ fn step_told(
 {
     let before = state.copied()?;
     let _is_taken = take_step(app, state, step)?;
-    step_explained(alloc, app, step, &before, state)
+    step_explained(alloc, app, sources, step, &before, state)
 }
 
 /// These steps of a run, each with where its actor was and what it changed, and the state after them.
 fn explained(
     alloc: Global,
     app: &App,
+    sources: &Sources,
     taken: &[StepTaken],
 ) -> Result<(Vec<ExplainedStep>, State), AllocError>
     ensures steps { IfOk result (λ r. steps_in r.0.items ≡ taken.now) }
@@ -69,24 +72,30 @@ fn explained(
     let mut state = State::start(alloc, app)?;
     let mut steps = Vec::new(alloc);
     for step in taken {
-        steps.push(step_told(alloc, app, &mut state, *step)?)?;
+        steps.push(step_told(alloc, app, sources, &mut state, *step)?)?;
     }
     Ok((steps, state))
 }
 
-/// The run into a breach of the application: each step with where its actor was and what it changed.
+/// The run into a breach of the application: each step with where its actor was and what it changed. `sources` says where the
+/// application's lines are in a source.
 ///
 /// # Errors
 ///
 /// Only where memory is refused.
-pub fn explain_run(alloc: Global, app: &App, found: &Refutation) -> Result<ExplainedRun, AllocError>
+pub fn explain_run(
+    alloc: Global,
+    app: &App,
+    sources: &Sources,
+    found: &Refutation,
+) -> Result<ExplainedRun, AllocError>
     ensures steps { IfOk result (λ run. steps_in run.steps.items ≡ found.now.steps.items) }
     ensures last { IfOk result (λ run. (last : Standing) × (run.lasts.items ≡ last ∷ []) × IsPlaced app.now found.now.actor last) }
     ensures shortest { IfOk result (λ run. run.is_shortest ≡ found.now.is_shortest) }
 {
-    let (steps, state) = explained(alloc, app, &found.steps)?;
+    let (steps, state) = explained(alloc, app, sources, &found.steps)?;
     let mut lasts = Vec::new(alloc);
-    lasts.push(standing_in(alloc, app, found.actor, &state)?)?;
+    lasts.push(standing_in(alloc, app, sources, found.actor, &state)?)?;
     Ok(ExplainedRun {
         steps,
         lasts,
@@ -98,6 +107,7 @@ pub fn explain_run(alloc: Global, app: &App, found: &Refutation) -> Result<Expla
 fn standings_in(
     alloc: Global,
     app: &App,
+    sources: &Sources,
     cycle: &[Wait],
     state: &State,
 ) -> Result<Vec<Standing>, AllocError>
@@ -106,12 +116,13 @@ fn standings_in(
 {
     let mut lasts = Vec::new(alloc);
     for wait in cycle {
-        lasts.push(standing_in(alloc, app, wait.actor, state)?)?;
+        lasts.push(standing_in(alloc, app, sources, wait.actor, state)?)?;
     }
     Ok(lasts)
 }
 
-/// The run into a deadlock of the application: each step with where its actor was and what it changed.
+/// The run into a deadlock of the application: each step with where its actor was and what it changed. `sources` says where the
+/// application's lines are in a source.
 ///
 /// # Errors
 ///
@@ -119,14 +130,15 @@ fn standings_in(
 pub fn explain_deadlock(
     alloc: Global,
     app: &App,
+    sources: &Sources,
     found: &Deadlocked,
 ) -> Result<ExplainedRun, AllocError>
     ensures steps { IfOk result (λ run. steps_in run.steps.items ≡ found.now.steps.items) }
     ensures lasts { IfOk result (λ run. AreWaiting app.now found.now.cycle.items run.lasts.items) }
     ensures shortest { IfOk result (λ run. run.is_shortest ≡ found.now.is_shortest) }
 {
-    let (steps, state) = explained(alloc, app, &found.steps)?;
-    let lasts = standings_in(alloc, app, &found.cycle, &state)?;
+    let (steps, state) = explained(alloc, app, sources, &found.steps)?;
+    let lasts = standings_in(alloc, app, sources, &found.cycle, &state)?;
     Ok(ExplainedRun {
         steps,
         lasts,
@@ -152,7 +164,7 @@ fn explaining_lines(
 ) -> Result<Vec<String>, AllocError>
     ensures { IfOk result (λ lines. All (λ line. IsBelow (string_bytes line)) lines.items) }
 {
-    let (at, change) = (step.before.text(alloc, app)?, step.change(alloc)?);
+    let (at, change) = (step.before.text(alloc, app, true)?, step.change(alloc)?);
     let mut lines = Vec::new(alloc);
     lines.push(line_below(alloc, &at)?)?;
     if change.is_empty() {
@@ -189,12 +201,13 @@ fn standing_lines(
     alloc: Global,
     app: &App,
     standings: &[Standing],
+    explains: bool,
 ) -> Result<Vec<String>, AllocError>
-    ensures { IfOk result (λ lines. lines_text lines.items ≡ standings_text app.now standings.now) }
+    ensures { IfOk result (λ lines. lines_text lines.items ≡ standings_text explains app.now standings.now) }
 {
     let mut lines = Vec::new(alloc);
     for standing in standings {
-        lines.push(standing.text(alloc, app)?)?;
+        lines.push(standing.text(alloc, app, explains)?)?;
     }
     Ok(lines)
 }
@@ -203,9 +216,9 @@ impl ExplainedRun {
     /// The lines that follow those of the steps.
     fn end_lines(&self, alloc: Global, app: &App, explains: bool) -> Result<Vec<String>, AllocError>
         ensures { IfOk result (λ lines. lines_text lines.items ≡
-            standings_text app.now self.now.lasts.items ++ shorter_text explains self.now.is_shortest) }
+            standings_text explains app.now self.now.lasts.items ++ shorter_text explains self.now.is_shortest) }
     {
-        let mut lines = standing_lines(alloc, app, &self.lasts)?;
+        let mut lines = standing_lines(alloc, app, &self.lasts, explains)?;
         if explains && !self.is_shortest {
             lines.push(String::from_str(alloc, "a shorter run may exist")?)?;
         }
@@ -213,8 +226,8 @@ impl ExplainedRun {
     }
 
     /// The lines of the run: those of its steps, and where the actor is that then breaches the rule, or where those are that wait for
-    /// one another, with their lines of code. Where it is asked for, lines below each step explain it, and the last line says that a shorter run may exist,
-    /// where it may.
+    /// one another, with their lines of code. Where it is asked for, lines below each step explain it, the places in the source are there, and the last line says
+    /// that a shorter run may exist, where it may.
     ///
     /// # Errors
     ///

@@ -4,6 +4,7 @@ ghost use Rattle.fr_report.specs.Refuted.{standing_text};
 
 use crate::lines::{put_listed, text_of};
 use crate::shown::{actor_name, object_name, side_name};
+use crate::sources::put_source;
 use fr_ends::EndName;
 use fr_program::{ActorId, App, Point};
 use std::alloc::{AllocError, Global};
@@ -24,6 +25,8 @@ pub struct Standing {
     pub point: Option<Point>,
     /// The line of code there.
     pub code: String,
+    /// Where that line is in the source that the application was translated from; empty where it isn't known.
+    pub source: String,
 }
 
 /// Which state is shown.
@@ -104,17 +107,28 @@ pub struct Line {
 }
 
 impl Standing {
-    /// The whole line that says it. An error says that an allocation was refused.
-    pub fn text(&self, alloc: Global, app: &App) -> Result<String, AllocError>
-        ensures { IfOk result (λ text. string_bytes text ≡ standing_text app.now self.now) }
+    /// The whole line that says it; where it is explained, with the place in the source. An error says that an allocation was refused.
+    pub fn text(&self, alloc: Global, app: &App, explains: bool) -> Result<String, AllocError>
+        ensures { IfOk result (λ text. string_bytes text ≡ standing_text explains app.now self.now) }
     {
         let name = actor_name(app, self.actor);
-        match self.point {
+        let mut text = match self.point {
             Some(Point { pc, side, .. }) => {
-                format!(in alloc; "{name} {pc} {}: {}", side_name(side), self.code)
+                format!(in alloc; "{name} {pc} {}: {}", side_name(side), self.code)?
             }
-            None => format!(in alloc; "{name} is done"),
+            None => format!(in alloc; "{name} is done")?,
+        };
+        if explains {
+            put_source(&mut text, &self.source)?;
         }
+        Ok(text)
+    }
+
+    /// The line of code, with its place in the source. An error says that an allocation was refused.
+    pub fn code_text(&self, alloc: Global) -> Result<String, AllocError> {
+        let mut text = String::from_str(alloc, &self.code)?;
+        put_source(&mut text, &self.source)?;
+        Ok(text)
     }
 
     /// The line that tells it, behind a word. An error says that an allocation was refused.
@@ -123,7 +137,7 @@ impl Standing {
         match self.point {
             Some(Point { pc, side, .. }) => Ok(Line {
                 of: format!(in alloc; "{word}{name} {pc} {}", side_name(side))?,
-                said: self.code.clone()?,
+                said: self.code_text(alloc)?,
             }),
             None => Ok(Line {
                 of: String::new(alloc),

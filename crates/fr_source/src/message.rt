@@ -85,19 +85,40 @@ pub(crate) fn refused_by(alloc: Global, source: &Source<'_>, fault: Fault) -> Re
 }
 
 impl Message {
-    /// The lines to print: `FILE:LINE:COLUMN: text`, the line of the source, and the mark under its place. Of the name of
-    /// the file, control characters and what isn't ASCII are question marks.
+    /// The line to print: `FILE:LINE:COLUMN: text`. Of the name of the file, control characters and what isn't ASCII are
+    /// question marks.
     ///
     /// # Errors
     ///
     /// Only where memory is refused.
     pub fn report(&self, alloc: Global, file: &str) -> Result<String, AllocError> {
         let file = crate::source::plain(alloc, file.as_bytes())?;
-        let line = self.line;
-        let column = self.column;
-        let text = self.text.as_str();
-        let shown = self.shown.as_str();
-        let mark = self.mark.as_str();
-        format!(in alloc; "{file}:{line}:{column}: {text}\n{line:>5} | {shown}\n      | {mark}\n")
+        let Message {
+            line,
+            column,
+            text,
+            ..
+        } = self;
+        format!(in alloc; "{file}:{line}:{column}: {text}")
+    }
+
+    /// The lines to print below that: the line of the source with its number, and the mark under the place.
+    ///
+    /// # Errors
+    ///
+    /// Only where memory is refused.
+    pub fn excerpt(&self, alloc: Global) -> Result<[String; 2], AllocError> {
+        let Message {
+            line,
+            shown,
+            mark,
+            ..
+        } = self;
+        let number = format!(in alloc; "{line:>3}")?;
+        let width = number.len();
+        Ok([
+            format!(in alloc; "{number} | {shown}")?,
+            format!(in alloc; "{:width$} | {mark}", "")?,
+        ])
     }
 }

@@ -4,6 +4,7 @@ ghost use Rattle.fr_trial.specs.Memory.{IsFree, IsGiven, IsPut, bytes_at};
 
 use fr_answer::Files;
 use fr_files::{FileFault, Output, OutputFault};
+use fr_source::{Refused, Translation, translated};
 use std::alloc::{AllocError, Global};
 use std::collections::BTreeMap;
 use std::io::{self, ErrorKind};
@@ -88,9 +89,13 @@ impl MemoryFiles {
 }
 
 impl Files for MemoryFiles {
+    ghost use Rattle.std.specs.Prelude.{◌≤◌, length};
+
     ghost Gives = { IsGiven };
 
     ghost Puts = { IsPut };
+
+    ghost Means = { λ _ text. length text ≤ 1048576 };
 
     ghost May = { IsFree };
 
@@ -102,6 +107,10 @@ impl Files for MemoryFiles {
         };
         let given = &bytes[..bytes.len().min(limit + 1)];
         Vec::from_slice(self.alloc, given).map_err(|_| FileFault::Memory)
+    }
+
+    fn translate(&self, alloc: Global, path: &str, source: &[u8]) -> Result<Translation, Refused> {
+        translated(alloc, path, source)
     }
 
     fn replace(&mut self, path: &str, bytes: &[u8]) -> Result<(), FileFault> {

@@ -12,6 +12,9 @@ use std::thread::Threads;
 const SAFE: &str = r#"object = [{name="q", kind="queue", size=4, lo=0, hi=9, live=true}]
 actor = [{name="t", kind="task", code=["xQueueSend(q, 1, 0)", "goto 0"]}]"#;
 
+/// A source that means the same.
+const SOURCE: &str = "queue q[4] of 0..9;\ntask t { for (;;) xQueueSend(q, 1, 0); }";
+
 const SAFE_NOTES: &str =
     r#"{"version":1,"ends":[],"notes":[{"live":["q"]},{"live":["q"]},{"live":["q"]}]}"#;
 
@@ -28,6 +31,7 @@ const TEXTS: &[(&str, &str)] = &[
     ("safe.json", SAFE_NOTES),
     ("wrong.json", WRONG_NOTES),
     ("other.toml", SAFE),
+    ("safe.frc", SOURCE),
     ("broken.toml", BROKEN),
     ("cut.toml", "actor = ["),
     ("all.list", "safe.toml safe.json\nother.toml\ncut.toml\n"),
@@ -108,6 +112,8 @@ fn checks(rt: HostRuntime) -> Result<(), AllocError> {
     for (app, certificate, told) in [
         ("safe.toml", "safe.json", YES),
         ("safe.toml", "wrong.json", (1, no, "", 2)),
+        ("safe.frc", "safe.json", YES),
+        ("safe.frc", "wrong.json", (1, no, "", 2)),
         ("cut.toml", "safe.json", (2, "", "refused: app 2 Toml\n", 2)),
         ("none.toml", "safe.json", (3, "", "machine: file\n", 1)),
     ] {

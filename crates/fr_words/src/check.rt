@@ -5,8 +5,8 @@ ghost use Rattle.fr_words.specs.Asked.{IsJudged, IsCheck, can_judge, can_check};
 
 use crate::found::{is_given, short_number_at, text_at};
 use crate::shared::{
-    EXPLAINS_VERDICT, STATUSES, all_arg, command_of, deadlock_arg, detail_asked, explain_arg,
-    file_arg, format_arg, format_asked, html_arg, text_arg, warn_arg, workers_arg,
+    APPLICATION, EXPLAINS_VERDICT, STATUSES, all_arg, command_of, deadlock_arg, detail_asked,
+    explain_arg, file_arg, format_arg, format_asked, html_arg, text_arg, warn_arg, workers_arg,
 };
 use clap::{Arg, ArgMatches, Command};
 use fr_request::{CheckRequest, Judged};
@@ -30,7 +30,7 @@ fn judged_arg<'a>(alloc: Global, id: &'a str, help: &'a str) -> Result<Arg<'a>, 
 /// The command `check`: its words, its help and its exit statuses.
 pub fn check_command<'a>(alloc: Global) -> Result<Command<'a>, AllocError> {
     let about = "Prints the verdict on an application and a certificate";
-    let app = judged_arg(alloc, "APP", "The application, in TOML")?;
+    let app = judged_arg(alloc, "APP", APPLICATION)?;
     let certificate = judged_arg(alloc, "CERT", "The certificate, in JSON")?;
     let (list, html) = (list_arg(alloc)?, html_arg(alloc)?);
     let args = vec![in alloc;

@@ -4,7 +4,7 @@ ghost use Rattle.fr_words.specs.Found.{rows};
 ghost use Rattle.fr_words.specs.Asked.{IsFind, can_find};
 
 use crate::found::{is_given, short_number_at, text_at};
-use crate::shared::{EXPLAINS_REFUSAL, command_of, explain_arg, file_arg};
+use crate::shared::{APPLICATION, EXPLAINS_REFUSAL, command_of, explain_arg, file_arg};
 use clap::{Arg, ArgMatches, Command, value_parser};
 use fr_request::FindRequest;
 use std::alloc::{AllocError, Global};
@@ -29,7 +29,7 @@ fn rounds_arg<'a>(alloc: Global) -> Arg<'a> {
 pub fn find_command<'a>(alloc: Global) -> Result<Command<'a>, AllocError> {
     let about = "Finds a certificate for an application, and writes it to a file";
     let args = vec![in alloc;
-        file_arg(alloc, "APP", "The application, in TOML"),
+        file_arg(alloc, "APP", APPLICATION),
         file_arg(alloc, "OUT", "The file for the certificate"),
         rounds_arg(alloc),
         explain_arg(alloc, EXPLAINS_REFUSAL),

@@ -5,8 +5,8 @@ ghost use Rattle.fr_words.specs.Asked.{IsProve, can_prove};
 
 use crate::found::{is_given, number_at, short_number_at, text_at};
 use crate::shared::{
-    all_arg, command_of, deadlock_arg, detail_asked, explain_arg, file_arg, flag_arg, format_arg,
-    format_asked, html_arg, memory_arg, states_arg, text_arg, warn_arg, workers_arg,
+    APPLICATION, all_arg, command_of, deadlock_arg, detail_asked, explain_arg, file_arg, flag_arg,
+    format_arg, format_asked, html_arg, memory_arg, states_arg, text_arg, warn_arg, workers_arg,
 };
 use clap::{Arg, ArgMatches, Command};
 use fr_request::ProveRequest;
@@ -38,7 +38,7 @@ pub fn prove_command<'a>(alloc: Global) -> Result<Command<'a>, AllocError> {
     let about = "Works out a certificate for an application, and prints the verdict by it";
     let html = html_arg(alloc)?;
     let args = vec![in alloc;
-        file_arg(alloc, "APP", "The application, in TOML"),
+        file_arg(alloc, "APP", APPLICATION),
         certificate_arg(alloc),
         workers_arg(alloc),
         no_search_arg(alloc),

@@ -5,8 +5,8 @@ ghost use Rattle.fr_words.specs.Asked.{IsRefute, can_refute};
 
 use crate::found::{is_given, number_at, short_number_at, text_at};
 use crate::shared::{
-    command_of, deadlock_arg, explain_arg, file_arg, format_arg, format_asked, html_arg,
-    memory_arg, states_arg, workers_arg,
+    APPLICATION, command_of, deadlock_arg, explain_arg, file_arg, format_arg, format_asked,
+    html_arg, memory_arg, states_arg, workers_arg,
 };
 use clap::{ArgMatches, Command};
 use fr_request::RefuteRequest;
@@ -26,7 +26,7 @@ pub fn refute_command<'a>(alloc: Global) -> Result<Command<'a>, AllocError> {
     let about = "Looks for a run of an application into a breach of a rule, shortest first";
     let html = html_arg(alloc)?;
     let args = vec![in alloc;
-        file_arg(alloc, "APP", "The application, in TOML"),
+        file_arg(alloc, "APP", APPLICATION),
         states_arg(alloc),
         memory_arg(alloc, "2048"),
         workers_arg(alloc),

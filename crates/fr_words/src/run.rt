@@ -5,7 +5,8 @@ ghost use Rattle.fr_words.specs.Asked.{IsRun, can_run};
 
 use crate::found::{number_at, text_at};
 use crate::shared::{
-    EXPLAINS_VERDICT, all_arg, command_of, detail_asked, explain_arg, file_arg, text_arg,
+    APPLICATION, EXPLAINS_VERDICT, all_arg, command_of, detail_asked, explain_arg, file_arg,
+    text_arg,
 };
 use clap::{Arg, ArgMatches, Command, value_parser};
 use fr_request::RunRequest;
@@ -37,7 +38,7 @@ fn words_arg<'a>(alloc: Global) -> Arg<'a> {
 pub fn run_command<'a>(alloc: Global) -> Result<Command<'a>, AllocError> {
     let about = "Runs an application that passes with its certificate, and prints each step";
     let args = vec![in alloc;
-        file_arg(alloc, "APP", "The application, in TOML"),
+        file_arg(alloc, "APP", APPLICATION),
         file_arg(alloc, "CERT", "The certificate, in JSON"),
         polls_arg(alloc),
         words_arg(alloc),

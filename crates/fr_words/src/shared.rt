@@ -92,6 +92,9 @@ pub fn deadlock_arg<'a>(alloc: Global) -> Arg<'a> {
     flag_arg(alloc, "deadlock", help)
 }
 
+/// What the word `APP` is.
+pub const APPLICATION: &str = "The application, in TOML, or a source NAME.frc";
+
 /// What `--explain` does where there is a verdict.
 pub const EXPLAINS_VERDICT: &str =
     "Print why the verdict is no, and on standard error where a refused file is at fault";

@@ -10,6 +10,7 @@ ghost use Rattle.fr_answer.specs.Commands.{
   IsPaged,
   IsShown,
 };
+ghost use Rattle.fr_answer.specs.Inputs.{Reads};
 
 use crate::answer::Refusal;
 use crate::commands::list::check_list;
@@ -72,12 +73,12 @@ fn check_looked<R: Threads + Wait + Sync, F: Files, O: Write, E: Write>(
 ) -> Result<u8, Refusal>
     requires may { (path : List ℕ) → option_copied asked.now.html ≡ Some path → F.May files.old path }
     ensures answered { IfOk result (λ status. IsShown
-        (IsCheckOf (F.Gives files.old) asked.now.deadlock app.now certificate.now) asked.now.format status (O.contents out.old) (O.contents out.new)) }
+        (IsCheckOf (Reads (F.Gives files.old) F.Means) asked.now.deadlock app.now certificate.now) asked.now.format status (O.contents out.old) (O.contents out.new)) }
     ensures kept { IfOk result
         (λ status. 2 ≤ status → asked.now.format ≡ None → out.new ≡ out.old) }
     ensures most { IfOk result (λ status. status ≤ 3) }
     ensures fault { IfErr result (λ refusal. fault_status refusal.fault ≡ 3) }
-    ensures files { IsPaged F.Puts (IsCheckOf (F.Gives files.old) asked.now.deadlock app.now certificate.now)
+    ensures files { IsPaged F.Puts (IsCheckOf (Reads (F.Gives files.old) F.Means) asked.now.deadlock app.now certificate.now)
         (option_copied asked.now.html) files.old files.new }
 {
     let ways = ways_of(asked);
@@ -108,12 +109,12 @@ fn check_one<R: Threads + Wait + Sync, F: Files, O: Write, E: Write>(
     err: &mut E,
 ) -> Result<u8, Refusal>
     ensures answered { IfOk result (λ status. IsShown
-        (IsCheckOf (F.Gives files.old) asked.now.deadlock app.now certificate.now) asked.now.format status (O.contents out.old) (O.contents out.new)) }
+        (IsCheckOf (Reads (F.Gives files.old) F.Means) asked.now.deadlock app.now certificate.now) asked.now.format status (O.contents out.old) (O.contents out.new)) }
     ensures kept { IfOk result
         (λ status. 2 ≤ status → asked.now.format ≡ None → out.new ≡ out.old) }
     ensures most { IfOk result (λ status. status ≤ 3) }
     ensures fault { IfErr result (λ refusal. fault_status refusal.fault ≡ 3) }
-    ensures files { IsPaged F.Puts (IsCheckOf (F.Gives files.old) asked.now.deadlock app.now certificate.now)
+    ensures files { IsPaged F.Puts (IsCheckOf (Reads (F.Gives files.old) F.Means) asked.now.deadlock app.now certificate.now)
         (option_copied asked.now.html) files.old files.new }
 {
     let output = output_at(asked.html, Holds::Page);
@@ -139,12 +140,12 @@ pub(crate) fn check<R: Threads + Wait + Sync, F: Files, O: Write, E: Write>(
     err: &mut E,
 ) -> Result<u8, Refusal>
     ensures answered { IfOk result
-        (λ status. IsCheckAnswered (F.Gives files.old) asked.now.deadlock asked.now.files asked.now.format
+        (λ status. IsCheckAnswered (Reads (F.Gives files.old) F.Means) asked.now.deadlock asked.now.files asked.now.format
         (is_some asked.now.detail) status (O.contents out.old) (O.contents out.new)) }
     ensures kept { IfOk result (λ status. 2 ≤ status → IsNamedText asked.now.files asked.now.format → out.new ≡ out.old) }
     ensures refused { IfErr result (λ refusal. fault_status refusal.fault ≡ 2 → out.new ≡ out.old) }
     ensures most { IfOk result (λ status. status ≤ 3) }
-    ensures files { IsPaged F.Puts (IsNamedAnswer (F.Gives files.old) asked.now.deadlock asked.now.files)
+    ensures files { IsPaged F.Puts (IsNamedAnswer (Reads (F.Gives files.old) F.Means) asked.now.deadlock asked.now.files)
         (option_copied asked.now.html) files.old files.new }
 {
     match asked.files {

@@ -1,7 +1,8 @@
 // The command `find`.
 ghost use Rattle.std.specs.Prelude.{◌≡◌, ◌≤◌, IfErr, IfOk};
 ghost use Rattle.fr_answer.specs.Checked.{fault_status};
-ghost use Rattle.fr_answer.specs.Commands.{IsAnswered, IsWritten};
+ghost use Rattle.fr_answer.specs.Commands.{IsAnswered, IsDone, IsWritten};
+ghost use Rattle.fr_answer.specs.Inputs.{Reads};
 
 use crate::answer::Refusal;
 use crate::files::Files;
@@ -23,11 +24,13 @@ pub(crate) fn find<R: Threads + Sync, F: Files, O: Write>(
     files: &mut F,
     out: &mut O,
 ) -> Result<u8, Refusal>
-    ensures answered { IfOk result (λ status. IsAnswered (F.Gives files.old)
+    ensures answered { IfOk result (λ status. IsAnswered (Reads (F.Gives files.old) F.Means)
         (Request.Find asked.now) status (O.contents out.old) (O.contents out.new)) }
+    ensures done { IfOk result (λ status. status ≡ 0
+        → IsDone (Reads (F.Gives files.old) F.Means) F.Puts (Request.Find asked.now) files.old files.new) }
     ensures most { IfOk result (λ status. status ≤ 1) }
     ensures refused { IfErr result (λ refusal. fault_status refusal.fault ≡ 2 → out.new ≡ out.old) }
-    ensures files { IsWritten (F.Gives files.old) F.Puts (Request.Find asked.now) files.old files.new }
+    ensures files { IsWritten (Reads (F.Gives files.old) F.Means) F.Puts (Request.Find asked.now) files.old files.new }
 {
     let (path, explains) = (asked.out, asked.explains);
     let replaces = Holds::Anything;
@@ -35,9 +38,9 @@ pub(crate) fn find<R: Threads + Sync, F: Files, O: Write>(
         return Err(Refusal::of_outputs(alloc, &fault, explains));
     }
     let app = application(alloc, files, asked.app, explains)?;
-    let found = match find_bytes(rt, alloc, &app, usize::from(asked.rounds)) {
+    let found = match find_bytes(rt, alloc, &app.bytes, usize::from(asked.rounds)) {
         Ok(found) => found,
-        Err(fault) => return Err(Refusal::of_texts(alloc, &app, None, fault, explains)),
+        Err(fault) => return Err(Refusal::of_texts(alloc, &app.bytes, None, fault, explains)),
     };
     if let Found::Text(text) = &found {
         if let Err(fault) = files.replace(path, text.as_bytes()) {

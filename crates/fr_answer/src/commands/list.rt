@@ -19,6 +19,7 @@ ghost use Rattle.fr_answer.specs.Commands.{
   Shows,
   heading,
 };
+ghost use Rattle.fr_answer.specs.Inputs.{Reads};
 
 use crate::answer::{Answer, Refusal, What};
 use crate::fault::CheckFault;
@@ -47,7 +48,7 @@ fn proved_line<R: Threads + Wait + Sync, F: Files>(
     files: &F,
 ) -> Result<Answer, AllocError>
     ensures by { IfOk result
-        (λ a. what_status a.what ≤ 1 → IsAnswerBy (F.Gives files.now) ways.deadlock list.now (beside list.now app.now) None a.what) }
+        (λ a. what_status a.what ≤ 1 → IsAnswerBy (Reads (F.Gives files.now) F.Means) ways.deadlock list.now (beside list.now app.now) None a.what) }
     ensures path { IfOk result (λ a. string_bytes a.application ≡ beside list.now app.now) }
 {
     let app = path_beside(alloc, list, app)?;
@@ -71,7 +72,7 @@ fn checked_line<R: Threads + Wait + Sync, F: Files>(
     files: &F,
 ) -> Result<Answer, AllocError>
     ensures by { IfOk result
-        (λ a. what_status a.what ≤ 1 → IsAnswerBy (F.Gives files.now) ways.deadlock list.now (beside list.now app.now) (Some certificate.now) a.what) }
+        (λ a. what_status a.what ≤ 1 → IsAnswerBy (Reads (F.Gives files.now) F.Means) ways.deadlock list.now (beside list.now app.now) (Some certificate.now) a.what) }
     ensures path { IfOk result (λ a. string_bytes a.application ≡ beside list.now app.now) }
 {
     let (app, certificate) = (
@@ -96,7 +97,7 @@ fn answer_line<R: Threads + Wait + Sync, F: Files>(
     ways: Ways,
     files: &F,
 ) -> Result<Answer, AllocError>
-    ensures by { IfOk result (λ a. IsLineAnswer (F.Gives files.now) ways.deadlock list.now
+    ensures by { IfOk result (λ a. IsLineAnswer (Reads (F.Gives files.now) F.Means) ways.deadlock list.now
         (record { entry = entry_of listed.entry; what = a.what })) }
     ensures path { IfOk result (λ a. string_bytes a.application ≡ beside list.now listed.entry.application.now) }
 {
@@ -183,7 +184,7 @@ fn print_each<R: Threads + Wait + Sync, F: Files, O: Write, E: Write>(
     out: &mut O,
     err: &mut E,
 ) -> Result<u8, CheckFault>
-    ensures answered { IfOk result (λ status. AreAnswered (F.Gives files.now) ways.deadlock list.now (map entry_of entries.now) status
+    ensures answered { IfOk result (λ status. AreAnswered (Reads (F.Gives files.now) F.Means) ways.deadlock list.now (map entry_of entries.now) status
         (λ lines. AreLinesPrinted None (is_some ways.detail) list.now lines (O.contents out.old) (O.contents out.new))) }
     ensures most { IfOk result (λ status. status ≤ 3) }
     ensures fault { IfErr result (λ fault. fault_status fault ≡ 3) }
@@ -206,7 +207,7 @@ fn shown_each<R: Threads + Wait + Sync, F: Files>(
     ways: Ways,
     files: &F,
 ) -> Result<(Vec<AnswerShown>, u8), AllocError>
-    ensures answered { IfOk result (λ r. AreAnswered (F.Gives files.now) ways.deadlock list.now (map entry_of entries.now) r.1
+    ensures answered { IfOk result (λ r. AreAnswered (Reads (F.Gives files.now) F.Means) ways.deadlock list.now (map entry_of entries.now) r.1
         (λ lines. Each (λ line shown. Shows line.what shown) lines r.0.items)) }
     ensures most { IfOk result (λ r. r.1 ≤ 3) }
 {
@@ -230,7 +231,7 @@ fn report_each<R: Threads + Wait + Sync, F: Files, O: Write>(
     files: &F,
     out: &mut O,
 ) -> Result<u8, CheckFault>
-    ensures answered { IfOk result (λ status. AreAnswered (F.Gives files.now) ways.deadlock list.now (map entry_of entries.now) status
+    ensures answered { IfOk result (λ status. AreAnswered (Reads (F.Gives files.now) F.Means) ways.deadlock list.now (map entry_of entries.now) status
         (λ lines. AreLinesPrinted (Some format) (is_some ways.detail) list.now lines (O.contents out.old) (O.contents out.new))) }
     ensures most { IfOk result (λ status. status ≤ 3) }
     ensures fault { IfErr result (λ fault. fault_status fault ≡ 3) }
@@ -251,7 +252,7 @@ pub(super) fn check_list<R: Threads + Wait + Sync, F: Files, O: Write, E: Write>
     out: &mut O,
     err: &mut E,
 ) -> Result<u8, Refusal>
-    ensures answered { IfOk result (λ status. IsListAnswered (F.Gives files.now) asked.now.deadlock list.now asked.now.format
+    ensures answered { IfOk result (λ status. IsListAnswered (Reads (F.Gives files.now) F.Means) asked.now.deadlock list.now asked.now.format
         (is_some asked.now.detail) status (O.contents out.old) (O.contents out.new)) }
     ensures most { IfOk result (λ status. status ≤ 3) }
     ensures refused { IfErr result (λ refusal. fault_status refusal.fault ≡ 2 → out.new ≡ out.old) }

@@ -1,20 +1,43 @@
 // The command `points`.
-ghost use Rattle.std.specs.Prelude.{◌≡◌, IfErr, IfOk};
+ghost use Rattle.std.specs.Prelude.{◌≡◌, IfErr, IfOk, string_bytes};
 ghost use Rattle.fr_answer.specs.Checked.{fault_status};
-ghost use Rattle.fr_answer.specs.Commands.{IsListing};
+ghost use Rattle.fr_answer.specs.Commands.{AreShown, IsListed, IsListing};
+ghost use Rattle.fr_answer.specs.Inputs.{Reads};
 
 use crate::answer::Refusal;
 use crate::exit::DONE;
 use crate::fault::CheckFault;
 use crate::files::Files;
 use crate::printing::put;
-use crate::reading::application;
+use crate::reading::{AppText, application};
+use crate::sources::sources_in;
+use fr_program::App;
 use fr_reader::read_app;
-use fr_report::points_text;
-use std::alloc::Global;
+use fr_report::{Sources, points_text};
+use std::alloc::{AllocError, Global};
 use std::io::Write;
 
-/// Prints the points of the application in the file, a line each, and gives the exit status.
+/// Where the lines of the application with this text are in a source, where that is asked for.
+fn sources_asked(alloc: Global, text: &[u8], explains: bool) -> Result<Sources, AllocError>
+    ensures { IfOk result (AreShown explains) }
+{
+    if explains {
+        sources_in(alloc, text)
+    } else {
+        Ok(Sources::none(alloc))
+    }
+}
+
+/// The points of the application with this text, a line each.
+fn listed(alloc: Global, app: &App, text: &[u8], explains: bool) -> Result<String, AllocError>
+    ensures { IfOk result (λ lines. IsListed explains app.now (string_bytes lines)) }
+{
+    let sources = sources_asked(alloc, text, explains)?;
+    points_text(alloc, app, &sources)
+}
+
+/// Prints the points of the application in the file, a line each, where it is asked for with the line's place in its source, and gives the
+/// exit status.
 pub(crate) fn points<F: Files, O: Write>(
     alloc: Global,
     app: &str,
@@ -22,15 +45,15 @@ pub(crate) fn points<F: Files, O: Write>(
     files: &F,
     out: &mut O,
 ) -> Result<u8, Refusal>
-    ensures answered { IfOk result (λ status. IsListing (F.Gives files.now)
-        app.now status (O.contents out.old) (O.contents out.new)) }
+    ensures answered { IfOk result (λ status. IsListing (Reads (F.Gives files.now) F.Means)
+        app.now explains status (O.contents out.old) (O.contents out.new)) }
     ensures done { IfOk result (λ status. status ≡ 0) }
     ensures refused { IfErr result (λ refusal. fault_status refusal.fault ≡ 2 → out.new ≡ out.old) }
 {
-    let text = application(alloc, files, app, explains)?;
+    let AppText { bytes: text, .. } = application(alloc, files, app, explains)?;
     match read_app(alloc, &text) {
         Ok(app) => {
-            put(&points_text(alloc, &app)?, out)?;
+            put(&listed(alloc, &app, &text, explains)?, out)?;
             Ok(DONE)
         }
         Err(fault) => {

@@ -2,11 +2,12 @@
 ghost use Rattle.std.specs.Prelude.{◌≡◌, ◌≤◌, ℕ, List, IfErr, IfOk, IsErr, None, Some, option_copied, string_bytes};
 ghost use Rattle.fr_answer.specs.Checked.{fault_status};
 ghost use Rattle.fr_answer.specs.Commands.{IsAnswered, IsGiven, IsWritten};
+ghost use Rattle.fr_answer.specs.Inputs.{Reads};
 
 use crate::answer::{Refusal, What};
 use crate::files::Files;
 use crate::printing::{show_found, show_outputs_refused};
-use crate::reading::proved_file;
+use crate::reading::{AppText, proved_file};
 use crate::ways::{Asked, Warns, Ways, detail_in, mebibytes, output_at};
 use fr_files::Holds;
 use fr_formats::{Command, Source};
@@ -19,10 +20,10 @@ use std::thread::Threads;
 /// What was found out, after the certificate of a yes was written to the file that is asked for; or that it can't be written.
 fn kept<F: Files>(
     alloc: Global,
-    found: Result<(Vec<u8>, What, String), Refusal>,
+    found: Result<(AppText, What, String), Refusal>,
     out: Option<&str>,
     files: &mut F,
-) -> Result<(Vec<u8>, What), Refusal>
+) -> Result<(AppText, What), Refusal>
     requires may { (path : List ℕ) → option_copied out ≡ Some path → F.May files.old path }
     ensures may { (path : List ℕ) → F.May files.old path → F.May files.new path }
     ensures found { IfOk result (λ r. IfOk found (λ all. r.1 ≡ all.1)) }
@@ -98,13 +99,13 @@ fn prove_looked<R: Threads + Wait + Sync, F: Files, O: Write, E: Write>(
 ) -> Result<u8, Refusal>
     requires out { (path : List ℕ) → option_copied asked.now.out ≡ Some path → F.May files.old path }
     requires html { (path : List ℕ) → option_copied asked.now.html ≡ Some path → F.May files.old path }
-    ensures answered { IfOk result (λ status. IsAnswered (F.Gives files.old)
+    ensures answered { IfOk result (λ status. IsAnswered (Reads (F.Gives files.old) F.Means)
         (Request.Prove asked.now) status (O.contents out.old) (O.contents out.new)) }
     ensures kept { IfOk result
         (λ status. 2 ≤ status → asked.now.format ≡ None → out.new ≡ out.old) }
     ensures refused { IfErr result (λ refusal. fault_status refusal.fault ≡ 3) }
     ensures most { IfOk result (λ status. status ≤ 3) }
-    ensures files { IsWritten (F.Gives files.old) F.Puts (Request.Prove asked.now) files.old files.new }
+    ensures files { IsWritten (Reads (F.Gives files.old) F.Means) F.Puts (Request.Prove asked.now) files.old files.new }
 {
     let ways = ways_of(asked);
     let proof = proved_file(rt, alloc, files, asked.app, asked.searches, ways);
@@ -130,13 +131,13 @@ pub(crate) fn prove<R: Threads + Wait + Sync, F: Files, O: Write, E: Write>(
     out: &mut O,
     err: &mut E,
 ) -> Result<u8, Refusal>
-    ensures answered { IfOk result (λ status. IsAnswered (F.Gives files.old)
+    ensures answered { IfOk result (λ status. IsAnswered (Reads (F.Gives files.old) F.Means)
         (Request.Prove asked.now) status (O.contents out.old) (O.contents out.new)) }
     ensures kept { IfOk result
         (λ status. 2 ≤ status → asked.now.format ≡ None → out.new ≡ out.old) }
     ensures refused { IfErr result (λ refusal. fault_status refusal.fault ≡ 3) }
     ensures most { IfOk result (λ status. status ≤ 3) }
-    ensures files { IsWritten (F.Gives files.old) F.Puts (Request.Prove asked.now) files.old files.new }
+    ensures files { IsWritten (Reads (F.Gives files.old) F.Means) F.Puts (Request.Prove asked.now) files.old files.new }
 {
     let certificate = output_at(asked.out, Holds::Certificate);
     let html = output_at(asked.html, Holds::Page);

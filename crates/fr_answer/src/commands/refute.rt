@@ -2,6 +2,7 @@
 ghost use Rattle.std.specs.Prelude.{◌≡◌, ◌≤◌, ℕ, List, IfErr, IfOk, None, Some, option_copied};
 ghost use Rattle.fr_answer.specs.Checked.{fault_status};
 ghost use Rattle.fr_answer.specs.Commands.{IsAnswered, IsPaged, IsSearchAt};
+ghost use Rattle.fr_answer.specs.Inputs.{Reads};
 
 use crate::answer::Refusal;
 use crate::files::Files;
@@ -64,13 +65,13 @@ fn refute_looked<R: Threads + Sync, F: Files, O: Write, E: Write>(
     err: &mut E,
 ) -> Result<u8, Refusal>
     requires may { (path : List ℕ) → option_copied asked.now.html ≡ Some path → F.May files.old path }
-    ensures answered { IfOk result (λ status. IsAnswered (F.Gives files.old)
+    ensures answered { IfOk result (λ status. IsAnswered (Reads (F.Gives files.old) F.Means)
         (Request.Refute asked.now) status (O.contents out.old) (O.contents out.new)) }
     ensures kept { IfOk result
         (λ status. 2 ≤ status → asked.now.format ≡ None → out.new ≡ out.old) }
     ensures refused { IfErr result (λ refusal. fault_status refusal.fault ≡ 3) }
     ensures most { IfOk result (λ status. status ≤ 3) }
-    ensures files { IsPaged F.Puts (IsSearchAt (F.Gives files.old) asked.now.deadlock asked.now.app.now)
+    ensures files { IsPaged F.Puts (IsSearchAt (Reads (F.Gives files.old) F.Means) asked.now.deadlock asked.now.app.now)
         (option_copied asked.now.html) files.old files.new }
 {
     let ways = ways_of(asked);
@@ -95,13 +96,13 @@ pub(crate) fn refute<R: Threads + Sync, F: Files, O: Write, E: Write>(
     out: &mut O,
     err: &mut E,
 ) -> Result<u8, Refusal>
-    ensures answered { IfOk result (λ status. IsAnswered (F.Gives files.old)
+    ensures answered { IfOk result (λ status. IsAnswered (Reads (F.Gives files.old) F.Means)
         (Request.Refute asked.now) status (O.contents out.old) (O.contents out.new)) }
     ensures kept { IfOk result
         (λ status. 2 ≤ status → asked.now.format ≡ None → out.new ≡ out.old) }
     ensures refused { IfErr result (λ refusal. fault_status refusal.fault ≡ 3) }
     ensures most { IfOk result (λ status. status ≤ 3) }
-    ensures files { IsPaged F.Puts (IsSearchAt (F.Gives files.old) asked.now.deadlock asked.now.app.now)
+    ensures files { IsPaged F.Puts (IsSearchAt (Reads (F.Gives files.old) F.Means) asked.now.deadlock asked.now.app.now)
         (option_copied asked.now.html) files.old files.new }
 {
     let html = output_at(asked.html, Holds::Page);

@@ -2,12 +2,13 @@
 ghost use Rattle.std.specs.Prelude.{◌≡◌, ◌≤◌, IfErr, IfOk, option_copied};
 ghost use Rattle.fr_answer.specs.Checked.{fault_status};
 ghost use Rattle.fr_answer.specs.Commands.{AreRunWords, IsAnswered, IsSafeIn};
+ghost use Rattle.fr_answer.specs.Inputs.{Reads};
 
 use crate::answer::Refusal;
 use crate::fault::CheckFault;
 use crate::files::Files;
 use crate::printing::put;
-use crate::reading::{application, input};
+use crate::reading::{AppText, application, input};
 use crate::running::ran;
 use crate::words::{WordsFault, words_of};
 use fr_cert::MOST_BYTES as MOST_CERTIFICATE_BYTES;
@@ -37,9 +38,9 @@ pub(crate) fn run_files<R: Threads + Wait + Sync, F: Files, O: Write>(
     files: &F,
     out: &mut O,
 ) -> Result<u8, Refusal>
-    ensures answered { IfOk result (λ status. IsAnswered (F.Gives files.now)
+    ensures answered { IfOk result (λ status. IsAnswered (Reads (F.Gives files.now) F.Means)
         (Request.Run asked.now) status (O.contents out.old) (O.contents out.new)) }
-    ensures safe { IfOk result (λ status. status ≡ 0 → IsSafeIn (F.Gives files.now) asked.now.app.now) }
+    ensures safe { IfOk result (λ status. status ≡ 0 → IsSafeIn (Reads (F.Gives files.now) F.Means) asked.now.app.now) }
     ensures most { IfOk result (λ status. status ≤ 1) }
     ensures refused { IfErr result (λ refusal. fault_status refusal.fault ≡ 2 → out.new ≡ out.old) }
 {
@@ -48,7 +49,7 @@ pub(crate) fn run_files<R: Threads + Wait + Sync, F: Files, O: Write>(
         Err(fault) => return Err(Refusal::from(CheckFault::from(fault))),
     };
     let explains = asked.detail.is_some();
-    let app = application(alloc, files, asked.app, explains)?;
+    let AppText { bytes: app, .. } = application(alloc, files, asked.app, explains)?;
     let path = asked.certificate;
     let certificate = input(alloc, files, path, MOST_CERTIFICATE_BYTES, explains)?;
     let polls = u64::from(asked.polls);

@@ -1,55 +1,45 @@
 // The command `translate`.
-ghost use Rattle.std.specs.Prelude.{◌≡◌, ◌≤◌, ℕ, List, IfErr, IfOk, string_bytes};
-ghost use Rattle.std.specs.Io.KnownBytes.{Appends};
+ghost use Rattle.std.specs.Prelude.{◌≡◌, ◌≤◌, ◌⊎◌, IfErr, IfOk, None, string_bytes};
 ghost use Rattle.fr_answer.specs.Checked.{fault_status};
-ghost use Rattle.fr_answer.specs.Commands.{IsAnswered, IsApplication, IsTranslatedTo, IsWritten, most_source_bytes};
+ghost use Rattle.fr_answer.specs.Commands.{IsAnswered, IsApplication, IsDone, IsTranslated, IsWritten, PutsTranslated};
+ghost use Rattle.fr_answer.specs.Inputs.{AsSource, Reads};
 
 use crate::answer::Refusal;
 use crate::exit::DONE;
 use crate::fault::CheckFault;
 use crate::files::Files;
 use crate::printing::put;
-use crate::reading::input;
+use crate::source::translation;
 use fr_files::{Holds, Output};
 use fr_reader::read_app;
 use fr_request::{Request, TranslateRequest};
-use fr_source::{MOST_SOURCE_BYTES, Message, Refused, Translation, translated};
+use fr_source::{Message, Translation};
 use std::alloc::{AllocError, Global};
 use std::io::Write;
 
-/// The fault of a source that is refused: what is wrong in it, and where.
-fn source_fault(alloc: Global, path: &str, refused: Refused) -> CheckFault
-    ensures { 2 ≤ fault_status result }
-{
-    let Refused::Source(message) = refused else {
-        return CheckFault::Memory;
-    };
-    let Ok(mut text) = message.report(alloc, path) else {
-        return CheckFault::Memory;
-    };
-    let _newline = text.pop();
-    CheckFault::Source(text)
-}
-
-/// The application that the source in this file means.
-fn translation<F: Files>(
+/// The application that the source in this file means, which is read as one.
+fn application<F: Files>(
     alloc: Global,
     asked: &TranslateRequest,
     files: &F,
 ) -> Result<Translation, Refusal>
-    ensures source { IfOk result (λ _. (source : List ℕ) × F.Gives files.now asked.now.source.now most_source_bytes source) }
+    ensures reads { IfOk result
+        (λ found. Reads (F.Gives files.now) F.Means AsSource asked.now.source.now (string_bytes found.text)) }
     ensures means { IfOk result (λ found. IsApplication (string_bytes found.text)) }
     ensures fault { IfErr result (λ refusal. 2 ≤ fault_status refusal.fault) }
 {
-    let source = input(alloc, files, asked.source, MOST_SOURCE_BYTES, true)?;
-    let found = match translated(alloc, asked.source, &source) {
-        Ok(found) => found,
-        Err(refused) => return Err(Refusal::from(source_fault(alloc, asked.source, refused))),
-    };
+    let found = translation(alloc, files, asked.source, true)?;
     match read_app(alloc, found.text.as_bytes()) {
         Ok(_) => Ok(found),
         Err(fault) => Err(Refusal::from(CheckFault::from(fault))),
     }
+}
+
+/// What is printed of a place in the source: what is to be said of it, and the line with a mark.
+fn message_text(alloc: Global, path: &str, message: &Message) -> Result<String, AllocError> {
+    let report = message.report(alloc, path)?;
+    let [line, mark] = message.excerpt(alloc)?;
+    format!(in alloc; "{report}\n  {line}\n  {mark}\n")
 }
 
 /// Prints on standard error what is never reached in the source, and left out.
@@ -62,9 +52,7 @@ fn warn<E: Write>(
     ensures { IfErr result (λ fault. fault_status fault ≡ 3) }
 {
     for warning in warnings {
-        let report: Result<String, AllocError> = warning.report(alloc, path);
-        let text = report?;
-        put(&text, err)?;
+        put(&message_text(alloc, path, warning)?, err)?;
     }
     Ok(())
 }
@@ -77,15 +65,15 @@ fn write_to<F: Files, E: Write>(
     files: &mut F,
     err: &mut E,
 ) -> Result<(), Refusal>
-    ensures source { IfOk result (λ _. (source : List ℕ) × F.Gives files.old asked.now.source.now most_source_bytes source) }
-    ensures text { IfOk result (λ _. (text : List ℕ) × IsApplication text) }
-    ensures files { IsTranslatedTo F.Puts path.now files.old files.new }
+    ensures done { IfOk result (λ _. PutsTranslated (Reads (F.Gives files.old) F.Means) F.Puts asked.now.source.now path.now files.old files.new) }
+    ensures kept { IfErr result (λ _. (files.new ≡ files.old)
+        ⊎ PutsTranslated (Reads (F.Gives files.old) F.Means) F.Puts asked.now.source.now path.now files.old files.new) }
 {
     let replaces = Holds::Anything;
     if let Err(fault) = files.check_outputs(&[asked.source], &[Some(Output { path, replaces })]) {
         return Err(Refusal::of_outputs(alloc, &fault, true));
     }
-    let found = translation(alloc, asked, files)?;
+    let found = application(alloc, asked, files)?;
     if let Err(fault) = files.replace(path, found.text.as_bytes()) {
         return Err(Refusal::of_file(alloc, &fault, true));
     }
@@ -101,12 +89,11 @@ fn print<F: Files, O: Write, E: Write>(
     out: &mut O,
     err: &mut E,
 ) -> Result<(), Refusal>
-    ensures source { IfOk result (λ _. (source : List ℕ) × F.Gives files.now asked.now.source.now most_source_bytes source) }
-    ensures text { IfOk result
-        (λ _. (text : List ℕ) × IsApplication text × Appends (O.contents out.old) (O.contents out.new) text) }
+    ensures printed { IfOk result
+        (λ _. IsTranslated (Reads (F.Gives files.now) F.Means) asked.now.source.now None (O.contents out.old) (O.contents out.new)) }
     ensures refused { IfErr result (λ refusal. fault_status refusal.fault ≡ 2 → out.new ≡ out.old) }
 {
-    let found = translation(alloc, asked, files)?;
+    let found = application(alloc, asked, files)?;
     put(&found.text, out)?;
     warn(alloc, asked.source, &found.warnings, err)?;
     Ok(())
@@ -121,11 +108,11 @@ pub(crate) fn translate<F: Files, O: Write, E: Write>(
     out: &mut O,
     err: &mut E,
 ) -> Result<u8, Refusal>
-    ensures answered { IfOk result (λ status. IsAnswered (F.Gives files.old)
+    ensures answered { IfOk result (λ status. IsAnswered (Reads (F.Gives files.old) F.Means)
         (Request.Translate asked.now) status (O.contents out.old) (O.contents out.new)) }
-    ensures most { IfOk result (λ status. status ≤ 0) }
+    ensures done { IfOk result (λ _. IsDone (Reads (F.Gives files.old) F.Means) F.Puts (Request.Translate asked.now) files.old files.new) }
     ensures refused { IfErr result (λ refusal. fault_status refusal.fault ≡ 2 → out.new ≡ out.old) }
-    ensures files { IsWritten (F.Gives files.old) F.Puts (Request.Translate asked.now) files.old files.new }
+    ensures files { IsWritten (Reads (F.Gives files.old) F.Means) F.Puts (Request.Translate asked.now) files.old files.new }
 {
     match asked.out {
         Some(path) => write_to(alloc, asked, path, files, err)?,

@@ -2,13 +2,14 @@
 use super::Body;
 use fr_page::{ActorShown, LineShown, PointShown};
 use fr_program::{Actor, ActorId, ActorKind, App, Point, Side};
-use fr_report::line_of_code;
+use fr_report::{Sources, line_in_source};
 use std::alloc::{AllocError, Global};
 
 /// The lines of an actor's code, without points.
 fn lines_shown(
     alloc: Global,
     app: &App,
+    sources: &Sources,
     actor: ActorId,
     count: usize,
 ) -> Result<Vec<LineShown>, AllocError> {
@@ -21,7 +22,7 @@ fn lines_shown(
         };
         lines.push(LineShown {
             number: pc,
-            code: line_of_code(alloc, app, point)?,
+            code: line_in_source(alloc, app, sources, point)?,
             points: Vec::new(alloc),
         })?;
     }
@@ -32,6 +33,7 @@ fn lines_shown(
 fn actor_shown(
     alloc: Global,
     app: &App,
+    sources: &Sources,
     number: usize,
     actor: &Actor,
 ) -> Result<ActorShown, AllocError> {
@@ -46,7 +48,7 @@ fn actor_shown(
     Ok(ActorShown {
         name,
         kind,
-        lines: lines_shown(alloc, app, ActorId(number), actor.code.len())?,
+        lines: lines_shown(alloc, app, sources, ActorId(number), actor.code.len())?,
         tracks: Vec::new(alloc),
     })
 }
@@ -64,10 +66,16 @@ pub(super) fn count_text(
     }
 }
 
-/// Adds the actors of the application to the page, with their code.
-pub(super) fn put_actors(alloc: Global, body: &mut Body, app: &App) -> Result<(), AllocError> {
+/// Adds the actors of the application to the page, with their code and its places in the source.
+pub(super) fn put_actors(
+    alloc: Global,
+    body: &mut Body,
+    app: &App,
+    sources: &Sources,
+) -> Result<(), AllocError> {
     for (number, actor) in app.actors().iter().enumerate() {
-        body.actors.push(actor_shown(alloc, app, number, actor)?)?;
+        body.actors
+            .push(actor_shown(alloc, app, sources, number, actor)?)?;
     }
     let count = count_text(alloc, app.actors().len(), "actor", "actors")?;
     Ok(body.counts.push(count)?)

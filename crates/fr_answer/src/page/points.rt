@@ -10,7 +10,7 @@ use fr_ends::Certificate;
 use fr_judge::{Judging, Lists, Part, Verdict};
 use fr_page::{PointShown, Reason, Standing};
 use fr_program::{App, Point};
-use fr_report::{Line, explain, note_told, part_text, side_name};
+use fr_report::{Line, Sources, explain, note_told, part_text, side_name};
 use fr_request::Detail;
 use std::alloc::{AllocError, Global};
 
@@ -46,6 +46,7 @@ fn reasons(
     alloc: Global,
     app: &App,
     certificate: &Certificate,
+    sources: &Sources,
     point: Point,
     part: Part,
 ) -> Result<Vec<Reason>, AllocError>
@@ -53,7 +54,7 @@ fn reasons(
 {
     let mut reasons = Vec::new(alloc);
     let verdict = Verdict::No { point, part };
-    if let Some(found) = explain(alloc, app, certificate, verdict, Detail::Told)? {
+    if let Some(found) = explain(alloc, app, certificate, sources, verdict, Detail::Told)? {
         for item in &found.items {
             let Line { of, said } = item.line(alloc, app)?;
             reasons.push(Reason { of, said })?;
@@ -68,6 +69,7 @@ fn point_shown(
     alloc: Global,
     app: &App,
     certificate: &Certificate,
+    sources: &Sources,
     judging: &Judging,
     number: usize,
     explains: bool,
@@ -84,7 +86,7 @@ fn point_shown(
         Some(part) => {
             standing = Standing::Fails(part_text(alloc, app, part)?);
             if explains {
-                explanation = reasons(alloc, app, certificate, point, part)?;
+                explanation = reasons(alloc, app, certificate, sources, point, part)?;
             }
         }
         None if notes.is_empty() => standing = Standing::Never,
@@ -106,6 +108,7 @@ fn put_points(
     body: &mut Body,
     app: &App,
     certificate: &Certificate,
+    sources: &Sources,
     judging: &Judging,
 ) -> Result<Tally, AllocError>
     requires fits { CertificateFits app.now certificate.now }
@@ -119,7 +122,8 @@ fn put_points(
         if number >= MOST_POINTS && tally.failing > 0 {
             break;
         }
-        let shown = point_shown(alloc, app, certificate, judging, number, tally.failing == 0)?;
+        let explains = tally.failing == 0;
+        let shown = point_shown(alloc, app, certificate, sources, judging, number, explains)?;
         if number < MOST_POINTS || matches!(&shown.standing, Standing::Fails(_)) {
             tally = tally.with(&shown.standing);
             put_point(body, app.point(number), shown)?;
@@ -155,11 +159,12 @@ pub(super) fn put_judged(
     alloc: Global,
     body: &mut Body,
     judged: &Judged,
+    sources: &Sources,
 ) -> Result<(), AllocError> {
     judged.recall_verdict();
     let (app, certificate) = (judged.app(), judged.certificate());
     let lists = Lists::build(alloc, app, certificate)?;
     let judging = Judging::with(app, certificate, &lists);
-    let tally = put_points(alloc, body, app, certificate, &judging)?;
+    let tally = put_points(alloc, body, app, certificate, sources, &judging)?;
     put_counts(alloc, body, app.points(), tally)
 }

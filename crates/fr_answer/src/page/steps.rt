@@ -9,7 +9,7 @@ use fr_page::{ActorAfter, Doing, Moved, PointShown, StepShown, Track, TrackKind,
 use fr_program::{ActorId, App, Point, Side};
 use fr_refuter::{Deadlocked, Refutation, take_step};
 use fr_report::{
-    Depth, ExplainedRun, ExplainedStep, Standing, depth_in, depths_of, explain_deadlock,
+    Depth, ExplainedRun, ExplainedStep, Sources, Standing, depth_in, depths_of, explain_deadlock,
     explain_run, object_name, place_told, rule_text, side_name, state_told,
 };
 use fr_waits::Wait;
@@ -119,7 +119,7 @@ fn move_of(alloc: Global, step: &ExplainedStep) -> Result<Moved, AllocError> {
     Ok(Moved {
         actor: step.taken.actor.0,
         line: point_of(&step.before).pc,
-        code: step.before.code.clone()?,
+        code: step.before.code_text(alloc)?,
         choice,
         change: step.change(alloc)?,
         doing: Doing::Step,
@@ -221,7 +221,7 @@ fn put_end(
     let moved = Moved {
         actor: at.actor.0,
         line: point.pc,
-        code: at.code.clone()?,
+        code: at.code_text(alloc)?,
         choice: String::new(alloc),
         change: String::from_str(alloc, said)?,
         doing,
@@ -261,9 +261,13 @@ pub(super) fn put_run(
     alloc: Global,
     body: &mut Body,
     app: &App,
+    sources: &Sources,
     found: &Refutation,
 ) -> Result<(), AllocError> {
-    let (depths, run) = (depths_of(alloc, app)?, explain_run(alloc, app, found)?);
+    let (depths, run) = (
+        depths_of(alloc, app)?,
+        explain_run(alloc, app, sources, found)?,
+    );
     let last = put_taken(alloc, body, app, &depths, &run)?;
     let rule = rule_told(alloc, found.rule)?;
     match run.lasts.first() {
@@ -311,9 +315,13 @@ pub(super) fn put_deadlock(
     alloc: Global,
     body: &mut Body,
     app: &App,
+    sources: &Sources,
     found: &Deadlocked,
 ) -> Result<(), AllocError> {
-    let (depths, run) = (depths_of(alloc, app)?, explain_deadlock(alloc, app, found)?);
+    let (depths, run) = (
+        depths_of(alloc, app)?,
+        explain_deadlock(alloc, app, sources, found)?,
+    );
     let last = put_taken(alloc, body, app, &depths, &run)?;
     put_waits(alloc, body, app, &depths, (&run.lasts, &found.cycle), &last)?;
     body.waits = arrows_of(alloc, app, &found.cycle)?;

@@ -1,17 +1,19 @@
 // Points of an application as reports for machines show them.
 ghost use Rattle.std.specs.Prelude.{◌≡◌, IfOk};
 
-use fr_formats::{PlaceShown, SideShown};
-use fr_place::{CodePlace, places_of_code};
+use crate::sources::sources_shown;
+use fr_formats::{PlaceShown, SideShown, SourceShown};
+use fr_place::{CodePlace, CodeSource, places_of_code, sources_of_code};
 use fr_program::{App, Point, Side};
-use fr_report::{actor_name, line_of_code};
+use fr_report::{Sources, actor_name, line_of_code};
 use std::alloc::{AllocError, Global};
 
-/// Where the code of an application stands in its text.
+/// Where the code of an application stands in its text, and in the source that it was translated from.
 #[derive(Drop)]
 pub(super) struct Places<'a> {
     app: &'a App,
     code: Vec<Vec<CodePlace>>,
+    sources: Vec<Vec<Option<CodeSource>>>,
 }
 
 impl<'a> Places<'a> {
@@ -20,7 +22,8 @@ impl<'a> Places<'a> {
         ensures { IfOk result (λ places. places.app.now ≡ app.now) }
     {
         let code = places_of_code(alloc, text)?;
-        Ok(Places { app, code })
+        let sources = sources_of_code(alloc, text, &code)?;
+        Ok(Places { app, code, sources })
     }
 
     /// The application.
@@ -33,6 +36,25 @@ impl<'a> Places<'a> {
     /// Where the line of code stands in the text.
     fn code_at(&self, point: Point) -> Option<CodePlace> {
         self.code.get(point.actor.0)?.get(point.pc).copied()
+    }
+
+    /// Where the line of code stands in the source.
+    fn source_at(&self, alloc: Global, point: Point) -> Result<Option<SourceShown>, AllocError> {
+        let Some(lines) = self.sources.get(point.actor.0) else {
+            return Ok(None);
+        };
+        match lines.get(point.pc) {
+            Some(Some(source)) => Ok(Some(SourceShown {
+                file: String::from_str(alloc, &source.file)?,
+                line: source.line,
+            })),
+            _ => Ok(None),
+        }
+    }
+
+    /// The places in the source, as texts.
+    pub(super) fn sources(&self, alloc: Global) -> Result<Sources, AllocError> {
+        sources_shown(alloc, &self.sources)
     }
 
     /// The point, with its line of code.
@@ -50,6 +72,7 @@ impl<'a> Places<'a> {
             line: at.map(|place| place.line),
             column: at.map(|place| place.column),
             length: at.map(|place| place.length),
+            source: self.source_at(alloc, point)?,
         })
     }
 }

@@ -67,7 +67,7 @@ pub(super) fn deadlock_shown(
     places: &Places,
     found: &Deadlocked,
 ) -> Result<(Option<Failure>, Vec<StepShown>), AllocError> {
-    let run = explain_deadlock(alloc, places.app(), found)?;
+    let run = explain_deadlock(alloc, places.app(), &places.sources(alloc)?, found)?;
     let text = deadlock_text(alloc, places.app(), found)?;
     ended(alloc, places, &run, "deadlock", text)
 }
@@ -78,7 +78,7 @@ pub(super) fn run_shown(
     places: &Places,
     found: &Refutation,
 ) -> Result<(Option<Failure>, Vec<StepShown>), AllocError> {
-    let run = explain_run(alloc, places.app(), found)?;
+    let run = explain_run(alloc, places.app(), &places.sources(alloc)?, found)?;
     let text = breach_text(alloc, places.app(), found)?;
     ended(alloc, places, &run, rule_name(found.rule), text)
 }

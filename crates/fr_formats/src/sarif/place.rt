@@ -1,6 +1,6 @@
 // Places in files, and in words.
 ghost use Rattle.std.specs.Prelude.{◌≡◌, ◌++◌, IfOk, OnOk, string_bytes};
-ghost use Rattle.fr_formats.specs.Sarif.{file_begins, file_location, location, named, point_location, point_words, range, region, said, uri_of};
+ghost use Rattle.fr_formats.specs.Sarif.{file_begins, file_location, file_of, location, named, point_location, point_words, range, region, region_of, said, uri_of, whole_line};
 
 use crate::answer::PlaceShown;
 use crate::piece::Piece::{Array, Field, Marks, Message, Number, Object};
@@ -54,8 +54,16 @@ fn put_range(out: &mut Out, line: usize, start: usize, end: usize) -> Result<(),
         Number("endColumn", end), Marks("}"))
 }
 
-/// Appends where the line of code is in the file, if that is known.
-fn put_region(out: &mut Out, place: &PlaceShown) -> Result<(), AllocError>
+/// Appends a whole line of the file.
+#[tactic(auto, using(std::proofs::Common::append_assoc), unfolding(crate::specs::Sarif::whole_line))]
+fn put_line(out: &mut Out, line: usize) -> Result<(), AllocError>
+    ensures { OnOk result (out.new.tokens ≡ out.old.tokens ++ whole_line line) }
+{
+    put!(out; Object("region"), Number("startLine", line), Marks("}"))
+}
+
+/// Appends where the line of code is in the application's file, if that is known.
+fn put_code(out: &mut Out, place: &PlaceShown) -> Result<(), AllocError>
     ensures { OnOk result (out.new.tokens
         ≡ out.old.tokens ++ region place.now.line place.now.column place.now.length) }
 {
@@ -64,6 +72,26 @@ fn put_region(out: &mut Out, place: &PlaceShown) -> Result<(), AllocError>
             put_range(out, line, column, column.saturating_add(length))
         }
         _ => Ok(()),
+    }
+}
+
+/// Appends where the point is in its file: the line of its source, where that is known, and else the line of code.
+fn put_region(out: &mut Out, place: &PlaceShown) -> Result<(), AllocError>
+    ensures { OnOk result (out.new.tokens ≡ out.old.tokens ++ region_of place.now.source place.now) }
+{
+    match &place.source {
+        Some(source) => put_line(out, source.line),
+        None => put_code(out, place),
+    }
+}
+
+/// The file that the point is in: its source's, where that is known, and else the application's, at this path.
+fn file_of<'a>(path: &'a str, place: &'a PlaceShown) -> &'a str
+    ensures { result.now ≡ file_of path.now place.now.source }
+{
+    match &place.source {
+        Some(source) => source.file.as_str(),
+        None => path,
     }
 }
 
@@ -104,7 +132,8 @@ fn put_said(out: &mut Out, text: &str) -> Result<(), AllocError>
     put!(out; Message("message", text))
 }
 
-/// Appends a point of the application in the file at this path, with what is said of it.
+/// Appends a point of the application in the file at this path, or of the source that this comes from, with what is said
+/// of it.
 #[tactic(auto, using(std::proofs::Common::append_assoc), unfolding(crate::specs::Sarif::point_location))]
 pub(super) fn put_point(
     out: &mut Out,
@@ -115,7 +144,7 @@ pub(super) fn put_point(
     ensures { OnOk result (out.new.tokens
         ≡ out.old.tokens ++ point_location path.now place.now text.now) }
 {
-    begin_place(out, path)?;
+    begin_place(out, file_of(path, place))?;
     put_region(out, place)?;
     put_names(out, place)?;
     put_said(out, text)?;

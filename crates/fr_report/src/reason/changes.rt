@@ -8,6 +8,7 @@ use super::steps::outcome_text;
 use super::words::{content_in, fact, put_held, put_stock, value_in, variable_name};
 use crate::lines::put_listed;
 use crate::shown::{actor_name, object_name};
+use crate::sources::Sources;
 use crate::told::Standing;
 use fr_calls::{Content, Place, State, Stock};
 use fr_program::{ActorId, App, ObjId, Point, VarId};
@@ -164,6 +165,7 @@ impl ExplainedStep {
 pub(crate) fn step_explained(
     alloc: Global,
     app: &App,
+    sources: &Sources,
     taken: StepTaken,
     before: &State,
     after: &State,
@@ -174,7 +176,7 @@ pub(crate) fn step_explained(
 {
     let (actor, choice) = (taken.actor, taken.choice);
     let changes = changes_of(alloc, app, actor, before, after)?;
-    let before = standing_in(alloc, app, actor, before)?;
+    let before = standing_in(alloc, app, sources, actor, before)?;
     let outcome = call_text(alloc, app, before.point, choice)?;
     Ok(ExplainedStep {
         taken,

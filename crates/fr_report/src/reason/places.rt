@@ -6,19 +6,26 @@ ghost use Rattle.fr_report.specs.Refuted.{IsPlaced};
 use super::words::{put_critical, put_suspended, suspension_in};
 use crate::listing::line_of_code;
 use crate::shown::{actor_name, side_name};
+use crate::sources::Sources;
 use crate::told::{Explained, Standing};
 use fr_calls::{Place, State};
 use fr_program::{ActorId, App, Point};
 use std::alloc::{AllocError, Global};
 
 /// An actor at a point.
-pub(super) fn standing_at(alloc: Global, app: &App, point: Point) -> Result<Standing, AllocError>
+pub(super) fn standing_at(
+    alloc: Global,
+    app: &App,
+    sources: &Sources,
+    point: Point,
+) -> Result<Standing, AllocError>
     ensures { IfOk result (IsPlaced app.now point.actor) }
 {
     Ok(Standing {
         actor: point.actor,
         point: Some(point),
         code: line_of_code(alloc, app, point)?,
+        source: String::from_str(alloc, sources.at(point))?,
     })
 }
 
@@ -37,6 +44,7 @@ pub fn actor_place(app: &App, state: &State, actor: ActorId) -> Place
 pub(crate) fn standing_in(
     alloc: Global,
     app: &App,
+    sources: &Sources,
     actor: ActorId,
     state: &State,
 ) -> Result<Standing, AllocError>
@@ -44,11 +52,12 @@ pub(crate) fn standing_in(
     ensures { IfOk result (IsPlaced app.now actor) }
 {
     match actor_place(app, state, actor) {
-        Place::At { pc, side } => standing_at(alloc, app, Point { actor, pc, side }),
+        Place::At { pc, side } => standing_at(alloc, app, sources, Point { actor, pc, side }),
         Place::Done => Ok(Standing {
             actor,
             point: None,
             code: String::new(alloc),
+            source: String::new(alloc),
         }),
     }
 }

@@ -4,6 +4,7 @@ ghost use Rattle.fr_calls.specs.State.{IsWellFormed};
 
 use super::places::standing_at;
 use super::words::{fact, suspension_in};
+use crate::sources::Sources;
 use crate::told::Standing;
 use fr_calls::State;
 use fr_notes::{Alternative, Claim, Note};
@@ -27,6 +28,8 @@ pub(super) struct Site<'a> {
 pub(super) struct Scene<'a> {
     pub alloc: Global,
     pub app: &'a App,
+    /// Where its lines are in a source.
+    pub sources: &'a Sources,
     pub detail: Detail,
     pub site: Site<'a>,
     pub other: Option<Site<'a>>,
@@ -130,7 +133,7 @@ pub(super) fn subjects(alloc: Global, app: &App) -> Result<Vec<Subject>, AllocEr
 impl Scene<'_> {
     /// An actor at a point.
     pub(super) fn standing_at(&self, point: Point) -> Result<Standing, AllocError> {
-        standing_at(self.alloc, self.app, point)
+        standing_at(self.alloc, self.app, self.sources, point)
     }
 
     /// Whether the subject is shown, for the actor of this site.

@@ -1,27 +1,28 @@
 -- The status 0 is that of safe applications.
 use Rattle.std.proofs.Common.{List, ℕ}
 use Rattle.std.specs.Option.{is_some}
+use Rattle.fr_answer.specs.Inputs.{Reads}
 use Rattle.fr_answer.specs.Commands.{AreNamedSafe, IsCheckAnswered, IsProofAt, IsSafeAt, IsSearchAt, IsShown}
 use Rattle.fr_answer.proofs.Safe.{named-safe, proof-shown-safe, safe-by, search-shown-safe}
 use Rattle.fr_answer.proofs.commands.answered.Goals as goal
 
 pub returns-in-Check-clause-safe : goal.returns-in-Check-clause-safe
 returns-in-Check-clause-safe g c =
-    let gives = g.F.Files.Gives c.args.files.now in
+    let reads = Reads (g.F.Files.Gives c.args.files.now) g.F.Files.Means in
     let asked = c.in-Check.asked in
-    rw c.in-Check.is (safe-by (λ s. IsCheckAnswered gives asked.deadlock asked.files asked.format (is_some asked.detail) s _ _) (AreNamedSafe gives asked.deadlock asked.files) c.check.result c.check.ensures.answered
-    (λ s e h. named-safe gives asked.deadlock asked.files asked.format (is_some asked.detail) s _ _ e h))
+    rw c.in-Check.is (safe-by (λ s. IsCheckAnswered reads asked.deadlock asked.files asked.format (is_some asked.detail) s _ _) (AreNamedSafe reads asked.deadlock asked.files) c.check.result c.check.ensures.answered
+    (λ s e h. named-safe reads asked.deadlock asked.files asked.format (is_some asked.detail) s _ _ e h))
 
 pub returns-in-Prove-clause-safe : goal.returns-in-Prove-clause-safe
 returns-in-Prove-clause-safe g c =
-    let gives = g.F.Files.Gives c.args.files.now in
+    let reads = Reads (g.F.Files.Gives c.args.files.now) g.F.Files.Means in
     let asked = c.in-Prove.asked in
-    rw c.in-Prove.is (safe-by (λ s. IsShown (λ what. (certificate : List ℕ) × IsProofAt gives asked.deadlock asked.app.now asked.searches certificate what) asked.format s _ _) (IsSafeAt gives asked.deadlock asked.app.now) c.prove.result c.prove.ensures.answered
-    (λ s e h. proof-shown-safe gives asked.deadlock asked.app.now asked.searches asked.format s _ _ e h))
+    rw c.in-Prove.is (safe-by (λ s. IsShown (λ what. (certificate : List ℕ) × IsProofAt reads asked.deadlock asked.app.now asked.searches certificate what) asked.format s _ _) (IsSafeAt reads asked.deadlock asked.app.now) c.prove.result c.prove.ensures.answered
+    (λ s e h. proof-shown-safe reads asked.deadlock asked.app.now asked.searches asked.format s _ _ e h))
 
 pub returns-in-Refute-clause-safe : goal.returns-in-Refute-clause-safe
 returns-in-Refute-clause-safe g c =
-    let gives = g.F.Files.Gives c.args.files.now in
+    let reads = Reads (g.F.Files.Gives c.args.files.now) g.F.Files.Means in
     let asked = c.in-Refute.asked in
-    rw c.in-Refute.is (safe-by (λ s. IsShown (IsSearchAt gives asked.deadlock asked.app.now) asked.format s _ _) (IsSafeAt gives asked.deadlock asked.app.now) c.refute.result c.refute.ensures.answered
-    (λ s e h. search-shown-safe gives asked.deadlock asked.app.now asked.format s _ _ e h))
+    rw c.in-Refute.is (safe-by (λ s. IsShown (IsSearchAt reads asked.deadlock asked.app.now) asked.format s _ _) (IsSafeAt reads asked.deadlock asked.app.now) c.refute.result c.refute.ensures.answered
+    (λ s e h. search-shown-safe reads asked.deadlock asked.app.now asked.format s _ _ e h))

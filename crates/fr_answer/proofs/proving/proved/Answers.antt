@@ -36,6 +36,11 @@ returns-in-Ok-clause-proved g c =
       (c.in_ok-app.ensures.ok, found, suits, settles),
     )
 
+pub returns-in_err-explains-in-Ok-clause-refused : goal.returns-in_err-explains-in-Ok-clause-refused
+returns-in_err-explains-in-Ok-clause-refused g c =
+    let p = err_from_is_err_and c.from_residual-in_err-explains-in-Ok.result c.from_residual-in_err-explains-in-Ok.ensures.1 in
+    rw (p.1, p.2) tt
+
 pub returns-in_err-why-clause-refused : goal.returns-in_err-why-clause-refused
 returns-in_err-why-clause-refused g c =
     let p = err_from_is_err_and c.from_residual-in_err-why.result c.from_residual-in_err-why.ensures.1 in

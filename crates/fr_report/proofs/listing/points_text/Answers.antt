@@ -11,4 +11,4 @@ put_point-requires-clause-point c = (c.recall_numbered.ensures.listed c.loop-num
 pub loop-number-preserved : goal.loop-number-preserved
 loop-number-preserved c =
     let P = c.args.app.now in
-    c.in_ok-put_point.ensures ∙ one-more (listed_text P) (points_of P) c.loop-number.number c.point.result _ c.point.ensures c.loop-number.invariant
+    c.in_ok-put_point.ensures ∙ one-more (listed_text c.args.sources.now P) (points_of P) c.loop-number.number c.point.result _ c.point.ensures c.loop-number.invariant

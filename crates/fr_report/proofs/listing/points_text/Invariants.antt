@@ -6,4 +6,4 @@ use Rattle.fr_report.proofs.listing.points_text.Given as goal
 
 -- the lines so far are those of the points so far
 abbrev pub invariant-loop-number : goal.invariant-loop-number
-invariant-loop-number l = string_bytes l.text ≡ flat_map (listed_text l.app) (take l.number (points_of l.app))
+invariant-loop-number l = string_bytes l.text ≡ flat_map (listed_text l.sources l.app) (take l.number (points_of l.app))

@@ -1,20 +1,21 @@
 -- What is shown is the verdict on both files.
 use Rattle.std.proofs.Common.{IfOk, subst}
 use Rattle.std.specs.Prelude.{option_copied}
+use Rattle.fr_answer.specs.Inputs.{Reads}
 use Rattle.fr_answer.specs.Commands.{IsCheckOf}
 use Rattle.fr_answer.proofs.Showing.{paged-found, shown-of}
 use Rattle.fr_answer.proofs.commands.check.check_looked.Goals as goal
 
 pub returns-clause-answered : goal.returns-clause-answered
 returns-clause-answered g c =
-    let gives = g.F.Files.Gives c.args.files.now in
+    let reads = Reads (g.F.Files.Gives c.args.files.now) g.F.Files.Means in
     let found = c.checked_files-found.result in
-    let verdict = subst (λ asks. IfOk found (λ r. IsCheckOf gives asks c.args.app.now c.args.certificate.now r.1)) c.ways_of-ways.ensures c.checked_files-found.ensures.verdict in
-    shown-of (IsCheckOf gives c.args.asked.now.deadlock c.args.app.now c.args.certificate.now) found c.args.asked.now.format _ _ c.show_found.result verdict c.show_found.ensures.answered
+    let verdict = subst (λ asks. IfOk found (λ r. IsCheckOf reads asks c.args.app.now c.args.certificate.now r.1)) c.ways_of-ways.ensures c.checked_files-found.ensures.verdict in
+    shown-of (IsCheckOf reads c.args.asked.now.deadlock c.args.app.now c.args.certificate.now) found c.args.asked.now.format _ _ c.show_found.result verdict c.show_found.ensures.answered
 
 pub returns-clause-files : goal.returns-clause-files
 returns-clause-files g c =
-    let gives = g.F.Files.Gives c.args.files.now in
+    let reads = Reads (g.F.Files.Gives c.args.files.now) g.F.Files.Means in
     let found = c.checked_files-found.result in
-    let verdict = subst (λ asks. IfOk found (λ r. IsCheckOf gives asks c.args.app.now c.args.certificate.now r.1)) c.ways_of-ways.ensures c.checked_files-found.ensures.verdict in
-    paged-found g.F.Files.Puts (IsCheckOf gives c.args.asked.now.deadlock c.args.app.now c.args.certificate.now) found (option_copied c.args.asked.now.html) _ _ verdict c.show_found.ensures.paged
+    let verdict = subst (λ asks. IfOk found (λ r. IsCheckOf reads asks c.args.app.now c.args.certificate.now r.1)) c.ways_of-ways.ensures c.checked_files-found.ensures.verdict in
+    paged-found g.F.Files.Puts (IsCheckOf reads c.args.asked.now.deadlock c.args.app.now c.args.certificate.now) found (option_copied c.args.asked.now.html) _ _ verdict c.show_found.ensures.paged

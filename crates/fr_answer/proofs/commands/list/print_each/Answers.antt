@@ -6,6 +6,7 @@ use Rattle.std.proofs.lemmas.List.Elements.{All-nil}
 use Rattle.std.specs.Option.{is_some}
 use Rattle.fr_list.specs.Means.{shown}
 use Rattle.fr_answer.specs.Answers.{kind_of, what_status}
+use Rattle.fr_answer.specs.Inputs.{Reads}
 use Rattle.fr_answer.specs.Commands.{IsLineAnswer, IsLineText}
 use Rattle.fr_answer.proofs.Listing.{answered-at, printed-line}
 use Rattle.fr_answer.proofs.Safe.{status-most}
@@ -14,11 +15,11 @@ use Rattle.fr_answer.proofs.commands.list.print_each.Goals as goal
 pub loop-entry-init : goal.loop-entry-init
 loop-entry-init g c =
     let list = c.args.list.now in
-    (([], refl, All-nil (IsLineAnswer (g.F.Files.Gives c.args.files.now) c.args.ways.deadlock list), refl, ([], tt, Appends-nil (g.O.Write.contents c.args.out.now))), omega arith)
+    (([], refl, All-nil (IsLineAnswer (Reads (g.F.Files.Gives c.args.files.now) g.F.Files.Means) c.args.ways.deadlock list), refl, ([], tt, Appends-nil (g.O.Write.contents c.args.out.now))), omega arith)
 
 pub loop-entry-preserved : goal.loop-entry-preserved
 loop-entry-preserved g c =
-    let gives = g.F.Files.Gives c.args.files.now in
+    let reads = Reads (g.F.Files.Gives c.args.files.now) g.F.Files.Means in
     let list = c.args.list.now in
     let explains = is_some c.args.ways.detail in
     let before = take c.loop-entry.entry-index c.args.entries.now in
@@ -26,9 +27,9 @@ loop-entry-preserved g c =
     let so = c.in_ok-print_line.ensures.text in
     let here = subst (λ b. IsLineText b (string_bytes c.in_ok-answer.answer.application) what so.0) c.is_some.ensures so.1 in
     let told = subst (λ path. IsLineText explains path what so.0) c.in_ok-answer.ensures.path here in
-    let more = printed-line gives c.args.ways.deadlock explains list (map shown before) c.loop-entry.greatest _ so.0 _ _ _ c.loop-entry.invariant.0 c.in_ok-answer.ensures.by told so.2 in
+    let more = printed-line reads c.args.ways.deadlock explains list (map shown before) c.loop-entry.greatest _ so.0 _ _ _ c.loop-entry.invariant.0 c.in_ok-answer.ensures.by told so.2 in
     let on = ap (map shown) (take_more c.args.entries.now c.loop-entry.entry-index _ c.loop-entry-test.true) ∙ map-append shown before _ in
     let next : c.max-greatest.result ≡ max c.loop-entry.greatest (what_status what) = c.max-greatest.ensures ∙ ap (max c.loop-entry.greatest) c.status.ensures in
     let least : what_status what ≤ 3 = status-most (kind_of what) in
     let was : c.loop-entry.greatest ≤ 3 = c.loop-entry.invariant.1 in
-    (answered-at gives c.args.ways.deadlock list _ _ _ _ _ on next more, omega (arith, next, least, was))
+    (answered-at reads c.args.ways.deadlock list _ _ _ _ _ on next more, omega (arith, next, least, was))

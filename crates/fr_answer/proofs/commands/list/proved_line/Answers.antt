@@ -1,14 +1,15 @@
 -- The answer is what was proved.
 use Rattle.std.proofs.Common.{◌∙◌, subst, IfOk, None, List, ℕ, true}
 use Rattle.fr_list.specs.Beside.{beside}
+use Rattle.fr_answer.specs.Inputs.{Reads}
 use Rattle.fr_answer.specs.Commands.{IsAnswerBy, IsProofAt}
 use Rattle.fr_answer.proofs.Showing.{line-found}
 use Rattle.fr_answer.proofs.commands.list.proved_line.Goals as goal
 
 pub returns-clause-by : goal.returns-clause-by
 returns-clause-by g c =
-    let gives = g.F.Files.Gives c.args.files.now in
+    let reads = Reads (g.F.Files.Gives c.args.files.now) g.F.Files.Means in
     let list = c.args.list.now in
     let found = c.proved_alone-found.result in
-    let proof = subst (λ a. IfOk found (λ r. (certificate : List ℕ) × IsProofAt gives c.args.ways.deadlock a true certificate r.1)) (c.deref.ensures ∙ c.in_ok-app.ensures) c.proved_alone-found.ensures.proof in
-    line-found (IsAnswerBy gives c.args.ways.deadlock list (beside list c.args.app.now) None) found c.new.result c.new.ensures.found proof
+    let proof = subst (λ a. IfOk found (λ r. (certificate : List ℕ) × IsProofAt reads c.args.ways.deadlock a true certificate r.1)) (c.deref.ensures ∙ c.in_ok-app.ensures) c.proved_alone-found.ensures.proof in
+    line-found (IsAnswerBy reads c.args.ways.deadlock list (beside list c.args.app.now) None) found c.new.result c.new.ensures.found proof

@@ -1,10 +1,11 @@
 use Rattle.std.proofs.Common.{◌≤◌, map, take}
 use Rattle.fr_list.specs.Means.{shown}
+use Rattle.fr_answer.specs.Inputs.{Reads}
 use Rattle.fr_answer.specs.Commands.{AreAnswered, Each, Shows}
 use Rattle.fr_answer.proofs.commands.list.shown_each.Given as goal
 
 -- the lines so far are answered, and each answer is shown
 abbrev pub invariant-loop-listed : goal.invariant-loop-listed
 invariant-loop-listed g l =
-    AreAnswered (g.F.Files.Gives l.files) l.ways.deadlock l.list (map shown (take l.listed-index l.entries)) l.status
+    AreAnswered (Reads (g.F.Files.Gives l.files) g.F.Files.Means) l.ways.deadlock l.list (map shown (take l.listed-index l.entries)) l.status
     (λ lines. Each (λ line s. Shows line.what s) lines l.answers.items) × (l.status ≤ 3)

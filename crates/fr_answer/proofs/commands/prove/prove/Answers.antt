@@ -1,6 +1,7 @@
 -- Both outputs passed.
 use Rattle.std.proofs.Common.{refl, rules}
 use Rattle.std.specs.Prelude.{option_copied, ℕ, List}
+use Rattle.fr_answer.specs.Inputs.{Reads}
 use Rattle.fr_answer.specs.Commands.{IsProofAt}
 use Rattle.fr_answer.proofs.Showing.{kept-same, may-of, paged-same, shown-none}
 use Rattle.fr_answer.proofs.commands.prove.prove.Goals as goal
@@ -15,11 +16,11 @@ pub returns-in-Err-clause-files : goal.returns-in-Err-clause-files
 returns-in-Err-clause-files g c =
     let same = c.show_outputs_refused.ensures.same in (
       c.args.files.now,
-      kept-same (g.F.Files.Gives c.args.files.now) c.args.asked.now.deadlock g.F.Files.Puts c.args.asked.now.app.now (option_copied c.args.asked.now.out) c.args.files.now,
+      kept-same (Reads (g.F.Files.Gives c.args.files.now) g.F.Files.Means) c.args.asked.now.deadlock g.F.Files.Puts c.args.asked.now.app.now (option_copied c.args.asked.now.out) c.args.files.now,
       paged-same g.F.Files.Puts _ (option_copied c.args.asked.now.html) c.args.files.now _ same,
     )
 
 pub returns-in-Err-clause-answered : goal.returns-in-Err-clause-answered
 returns-in-Err-clause-answered g c =
-    shown-none (λ what. (certificate : List ℕ) × IsProofAt (g.F.Files.Gives c.args.files.now) c.args.asked.now.deadlock c.args.asked.now.app.now c.args.asked.now.searches certificate what) _ c.args.asked.now.format _ _
+    shown-none (λ what. (certificate : List ℕ) × IsProofAt (Reads (g.F.Files.Gives c.args.files.now) g.F.Files.Means) c.args.asked.now.deadlock c.args.asked.now.app.now c.args.asked.now.searches certificate what) _ c.args.asked.now.format _ _
     c.show_outputs_refused.result c.asked_of-shown.ensures.format c.show_outputs_refused.ensures.answered

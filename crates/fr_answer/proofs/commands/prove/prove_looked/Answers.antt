@@ -1,31 +1,32 @@
 -- What is shown is what was proved, and a certificate is written where the verdict is yes.
 use Rattle.std.proofs.Common.{IfOk, List, ℕ, string_bytes, subst}
 use Rattle.std.specs.Prelude.{option_copied}
+use Rattle.fr_answer.specs.Inputs.{Reads}
 use Rattle.fr_answer.specs.Commands.{IsProofAt}
 use Rattle.fr_answer.proofs.Showing.{kept-by, paged-found, proof-found, shown-of}
 use Rattle.fr_answer.proofs.commands.prove.prove_looked.Goals as goal
 
 pub returns-clause-answered : goal.returns-clause-answered
 returns-clause-answered g c =
-    let gives = g.F.Files.Gives c.args.files.now in
+    let reads = Reads (g.F.Files.Gives c.args.files.now) g.F.Files.Means in
     let app = c.args.asked.now.app.now in
     let asks = c.args.asked.now.deadlock in
     let searches = c.args.asked.now.searches in
     let all = c.proved_file-proof.result in
-    let proof = subst (λ b. IfOk all (λ r. IsProofAt gives b app searches (string_bytes r.2) r.1)) c.ways_of-ways.ensures c.proved_file-proof.ensures.proof in
-    shown-of (λ what. (certificate : List ℕ) × IsProofAt gives asks app searches certificate what) c.kept-found.result c.args.asked.now.format _ _ c.show_found.result
-    (proof-found gives asks app searches all c.kept-found.result proof c.kept-found.ensures.found c.kept-found.ensures.none) c.show_found.ensures.answered
+    let proof = subst (λ b. IfOk all (λ r. IsProofAt reads b app searches (string_bytes r.2) r.1)) c.ways_of-ways.ensures c.proved_file-proof.ensures.proof in
+    shown-of (λ what. (certificate : List ℕ) × IsProofAt reads asks app searches certificate what) c.kept-found.result c.args.asked.now.format _ _ c.show_found.result
+    (proof-found reads asks app searches all c.kept-found.result proof c.kept-found.ensures.found c.kept-found.ensures.none) c.show_found.ensures.answered
 
 pub returns-clause-files : goal.returns-clause-files
 returns-clause-files g c =
-    let gives = g.F.Files.Gives c.args.files.now in
+    let reads = Reads (g.F.Files.Gives c.args.files.now) g.F.Files.Means in
     let app = c.args.asked.now.app.now in
     let asks = c.args.asked.now.deadlock in
     let searches = c.args.asked.now.searches in
     let all = c.proved_file-proof.result in
-    let proof = subst (λ b. IfOk all (λ r. IsProofAt gives b app searches (string_bytes r.2) r.1)) c.ways_of-ways.ensures c.proved_file-proof.ensures.proof in (
+    let proof = subst (λ b. IfOk all (λ r. IsProofAt reads b app searches (string_bytes r.2) r.1)) c.ways_of-ways.ensures c.proved_file-proof.ensures.proof in (
       _,
-      kept-by gives asks g.F.Files.Puts app searches (option_copied c.args.asked.now.out) all c.args.files.now _ proof c.kept-found.ensures.files c.kept-found.ensures.same,
-      paged-found g.F.Files.Puts (λ what. (certificate : List ℕ) × IsProofAt gives asks app searches certificate what) c.kept-found.result (option_copied c.args.asked.now.html) _ _
-          (proof-found gives asks app searches all c.kept-found.result proof c.kept-found.ensures.found c.kept-found.ensures.none) c.show_found.ensures.paged,
+      kept-by reads asks g.F.Files.Puts app searches (option_copied c.args.asked.now.out) all c.args.files.now _ proof c.kept-found.ensures.files c.kept-found.ensures.same,
+      paged-found g.F.Files.Puts (λ what. (certificate : List ℕ) × IsProofAt reads asks app searches certificate what) c.kept-found.result (option_copied c.args.asked.now.html) _ _
+          (proof-found reads asks app searches all c.kept-found.result proof c.kept-found.ensures.found c.kept-found.ensures.none) c.show_found.ensures.paged,
     )

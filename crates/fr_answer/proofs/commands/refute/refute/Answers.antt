@@ -1,6 +1,7 @@
 -- The page's file passed.
 use Rattle.std.proofs.Common.{refl, rules}
 use Rattle.std.specs.Prelude.{option_copied}
+use Rattle.fr_answer.specs.Inputs.{Reads}
 use Rattle.fr_answer.specs.Commands.{IsSearchAt}
 use Rattle.fr_answer.proofs.Showing.{may-of, shown-none}
 use Rattle.fr_answer.proofs.commands.refute.refute.Goals as goal
@@ -12,4 +13,4 @@ refute_looked-requires g c =
 
 pub returns-in-Err-clause-answered : goal.returns-in-Err-clause-answered
 returns-in-Err-clause-answered g c =
-    shown-none (IsSearchAt (g.F.Files.Gives c.args.files.now) c.args.asked.now.deadlock c.args.asked.now.app.now) _ c.args.asked.now.format _ _ c.show_outputs_refused.result c.asked_of-shown.ensures.format c.show_outputs_refused.ensures.answered
+    shown-none (IsSearchAt (Reads (g.F.Files.Gives c.args.files.now) g.F.Files.Means) c.args.asked.now.deadlock c.args.asked.now.app.now) _ c.args.asked.now.format _ _ c.show_outputs_refused.result c.asked_of-shown.ensures.format c.show_outputs_refused.ensures.answered

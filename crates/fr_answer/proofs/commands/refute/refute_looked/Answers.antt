@@ -1,20 +1,21 @@
 -- What is shown is what the search found.
 use Rattle.std.proofs.Common.{IfOk, subst}
 use Rattle.std.specs.Prelude.{option_copied}
+use Rattle.fr_answer.specs.Inputs.{Reads}
 use Rattle.fr_answer.specs.Commands.{IsSearchAt}
 use Rattle.fr_answer.proofs.Showing.{paged-found, shown-of}
 use Rattle.fr_answer.proofs.commands.refute.refute_looked.Goals as goal
 
 pub returns-clause-answered : goal.returns-clause-answered
 returns-clause-answered g c =
-    let gives = g.F.Files.Gives c.args.files.now in
+    let reads = Reads (g.F.Files.Gives c.args.files.now) g.F.Files.Means in
     let found = c.searched_file-found.result in
-    let search = subst (λ asks. IfOk found (λ r. IsSearchAt gives asks c.args.asked.now.app.now r.1)) c.ways_of-ways.ensures c.searched_file-found.ensures.found in
-    shown-of (IsSearchAt gives c.args.asked.now.deadlock c.args.asked.now.app.now) found c.args.asked.now.format _ _ c.show_found.result search c.show_found.ensures.answered
+    let search = subst (λ asks. IfOk found (λ r. IsSearchAt reads asks c.args.asked.now.app.now r.1)) c.ways_of-ways.ensures c.searched_file-found.ensures.found in
+    shown-of (IsSearchAt reads c.args.asked.now.deadlock c.args.asked.now.app.now) found c.args.asked.now.format _ _ c.show_found.result search c.show_found.ensures.answered
 
 pub returns-clause-files : goal.returns-clause-files
 returns-clause-files g c =
-    let gives = g.F.Files.Gives c.args.files.now in
+    let reads = Reads (g.F.Files.Gives c.args.files.now) g.F.Files.Means in
     let found = c.searched_file-found.result in
-    let search = subst (λ asks. IfOk found (λ r. IsSearchAt gives asks c.args.asked.now.app.now r.1)) c.ways_of-ways.ensures c.searched_file-found.ensures.found in
-    paged-found g.F.Files.Puts (IsSearchAt gives c.args.asked.now.deadlock c.args.asked.now.app.now) found (option_copied c.args.asked.now.html) _ _ search c.show_found.ensures.paged
+    let search = subst (λ asks. IfOk found (λ r. IsSearchAt reads asks c.args.asked.now.app.now r.1)) c.ways_of-ways.ensures c.searched_file-found.ensures.found in
+    paged-found g.F.Files.Puts (IsSearchAt reads c.args.asked.now.deadlock c.args.asked.now.app.now) found (option_copied c.args.asked.now.html) _ _ search c.show_found.ensures.paged
