@@ -3,7 +3,7 @@
 use crate::cursor::clipped;
 use crate::fault::{Fault, Spot, wrong};
 use crate::kernel::{Answer, Kernel, Place, kernel_named};
-use crate::near::hint;
+use crate::near::with_hint;
 use crate::program::{Argument, Call, Object, Operand, Range};
 use crate::reader::{Home, Reader};
 use crate::scope::Meaning;
@@ -66,16 +66,8 @@ impl<'a> Reader<'a> {
             );
             return wrong(token.spot, text);
         }
-        wrong(
-            token.spot,
-            self.unknown_near(shown, self.scope.near(token.text)),
-        )
-    }
-
-    /// What is said of a call of what isn't there, and may be meant for another.
-    fn unknown_near(&self, shown: &str, near: Option<&str>) -> Result<String, AllocError> {
-        let hint = hint(self.alloc, near)?;
-        format!(in self.alloc; "no function above and no kernel call '{shown}'{hint}")
+        let text = format!(in self.alloc; "no function above and no kernel call '{shown}'");
+        wrong(token.spot, with_hint(text, self.scope.near(token.text)))
     }
 
     /// Refuses a task that makes a call of interrupts.
@@ -162,10 +154,10 @@ impl<'a> Reader<'a> {
 
     /// Refuses an object of another kind than the call is for.
     fn check_kind(&self, kernel: &Kernel, object: Object<'a>, spot: Spot) -> Result<(), Fault> {
-        let kind = object.kind.text();
-        if kernel.kinds.iter().any(|one| one.text() == kind) {
+        if kernel.is_for(object.kind) {
             return Ok(());
         }
+        let kind = object.kind.text();
         let mut kinds = String::new(self.alloc);
         for one in kernel.kinds {
             if !kinds.is_empty() {
@@ -186,8 +178,13 @@ impl<'a> Reader<'a> {
         let spot = self.cursor.spot();
         let place = self.variable_named("the name of a variable")?;
         let variable = self.variable(place, spot)?;
-        if let Some(items) = object.and_then(|object| object.items) {
-            if !variable.range.includes(items) {
+        match object {
+            Some(
+                Object {
+                    items: Some(items),
+                    ..
+                },
+            ) if !variable.range.includes(items) => {
                 let name = variable.name;
                 let Range { low, high } = variable.range;
                 let least = items.low;
@@ -195,10 +192,10 @@ impl<'a> Reader<'a> {
                 let text = format!(in self.alloc;
                     "the range of '{name}', {low}..{high}, has to include the queue's, {least}..{most}"
                 );
-                return Err(wrong(spot, text));
+                Err(wrong(spot, text))
             }
+            _ => Ok(Argument::Operand(Operand::Variable(place))),
         }
-        Ok(Argument::Operand(Operand::Variable(place)))
     }
 
     /// The greatest number that a call answers. Refuses one that answers nothing.

@@ -29,7 +29,7 @@ impl Reader<'_> {
     }
 
     /// The place of the condition that a term is.
-    fn test_of(&mut self, term: Term) -> Result<usize, Fault> {
+    pub(crate) fn test_of(&mut self, term: Term) -> Result<usize, Fault> {
         let Term { value, spot } = term;
         match value {
             Value::Test(test) => Ok(test),
@@ -71,36 +71,14 @@ impl Reader<'_> {
             return Ok(());
         }
         let name = call.kernel.name;
-        if matches!(call.kernel.answer, Answer::Bytes) {
-            let text = format!(in self.alloc;
-                "{name} doesn't answer whether it worked: write (n = ..) > 0, where n is a variable"
-            );
-            return Err(wrong(spot, text));
-        }
+        let hint = match call.kernel.answer {
+            Answer::Bytes => ": write (n = ..) > 0, where n is a variable",
+            _ => "",
+        };
         Err(wrong(
             spot,
-            format!(in self.alloc; "{name} doesn't answer whether it worked"),
+            format!(in self.alloc; "{name} doesn't answer whether it worked{hint}"),
         ))
-    }
-
-    /// The condition that a term isn't true.
-    pub(crate) fn opposite(&mut self, term: Term, spot: Spot) -> Result<usize, Fault> {
-        let test = self.test_of(term)?;
-        self.lines.test(Condition::Not(test), spot)
-    }
-
-    /// The condition that two terms are true.
-    pub(crate) fn both(&mut self, left: Term, right: Term, spot: Spot) -> Result<usize, Fault> {
-        let first = self.test_of(left)?;
-        let second = self.test_of(right)?;
-        self.lines.test(Condition::And(first, second), spot)
-    }
-
-    /// The condition that one of two terms is true.
-    pub(crate) fn either(&mut self, left: Term, right: Term, spot: Spot) -> Result<usize, Fault> {
-        let first = self.test_of(left)?;
-        let second = self.test_of(right)?;
-        self.lines.test(Condition::Or(first, second), spot)
     }
 
     /// The condition that two terms compare so.

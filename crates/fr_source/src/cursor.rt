@@ -97,22 +97,13 @@ impl<'a> Cursor<'a> {
             return Ok(());
         }
         let what = format!(in self.alloc; "'{text}'{why}");
-        let spot = if text == ";" {
-            self.after_previous()
-        } else {
-            self.spot()
-        };
-        Err(wrong(spot, self.expectation(what)))
-    }
-
-    /// The place after the token before the next one.
-    fn after_previous(&self) -> Spot {
-        let before = self.previous();
-        let Spot { line, column } = before.spot;
-        Spot {
-            line,
-            column: column.saturating_add(before.text.len()),
+        let mut spot = self.spot();
+        if text == ";" {
+            let before = self.previous();
+            spot = before.spot;
+            spot.column = spot.column.saturating_add(before.text.len());
         }
+        Err(wrong(spot, self.expectation(what)))
     }
 
     /// Takes a word.
@@ -123,24 +114,32 @@ impl<'a> Cursor<'a> {
                 self.advance();
                 Ok(token)
             }
-            _ => Err(self.expected(String::from_str(self.alloc, what))),
+            _ => Err(self.expected_text(what)),
         }
     }
 
     /// What was expected in place of the next token.
     fn expectation(&self, what: Result<String, AllocError>) -> Result<String, AllocError> {
-        let what = what?;
-        let found = clipped(self.token().text);
+        let mut text = String::from_str(self.alloc, "expected ")?;
+        text.push_str(what?.as_str())?;
         if self.is_at_end() {
-            format!(in self.alloc; "expected {what}, found the end of the file")
+            text.push_str(", found the end of the file")?;
         } else {
-            format!(in self.alloc; "expected {what}, found '{found}'")
+            text.push_str(", found '")?;
+            text.push_str(clipped(self.token().text))?;
+            text.push_str("'")?;
         }
+        Ok(text)
     }
 
     /// The fault that something else was expected in place of the next token.
     pub(crate) fn expected(&self, what: Result<String, AllocError>) -> Fault {
         wrong(self.spot(), self.expectation(what))
+    }
+
+    /// The same, for a fixed text.
+    pub(crate) fn expected_text(&self, what: &str) -> Fault {
+        self.expected(String::from_str(self.alloc, what))
     }
 
     /// The fault of a fixed text at a place.

@@ -3,14 +3,14 @@
 use crate::cursor::{Cursor, clipped};
 use crate::fault::{Fault, Spot, wrong};
 use crate::lines::Lines;
-use crate::near::{hint, is_near};
+use crate::near::{near_among, with_hint};
 use crate::program::{
     Action, Actor, ActorKind, MOST_VARIABLES, Object, ObjectKind, Owner, Program, Range, Variable,
 };
 use crate::reader::{Home, Reader};
 use crate::scope::Meaning;
 use crate::token::Token;
-use std::alloc::{AllocError, Global};
+use std::alloc::Global;
 use std::mem;
 
 /// The most objects of an application.
@@ -58,8 +58,11 @@ pub(crate) fn program_in<'a>(
         reader.declaration()?;
     }
     if reader.program.actors.is_empty() {
-        let what = String::from_str(alloc, "a task or an interrupt: there is none");
-        return Err(reader.cursor.expected(what));
+        return Err(
+            reader
+                .cursor
+                .expected_text("a task or an interrupt: there is none"),
+        );
     }
     Ok(mem::replace(&mut reader.program, Program::new(alloc)))
 }
@@ -90,25 +93,14 @@ impl<'a> Reader<'a> {
 
     /// The fault that a word begins no declaration.
     fn no_declaration(&self, word: Token<'a>) -> Fault {
+        let shown = clipped(word.text);
+        let text = format!(in self.alloc;
+            "expected a declaration, which begins with one of const, shared, task, interrupt, function, queue, binary, \
+             counting, mutex, recursive, stream, message; found '{shown}'"
+        );
         wrong(
             word.spot,
-            self.no_declaration_near(
-                clipped(word.text),
-                DECLARATIONS.iter().find(|one| is_near(word.text, one)),
-            ),
-        )
-    }
-
-    /// What is said of a word that begins no declaration, and may be meant for another.
-    fn no_declaration_near(
-        &self,
-        shown: &str,
-        near: Option<&'static &'static str>,
-    ) -> Result<String, AllocError> {
-        let hint = hint(self.alloc, near.copied())?;
-        format!(in self.alloc;
-            "expected a declaration, which begins with one of const, shared, task, interrupt, function, queue, binary, \
-             counting, mutex, recursive, stream, message; found '{shown}'{hint}"
+            with_hint(text, near_among(&DECLARATIONS, word.text)),
         )
     }
 
@@ -166,10 +158,7 @@ impl<'a> Reader<'a> {
             owner,
             function,
         };
-        let place = match owner {
-            Owner::Function(_) => self.add_local(variable)?,
-            _ => self.add_variable(variable)?,
-        };
+        let place = self.add_variable(variable)?;
         match owner {
             Owner::Everyone => self.scope.add_outside(name.text, Meaning::Variable(place)),
             _ => self.scope.add_inside(name.text, Meaning::Variable(place)),
@@ -207,31 +196,22 @@ impl<'a> Reader<'a> {
         Ok(first)
     }
 
-    /// Adds a variable of the application.
+    /// Adds a variable of the application, or one of a function: each actor that calls it gets its own.
     pub(crate) fn add_variable(&mut self, variable: Variable<'a>) -> Result<usize, Fault> {
-        self.check_count(
-            "variables",
-            self.program.written.len(),
-            MOST_VARIABLES,
-            variable.spot,
-        )?;
+        let is_of_function = matches!(variable.owner, Owner::Function(_));
+        let count = if is_of_function {
+            self.lines.body.variables.len()
+        } else {
+            self.program.written.len()
+        };
+        self.check_count("variables", count, MOST_VARIABLES, variable.spot)?;
         let place = self.program.variables.len();
         self.program.variables.push(variable)?;
-        self.program.written.push(place)?;
-        Ok(place)
-    }
-
-    /// Adds a variable of a function: each actor that calls it gets its own.
-    fn add_local(&mut self, variable: Variable<'a>) -> Result<usize, Fault> {
-        self.check_count(
-            "variables",
-            self.lines.body.variables.len(),
-            MOST_VARIABLES,
-            variable.spot,
-        )?;
-        let place = self.program.variables.len();
-        self.program.variables.push(variable)?;
-        self.lines.body.variables.push(place)?;
+        if is_of_function {
+            self.lines.body.variables.push(place)?;
+        } else {
+            self.program.written.push(place)?;
+        }
         Ok(place)
     }
 

@@ -105,7 +105,10 @@ impl<'a> Expander<'a> {
         call: Option<usize>,
     ) -> Result<(), Fault> {
         let first_label = self.labels.len();
-        let count = program.bodies.get(body).map_or(0, |body| body.labels);
+        let count = match program.bodies.get(body) {
+            Some(body) => body.labels,
+            None => 0,
+        };
         for _ in 0..count {
             self.labels.push(0)?;
         }
@@ -123,12 +126,7 @@ impl<'a> Expander<'a> {
         let Some(frame) = self.frames.last().copied() else {
             return Ok(false);
         };
-        let Some(item) = program
-            .bodies
-            .get(frame.body)
-            .and_then(|body| body.items.get(frame.next))
-            .copied()
-        else {
+        let Some(item) = program.item(frame.body, frame.next) else {
             let _ = self.frames.pop();
             return Ok(true);
         };
@@ -180,7 +178,10 @@ impl<'a> Expander<'a> {
         spot: Spot,
     ) -> Result<(), Fault> {
         let action = self.own_action(action);
-        let to = to.map(|label| label.saturating_add(frame.first_label));
+        let to = match to {
+            Some(label) => Some(label.saturating_add(frame.first_label)),
+            None => None,
+        };
         self.lines.push(Line {
             action,
             to,
@@ -207,20 +208,11 @@ impl<'a> Expander<'a> {
         program: &mut Program<'a>,
         function: usize,
     ) -> Result<(), Fault> {
-        let count = program
-            .bodies
-            .get(function)
-            .map_or(0, |body| body.variables.len());
-        for place in 0..count {
-            let declared = program
-                .bodies
-                .get(function)
-                .and_then(|body| body.variables.get(place))
-                .copied();
-            let Some(declared) = declared else {
+        for place in 0..MOST_VARIABLES {
+            let Some(declared) = program.declared(function, place) else {
                 break;
             };
-            if !self.own.iter().any(|own| own.declared == declared) {
+            if self.copy_of(declared).is_none() {
                 self.copy_variable(alloc, program, declared)?;
             }
         }
@@ -253,10 +245,20 @@ impl<'a> Expander<'a> {
         Ok(())
     }
 
+    /// The actor's own variable for one of a function.
+    fn copy_of(&self, variable: usize) -> Option<usize> {
+        for own in &self.own {
+            if own.declared == variable {
+                return Some(own.copy);
+            }
+        }
+        None
+    }
+
     /// The actor's own variable for one of a function; any other variable itself.
     fn own_variable(&self, variable: usize) -> usize {
-        match self.own.iter().find(|own| own.declared == variable) {
-            Some(own) => own.copy,
+        match self.copy_of(variable) {
+            Some(copy) => copy,
             None => variable,
         }
     }
@@ -295,14 +297,20 @@ impl<'a> Expander<'a> {
             } => Action::Set {
                 variable: self.own_variable(variable),
                 left: self.own_operand(left),
-                more: more.map(|(sign, right)| (sign, self.own_operand(right))),
+                more: match more {
+                    Some((sign, right)) => Some((sign, self.own_operand(right))),
+                    None => None,
+                },
             },
             Action::Pick { variable, range } => Action::Pick {
                 variable: self.own_variable(variable),
                 range,
             },
             Action::Call { answer, call } => Action::Call {
-                answer: answer.map(|variable| self.own_variable(variable)),
+                answer: match answer {
+                    Some(variable) => Some(self.own_variable(variable)),
+                    None => None,
+                },
                 call: self.own_call(call),
             },
             Action::If {
@@ -338,9 +346,19 @@ impl<'a> Expander<'a> {
             ..
         } = self;
         for line in lines.iter_mut() {
-            line.to = line.to.and_then(|label| labels.get(label)).copied();
+            if let Some(label) = line.to {
+                line.to = labels.get(label).copied();
+            }
         }
         Code { lines, calls }
+    }
+}
+
+/// Where the function is called that a line is of, unless the line is in the actor itself.
+pub(crate) fn caller(calls: &[Place], place: Place) -> Option<Place> {
+    match place.call {
+        Some(call) => calls.get(call).copied(),
+        None => None,
     }
 }
 
@@ -348,8 +366,8 @@ impl<'a> Expander<'a> {
 pub(crate) fn outermost(calls: &[Place], place: Place) -> Spot {
     let mut place = place;
     for _ in 0..calls.len() {
-        match place.call.and_then(|call| calls.get(call)) {
-            Some(outer) => place = *outer,
+        match caller(calls, place) {
+            Some(outer) => place = outer,
             None => break,
         }
     }
@@ -370,11 +388,13 @@ pub(crate) fn code_of<'a>(
             break;
         }
         if expander.items > MOST_ITEMS {
-            let last = expander.lines.last().map(|line| line.place);
-            let place = last.unwrap_or(Place {
-                spot: actor.end,
-                call: None,
-            });
+            let place = match expander.lines.last() {
+                Some(line) => line.place,
+                None => Place {
+                    spot: actor.end,
+                    call: None,
+                },
+            };
             return Err(expander.too_large(alloc, place));
         }
     }

@@ -4,11 +4,12 @@
 use crate::cursor::clipped;
 use crate::fault::{Fault, Spot, wrong};
 use crate::kernel::value_of;
+use crate::lines::Condition;
 use crate::program::{Action, Arithmetic, Call, Comparison, Operand, Range};
 use crate::reader::Reader;
 use crate::scope::Meaning;
 use crate::token::{Kind, Token};
-use std::alloc::{AllocError, Global};
+use std::alloc::Global;
 
 /// What an expression is. A condition is named by its place among those of the body.
 #[derive(Clone, Copy)]
@@ -142,19 +143,15 @@ impl Yard {
         }
     }
 
-    fn has_bracket(&self) -> bool {
-        self.waiting.iter().any(|one| matches!(
-            one,
-            Waiting::Bracket | Waiting::Ticks | Waiting::Given { .. }
-        ))
-    }
-
-    /// The number of brackets and of operators before a term.
+    /// The number of open brackets and of operators before a term.
     fn depth(&self) -> usize {
-        self.waiting
-            .iter()
-            .filter(|one| !matches!(one, Waiting::Infix(..)))
-            .count()
+        let mut depth = 0usize;
+        for one in &self.waiting {
+            if !matches!(one, Waiting::Infix(..)) {
+                depth = depth.saturating_add(1);
+            }
+        }
+        depth
     }
 
     fn is_of_tests(&self) -> bool {
@@ -306,79 +303,50 @@ impl<'a> Reader<'a> {
             spot,
             ..
         } = token;
-        match kind {
-            Kind::Number => {
-                self.cursor.advance();
-                self.number_token(token)
-            }
-            Kind::Word => {
-                if let Some(number) = value_of(text) {
-                    self.cursor.advance();
-                    return Ok(Term {
-                        value: Value::Number(number),
-                        spot,
-                    });
-                }
-                self.named_operand(token)
-            }
+        let value = match kind {
+            Kind::Number => self.number_token(token)?,
+            Kind::Word => self.named_operand(token)?,
             _ if text == "-" => {
                 self.cursor.advance();
-                self.cursor.advance();
-                Ok(Term {
-                    value: Value::Number(i64::MIN),
-                    spot,
-                })
+                Value::Number(i64::MIN)
             }
-            _ => Err(
-                self.cursor.expected(String::from_str(
-                    self.alloc,
-                    "a variable, a number or a call",
-                )),
-            ),
-        }
+            _ => return Err(self.cursor.expected_text("a variable, a number or a call")),
+        };
+        self.cursor.advance();
+        Ok(Term { value, spot })
     }
 
     /// The number that a token is.
-    fn number_token(&self, token: Token<'a>) -> Result<Term, Fault> {
-        let Token { text, spot, .. } = token;
-        match number_in(text) {
-            Some(number) => Ok(Term {
-                value: Value::Number(number),
-                spot,
-            }),
-            None => {
-                let shown = clipped(text);
-                Err(wrong(
-                    spot,
-                    format!(in self.alloc; "{shown} doesn't fit in 64 bits"),
-                ))
-            }
+    fn number_token(&self, token: Token<'a>) -> Result<Value, Fault> {
+        if let Some(number) = number_in(token.text) {
+            return Ok(Value::Number(number));
         }
+        let shown = clipped(token.text);
+        let text = format!(in self.alloc; "{shown} doesn't fit in 64 bits");
+        Err(wrong(token.spot, text))
     }
 
-    /// Takes the name of a constant or a variable.
-    fn named_operand(&mut self, token: Token<'a>) -> Result<Term, Fault> {
+    /// What the name of a constant or a variable is.
+    fn named_operand(&self, token: Token<'a>) -> Result<Value, Fault> {
         let Token { text, spot, .. } = token;
-        if text == "NULL" || text == "portMAX_DELAY" {
-            return Err(
-                self.cursor
-                    .expected(String::from_str(self.alloc, "a variable or a number")),
-            );
+        if let Some(number) = value_of(text) {
+            return Ok(Value::Number(number));
         }
-        let value = match self.meaning_of(token)? {
-            Meaning::Constant(number) => Value::Number(number),
-            Meaning::Variable(variable) => Value::Variable(variable),
+        if text == "NULL" || text == "portMAX_DELAY" {
+            return Err(self.cursor.expected_text("a variable or a number"));
+        }
+        match self.meaning_of(token)? {
+            Meaning::Constant(number) => Ok(Value::Number(number)),
+            Meaning::Variable(variable) => Ok(Value::Variable(variable)),
             meaning => {
                 let shown = clipped(text);
                 let kind = meaning.text();
                 let fault = format!(in self.alloc;
                     "'{shown}' is the name of {kind}, and a variable or a number is expected"
                 );
-                return Err(wrong(spot, fault));
+                Err(wrong(spot, fault))
             }
-        };
-        self.cursor.advance();
-        Ok(Term { value, spot })
+        }
     }
 
     /// Joins what the last term completes: the operators before it, and the brackets that close after it.
@@ -397,12 +365,9 @@ impl<'a> Reader<'a> {
                     })?;
                     self.join_turned(yard, spot)?;
                 }
-                _ => {
-                    if !self.cursor.sees(")") || !yard.has_bracket() {
-                        break;
-                    }
-                    self.close(yard)?;
-                }
+                // An operator before a term is joined as soon as the term is there: so what is left is an open bracket.
+                _ if self.cursor.sees(")") && yard.depth() > 0 => self.close(yard)?,
+                _ => break,
             }
         }
         Ok(())
@@ -413,7 +378,8 @@ impl<'a> Reader<'a> {
         let Some(term) = yard.terms.pop() else {
             return Ok(());
         };
-        let test = self.opposite(term, spot)?;
+        let part = self.test_of(term)?;
+        let test = self.lines.test(Condition::Not(part), spot)?;
         yard.terms.push(Term {
             value: Value::Test(test),
             spot,
@@ -544,30 +510,23 @@ impl<'a> Reader<'a> {
         right: Term,
         spot: Spot,
     ) -> Result<Term, Fault> {
-        match operator {
-            Operator::Arithmetic(sign) => self.binary(left, sign, right, spot),
-            Operator::Compare(comparison) => {
-                let test = self.compare(left, comparison, right, spot)?;
-                Ok(Term {
-                    value: Value::Test(test),
-                    spot,
-                })
+        let test = match operator {
+            Operator::Arithmetic(sign) => return self.binary(left, sign, right, spot),
+            Operator::Compare(comparison) => self.compare(left, comparison, right, spot)?,
+            Operator::And | Operator::Or => {
+                let first = self.test_of(left)?;
+                let second = self.test_of(right)?;
+                let condition = match operator {
+                    Operator::And => Condition::And(first, second),
+                    _ => Condition::Or(first, second),
+                };
+                self.lines.test(condition, spot)?
             }
-            Operator::And => {
-                let test = self.both(left, right, spot)?;
-                Ok(Term {
-                    value: Value::Test(test),
-                    spot,
-                })
-            }
-            Operator::Or => {
-                let test = self.either(left, right, spot)?;
-                Ok(Term {
-                    value: Value::Test(test),
-                    spot,
-                })
-            }
-        }
+        };
+        Ok(Term {
+            value: Value::Test(test),
+            spot,
+        })
     }
 
     /// Two terms, joined by an operator on numbers: worked out, where both are numbers.
@@ -635,12 +594,8 @@ impl<'a> Reader<'a> {
         self.join(yard, 0)?;
         match (yard.waiting.is_empty(), yard.terms.pop()) {
             (true, Some(term)) => Ok(term),
-            _ => Err(self.cursor.expected(self.closing_bracket())),
+            _ => Err(self.cursor.expected_text("')'")),
         }
-    }
-
-    fn closing_bracket(&self) -> Result<String, AllocError> {
-        String::from_str(self.alloc, "')'")
     }
 
     /// Reads a number, or an expression that is one.

@@ -54,6 +54,16 @@ impl Kernel {
         matches!(self.answer, Answer::Success | Answer::Handle)
     }
 
+    /// Whether the call is for objects of this kind.
+    pub(crate) fn is_for(&self, kind: ObjectKind) -> bool {
+        for one in self.kinds {
+            if one.text() == kind.text() {
+                return true;
+            }
+        }
+        false
+    }
+
     /// Whether the call is for interrupts alone.
     pub(crate) fn is_of_interrupts(&self) -> bool {
         self.name.ends_with("FromISR") || self.name.ends_with("_FROM_ISR")
@@ -118,15 +128,22 @@ static CALLS: [Kernel; 40] = rows! {
 
 /// The call of the kernel with this name.
 pub(crate) fn kernel_named(name: &str) -> Option<&'static Kernel> {
-    CALLS.iter().find(|row| row.name == name)
+    for row in &CALLS {
+        if row.name == name {
+            return Some(row);
+        }
+    }
+    None
 }
 
 /// The name of a call of the kernel that a word is near to.
 pub(crate) fn kernel_near(word: &str) -> Option<&'static str> {
-    CALLS
-        .iter()
-        .find(|row| is_near(word, row.name))
-        .map(|row| row.name)
+    for row in &CALLS {
+        if is_near(word, row.name) {
+            return Some(row.name);
+        }
+    }
+    None
 }
 
 /// The words of statements, and those that a line of the application has: no name may be one.
@@ -154,31 +171,27 @@ static WORDS: [&str; 21] = [
     "configASSERT",
 ];
 
-/// Whether the text is a word of statements.
+/// Whether the text is one of some words.
+pub(crate) fn is_among(text: &str, words: &[&str]) -> bool {
+    for word in words {
+        if *word == text {
+            return true;
+        }
+    }
+    false
+}
+
+/// Whether the text is a word of statements, or one of the kernel's numbers.
 pub(crate) fn is_reserved(text: &str) -> bool {
-    WORDS.iter().any(|word| *word == text)
+    is_among(text, &WORDS) || value_of(text).is_some()
 }
 
 /// The number that the kernel's headers give this word.
 pub(crate) fn value_of(text: &str) -> Option<i64> {
-    if ["pdTRUE", "pdPASS", "true"]
-        .iter()
-        .any(|word| *word == text)
-    {
-        Some(1)
-    } else if [
-        "pdFALSE",
-        "pdFAIL",
-        "false",
-        "errQUEUE_FULL",
-        "errQUEUE_EMPTY",
-    ]
-    .iter()
-    .any(|word| *word == text)
-    {
-        Some(0)
-    } else {
-        None
+    match text {
+        "pdTRUE" | "pdPASS" | "true" => Some(1),
+        "pdFALSE" | "pdFAIL" | "false" | "errQUEUE_FULL" | "errQUEUE_EMPTY" => Some(0),
+        _ => None,
     }
 }
 
@@ -208,5 +221,5 @@ static TYPES: [&str; 20] = [
 
 /// Whether the text is a type of C.
 pub(crate) fn is_type(text: &str) -> bool {
-    TYPES.iter().any(|word| *word == text)
+    is_among(text, &TYPES)
 }

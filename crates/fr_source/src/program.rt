@@ -318,13 +318,46 @@ impl<'a> Program<'a> {
         }
     }
 
+    /// The item with this place of a body.
+    pub(crate) fn item(&self, body: usize, place: usize) -> Option<Item> {
+        match self.bodies.get(body) {
+            Some(body) => body.items.get(place).copied(),
+            None => None,
+        }
+    }
+
+    /// The variable that a body declares in this place.
+    pub(crate) fn declared(&self, body: usize, place: usize) -> Option<usize> {
+        match self.bodies.get(body) {
+            Some(body) => body.variables.get(place).copied(),
+            None => None,
+        }
+    }
+
     pub(crate) fn variable(&self, place: usize) -> Option<Variable<'a>> {
         self.variables.get(place).copied()
     }
 
     pub(crate) fn is_shared(&self, place: usize) -> bool {
-        self.variables
-            .get(place)
-            .is_some_and(|variable| variable.is_shared())
+        match self.variables.get(place) {
+            Some(variable) => variable.is_shared(),
+            None => false,
+        }
+    }
+
+    /// The shared variable that an operand is.
+    pub(crate) fn shared_in(&self, operand: Operand) -> Option<usize> {
+        match operand {
+            Operand::Variable(variable) if self.is_shared(variable) => Some(variable),
+            _ => None,
+        }
+    }
+
+    /// The name of the actor with this number.
+    pub(crate) fn actor_name(&self, number: usize) -> &'a str {
+        match self.actors.get(number) {
+            Some(actor) => actor.name,
+            None => "",
+        }
     }
 }

@@ -2,9 +2,9 @@
 
 use crate::cursor::{Cursor, clipped};
 use crate::fault::{Fault, Spot, wrong};
-use crate::kernel::{Kernel, is_reserved, is_type, kernel_named, value_of};
+use crate::kernel::{Kernel, is_reserved, is_type, kernel_named};
 use crate::lines::Lines;
-use crate::near::hint;
+use crate::near::with_hint;
 use crate::open::{Case, Open};
 use crate::program::{Program, Variable};
 use crate::scope::{Meaning, Scope};
@@ -124,7 +124,7 @@ impl<'a> Reader<'a> {
                     .expected(format!(in self.alloc; "the name of {what}")),
             );
         }
-        if is_reserved(text) || value_of(text).is_some() || kernel_named(text).is_some() {
+        if is_reserved(text) || kernel_named(text).is_some() {
             return Err(wrong(
                 spot,
                 format!(in self.alloc;
@@ -154,38 +154,28 @@ impl<'a> Reader<'a> {
     pub(crate) fn meaning_of(&self, token: Token<'a>) -> Result<Meaning, Fault> {
         match self.scope.meaning(token.text) {
             Some(meaning) => Ok(meaning),
-            None => Err(self.undeclared(token)),
+            None => Err(wrong(token.spot, self.undeclared(token.text))),
         }
     }
 
-    /// The fault that a name isn't declared.
-    fn undeclared(&self, token: Token<'a>) -> Fault {
-        let shown = clipped(token.text);
-        if is_type(token.text) {
-            let text = format!(in self.alloc;
+    /// What is said of a name that isn't declared.
+    fn undeclared(&self, name: &str) -> Result<String, AllocError> {
+        let shown = clipped(name);
+        if is_type(name) {
+            return format!(in self.alloc;
                 "'{shown}' isn't declared: there are no types, write 'var n in 0..9;'"
             );
-            return wrong(token.spot, text);
         }
-        let near = self.scope.near(token.text);
+        let near = self.scope.near(name);
         match self.call {
-            Some(kernel) if near.is_none() => wrong(token.spot, self.undeclared_in(shown, kernel)),
-            _ => wrong(token.spot, self.undeclared_near(shown, near)),
+            Some(kernel) if near.is_none() => {
+                let shape = self.shape(kernel)?;
+                format!(in self.alloc;
+                    "'{shown}' isn't declared: data pointers are left out, as in {shape}"
+                )
+            }
+            _ => with_hint(format!(in self.alloc; "'{shown}' isn't declared"), near),
         }
-    }
-
-    /// What is said of a name that isn't declared, and may be meant for another.
-    fn undeclared_near(&self, shown: &str, near: Option<&str>) -> Result<String, AllocError> {
-        let hint = hint(self.alloc, near)?;
-        format!(in self.alloc; "'{shown}' isn't declared{hint}")
-    }
-
-    /// What is said of a name in a call that isn't declared.
-    fn undeclared_in(&self, shown: &str, kernel: &Kernel) -> Result<String, AllocError> {
-        let shape = self.shape(kernel)?;
-        format!(in self.alloc;
-            "'{shown}' isn't declared: data pointers are left out, as in {shape}"
-        )
     }
 
     /// The fault that a name means something else than what is expected.

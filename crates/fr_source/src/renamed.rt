@@ -1,6 +1,6 @@
 // The names of an application's variables. A name in two places of the source becomes one of its actor's own.
 
-use crate::kernel::{is_reserved, kernel_named, value_of};
+use crate::kernel::{is_reserved, kernel_named};
 use crate::program::{Owner, Program, Variable};
 use std::alloc::{AllocError, Global};
 
@@ -10,32 +10,46 @@ const LONGEST_NAME: usize = 32;
 /// The most numbers that are tried after a name. Fewer names are taken.
 const MOST_TRIES: usize = 1000;
 
-/// How many variables, objects and actors of the application have a name.
-fn count_of(program: &Program<'_>, name: &str) -> usize {
-    let variables = program
-        .written
-        .iter()
-        .filter(|place| name_at(program, **place) == name)
-        .count();
-    let objects = program
-        .objects
-        .iter()
-        .filter(|object| object.name == name)
-        .count();
-    let actors = program
-        .actors
-        .iter()
-        .filter(|actor| actor.name == name)
-        .count();
-    variables.saturating_add(objects).saturating_add(actors)
+/// How many variables of the application have a name.
+fn count_of_variables(program: &Program<'_>, name: &str) -> usize {
+    let mut count = 0usize;
+    for place in &program.written {
+        if let Some(variable) = program.variable(*place) {
+            if variable.name == name {
+                count = count.saturating_add(1);
+            }
+        }
+    }
+    count
 }
 
-/// The name of a variable in the source.
-fn name_at<'a>(program: &Program<'a>, place: usize) -> &'a str {
-    match program.variable(place) {
-        Some(variable) => variable.name,
-        None => "",
+/// How many objects of the application have a name.
+fn count_of_objects(program: &Program<'_>, name: &str) -> usize {
+    let mut count = 0usize;
+    for object in &program.objects {
+        if object.name == name {
+            count = count.saturating_add(1);
+        }
     }
+    count
+}
+
+/// How many actors of the application have a name.
+fn count_of_actors(program: &Program<'_>, name: &str) -> usize {
+    let mut count = 0usize;
+    for actor in &program.actors {
+        if actor.name == name {
+            count = count.saturating_add(1);
+        }
+    }
+    count
+}
+
+/// How many variables, objects and actors of the application have a name.
+fn count_of(program: &Program<'_>, name: &str) -> usize {
+    count_of_variables(program, name)
+        .saturating_add(count_of_objects(program, name))
+        .saturating_add(count_of_actors(program, name))
 }
 
 /// How many variables of an actor have a name.
@@ -60,7 +74,7 @@ fn joined(
     variable: Variable<'_>,
     number: usize,
 ) -> Result<String, AllocError> {
-    let actor = program.actors.get(number).map_or("", |actor| actor.name);
+    let actor = program.actor_name(number);
     let name = variable.name;
     match variable.function {
         Some(function) if count_of_actor(program, number, name) > 1 => {
@@ -70,14 +84,23 @@ fn joined(
     }
 }
 
+/// Whether one of some names is this text.
+fn is_name_among(names: &[String], text: &str) -> bool {
+    for name in names {
+        if name.as_str() == text {
+            return true;
+        }
+    }
+    false
+}
+
 /// Whether a text can be a variable's name: it is short, no word of the notation or of the kernel, and no other name.
 fn is_free(program: &Program<'_>, names: &[String], text: &str) -> bool {
     text.len() <= LONGEST_NAME
         && !is_reserved(text)
-        && value_of(text).is_none()
         && kernel_named(text).is_none()
         && count_of(program, text) == 0
-        && !names.iter().any(|name| name.as_str() == text)
+        && !is_name_among(names, text)
 }
 
 /// A name for an actor's own variable that no other has.

@@ -51,8 +51,10 @@ impl<'a> Reader<'a> {
             return self.assigned(variable, token.spot, term);
         }
         let Some(sign) = joining(operator.text) else {
-            let what = String::from_str(self.alloc, "'=', '+=', '-=', '*=', '++' or '--'");
-            return Err(self.cursor.expected(what));
+            return Err(
+                self.cursor
+                    .expected_text("'=', '+=', '-=', '*=', '++' or '--'"),
+            );
         };
         self.cursor.advance();
         let by = if operator.text == "++" || operator.text == "--" {
@@ -259,16 +261,11 @@ impl<'a> Reader<'a> {
         left: Operand,
         more: Option<(Arithmetic, Operand)>,
     ) -> Result<Simple, Fault> {
+        let first = self.program.shared_in(left);
         let second = match more {
-            Some((_, Operand::Variable(place))) => Some(place),
-            _ => None,
+            Some((_, right)) => self.program.shared_in(right),
+            None => None,
         };
-        let first = match left {
-            Operand::Variable(place) => Some(place),
-            Operand::Number(_) => None,
-        };
-        let first = first.filter(|place| self.program.is_shared(*place));
-        let second = second.filter(|place| self.program.is_shared(*place));
         if let (true, Some(read)) = (self.program.is_shared(variable), first.or(second)) {
             return Err(self.two_steps(variable, read, spot));
         }

@@ -37,15 +37,14 @@ impl<'a> Source<'a> {
 
     /// What the line with this number, from 1, has of some bytes: its beginning, where it is long.
     fn line_of<'b>(&self, bytes: &'b [u8], number: usize) -> &'b [u8] {
-        let start = self
-            .starts
-            .get(number.saturating_sub(1))
-            .copied()
-            .unwrap_or(0);
-        let end = self
-            .starts
-            .get(number)
-            .map_or(bytes.len(), |next| next.saturating_sub(1));
+        let start = match self.starts.get(number.saturating_sub(1)) {
+            Some(start) => *start,
+            None => 0,
+        };
+        let end = match self.starts.get(number) {
+            Some(next) => next.saturating_sub(1),
+            None => bytes.len(),
+        };
         bytes
             .get(start..end.min(start.saturating_add(LONGEST_LINE)))
             .unwrap_or(&[])

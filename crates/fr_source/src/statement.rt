@@ -2,7 +2,7 @@
 
 use crate::cursor::clipped;
 use crate::fault::{Fault, Spot, wrong};
-use crate::kernel::{is_reserved, value_of};
+use crate::kernel::{is_among, is_reserved};
 use crate::open::{Margin, Open, Step};
 use crate::program::MOST_ITEMS;
 use crate::reader::{Home, NamedLabel, Reader};
@@ -29,7 +29,7 @@ impl<'a> Reader<'a> {
                 return Err(self.too_large(spot));
             }
         }
-        Err(self.cursor.expected(String::from_str(self.alloc, "'}'")))
+        Err(self.cursor.expected_text("'}'"))
     }
 
     /// The fault that a body is too large.
@@ -48,15 +48,12 @@ impl<'a> Reader<'a> {
     fn statement(&mut self) -> Result<bool, Fault> {
         let Token { kind, text, .. } = self.cursor.token();
         if matches!(kind, Kind::End) {
-            return Err(self.cursor.expected(String::from_str(self.alloc, "'}'")));
+            return Err(self.cursor.expected_text("'}'"));
         }
         if let Some(Open::Switch { first_case, .. }) = self.open.last() {
             let has_case = self.cases.len() > *first_case;
-            if !has_case && !["case", "default", "}"].iter().any(|word| *word == text) {
-                return Err(
-                    self.cursor
-                        .expected(String::from_str(self.alloc, "'case' or 'default'")),
-                );
+            if !has_case && !is_among(text, &["case", "default", "}"]) {
+                return Err(self.cursor.expected_text("'case' or 'default'"));
             }
         }
         match text {
@@ -325,8 +322,10 @@ impl<'a> Reader<'a> {
         let (top, again, end) = labels;
         self.check_margin(margin)?;
         if !self.cursor.accepts("while") {
-            let what = String::from_str(self.alloc, "'while' and the condition of the 'do' loop");
-            return Err(self.cursor.expected(what));
+            return Err(
+                self.cursor
+                    .expected_text("'while' and the condition of the 'do' loop"),
+            );
         }
         self.begin_statement();
         let spot = self.cursor.spot();
@@ -343,8 +342,8 @@ impl<'a> Reader<'a> {
     fn jump_or_simple(&mut self) -> Result<(), Fault> {
         let Token { text, spot, .. } = self.cursor.token();
         match text {
-            "break" => self.break_here(spot)?,
-            "continue" => self.continue_here(spot)?,
+            "break" => self.leave_loop(true, spot)?,
+            "continue" => self.leave_loop(false, spot)?,
             "return" => self.return_here(spot)?,
             "goto" => self.goto_here(spot)?,
             "var" | "static" => {
@@ -362,30 +361,28 @@ impl<'a> Reader<'a> {
         self.cursor.take(";", " after the statement")
     }
 
-    /// Takes a `break`.
-    fn break_here(&mut self, spot: Spot) -> Result<(), Fault> {
-        let target = self.open.iter().rev().find_map(|open| match open {
-            Open::Loop { end, .. } | Open::Do { end, .. } | Open::Switch { end, .. } => Some(*end),
-            _ => None,
-        });
-        let Some(label) = target else {
-            return Err(
-                self.cursor
-                    .refused(spot, "'break' outside a loop and a switch"),
-            );
-        };
-        self.cursor.advance();
-        self.lines.goto(label, spot)
+    /// The label that a `break` goes to, or else a `continue`.
+    fn label_outside(&self, is_break: bool) -> Option<usize> {
+        for open in self.open.iter().rev() {
+            match open {
+                Open::Loop { end, .. } | Open::Do { end, .. } | Open::Switch { end, .. }
+                    if is_break => return Some(*end),
+                Open::Loop { again, .. } | Open::Do { again, .. } => return Some(*again),
+                _ => {}
+            }
+        }
+        None
     }
 
-    /// Takes a `continue`.
-    fn continue_here(&mut self, spot: Spot) -> Result<(), Fault> {
-        let target = self.open.iter().rev().find_map(|open| match open {
-            Open::Loop { again, .. } | Open::Do { again, .. } => Some(*again),
-            _ => None,
-        });
-        let Some(label) = target else {
-            return Err(self.cursor.refused(spot, "'continue' outside a loop"));
+    /// Takes a `break`, or else a `continue`.
+    fn leave_loop(&mut self, is_break: bool, spot: Spot) -> Result<(), Fault> {
+        let Some(label) = self.label_outside(is_break) else {
+            let text = if is_break {
+                "'break' outside a loop and a switch"
+            } else {
+                "'continue' outside a loop"
+            };
+            return Err(self.cursor.refused(spot, text));
         };
         self.cursor.advance();
         self.lines.goto(label, spot)
@@ -408,71 +405,70 @@ impl<'a> Reader<'a> {
     /// Takes a `goto` and its label.
     fn goto_here(&mut self, spot: Spot) -> Result<(), Fault> {
         self.cursor.advance();
-        let Token {
-            text,
-            spot: name_spot,
-            ..
-        } = self.cursor.word("a label")?;
-        let label = match self.labels.iter().find(|one| one.text == text) {
-            Some(one) => one.label,
-            None => {
-                let label = self.lines.label();
-                self.labels.push(NamedLabel {
-                    text,
-                    label,
-                    spot: name_spot,
-                    is_placed: false,
-                })?;
-                label
-            }
-        };
+        let name = self.cursor.word("a label")?;
+        let label = self.label_named(name, false)?;
         self.lines.goto(label, spot)
     }
 
     /// Takes a label that the source names.
     fn named_label(&mut self) -> Result<(), Fault> {
-        let Token { text, spot, .. } = self.cursor.token();
+        let name = self.cursor.token();
         self.cursor.advance();
         self.cursor.advance();
-        let shown = clipped(text);
-        if is_reserved(text) || value_of(text).is_some() {
+        if is_reserved(name.text) {
+            let shown = clipped(name.text);
             let text = format!(in self.alloc;
                 "'{shown}' is a word of this notation: choose another label"
             );
-            return Err(wrong(spot, text));
+            return Err(wrong(name.spot, text));
         }
-        let place = self.labels.iter().position(|one| one.text == text);
-        if let Some(one) = place.and_then(|place| self.labels.get_mut(place)) {
-            if one.is_placed {
-                return Err(wrong(
-                    spot,
-                    format!(in self.alloc; "the label '{shown}' is there already"),
-                ));
+        let label = self.label_named(name, true)?;
+        self.lines.place(label)
+    }
+
+    /// The place of the label with this name among those that are named.
+    fn place_of_label(&self, name: &str) -> Option<usize> {
+        for (place, one) in self.labels.iter().enumerate() {
+            if one.text == name {
+                return Some(place);
             }
-            one.is_placed = true;
-            let label = one.label;
-            return self.lines.place(label);
+        }
+        None
+    }
+
+    /// The label with this name, which is placed here or only named.
+    fn label_named(&mut self, name: Token<'a>, is_placed: bool) -> Result<usize, Fault> {
+        let Token { text, spot, .. } = name;
+        let place = self.place_of_label(text).unwrap_or(self.labels.len());
+        if let Some(one) = self.labels.get_mut(place) {
+            if one.is_placed && is_placed {
+                let shown = clipped(text);
+                let text = format!(in self.alloc; "the label '{shown}' is there already");
+                return Err(wrong(spot, text));
+            }
+            one.is_placed = one.is_placed || is_placed;
+            return Ok(one.label);
         }
         let label = self.lines.label();
         self.labels.push(NamedLabel {
             text,
             label,
             spot,
-            is_placed: true,
+            is_placed,
         })?;
-        self.lines.place(label)
+        Ok(label)
     }
 
     /// Refuses a `goto` whose label isn't there.
     pub(crate) fn check_labels(&self) -> Result<(), Fault> {
-        let Some(missing) = self.labels.iter().find(|one| !one.is_placed) else {
-            return Ok(());
-        };
-        let name = clipped(missing.text);
-        let kind = self.home.text();
-        Err(wrong(
-            missing.spot,
-            format!(in self.alloc; "no label '{name}' in this {kind}"),
-        ))
+        for one in &self.labels {
+            if !one.is_placed {
+                let name = clipped(one.text);
+                let kind = self.home.text();
+                let text = format!(in self.alloc; "no label '{name}' in this {kind}");
+                return Err(wrong(one.spot, text));
+            }
+        }
+        Ok(())
     }
 }

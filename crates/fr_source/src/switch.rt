@@ -97,10 +97,7 @@ impl<'a> Reader<'a> {
     pub(crate) fn case(&mut self) -> Result<bool, Fault> {
         let Token { text, spot, .. } = self.cursor.token();
         let Some(Open::Switch { first_case, .. }) = self.open.last().copied() else {
-            return Err(
-                self.cursor
-                    .expected(String::from_str(self.alloc, "a statement")),
-            );
+            return Err(self.cursor.expected_text("a statement"));
         };
         self.cursor.advance();
         let value = if text == "case" {
@@ -123,19 +120,16 @@ impl<'a> Reader<'a> {
         value: Option<i64>,
         spot: Spot,
     ) -> Result<(), Fault> {
-        let is_there = self
-            .cases
-            .iter()
-            .skip(first_case)
-            .any(|case| case.value == value);
-        match value {
-            _ if !is_there => Ok(()),
-            Some(number) => Err(wrong(
-                spot,
-                format!(in self.alloc; "this case {number} is there already"),
-            )),
-            None => Err(self.cursor.refused(spot, "this default is there already")),
+        for case in self.cases.iter().skip(first_case) {
+            if case.value == value {
+                let text = match value {
+                    Some(number) => format!(in self.alloc; "this case {number} is there already"),
+                    None => String::from_str(self.alloc, "this default is there already"),
+                };
+                return Err(wrong(spot, text));
+            }
         }
+        Ok(())
     }
 
     /// Writes the tests of a switch before its bodies, and its end.

@@ -1,9 +1,9 @@
 // The text of an application: its variables, its objects, and the code of its actors with a comment after each line.
 
-use crate::expand::{Code, Line, Place};
+use crate::expand::{Code, Line, Place, caller};
 use crate::fault::{Fault, Spot, wrong};
 use crate::program::{
-    Action, Actor, Argument, Call, Object, Operand, Owner, Program, Range, Variable,
+    Action, Actor, Argument, Arithmetic, Call, Object, Operand, Owner, Program, Range, Variable,
 };
 use crate::source::Source;
 use std::alloc::{AllocError, Global};
@@ -20,6 +20,13 @@ pub(crate) struct Writer {
     alloc: Global,
     text: String,
     names: Vec<String>,
+}
+
+/// The lines of an actor as text, and the length of the longest.
+#[derive(Drop)]
+struct Said {
+    lines: Vec<String>,
+    width: usize,
 }
 
 impl Writer {
@@ -71,7 +78,7 @@ impl Writer {
         )?;
         self.text.push_str(entry.as_str())?;
         if let Owner::Actor(number) = owner {
-            let actor = program.actors.get(number).map_or("", |actor| actor.name);
+            let actor = program.actor_name(number);
             let entry = format!(in self.alloc; "owner = \"{actor}\"\n")?;
             self.text.push_str(entry.as_str())?;
         }
@@ -98,10 +105,16 @@ impl Writer {
         let kind = kind.text();
         let head = format!(in self.alloc; "\n[[object]]\nname = \"{name}\"\nkind = \"{kind}\"\n")?;
         self.text.push_str(head.as_str())?;
-        self.number_entry("size", size)?;
-        self.number_entry("lo", items.map(|range| range.low))?;
-        self.number_entry("hi", items.map(|range| range.high))?;
-        self.number_entry("first", first)?;
+        if let Some(size) = size {
+            self.number_entry("size", size)?;
+        }
+        if let Some(Range { low, high }) = items {
+            self.number_entry("lo", low)?;
+            self.number_entry("hi", high)?;
+        }
+        if let Some(first) = first {
+            self.number_entry("first", first)?;
+        }
         self.text.push_str(if is_live {
             "live = true\n"
         } else {
@@ -109,10 +122,7 @@ impl Writer {
         })
     }
 
-    fn number_entry(&mut self, key: &str, number: Option<i64>) -> Result<(), AllocError> {
-        let Some(number) = number else {
-            return Ok(());
-        };
+    fn number_entry(&mut self, key: &str, number: i64) -> Result<(), AllocError> {
         let entry = format!(in self.alloc; "{key} = {number}\n")?;
         self.text.push_str(entry.as_str())
     }
@@ -126,39 +136,49 @@ impl Writer {
         code: &Code,
     ) -> Result<(), Fault> {
         let said = self.lines_said(program, code)?;
-        let width = said.iter().fold(0, |width, text| width.max(text.len()));
         let name = actor.name;
         let kind = actor.kind.text();
         let head = format!(in self.alloc;
             "\n[[actor]]\nname = \"{name}\"\nkind = \"{kind}\"\ncode = [\n"
         )?;
         self.text.push_str(head.as_str())?;
-        let mut last = None;
-        for (number, line) in code.lines.iter().enumerate() {
-            let text = said.get(number).map_or("", |text| text.as_str());
-            let row = format!(in self.alloc; "  {text:width$}  # {number:<2} ")?;
-            self.text.push_str(row.as_str())?;
-            self.comment(source, code, line.place, last)?;
-            last = Some(line.place);
-            if self.text.len() > MOST_BYTES {
-                return Err(wrong(
-                    actor.end,
-                    String::from_str(self.alloc, "the translation has more than 1 MiB"),
-                ));
-            }
+        self.rows(source, code, &said)?;
+        if self.text.len() > MOST_BYTES {
+            let text = String::from_str(self.alloc, "the translation has more than 1 MiB");
+            return Err(wrong(actor.end, text));
         }
         self.text.push_str("]\n")?;
         Ok(())
     }
 
+    /// Writes the lines of an actor, each with its comment.
+    fn rows(&mut self, source: &Source<'_>, code: &Code, said: &Said) -> Result<(), AllocError> {
+        let width = said.width;
+        let mut last = None;
+        for (number, line) in code.lines.iter().enumerate() {
+            let text = match said.lines.get(number) {
+                Some(text) => text.as_str(),
+                None => "",
+            };
+            let row = format!(in self.alloc; "  {text:width$}  # {number:<2} ")?;
+            self.text.push_str(row.as_str())?;
+            self.comment(source, code, line.place, last)?;
+            last = Some(line.place);
+        }
+        Ok(())
+    }
+
     /// The lines of code, each as it is quoted in the application.
-    fn lines_said(&self, program: &Program<'_>, code: &Code) -> Result<Vec<String>, AllocError> {
-        let mut said = Vec::new(self.alloc);
+    fn lines_said(&self, program: &Program<'_>, code: &Code) -> Result<Said, AllocError> {
+        let mut lines = Vec::new(self.alloc);
+        let mut width = 0usize;
         for line in &code.lines {
             let text = self.line_said(program, *line)?;
-            said.push(format!(in self.alloc; "\"{text}\",")?)?;
+            let quoted = format!(in self.alloc; "\"{text}\",")?;
+            width = width.max(quoted.len());
+            lines.push(quoted)?;
         }
-        Ok(said)
+        Ok(Said { lines, width })
     }
 
     /// A line of code.
@@ -169,18 +189,7 @@ impl Writer {
                 variable,
                 left,
                 more,
-            } => {
-                let name = self.name(variable);
-                let first = self.operand_said(left)?;
-                match more {
-                    Some((sign, right)) => {
-                        let sign = sign.text();
-                        let second = self.operand_said(right)?;
-                        format!(in self.alloc; "set {name} = {first} {sign} {second}")
-                    }
-                    None => format!(in self.alloc; "set {name} = {first}"),
-                }
-            }
+            } => self.set_said(variable, left, more),
             Action::Pick { variable, range } => {
                 let name = self.name(variable);
                 let Range { low, high } = range;
@@ -192,14 +201,34 @@ impl Writer {
                 comparison,
                 right,
             } => {
-                let first = self.operand_said(left)?;
-                let sign = comparison.text();
-                let second = self.operand_said(right)?;
-                format!(in self.alloc; "if {first} {sign} {second} goto {target}")
+                let condition = self.joined_said(left, comparison.text(), right)?;
+                format!(in self.alloc; "if {condition} goto {target}")
             }
             Action::Goto => format!(in self.alloc; "goto {target}"),
             Action::Return | Action::End => String::from_str(self.alloc, "return"),
         }
+    }
+
+    /// A line that sets a variable.
+    fn set_said(
+        &self,
+        variable: usize,
+        left: Operand,
+        more: Option<(Arithmetic, Operand)>,
+    ) -> Result<String, AllocError> {
+        let name = self.name(variable);
+        let value = match more {
+            Some((sign, right)) => self.joined_said(left, sign.text(), right)?,
+            None => self.operand_said(left)?,
+        };
+        format!(in self.alloc; "set {name} = {value}")
+    }
+
+    /// Two operands with a sign between them.
+    fn joined_said(&self, left: Operand, sign: &str, right: Operand) -> Result<String, AllocError> {
+        let first = self.operand_said(left)?;
+        let second = self.operand_said(right)?;
+        format!(in self.alloc; "{first} {sign} {second}")
     }
 
     fn operand_said(&self, operand: Operand) -> Result<String, AllocError> {
@@ -277,8 +306,9 @@ impl Writer {
         let number = format!(in self.alloc; ":{line}")?;
         self.text.push_str(number.as_str())?;
         self.callers(code, place)?;
-        if last.is_some_and(|last| are_of_one_place(code, last, place)) {
-            return self.text.push_str("\n");
+        match last {
+            Some(last) if are_of_one_place(code, last, place) => return self.text.push_str("\n"),
+            _ => {}
         }
         self.text.push_str(": ")?;
         let shown = source.excerpt(self.alloc, line)?;
@@ -294,15 +324,15 @@ impl Writer {
 
     /// Writes the lines that call the function that a line is of, the innermost first.
     fn callers(&mut self, code: &Code, place: Place) -> Result<(), AllocError> {
-        let mut outer = place.call;
+        let mut place = place;
         for _ in 0..code.calls.len() {
-            let Some(call) = outer.and_then(|call| code.calls.get(call)) else {
+            let Some(outer) = caller(&code.calls, place) else {
                 break;
             };
-            let line = call.spot.line;
+            let line = outer.spot.line;
             let text = format!(in self.alloc; " from {line}")?;
             self.text.push_str(text.as_str())?;
-            outer = call.call;
+            place = outer;
         }
         Ok(())
     }
@@ -316,12 +346,10 @@ fn are_of_one_place(code: &Code, one: Place, other: Place) -> bool {
         if one.spot.line != other.spot.line {
             return false;
         }
-        let first = one.call.and_then(|call| code.calls.get(call));
-        let second = other.call.and_then(|call| code.calls.get(call));
-        match (first, second) {
+        match (caller(&code.calls, one), caller(&code.calls, other)) {
             (Some(first), Some(second)) => {
-                one = *first;
-                other = *second;
+                one = first;
+                other = second;
             }
             (None, None) => return true,
             _ => return false,

@@ -2,7 +2,7 @@
 // seen by no other actor. No call and no access to a shared variable goes, comes, or changes its place.
 
 use crate::expand::Line;
-use crate::program::{Action, Operand, Program};
+use crate::program::{Action, Program};
 use std::alloc::{AllocError, Global};
 
 /// The line that a way through this one comes to: the end of a goto, or the line itself.
@@ -38,9 +38,13 @@ fn shorten_jumps(lines: &mut [Line]) -> bool {
             continue;
         };
         let target = end_of_jumps(lines, first);
-        let is_return = lines
-            .get(target)
-            .is_some_and(|line| matches!(line.action, Action::Return));
+        let is_return = matches!(
+            lines.get(target),
+            Some(Line {
+                action: Action::Return,
+                ..
+            },),
+        );
         let shorter = if line.is_goto() && is_return {
             Line {
                 action: Action::Return,
@@ -93,11 +97,10 @@ fn take_out(lines: &mut Vec<Line>, number: usize) {
     }
     let _ = lines.remove(number);
     for line in lines.iter_mut() {
-        line.to = line.to.map(|target| if target > number {
-            target.saturating_sub(1)
-        } else {
-            target
-        });
+        match line.to {
+            Some(target) if target > number => line.to = Some(target.saturating_sub(1)),
+            _ => {}
+        }
     }
 }
 
@@ -126,17 +129,14 @@ enum Change {
     Turn(usize),
 }
 
-/// Whether an operand is a shared variable.
-fn is_shared(program: &Program<'_>, operand: Operand) -> bool {
-    match operand {
-        Operand::Variable(variable) => program.is_shared(variable),
-        Operand::Number(_) => false,
-    }
-}
-
 /// Whether a jump comes to the line with this number.
 fn is_aimed(lines: &[Line], number: usize) -> bool {
-    lines.iter().any(|line| line.to == Some(number))
+    for line in lines {
+        if line.to == Some(number) {
+            return true;
+        }
+    }
+    false
 }
 
 /// What can be done at the line with this number.
@@ -155,8 +155,10 @@ fn change_at(program: &Program<'_>, lines: &[Line], number: usize) -> Change {
             let can_turn = after.is_goto() && target == next.saturating_add(1);
             match after.to {
                 Some(other) if can_turn && !is_aimed(lines, next) => Change::Turn(other),
-                _ if leads_on && !is_shared(program, left) && !is_shared(program, right) =>
-                    Change::TakeOut,
+                _
+                    if leads_on
+                        && program.shared_in(left).is_none()
+                        && program.shared_in(right).is_none() => Change::TakeOut,
                 _ => Change::Keep,
             }
         }

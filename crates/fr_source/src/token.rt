@@ -83,47 +83,74 @@ impl Position {
     }
 }
 
-fn is_space(byte: u8) -> bool {
-    matches!(byte, b' ' | b'\t' | b'\r' | b'\n')
+/// The bytes of a piece of the source.
+#[derive(Clone, Copy)]
+enum Class {
+    Space,
+    Line,
+    Word,
+    Digit,
+    Hexadecimal,
 }
 
-fn is_of_word(byte: u8) -> bool {
-    byte.is_ascii_alphanumeric() || byte == b'_'
-}
+impl Class {
+    fn has(self, byte: u8) -> bool {
+        match self {
+            Class::Space => matches!(byte, b' ' | b'\t' | b'\r' | b'\n'),
+            Class::Line => byte != b'\n',
+            Class::Word => byte.is_ascii_alphanumeric() || byte == b'_',
+            Class::Digit => byte.is_ascii_digit(),
+            Class::Hexadecimal => byte.is_ascii_hexdigit(),
+        }
+    }
 
-/// The number of bytes before the first line break, or of all.
-fn line_length(text: &[u8]) -> usize {
-    text.iter().take_while(|byte| **byte != b'\n').count()
+    /// The number of bytes of this class that the text begins with.
+    fn length(self, text: &[u8]) -> usize {
+        let mut length = 0usize;
+        for byte in text {
+            if !self.has(*byte) {
+                break;
+            }
+            length = length.saturating_add(1);
+        }
+        length
+    }
 }
 
 /// The length of the comment that the text begins with, if it ends.
 fn comment_length(text: &[u8]) -> Option<usize> {
-    let end = text
-        .get(2..)?
-        .windows(2)
-        .position(|pair| pair == b"*/".as_slice())?;
-    Some(end.saturating_add(4))
+    for (place, pair) in text.get(2..)?.windows(2).enumerate() {
+        if pair == b"*/".as_slice() {
+            return Some(place.saturating_add(4));
+        }
+    }
+    None
 }
 
 /// The length of the number that the text begins with.
 fn number_length(text: &[u8]) -> usize {
     let hexadecimal = text.starts_with(b"0x") || text.starts_with(b"0X");
-    let digits = text
-        .iter()
-        .skip(2)
-        .take_while(|byte| byte.is_ascii_hexdigit())
-        .count();
-    if hexadecimal && digits > 0 {
-        digits.saturating_add(2)
-    } else {
-        text.iter().take_while(|byte| byte.is_ascii_digit()).count()
+    match text.get(2..) {
+        Some(digits) if hexadecimal && Class::Hexadecimal.length(digits) > 0 => {
+            Class::Hexadecimal.length(digits).saturating_add(2)
+        }
+        _ => Class::Digit.length(text),
     }
+}
+
+/// Whether the text begins with a sign of two characters.
+fn is_pair(text: &[u8]) -> bool {
+    for pair in &PAIRS {
+        if text.starts_with(pair) {
+            return true;
+        }
+    }
+    false
 }
 
 /// The length of the sign that the text begins with: 0 if it begins with none.
 fn sign_length(text: &[u8], first: u8) -> usize {
-    let is_pair = PAIRS.iter().any(|pair| text.starts_with(pair));
-    if is_pair {
+    if is_pair(text) {
         2
     } else if b"-+*/%=!<>(){}[];:,".contains(&first) {
         1
@@ -134,13 +161,10 @@ fn sign_length(text: &[u8], first: u8) -> usize {
 
 /// What the text begins with, and its length.
 fn piece_of(text: &[u8], first: u8) -> (Piece, usize) {
-    if is_space(first) {
-        (
-            Piece::Space,
-            text.iter().take_while(|byte| is_space(**byte)).count(),
-        )
+    if Class::Space.has(first) {
+        (Piece::Space, Class::Space.length(text))
     } else if text.starts_with(b"//") {
-        (Piece::Comment, line_length(text))
+        (Piece::Comment, Class::Line.length(text))
     } else if text.starts_with(b"/*") {
         match comment_length(text) {
             Some(length) => (Piece::Comment, length),
@@ -148,11 +172,8 @@ fn piece_of(text: &[u8], first: u8) -> (Piece, usize) {
         }
     } else if first.is_ascii_digit() {
         (Piece::Token(Kind::Number), number_length(text))
-    } else if is_of_word(first) {
-        (
-            Piece::Token(Kind::Word),
-            text.iter().take_while(|byte| is_of_word(**byte)).count(),
-        )
+    } else if Class::Word.has(first) {
+        (Piece::Token(Kind::Word), Class::Word.length(text))
     } else {
         match sign_length(text, first) {
             0 => (Piece::Unknown, 1),
@@ -188,13 +209,13 @@ fn unknown_sign(alloc: Global, spot: Spot, byte: u8) -> Fault {
 
 /// Refuses numbers that C reads otherwise, and ones with a suffix.
 fn check_number(alloc: Global, spot: Spot, text: &[u8], rest: &[u8]) -> Result<(), Fault> {
-    if rest.iter().take(1).any(|byte| is_of_word(*byte)) {
+    if Class::Word.length(rest) > 0 {
         return Err(wrong(
             spot,
             String::from_str(alloc, "this number has a suffix: write it without"),
         ));
     }
-    if text.len() > 1 && text.starts_with(b"0") && text.iter().all(|byte| byte.is_ascii_digit()) {
+    if text.len() > 1 && text.starts_with(b"0") && Class::Digit.length(text) == text.len() {
         return Err(wrong(
             spot,
             String::from_str(

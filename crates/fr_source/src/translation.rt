@@ -2,7 +2,7 @@
 ghost use Rattle.std.specs.Prelude.{◌≤◌, length, IfOk, string_bytes};
 
 use crate::declare::program_in;
-use crate::expand::{Code, Line, code_of, outermost};
+use crate::expand::{Code, Line, Place, code_of, outermost};
 use crate::fault::{Fault, Spot, wrong};
 use crate::message::{Message, Refused, message_at, refused_by};
 use crate::program::{Action, Actor, ActorKind, Program};
@@ -52,14 +52,20 @@ fn check_calls(alloc: Global, actor: Actor<'_>, code: &Code) -> Result<(), Fault
     Ok(())
 }
 
+/// Whether one of the lines is the end of a task.
+fn can_end(lines: &[Line]) -> bool {
+    for line in lines {
+        if matches!(line.action, Action::End) {
+            return true;
+        }
+    }
+    false
+}
+
 /// Refuses a task that can come to its end, and an actor with too many lines.
 fn check_code(alloc: Global, actor: Actor<'_>, code: &Code) -> Result<(), Fault> {
     let name = actor.name;
-    if code
-        .lines
-        .iter()
-        .any(|line| matches!(line.action, Action::End))
-    {
+    if can_end(&code.lines) {
         let text = format!(in alloc;
             "task '{name}' can come to its end here, and a task doesn't return (rule 11): write vTaskDelete(NULL) or an \
              endless loop"
@@ -77,21 +83,27 @@ fn check_code(alloc: Global, actor: Actor<'_>, code: &Code) -> Result<(), Fault>
     Ok(())
 }
 
+/// Whether a way leads to a line of this place.
+fn is_reached(lines: &[Line], seen: &[bool], place: Place) -> bool {
+    for (line, is_seen) in lines.iter().zip(seen) {
+        if *is_seen && line.place.is(place) {
+            return true;
+        }
+    }
+    false
+}
+
 /// The places of lines that no way leads to, once for lines that follow each other.
 fn unreached(alloc: Global, lines: &[Line]) -> Result<Vec<Spot>, AllocError> {
     let seen = reached(alloc, lines)?;
     let mut spots = Vec::new(alloc);
     let mut was_dropped = false;
     for (number, line) in lines.iter().enumerate() {
-        let is_reached = seen.get(number) == Some(&true);
         if line.is_goto() || number.saturating_add(1) == lines.len() {
-            was_dropped = was_dropped && !is_reached;
+            was_dropped = was_dropped && seen.get(number) != Some(&true);
             continue;
         }
-        let is_kept = lines
-            .iter()
-            .zip(&seen)
-            .any(|(other, is_seen)| *is_seen && other.place.is(line.place));
+        let is_kept = is_reached(lines, &seen, line.place);
         if !is_kept && !was_dropped {
             spots.push(line.place.spot)?;
         }
