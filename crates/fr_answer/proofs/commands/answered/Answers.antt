@@ -26,3 +26,6 @@ returns-in-Refute-clause-safe g c =
     let asked = c.in-Refute.asked in
     rw c.in-Refute.is (safe-by (λ s. IsShown (IsSearchAt reads asked.deadlock asked.app.now) asked.format s _ _) (IsSafeAt reads asked.deadlock asked.app.now) c.refute.result c.refute.ensures.answered
     (λ s e h. search-shown-safe reads asked.deadlock asked.app.now asked.format s _ _ e h))
+
+pub returns-in-Points-clause-answered : goal.returns-in-Points-clause-answered
+returns-in-Points-clause-answered g c = rw c.in-Points.is c.points.ensures.answered
