@@ -129,7 +129,7 @@ impl<'a> Reader<'a> {
                 let length = self.number(place.text(), LENGTHS)?;
                 Ok(Argument::Operand(Operand::Number(length)))
             }
-            Place::Time if self.cursor.accepts("portMAX_DELAY") => Ok(Argument::Forever),
+            Place::Time if self.accepts_forever() => Ok(Argument::Forever),
             Place::Time | Place::Ticks => {
                 let ticks = self.number(place.text(), TICKS)?;
                 Ok(Argument::Operand(Operand::Number(ticks)))
@@ -137,6 +137,17 @@ impl<'a> Reader<'a> {
             Place::Null if self.cursor.accepts("NULL") => Ok(Argument::Null),
             Place::Null => Err(self.cursor.expected(self.expected_in("'NULL'", kernel))),
         }
+    }
+
+    /// Takes `portMAX_DELAY`, or a parameter with this value, if it is there.
+    fn accepts_forever(&mut self) -> bool {
+        let text = self.cursor.token().text;
+        let is_there = text == "portMAX_DELAY"
+            || matches!(self.scope.meaning(text), Some(Meaning::Forever));
+        if is_there {
+            self.cursor.advance();
+        }
+        is_there
     }
 
     /// Takes the object of a call.

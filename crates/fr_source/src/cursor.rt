@@ -31,6 +31,16 @@ impl<'a> Cursor<'a> {
         }
     }
 
+    /// The place of the next token among all tokens.
+    pub(crate) fn place(&self) -> usize {
+        self.next
+    }
+
+    /// Goes to the token with this place.
+    pub(crate) fn go_to(&mut self, place: usize) {
+        self.next = place;
+    }
+
     /// The number of tokens that are left.
     pub(crate) fn left(&self) -> usize {
         self.tokens.len().saturating_sub(self.next)

@@ -57,6 +57,7 @@ pub(crate) fn program_in<'a>(
         }
         reader.declaration()?;
     }
+    reader.check_templates()?;
     if reader.program.actors.is_empty() {
         return Err(
             reader
@@ -105,7 +106,13 @@ impl<'a> Reader<'a> {
     }
 
     /// Refuses one more of what there may be at most so many.
-    fn check_count(&self, what: &str, count: usize, most: usize, spot: Spot) -> Result<(), Fault> {
+    pub(crate) fn check_count(
+        &self,
+        what: &str,
+        count: usize,
+        most: usize,
+        spot: Spot,
+    ) -> Result<(), Fault> {
         if count < most {
             return Ok(());
         }
@@ -289,21 +296,41 @@ impl<'a> Reader<'a> {
         self.scope.add_outside(name.text, Meaning::Function(place))
     }
 
-    /// Reads a task or an interrupt.
+    /// Reads a task or an interrupt, with a body of its own or made of a body with parameters. Or notes such a body.
     fn actor(&mut self, kind: ActorKind) -> Result<(), Fault> {
-        let (home, meaning, last, what) = match kind {
-            ActorKind::Task => (Home::Task, Meaning::Task, Action::End, "a task"),
-            ActorKind::Interrupt => (
-                Home::Interrupt,
-                Meaning::Interrupt,
-                Action::Return,
-                "an interrupt",
-            ),
+        let what = match kind {
+            ActorKind::Task => "a task",
+            ActorKind::Interrupt => "an interrupt",
         };
         let name = self.new_name(what)?;
+        if self.cursor.sees("(") && self.cursor.following().text != ")" {
+            return self.template(kind, name);
+        }
+        let count = self.program.actors.len();
+        self.check_count("actors", count, MOST_ACTORS, name.spot)?;
+        if self.cursor.accepts("=") {
+            self.made_actor(kind, name)
+        } else {
+            self.actor_here(kind, name, &[])
+        }
+    }
+
+    /// Reads an actor whose parameters, if it has any, and body are next.
+    pub(crate) fn actor_here(
+        &mut self,
+        kind: ActorKind,
+        name: Token<'a>,
+        values: &[Meaning],
+    ) -> Result<(), Fault> {
+        let (home, meaning, last) = match kind {
+            ActorKind::Task => (Home::Task, Meaning::Task, Action::End),
+            ActorKind::Interrupt => (Home::Interrupt, Meaning::Interrupt, Action::Return),
+        };
         let number = self.program.actors.len();
-        self.check_count("actors", number, MOST_ACTORS, name.spot)?;
         self.scope.add_outside(name.text, meaning)?;
+        if !values.is_empty() {
+            self.give(values)?;
+        }
         let end = self.body(home, name, Owner::Actor(number))?;
         self.lines.place(0)?;
         self.lines.line(last, None, end)?;

@@ -8,6 +8,7 @@ use crate::near::with_hint;
 use crate::open::{Case, Open};
 use crate::program::{Program, Variable};
 use crate::scope::{Meaning, Scope};
+use crate::template::Template;
 use crate::token::Token;
 use std::alloc::{AllocError, Global};
 
@@ -58,6 +59,8 @@ pub(crate) struct Reader<'a> {
     /// The constructs whose end isn't read yet, the innermost last, and the cases of the switches among them.
     pub(crate) open: Vec<Open>,
     pub(crate) cases: Vec<Case>,
+    /// The bodies with parameters.
+    pub(crate) templates: Vec<Template<'a>>,
     pub(crate) home: Home,
     /// The name of the actor or function that is read.
     pub(crate) name: &'a str,
@@ -80,6 +83,7 @@ impl<'a> Reader<'a> {
             labels: Vec::new(alloc),
             open: Vec::new(alloc),
             cases: Vec::new(alloc),
+            templates: Vec::new(alloc),
             home: Home::Function,
             name: "",
             operators: 0,

@@ -5,7 +5,8 @@ use crate::kernel::kernel_near;
 use crate::near::is_near;
 use std::alloc::Global;
 
-/// What a name means. A variable, an object or a function is named by its place among all of them.
+/// What a name means. A variable, an object, a function or a body with parameters is named by its place among all of
+/// them. `Parameter` is one that has no value yet, and `Forever` is one that was given `portMAX_DELAY`.
 #[derive(Clone, Copy)]
 pub(crate) enum Meaning {
     Constant(i64),
@@ -14,6 +15,9 @@ pub(crate) enum Meaning {
     Function(usize),
     Task,
     Interrupt,
+    Template(usize),
+    Parameter,
+    Forever,
 }
 
 impl Meaning {
@@ -26,6 +30,9 @@ impl Meaning {
             Meaning::Function(_) => "a function",
             Meaning::Task => "a task",
             Meaning::Interrupt => "an interrupt",
+            Meaning::Template(_) => "a body with parameters",
+            Meaning::Parameter => "a parameter",
+            Meaning::Forever => "portMAX_DELAY",
         }
     }
 }
