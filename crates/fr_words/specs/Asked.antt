@@ -22,7 +22,7 @@ use Rattle.fr_request.specs.declared.request.RunRequest.{RunRequest}
 use Rattle.fr_request.specs.declared.request.TranslateRequest.{TranslateRequest}
 use Rattle.fr_request.specs.declared.request.Request.{Request}
 use Rattle.fr_request.specs.declared.request.Request.TheVariants.{Check, Find, Prove, Points, Refute, Run, Translate}
-use Rattle.fr_words.specs.Found.{Rows, subcommand, text_at, is_given, number_at, detail_at, format_at}
+use Rattle.fr_words.specs.Found.{Rows, subcommand, text_at, is_given, number_at, detail_at, format_at, proof_detail_at, warns_at}
 
 -- the word has a text after it
 abbrev pub has_text : Rows → Text → Bool
@@ -70,9 +70,9 @@ pub record IsProve (rs : Rows) (asked : ProveRequest) : Type 0 where
   pub app : text_at rs (codes "APP") ≡ Some asked.app.now
   pub out : option_map (λ s. s.now) asked.out ≡ text_at rs (codes "certificate")
   pub workers : number_at 16 rs (codes "workers") ≡ Some asked.workers
-  pub warns : asked.warns ≡ is_given rs (codes "warn")
+  pub warns : asked.warns ≡ warns_at rs
   pub deadlock : asked.deadlock ≡ is_given rs (codes "deadlock")
-  pub detail : asked.detail ≡ detail_at rs
+  pub detail : asked.detail ≡ proof_detail_at rs
   pub searches : asked.searches ≡ not (is_given rs (codes "no-search"))
   pub states : number_at 32 rs (codes "states") ≡ Some asked.states
   pub memory : number_at 32 rs (codes "memory") ≡ Some asked.memory

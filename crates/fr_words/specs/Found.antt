@@ -8,7 +8,8 @@
 -- | is_given                | a word without a text after it is there                                  |
 -- | number_in, number_at    | the number of so many bits that a text, a word's text, writes            |
 -- | detail_at, format_at    | how much is printed; the form of the answer, None for a person's text    |
-use Rattle.std.specs.Prelude.{ℕ, ◌^◌, List, Bool, false, ◌&&◌, Option, Some, None, option_and_then, if◌then◌else◌, length, nat_lt, codes}
+-- | proof_detail_at, warns_at | how much `prove` prints, and whether it warns                          |
+use Rattle.std.specs.Prelude.{ℕ, ◌^◌, List, Bool, false, not, ◌&&◌, ◌||◌, is_some, Option, Some, None, option_and_then, if◌then◌else◌, length, nat_lt, codes}
 use Rattle.std.specs.List.{list_all}
 use Rattle.std.specs.Option.{option_map_or}
 use Rattle.std.specs.Str.{bytes_eq}
@@ -73,3 +74,14 @@ format_named name =
 -- the form of the answer; None where it is a text for a person
 abbrev pub format_at : Rows → Option Format
 format_at rs = option_and_then format_named (text_at rs (codes "format"))
+
+-- how much `prove` explains: the same, but what matters where neither is there, unless `--brief` is
+abbrev pub proof_detail_at : Rows → Option Detail
+proof_detail_at rs =
+    if is_given rs (codes "all") then Some Whole
+    else if is_given rs (codes "explain") then Some Told
+    else if is_given rs (codes "brief") then None else Some Told
+
+-- whether `prove` warns: by `--warn`, and where the answer is a text for a person without `--brief`
+abbrev pub warns_at : Rows → Bool
+warns_at rs = is_given rs (codes "warn") || not (is_given rs (codes "brief")) && not (is_some (format_at rs))

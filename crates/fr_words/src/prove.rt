@@ -1,15 +1,15 @@
 // The words of the command `prove`.
 ghost use Rattle.std.specs.Prelude.{◌≡◌, IfSome, is_some};
-ghost use Rattle.fr_words.specs.Found.{rows};
+ghost use Rattle.fr_words.specs.Found.{proof_detail_at, rows, warns_at};
 ghost use Rattle.fr_words.specs.Asked.{IsProve, can_prove};
 
 use crate::found::{is_given, number_at, short_number_at, text_at};
 use crate::shared::{
     APPLICATION, all_arg, command_of, deadlock_arg, detail_asked, explain_arg, file_arg, flag_arg,
-    format_arg, format_asked, html_arg, memory_arg, states_arg, text_arg, warn_arg, workers_arg,
+    format_arg, format_asked, html_arg, memory_arg, states_arg, text_arg, workers_arg,
 };
 use clap::{Arg, ArgMatches, Command};
-use fr_request::ProveRequest;
+use fr_request::{Detail, ProveRequest};
 use std::alloc::{AllocError, Global};
 
 const STATUSES: &str = "Exit status:
@@ -18,8 +18,9 @@ const STATUSES: &str = "Exit status:
   2  The words or the application are refused, or the file for the certificate has something else
   3  The machine failed: no memory, no thread, or a file that can't be read or written";
 
-const EXPLAINS: &str =
-    "Print why it is no or what each step did, and on standard error where a refused file is wrong";
+const EXPLAINS: &str = "Explain as without any option, where --brief is given";
+
+const WARNS: &str = "Warn as without any option, where --brief or --format is given";
 
 /// The word `--certificate` with its file.
 fn certificate_arg<'a>(alloc: Global) -> Arg<'a> {
@@ -31,6 +32,29 @@ fn certificate_arg<'a>(alloc: Global) -> Arg<'a> {
 fn no_search_arg<'a>(alloc: Global) -> Arg<'a> {
     let help = "Look for no run into a breach where the verdict is no";
     flag_arg(alloc, "no-search", help)
+}
+
+/// The word `--brief`.
+fn brief_arg<'a>(alloc: Global) -> Arg<'a> {
+    let help = "Print the answer without what explains it, and no warnings";
+    flag_arg(alloc, "brief", help)
+}
+
+/// How much `prove` explains: where neither `--all` nor `--explain` is given, what matters, and with `--brief` nothing.
+fn detail_of_proof(words: &ArgMatches) -> Option<Detail>
+    ensures { result ≡ proof_detail_at (rows words.now) }
+{
+    match detail_asked(words) {
+        None if !is_given(words, "brief") => Some(Detail::Told),
+        detail => detail,
+    }
+}
+
+/// Whether `prove` warns: where `--warn` is given, and where neither `--brief` nor a form for machines is.
+fn warns_asked(words: &ArgMatches) -> bool
+    ensures { result ≡ warns_at (rows words.now) }
+{
+    is_given(words, "warn") || !is_given(words, "brief") && format_asked(words).is_none()
 }
 
 /// The command `prove`: its words, its help and its exit statuses.
@@ -45,10 +69,11 @@ pub fn prove_command<'a>(alloc: Global) -> Result<Command<'a>, AllocError> {
         states_arg(alloc),
         memory_arg(alloc, "512"),
         format_arg(alloc),
-        warn_arg(alloc),
         deadlock_arg(alloc),
-        explain_arg(alloc, EXPLAINS),
         all_arg(alloc),
+        brief_arg(alloc),
+        explain_arg(alloc, EXPLAINS),
+        flag_arg(alloc, "warn", WARNS),
         html,
     ]?;
     command_of(alloc, "prove", about, STATUSES, args)
@@ -64,9 +89,9 @@ pub fn asked_prove<'a>(words: &ArgMatches<'a>) -> Option<ProveRequest<'a>>
         app: text_at(words, "APP")?,
         out: text_at(words, "certificate"),
         workers: short_number_at(words, "workers")?,
-        warns: is_given(words, "warn"),
+        warns: warns_asked(words),
         deadlock: is_given(words, "deadlock"),
-        detail: detail_asked(words),
+        detail: detail_of_proof(words),
         searches: !is_given(words, "no-search"),
         states: number_at(words, "states")?,
         memory: number_at(words, "memory")?,
