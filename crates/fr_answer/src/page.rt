@@ -4,12 +4,13 @@ ghost use Rattle.fr_answer.specs.Answers.{kind_of, shown_line};
 ghost use Rattle.fr_answer.specs.Pages.{IsPageOf, page_kind};
 
 mod actors;
+mod code;
 mod points;
 mod steps;
 
 use crate::answer::{Answer, What};
-use crate::sources::sources_in;
 use actors::put_actors;
+use code::Code;
 use fr_formats::{AnswerKind, Command};
 use fr_page::{ActorShown, Kind, Page, StepShown, WaitShown, page_text};
 use fr_refuter::Finding;
@@ -72,25 +73,25 @@ fn empty_body(alloc: Global) -> Body {
 }
 
 /// What the page shows below the answer: the actors side by side, with a certificate what each note says, which points fail and
-/// which are never reached; with a run into a breach the run, step by step; and where a text is refused, where. Lines of code have their
-/// places in the source, where the application was translated from one.
+/// which are never reached; with a run into a breach the run, step by step; and where a text is refused, where. Lines of code
+/// are as they stand in the text, with their places in the source where the application was translated from one.
 fn body_of(alloc: Global, answer: &Answer) -> Result<Body, AllocError> {
     let mut body = empty_body(alloc);
     let what = &answer.what;
-    let sources = sources_in(alloc, &answer.text)?;
+    let code = Code::of(alloc, &answer.text)?;
     match what {
         What::Judged(judged) => {
-            put_actors(alloc, &mut body, judged.app(), &sources)?;
-            put_judged(alloc, &mut body, judged, &sources)?;
+            put_actors(alloc, &mut body, judged.app(), &code)?;
+            put_judged(alloc, &mut body, judged, &code)?;
             if matches!(what.kind(), AnswerKind::Yes) {
                 body.details = what.second_lines(alloc)?;
             }
         }
         What::Searched { app, found, .. } => {
-            put_actors(alloc, &mut body, app, &sources)?;
+            put_actors(alloc, &mut body, app, &code)?;
             match found {
-                Finding::Breach(run) => put_run(alloc, &mut body, app, &sources, run)?,
-                Finding::Deadlock(run) => put_deadlock(alloc, &mut body, app, &sources, run)?,
+                Finding::Breach(run) => put_run(alloc, &mut body, app, &code, run)?,
+                Finding::Deadlock(run) => put_deadlock(alloc, &mut body, app, &code, run)?,
                 _ => {}
             }
         }

@@ -6,7 +6,8 @@ use crate::answer::Refusal;
 use crate::fault::CheckFault;
 use fr_files::{FileFault, OutputFault};
 use fr_place::{
-    Place, place_of_app, place_of_certificate, place_of_swapped, place_of_texts, seem_swapped,
+    Place, place_of_app, place_of_certificate, place_of_swapped, place_of_texts, recipe_at,
+    seem_swapped,
 };
 use fr_reader::read_app;
 use fr_source::{Message, Refused};
@@ -40,7 +41,7 @@ fn file_place(alloc: Global, fault: &FileFault) -> Result<Place, AllocError> {
     place_of_texts(alloc, slice::from_ref(&text))
 }
 
-/// What is wrong in the source at this path, and the line where it is.
+/// What is wrong in the source at this path, and the line where it is. Below that is what to write in place of a call that has a recipe.
 fn source_fault(
     alloc: Global,
     path: &str,
@@ -49,8 +50,14 @@ fn source_fault(
     ensures { IfOk result (λ r. fault_status r.0 ≡ 2) }
 {
     let fault = CheckFault::Source(message.report(alloc, path)?);
-    let excerpt = message.excerpt(alloc)?;
-    Ok((fault, place_of_texts(alloc, &excerpt)?))
+    let mut lines = Vec::new(alloc);
+    for line in message.excerpt(alloc)? {
+        lines.push(line)?;
+    }
+    if let Some(recipe) = recipe_at(&message.shown, message.column) {
+        lines.push(String::from_str(alloc, recipe)?)?;
+    }
+    Ok((fault, place_of_texts(alloc, &lines)?))
 }
 
 /// A fault alone.

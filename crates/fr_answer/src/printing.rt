@@ -15,6 +15,7 @@ use crate::shown::shown_of;
 use crate::ways::{Asked, Warns};
 use fr_files::OutputFault;
 use fr_formats::{Source, answers_text};
+use fr_place::is_unknown_word;
 use fr_report::text_of;
 use fr_request::Format;
 use std::alloc::{AllocError, Global};
@@ -51,11 +52,19 @@ pub(crate) fn refuse<E: Write>(alloc: Global, refusal: Refusal, err: &mut E) -> 
     }
 }
 
-/// What is printed of an answer without a verdict: the fault's line, and where it is, which is always said of a file and of a source.
-fn refusal_text(alloc: Global, what: &What, explains: bool) -> Result<String, AllocError> {
+/// Whether it is printed where a fault is: always of a file and of a source.
+fn shows_place(fault: &CheckFault, asked: Asked) -> bool {
+    match fault {
+        CheckFault::File | CheckFault::Source(_) => true,
+        CheckFault::App(fault) if asked.words => asked.explains || is_unknown_word(fault),
+        _ => asked.explains,
+    }
+}
+
+/// What is printed of an answer without a verdict: the fault's line, and where it is.
+fn refusal_text(alloc: Global, what: &What, asked: Asked) -> Result<String, AllocError> {
     match what {
-        What::Refused(Refusal { fault, .. })
-            if !explains && !matches!(fault, CheckFault::File | CheckFault::Source(_)) => {
+        What::Refused(Refusal { fault, .. }) if !shows_place(fault, asked) => {
             let line = what.line(alloc)?;
             format!(in alloc; "{line}\n")
         }
@@ -67,7 +76,7 @@ fn refusal_text(alloc: Global, what: &What, explains: bool) -> Result<String, Al
 fn print_text<O: Write, E: Write>(
     alloc: Global,
     what: &What,
-    explains: bool,
+    asked: Asked,
     out: &mut O,
     err: &mut E,
 ) -> Result<(), CheckFault>
@@ -78,7 +87,7 @@ fn print_text<O: Write, E: Write>(
     if what.status() <= NO {
         put(&what.text(alloc)?, out)
     } else {
-        put(&refusal_text(alloc, what, explains)?, err)
+        put(&refusal_text(alloc, what, asked)?, err)
     }
 }
 
@@ -112,7 +121,7 @@ fn print<O: Write, E: Write>(
 {
     match asked.format {
         Some(format) => print_formed(alloc, answer, format, out),
-        None => print_text(alloc, &answer.what, asked.explains, out, err),
+        None => print_text(alloc, &answer.what, asked, out, err),
     }
 }
 

@@ -6,6 +6,7 @@ ghost use Rattle.fr_answer.specs.Commands.{IsCheckOf, IsProofAt, IsSearchAt};
 ghost use Rattle.fr_answer.specs.Inputs.{AsApp, Reads};
 
 use crate::answer::{Answer, Refusal, What};
+use crate::fault::CheckFault;
 use crate::files::Files;
 use crate::judging::judged;
 use crate::proving::proved;
@@ -16,6 +17,7 @@ use crate::ways::{Warns, Ways};
 use fr_cert::MOST_BYTES as MOST_CERTIFICATE_BYTES;
 use fr_formats::Source;
 use fr_parallel::Open;
+use fr_place::is_unknown_word;
 use fr_reader::MOST_BYTES as MOST_APP_BYTES;
 use fr_source::{Message, Translation};
 use std::alloc::{AllocError, Global};
@@ -168,7 +170,10 @@ pub(crate) fn searched_file<R: Threads + Sync, F: Files>(
     let app = application(alloc, files, app, ways.names)?;
     match searched(rt, alloc, &app.bytes, ways) {
         Ok(what) => Ok((app, what)),
-        Err(fault) => Err(Refusal::of_texts(alloc, &app.bytes, None, fault, ways.places)),
+        Err(fault) => {
+            let places = ways.places || matches!(&fault, CheckFault::App(fault) if is_unknown_word(fault));
+            Err(Refusal::of_texts(alloc, &app.bytes, None, fault, places))
+        }
     }
 }
 

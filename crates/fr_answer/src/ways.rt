@@ -56,6 +56,8 @@ pub(crate) struct Asked<'a> {
     pub html: Option<&'a str>,
     /// Whether the text says where a text is refused.
     pub explains: bool,
+    /// Whether it says so of a word that is the name of nothing, in any case.
+    pub words: bool,
     /// Whether the page's file is named where it can't be written.
     pub names: bool,
 }

@@ -91,6 +91,16 @@ fn push_fault(out: &mut Lines, whole: &Table, fault: &ReadFault) -> Result<(), A
     }
 }
 
+/// Whether the fault is a word that is the name of nothing: of no key, kind, owner, variable, object or call. Its place shows
+/// the nearest name.
+pub fn is_unknown_word(fault: &ReadFault) -> bool {
+    match fault {
+        ReadFault::UnknownKey(..) | ReadFault::WrongType(_, Key::Kind | Key::Owner) => true,
+        ReadFault::Line { fault, .. } => matches!(fault, LineFault::UnknownName | LineFault::UnknownCall),
+        _ => false,
+    }
+}
+
 /// Where the application's bytes are refused for this fault, in a few lines of plain words; none where there is nothing to say.
 ///
 /// The fault is one that `read_app` gave for these bytes. For another one the lines say less, or nothing.

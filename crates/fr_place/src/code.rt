@@ -141,6 +141,17 @@ fn places_of_actor(
     Ok(places)
 }
 
+/// The lines of one actor's code.
+fn lines_of_actor(alloc: Global, actor: &Value) -> Result<Vec<String>, AllocError> {
+    let mut lines = Vec::new(alloc);
+    if let Some(table) = actor.as_table() {
+        for line in lines_of(table) {
+            lines.push(String::from_str(alloc, line.as_str().unwrap_or(""))?)?;
+        }
+    }
+    Ok(lines)
+}
+
 /// Where the lines of code stand in the text of an application that isn't refused: for each actor, in order, the
 /// place of each line. Of a text that isn't TOML there are none.
 ///
@@ -167,4 +178,21 @@ pub fn places_of_code(alloc: Global, bytes: &[u8]) -> Result<Vec<Vec<CodePlace>>
         places.push(places_of_actor(alloc, &mut quotes, actor)?)?;
     }
     Ok(places)
+}
+
+/// The lines of code as they stand in the text of an application that isn't refused: for each actor, in order, each of its lines. Of a text
+/// that isn't TOML there are none.
+///
+/// Its error is that an allocation was refused.
+pub fn lines_of_code(alloc: Global, bytes: &[u8]) -> Result<Vec<Vec<String>>, AllocError> {
+    let mut lines = Vec::new(alloc);
+    let table = match toml::table_from_slice(alloc, bytes) {
+        Ok(table) => table,
+        Err(error) if error.is_memory() => return Err(AllocError),
+        Err(_) => return Ok(lines),
+    };
+    for actor in entries_at(&table, Key::Actor) {
+        lines.push(lines_of_actor(alloc, actor)?)?;
+    }
+    Ok(lines)
 }

@@ -4,6 +4,7 @@ use crate::lines::Lines;
 use crate::nearness::push_nearest;
 use crate::piece::{Piece, pieces_of};
 use crate::position::push_marked;
+use crate::recipe::recipe_for;
 use crate::scope::{Scope, Thing};
 use crate::shown::push_start;
 use fr_instr::LineFault;
@@ -133,6 +134,25 @@ fn called(pieces: &[Piece<'_>]) -> Option<usize> {
     None
 }
 
+/// What to write in place of the piece, where it is a call that no line has.
+fn recipe_of(pieces: &[Piece<'_>], index: usize, piece: Piece<'_>) -> Option<&'static str> {
+    if is_before(pieces, index, b'(') {
+        recipe_for(piece.word())
+    } else {
+        None
+    }
+}
+
+/// The number of the first piece for which there is such a recipe.
+fn call_with_recipe(pieces: &[Piece<'_>]) -> Option<usize> {
+    for (index, piece) in pieces.iter().enumerate() {
+        if recipe_of(pieces, index, *piece).is_some() {
+            return Some(index);
+        }
+    }
+    None
+}
+
 /// The line with 1 in place of the piece.
 fn with_one(scope: &Scope, line: &[u8], piece: Piece<'_>) -> Result<Vec<u8>, AllocError> {
     let (front, _) = line.split_at(piece.start.min(line.len()));
@@ -160,13 +180,17 @@ fn bad_number(
     Ok(None)
 }
 
-/// The number of the piece that is at fault, or how many there are where one is missing behind them.
+/// The number of the piece that is at fault, or how many there are where one is missing behind them. A call that no line has is at
+/// fault, whatever else is.
 fn piece_at_fault(
     scope: &Scope,
     line: &[u8],
     pieces: &[Piece<'_>],
     fault: LineFault,
 ) -> Result<Option<usize>, AllocError> {
+    if let Some(index) = call_with_recipe(pieces) {
+        return Ok(Some(index));
+    }
     match fault {
         LineFault::Memory => Ok(None),
         LineFault::Syntax => Ok(Some(first_unfit(scope, line, pieces)?)),
@@ -238,6 +262,10 @@ fn push_reason(
         return out.say("the line ends too soon");
     };
     let word = piece.word();
+    if let Some(instead) = recipe_of(pieces, index, *piece) {
+        write!(out.open, "no line has {word}: {instead}")?;
+        return out.end();
+    }
     match fault {
         LineFault::Memory => Ok(()),
         LineFault::Syntax => out.say("this doesn't fit here"),

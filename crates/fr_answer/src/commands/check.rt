@@ -56,6 +56,7 @@ fn asked_of<'a>(asked: &CheckRequest<'a>, ways: Ways) -> Asked<'a>
         format: asked.format,
         html: asked.html,
         explains: ways.detail.is_some(),
+        words: false,
         names: ways.names,
     }
 }
@@ -92,6 +93,7 @@ fn check_looked<R: Threads + Wait + Sync, F: Files, O: Write, E: Write>(
         format: asked.format,
         html: asked.html,
         explains: ways.detail.is_some(),
+        words: false,
         names: ways.names,
     };
     show_found(alloc, source, found, ways.warns, shown, files, out, err)

@@ -11,6 +11,7 @@ use crate::files::Files;
 use crate::printing::put;
 use crate::reading::{AppText, application};
 use crate::sources::sources_in;
+use fr_place::is_unknown_word;
 use fr_program::App;
 use fr_reader::read_app;
 use fr_report::{Sources, points_text};
@@ -57,8 +58,9 @@ pub(crate) fn points<F: Files, O: Write>(
             Ok(DONE)
         }
         Err(fault) => {
+            let places = explains || is_unknown_word(&fault);
             let fault = CheckFault::from(fault);
-            Err(Refusal::of_texts(alloc, &text, None, fault, explains))
+            Err(Refusal::of_texts(alloc, &text, None, fault, places))
         }
     }
 }

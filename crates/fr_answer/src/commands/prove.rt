@@ -75,6 +75,7 @@ fn asked_of<'a>(asked: &ProveRequest<'a>) -> Asked<'a>
         format: asked.format,
         html: asked.html,
         explains: asked.detail.is_some(),
+        words: false,
         names: true,
     }
 }
@@ -114,6 +115,7 @@ fn prove_looked<R: Threads + Wait + Sync, F: Files, O: Write, E: Write>(
         format: asked.format,
         html: asked.html,
         explains: asked.detail.is_some(),
+        words: false,
         names: true,
     };
     let source = source_of(asked);

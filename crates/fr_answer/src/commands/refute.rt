@@ -42,6 +42,7 @@ fn asked_of<'a>(asked: &RefuteRequest<'a>) -> Asked<'a>
         format: asked.format,
         html: asked.html,
         explains: asked.explains,
+        words: true,
         names: true,
     }
 }
@@ -80,6 +81,7 @@ fn refute_looked<R: Threads + Sync, F: Files, O: Write, E: Write>(
         format: asked.format,
         html: asked.html,
         explains: asked.explains,
+        words: true,
         names: true,
     };
     let source = source_of(asked);

@@ -1,15 +1,15 @@
 // The actors of an application, as a page shows them.
 use super::Body;
+use super::code::Code;
 use fr_page::{ActorShown, LineShown, PointShown};
 use fr_program::{Actor, ActorId, ActorKind, App, Point, Side};
-use fr_report::{Sources, line_in_source};
 use std::alloc::{AllocError, Global};
 
 /// The lines of an actor's code, without points.
 fn lines_shown(
     alloc: Global,
     app: &App,
-    sources: &Sources,
+    code: &Code,
     actor: ActorId,
     count: usize,
 ) -> Result<Vec<LineShown>, AllocError> {
@@ -22,7 +22,7 @@ fn lines_shown(
         };
         lines.push(LineShown {
             number: pc,
-            code: line_in_source(alloc, app, sources, point)?,
+            code: code.shown(alloc, app, point)?,
             points: Vec::new(alloc),
         })?;
     }
@@ -33,7 +33,7 @@ fn lines_shown(
 fn actor_shown(
     alloc: Global,
     app: &App,
-    sources: &Sources,
+    code: &Code,
     number: usize,
     actor: &Actor,
 ) -> Result<ActorShown, AllocError> {
@@ -48,7 +48,7 @@ fn actor_shown(
     Ok(ActorShown {
         name,
         kind,
-        lines: lines_shown(alloc, app, sources, ActorId(number), actor.code.len())?,
+        lines: lines_shown(alloc, app, code, ActorId(number), actor.code.len())?,
         tracks: Vec::new(alloc),
     })
 }
@@ -71,11 +71,11 @@ pub(super) fn put_actors(
     alloc: Global,
     body: &mut Body,
     app: &App,
-    sources: &Sources,
+    code: &Code,
 ) -> Result<(), AllocError> {
     for (number, actor) in app.actors().iter().enumerate() {
         body.actors
-            .push(actor_shown(alloc, app, sources, number, actor)?)?;
+            .push(actor_shown(alloc, app, code, number, actor)?)?;
     }
     let count = count_text(alloc, app.actors().len(), "actor", "actors")?;
     Ok(body.counts.push(count)?)

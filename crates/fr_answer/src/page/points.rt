@@ -5,12 +5,13 @@ ghost use Rattle.fr_ends.specs.Fits.{CertificateFits};
 
 use super::Body;
 use super::actors::{count_text, put_point};
+use super::code::Code;
 use crate::judged::Judged;
 use fr_ends::Certificate;
 use fr_judge::{Judging, Lists, Part, Verdict};
 use fr_page::{PointShown, Reason, Standing};
 use fr_program::{App, Point};
-use fr_report::{Line, Sources, explain, note_told, part_text, side_name};
+use fr_report::{Line, explain, note_told, part_text, side_name};
 use fr_request::Detail;
 use std::alloc::{AllocError, Global};
 
@@ -46,7 +47,7 @@ fn reasons(
     alloc: Global,
     app: &App,
     certificate: &Certificate,
-    sources: &Sources,
+    code: &Code,
     point: Point,
     part: Part,
 ) -> Result<Vec<Reason>, AllocError>
@@ -54,8 +55,9 @@ fn reasons(
 {
     let mut reasons = Vec::new(alloc);
     let verdict = Verdict::No { point, part };
-    if let Some(found) = explain(alloc, app, certificate, sources, verdict, Detail::Told)? {
-        for item in &found.items {
+    if let Some(mut found) = explain(alloc, app, certificate, &code.sources, verdict, Detail::Told)? {
+        for item in &mut found.items {
+            code.put_into(alloc, item)?;
             let Line { of, said } = item.line(alloc, app)?;
             reasons.push(Reason { of, said })?;
         }
@@ -69,7 +71,7 @@ fn point_shown(
     alloc: Global,
     app: &App,
     certificate: &Certificate,
-    sources: &Sources,
+    code: &Code,
     judging: &Judging,
     number: usize,
     explains: bool,
@@ -86,7 +88,7 @@ fn point_shown(
         Some(part) => {
             standing = Standing::Fails(part_text(alloc, app, part)?);
             if explains {
-                explanation = reasons(alloc, app, certificate, sources, point, part)?;
+                explanation = reasons(alloc, app, certificate, code, point, part)?;
             }
         }
         None if notes.is_empty() => standing = Standing::Never,
@@ -108,7 +110,7 @@ fn put_points(
     body: &mut Body,
     app: &App,
     certificate: &Certificate,
-    sources: &Sources,
+    code: &Code,
     judging: &Judging,
 ) -> Result<Tally, AllocError>
     requires fits { CertificateFits app.now certificate.now }
@@ -123,7 +125,7 @@ fn put_points(
             break;
         }
         let explains = tally.failing == 0;
-        let shown = point_shown(alloc, app, certificate, sources, judging, number, explains)?;
+        let shown = point_shown(alloc, app, certificate, code, judging, number, explains)?;
         if number < MOST_POINTS || matches!(&shown.standing, Standing::Fails(_)) {
             tally = tally.with(&shown.standing);
             put_point(body, app.point(number), shown)?;
@@ -159,12 +161,12 @@ pub(super) fn put_judged(
     alloc: Global,
     body: &mut Body,
     judged: &Judged,
-    sources: &Sources,
+    code: &Code,
 ) -> Result<(), AllocError> {
     judged.recall_verdict();
     let (app, certificate) = (judged.app(), judged.certificate());
     let lists = Lists::build(alloc, app, certificate)?;
     let judging = Judging::with(app, certificate, &lists);
-    let tally = put_points(alloc, body, app, certificate, sources, &judging)?;
+    let tally = put_points(alloc, body, app, certificate, code, &judging)?;
     put_counts(alloc, body, app.points(), tally)
 }

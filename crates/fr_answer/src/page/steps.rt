@@ -4,12 +4,13 @@ ghost use Rattle.fr_calls.specs.State.{IsWellFormed};
 
 use super::Body;
 use super::actors::{count_text, put_point};
+use super::code::Code;
 use fr_calls::{Rule, State, the_start_is_well_formed};
 use fr_page::{ActorAfter, Doing, Moved, PointShown, StepShown, Track, TrackKind, WaitShown};
 use fr_program::{ActorId, App, Point, Side};
 use fr_refuter::{Deadlocked, Refutation, take_step};
 use fr_report::{
-    Depth, ExplainedRun, ExplainedStep, Sources, Standing, depth_in, depths_of, explain_deadlock,
+    Depth, ExplainedRun, ExplainedStep, Standing, depth_in, depths_of, explain_deadlock,
     explain_run, object_name, place_told, rule_text, side_name, state_told,
 };
 use fr_waits::Wait;
@@ -111,7 +112,7 @@ fn row_of(
 }
 
 /// What an actor does in a step.
-fn move_of(alloc: Global, step: &ExplainedStep) -> Result<Moved, AllocError> {
+fn move_of(alloc: Global, app: &App, code: &Code, step: &ExplainedStep) -> Result<Moved, AllocError> {
     let choice = match step.taken.choice {
         0 => String::new(alloc),
         choice => format!(in alloc; "choice {choice}")?,
@@ -119,7 +120,7 @@ fn move_of(alloc: Global, step: &ExplainedStep) -> Result<Moved, AllocError> {
     Ok(Moved {
         actor: step.taken.actor.0,
         line: point_of(&step.before).pc,
-        code: step.before.code_text(alloc)?,
+        code: code.shown(alloc, app, point_of(&step.before))?,
         choice,
         change: step.change(alloc)?,
         doing: Doing::Step,
@@ -147,6 +148,7 @@ fn put_step(
     alloc: Global,
     body: &mut Body,
     app: &App,
+    code: &Code,
     depths: &[Depth],
     place: (usize, usize),
     step: &ExplainedStep,
@@ -159,7 +161,7 @@ fn put_step(
     if !take_step(app, state, step.taken)? || !is_shown(number, count) {
         return Ok(());
     }
-    let moved = move_of(alloc, step)?;
+    let moved = move_of(alloc, app, code, step)?;
     let name = format!(in alloc; "step {}", number.saturating_add(1))?;
     let mut row = row_of(alloc, app, depths, name, Some(moved), state)?;
     row.omitted = omitted_before(number, count);
@@ -171,6 +173,7 @@ fn put_steps(
     alloc: Global,
     body: &mut Body,
     app: &App,
+    code: &Code,
     depths: &[Depth],
     steps: &[ExplainedStep],
 ) -> Result<State, AllocError>
@@ -184,7 +187,7 @@ fn put_steps(
         .push(row_of(alloc, app, depths, name, None, &state)?)?;
     for (number, step) in steps.iter().enumerate() {
         let place = (number, steps.len());
-        put_step(alloc, body, app, depths, place, step, &mut state)?;
+        put_step(alloc, body, app, code, depths, place, step, &mut state)?;
     }
     Ok(state)
 }
@@ -209,6 +212,7 @@ fn put_end(
     alloc: Global,
     body: &mut Body,
     app: &App,
+    code: &Code,
     depths: &[Depth],
     at: &Standing,
     end: (Doing, &str),
@@ -221,7 +225,7 @@ fn put_end(
     let moved = Moved {
         actor: at.actor.0,
         line: point.pc,
-        code: at.code_text(alloc)?,
+        code: code.shown(alloc, app, point)?,
         choice: String::new(alloc),
         change: String::from_str(alloc, said)?,
         doing,
@@ -244,6 +248,7 @@ fn put_taken(
     alloc: Global,
     body: &mut Body,
     app: &App,
+    code: &Code,
     depths: &[Depth],
     run: &ExplainedRun,
 ) -> Result<State, AllocError>
@@ -253,7 +258,7 @@ fn put_taken(
     let count = run.steps.len();
     body.counts
         .push(count_text(alloc, count, "step", "steps")?)?;
-    put_steps(alloc, body, app, depths, &run.steps)
+    put_steps(alloc, body, app, code, depths, &run.steps)
 }
 
 /// Adds a run into a breach to the body.
@@ -261,17 +266,17 @@ pub(super) fn put_run(
     alloc: Global,
     body: &mut Body,
     app: &App,
-    sources: &Sources,
+    code: &Code,
     found: &Refutation,
 ) -> Result<(), AllocError> {
     let (depths, run) = (
         depths_of(alloc, app)?,
-        explain_run(alloc, app, sources, found)?,
+        explain_run(alloc, app, &code.sources, found)?,
     );
-    let last = put_taken(alloc, body, app, &depths, &run)?;
+    let last = put_taken(alloc, body, app, code, &depths, &run)?;
     let rule = rule_told(alloc, found.rule)?;
     match run.lasts.first() {
-        Some(at) => put_end(alloc, body, app, &depths, at, (Doing::Breach, &rule), &last),
+        Some(at) => put_end(alloc, body, app, code, &depths, at, (Doing::Breach, &rule), &last),
         None => Ok(()),
     }
 }
@@ -281,6 +286,7 @@ fn put_waits(
     alloc: Global,
     body: &mut Body,
     app: &App,
+    code: &Code,
     depths: &[Depth],
     waiting: (&[Standing], &[Wait]),
     last: &State,
@@ -291,7 +297,7 @@ fn put_waits(
     for (at, wait) in standings.iter().zip(cycle) {
         let mutex = object_name(app, wait.mutex);
         let said = format!(in alloc; "waits for {mutex} for ever")?;
-        put_end(alloc, body, app, depths, at, (Doing::Wait, &said), last)?;
+        put_end(alloc, body, app, code, depths, at, (Doing::Wait, &said), last)?;
     }
     Ok(())
 }
@@ -315,15 +321,15 @@ pub(super) fn put_deadlock(
     alloc: Global,
     body: &mut Body,
     app: &App,
-    sources: &Sources,
+    code: &Code,
     found: &Deadlocked,
 ) -> Result<(), AllocError> {
     let (depths, run) = (
         depths_of(alloc, app)?,
-        explain_deadlock(alloc, app, sources, found)?,
+        explain_deadlock(alloc, app, &code.sources, found)?,
     );
-    let last = put_taken(alloc, body, app, &depths, &run)?;
-    put_waits(alloc, body, app, &depths, (&run.lasts, &found.cycle), &last)?;
+    let last = put_taken(alloc, body, app, code, &depths, &run)?;
+    put_waits(alloc, body, app, code, &depths, (&run.lasts, &found.cycle), &last)?;
     body.waits = arrows_of(alloc, app, &found.cycle)?;
     Ok(())
 }

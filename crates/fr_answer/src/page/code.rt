@@ -1,0 +1,50 @@
+// The lines of code as a page shows them: as they stand in the application's text.
+use crate::sources::sources_in;
+use fr_place::lines_of_code;
+use fr_program::{App, Point};
+use fr_report::{Explained, Sources, line_in_source};
+use std::alloc::{AllocError, Global};
+
+/// The lines of code of an application.
+#[derive(Drop)]
+pub(super) struct Code {
+    /// As they stand in the text, for each actor in order.
+    lines: Vec<Vec<String>>,
+    /// Where they are in the source that the application was translated from.
+    pub sources: Sources,
+}
+
+impl Code {
+    /// The lines of the application with this text.
+    pub(super) fn of(alloc: Global, text: &[u8]) -> Result<Code, AllocError> {
+        Ok(Code {
+            lines: lines_of_code(alloc, text)?,
+            sources: sources_in(alloc, text)?,
+        })
+    }
+
+    /// The line at a point, as it stands in the text.
+    fn line(&self, point: Point) -> Option<&str> {
+        Some(self.lines.get(point.actor.0)?.get(point.pc)?.as_str())
+    }
+
+    /// The same, with its place in the source where that is known.
+    pub(super) fn shown(&self, alloc: Global, app: &App, point: Point) -> Result<String, AllocError> {
+        match (self.line(point), self.sources.at(point)) {
+            (Some(line), "") => String::from_str(alloc, line),
+            (Some(line), place) => format!(in alloc; "{line}  # {place}"),
+            (None, _) => line_in_source(alloc, app, &self.sources, point),
+        }
+    }
+
+    /// Puts the line as it stands in the text into what explains a verdict.
+    pub(super) fn put_into(&self, alloc: Global, item: &mut Explained) -> Result<(), AllocError> {
+        if let Explained::Place(at) | Explained::Then(at) | Explained::Beside(at) = item
+            && let Some(point) = at.point
+            && let Some(line) = self.line(point)
+        {
+            at.code = String::from_str(alloc, line)?;
+        }
+        Ok(())
+    }
+}
