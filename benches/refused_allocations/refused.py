@@ -224,7 +224,7 @@ def find_sweeps(room, app=None):
 
 def prove_sweeps(room, app=None):
     """A proof, with the certificate that it writes."""
-    command = [program(), "prove", written(room, app), "--certificate", "out.json", "--workers", "1"]
+    command = [program(), "prove", written(room, app), "--brief", "--certificate", "out.json", "--workers", "1"]
     return [Sweep("prove", "memory", command, late_memory), Sweep("prove", "file", command, file)]
 
 

@@ -21,9 +21,9 @@ mod waits;
 mod warning;
 
 pub use lines::text_of;
-pub use listing::{line_in_source, line_of_code, points_text};
+pub use listing::{line_of_code, points_text};
 pub use reason::{
-    Depth, ExplainedStep, depth_in, depths_of, explain, note_told, place_told, state_told,
+    Depth, ExplainedStep, actor_place, depth_in, depths_of, explain, note_told, state_told,
 };
 pub use refuting::{ExplainedRun, breach_text, explain_deadlock, explain_run, finding_line};
 pub use shown::{actor_name, object_name, rule_text, side_name};

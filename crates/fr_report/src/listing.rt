@@ -3,7 +3,6 @@ ghost use Rattle.std.specs.Prelude.{◌≡◌, ◌++◌, IfOk, OnOk, string_byte
 ghost use Rattle.fr_program.specs.Lookup.{IsPoint};
 ghost use Rattle.fr_instr.specs.AppNames.{names_in};
 ghost use Rattle.fr_report.specs.Listing.{code_text, listed_text, points_text};
-ghost use Rattle.fr_report.specs.Sources.{source_at, source_text};
 
 use crate::shown::{actor_name, number_of, side_name};
 use crate::sources::{Sources, put_source};
@@ -34,20 +33,6 @@ pub fn line_of_code(alloc: Global, app: &App, point: Point) -> Result<String, Al
 {
     let names = names_of(alloc, app)?;
     code_text(alloc, app, &names, point)
-}
-
-/// The same, with its place in the source where that is known. An error says that an allocation was refused.
-pub fn line_in_source(
-    alloc: Global,
-    app: &App,
-    sources: &Sources,
-    point: Point,
-) -> Result<String, AllocError>
-    ensures { IfOk result (λ text. string_bytes text ≡ code_text app.now point ++ source_text (source_at sources.now point)) }
-{
-    let mut text = line_of_code(alloc, app, point)?;
-    put_source(&mut text, sources.at(point))?;
-    Ok(text)
 }
 
 /// Appends the line of a point.

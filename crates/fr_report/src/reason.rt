@@ -30,7 +30,7 @@ use guards::{guarded_by, put_guard, put_unguarded};
 pub use notes::note_told;
 use notes::{add_broken, claims_of, rival_of, site_of};
 use places::add_actors;
-pub use places::place_told;
+pub use places::actor_place;
 pub(crate) use places::standing_in;
 use rules::put_breach;
 use scene::{Scene, Site};

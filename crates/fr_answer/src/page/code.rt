@@ -2,7 +2,7 @@
 use crate::sources::sources_in;
 use fr_place::lines_of_code;
 use fr_program::{App, Point};
-use fr_report::{Explained, Sources, line_in_source};
+use fr_report::{Explained, Sources, line_of_code};
 use std::alloc::{AllocError, Global};
 
 /// The lines of code of an application.
@@ -23,17 +23,35 @@ impl Code {
         })
     }
 
-    /// The line at a point, as it stands in the text.
-    fn line(&self, point: Point) -> Option<&str> {
+    /// The line at a point, as it stands in the text; None where the text has no such line.
+    fn at(&self, point: Point) -> Option<&str> {
         Some(self.lines.get(point.actor.0)?.get(point.pc)?.as_str())
     }
 
+    /// The line at a point.
+    pub(super) fn line(
+        &self,
+        alloc: Global,
+        app: &App,
+        point: Point,
+    ) -> Result<String, AllocError> {
+        match self.at(point) {
+            Some(line) => String::from_str(alloc, line),
+            None => line_of_code(alloc, app, point),
+        }
+    }
+
     /// The same, with its place in the source where that is known.
-    pub(super) fn shown(&self, alloc: Global, app: &App, point: Point) -> Result<String, AllocError> {
-        match (self.line(point), self.sources.at(point)) {
-            (Some(line), "") => String::from_str(alloc, line),
-            (Some(line), place) => format!(in alloc; "{line}  # {place}"),
-            (None, _) => line_in_source(alloc, app, &self.sources, point),
+    pub(super) fn shown(
+        &self,
+        alloc: Global,
+        app: &App,
+        point: Point,
+    ) -> Result<String, AllocError> {
+        let line = self.line(alloc, app, point)?;
+        match self.sources.at(point) {
+            "" => Ok(line),
+            place => format!(in alloc; "{line}  # {place}"),
         }
     }
 
@@ -41,7 +59,7 @@ impl Code {
     pub(super) fn put_into(&self, alloc: Global, item: &mut Explained) -> Result<(), AllocError> {
         if let Explained::Place(at) | Explained::Then(at) | Explained::Beside(at) = item
             && let Some(point) = at.point
-            && let Some(line) = self.line(point)
+            && let Some(line) = self.at(point)
         {
             at.code = String::from_str(alloc, line)?;
         }

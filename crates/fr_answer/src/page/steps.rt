@@ -5,13 +5,13 @@ ghost use Rattle.fr_calls.specs.State.{IsWellFormed};
 use super::Body;
 use super::actors::{count_text, put_point};
 use super::code::Code;
-use fr_calls::{Rule, State, the_start_is_well_formed};
+use fr_calls::{Place, Rule, State, the_start_is_well_formed};
 use fr_page::{ActorAfter, Doing, Moved, PointShown, StepShown, Track, TrackKind, WaitShown};
 use fr_program::{ActorId, App, Point, Side};
 use fr_refuter::{Deadlocked, Refutation, take_step};
 use fr_report::{
-    Depth, ExplainedRun, ExplainedStep, Standing, depth_in, depths_of, explain_deadlock,
-    explain_run, object_name, place_told, rule_text, side_name, state_told,
+    Depth, ExplainedRun, ExplainedStep, Standing, actor_place, depth_in, depths_of, explain_deadlock,
+    explain_run, object_name, rule_text, side_name, state_told,
 };
 use fr_waits::Wait;
 use std::alloc::{AllocError, Global};
@@ -67,10 +67,30 @@ fn put_tracks(
     Ok(())
 }
 
+/// Where an actor is in a state, without its name: the line by its number, the side and the code, or that it is done.
+fn place_shown(
+    alloc: Global,
+    app: &App,
+    code: &Code,
+    actor: ActorId,
+    state: &State,
+) -> Result<String, AllocError>
+    requires { IsWellFormed app.now state.now }
+{
+    match actor_place(app, state, actor) {
+        Place::At { pc, side } => {
+            let line = code.line(alloc, app, Point { actor, pc, side })?;
+            format!(in alloc; "{pc} {}: {line}", side_name(side))
+        }
+        Place::Done => String::from_str(alloc, "done"),
+    }
+}
+
 /// An actor in a state.
 fn actor_after(
     alloc: Global,
     app: &App,
+    code: &Code,
     depths: &[Depth],
     actor: ActorId,
     state: &State,
@@ -82,7 +102,7 @@ fn actor_after(
         shown.push(depth_in(app, state, actor, *depth))?;
     }
     Ok(ActorAfter {
-        place: place_told(alloc, app, actor, state)?,
+        place: place_shown(alloc, app, code, actor, state)?,
         depths: shown,
     })
 }
@@ -91,6 +111,7 @@ fn actor_after(
 fn row_of(
     alloc: Global,
     app: &App,
+    code: &Code,
     depths: &[Depth],
     name: String,
     moved: Option<Moved>,
@@ -100,7 +121,7 @@ fn row_of(
 {
     let mut after = Vec::new(alloc);
     for number in 0..app.actors().len() {
-        after.push(actor_after(alloc, app, depths, ActorId(number), state)?)?;
+        after.push(actor_after(alloc, app, code, depths, ActorId(number), state)?)?;
     }
     Ok(StepShown {
         name,
@@ -163,7 +184,7 @@ fn put_step(
     }
     let moved = move_of(alloc, app, code, step)?;
     let name = format!(in alloc; "step {}", number.saturating_add(1))?;
-    let mut row = row_of(alloc, app, depths, name, Some(moved), state)?;
+    let mut row = row_of(alloc, app, code, depths, name, Some(moved), state)?;
     row.omitted = omitted_before(number, count);
     Ok(body.steps.push(row)?)
 }
@@ -184,7 +205,7 @@ fn put_steps(
     let mut state = State::start(alloc, app)?;
     let name = String::from_str(alloc, "start")?;
     body.steps
-        .push(row_of(alloc, app, depths, name, None, &state)?)?;
+        .push(row_of(alloc, app, code, depths, name, None, &state)?)?;
     for (number, step) in steps.iter().enumerate() {
         let place = (number, steps.len());
         put_step(alloc, body, app, code, depths, place, step, &mut state)?;
@@ -232,7 +253,7 @@ fn put_end(
     };
     let name = String::from_str(alloc, end_name(doing))?;
     body.steps
-        .push(row_of(alloc, app, depths, name, Some(moved), last)?)?;
+        .push(row_of(alloc, app, code, depths, name, Some(moved), last)?)?;
     let shown = PointShown {
         number: app.number(point).unwrap_or(0),
         side: String::from_str(alloc, side_name(point.side))?,

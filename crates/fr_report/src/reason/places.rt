@@ -62,29 +62,6 @@ pub(crate) fn standing_in(
     }
 }
 
-/// Where the actor stands in the state, without its name: the line by its number, the side and the code, or
-/// that it is done.
-///
-/// # Errors
-///
-/// Only where memory is refused. The words are this project's own.
-pub fn place_told(
-    alloc: Global,
-    app: &App,
-    actor: ActorId,
-    state: &State,
-) -> Result<String, AllocError>
-    requires { IsWellFormed app.now state.now }
-{
-    match actor_place(app, state, actor) {
-        Place::At { pc, side } => {
-            let code = line_of_code(alloc, app, Point { actor, pc, side })?;
-            format!(in alloc; "{pc} {}: {code}", side_name(side))
-        }
-        Place::Done => String::from_str(alloc, "done"),
-    }
-}
-
 /// Appends where an actor stands, and its depths where they aren't 0.
 fn put_actor(text: &mut String, app: &App, actor: ActorId, state: &State) -> Result<(), AllocError>
     requires { IsWellFormed app.now state.now }
