@@ -133,7 +133,7 @@ output { margin: 0 .8rem; font-weight: 600; }
   .current { outline: none; }
   .actors { columns: 19rem 2; max-width: none; }
   article { break-inside: auto; }
-  tr, tbody, .why { break-inside: avoid; }
+  tr, article tbody, .why { break-inside: avoid; }
   h2, h3 { break-after: avoid; }
 }
 ";
