@@ -171,7 +171,8 @@ pub(crate) fn searched_file<R: Threads + Sync, F: Files>(
     match searched(rt, alloc, &app.bytes, ways) {
         Ok(what) => Ok((app, what)),
         Err(fault) => {
-            let places = ways.places || matches!(&fault, CheckFault::App(fault) if is_unknown_word(fault));
+            let places = ways.places
+                || matches!(&fault, CheckFault::App(fault) if is_unknown_word(fault));
             Err(Refusal::of_texts(alloc, &app.bytes, None, fault, places))
         }
     }

@@ -96,7 +96,10 @@ fn push_fault(out: &mut Lines, whole: &Table, fault: &ReadFault) -> Result<(), A
 pub fn is_unknown_word(fault: &ReadFault) -> bool {
     match fault {
         ReadFault::UnknownKey(..) | ReadFault::WrongType(_, Key::Kind | Key::Owner) => true,
-        ReadFault::Line { fault, .. } => matches!(fault, LineFault::UnknownName | LineFault::UnknownCall),
+        ReadFault::Line { fault, .. } => matches!(
+            fault,
+            LineFault::UnknownName | LineFault::UnknownCall
+        ),
         _ => false,
     }
 }

@@ -1,5 +1,6 @@
 // The lines of code as a page shows them: as they stand in the application's text.
 use crate::sources::sources_in;
+use fr_escape::push_plain;
 use fr_place::lines_of_code;
 use fr_program::{App, Point};
 use fr_report::{Explained, Sources, line_of_code};
@@ -48,11 +49,12 @@ impl Code {
         app: &App,
         point: Point,
     ) -> Result<String, AllocError> {
-        let line = self.line(alloc, app, point)?;
-        match self.sources.at(point) {
-            "" => Ok(line),
-            place => format!(in alloc; "{line}  # {place}"),
+        let (mut line, place) = (self.line(alloc, app, point)?, self.sources.at(point));
+        if !place.is_empty() {
+            line.push_str("  # ")?;
+            push_plain(&mut line, place)?;
         }
+        Ok(line)
     }
 
     /// Puts the line as it stands in the text into what explains a verdict.

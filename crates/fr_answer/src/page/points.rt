@@ -55,7 +55,14 @@ fn reasons(
 {
     let mut reasons = Vec::new(alloc);
     let verdict = Verdict::No { point, part };
-    if let Some(mut found) = explain(alloc, app, certificate, &code.sources, verdict, Detail::Told)? {
+    if let Some(mut found) = explain(
+        alloc,
+        app,
+        certificate,
+        &code.sources,
+        verdict,
+        Detail::Told,
+    )? {
         for item in &mut found.items {
             code.put_into(alloc, item)?;
             let Line { of, said } = item.line(alloc, app)?;

@@ -10,8 +10,8 @@ use fr_page::{ActorAfter, Doing, Moved, PointShown, StepShown, Track, TrackKind,
 use fr_program::{ActorId, App, Point, Side};
 use fr_refuter::{Deadlocked, Refutation, take_step};
 use fr_report::{
-    Depth, ExplainedRun, ExplainedStep, Standing, actor_place, depth_in, depths_of, explain_deadlock,
-    explain_run, object_name, rule_text, side_name, state_told,
+    Depth, ExplainedRun, ExplainedStep, Standing, actor_place, depth_in, depths_of,
+    explain_deadlock, explain_run, object_name, rule_text, side_name, state_told,
 };
 use fr_waits::Wait;
 use std::alloc::{AllocError, Global};
@@ -133,7 +133,12 @@ fn row_of(
 }
 
 /// What an actor does in a step.
-fn move_of(alloc: Global, app: &App, code: &Code, step: &ExplainedStep) -> Result<Moved, AllocError> {
+fn move_of(
+    alloc: Global,
+    app: &App,
+    code: &Code,
+    step: &ExplainedStep,
+) -> Result<Moved, AllocError> {
     let choice = match step.taken.choice {
         0 => String::new(alloc),
         choice => format!(in alloc; "choice {choice}")?,
@@ -297,7 +302,16 @@ pub(super) fn put_run(
     let last = put_taken(alloc, body, app, code, &depths, &run)?;
     let rule = rule_told(alloc, found.rule)?;
     match run.lasts.first() {
-        Some(at) => put_end(alloc, body, app, code, &depths, at, (Doing::Breach, &rule), &last),
+        Some(at) => put_end(
+            alloc,
+            body,
+            app,
+            code,
+            &depths,
+            at,
+            (Doing::Breach, &rule),
+            &last,
+        ),
         None => Ok(()),
     }
 }
@@ -318,7 +332,16 @@ fn put_waits(
     for (at, wait) in standings.iter().zip(cycle) {
         let mutex = object_name(app, wait.mutex);
         let said = format!(in alloc; "waits for {mutex} for ever")?;
-        put_end(alloc, body, app, code, depths, at, (Doing::Wait, &said), last)?;
+        put_end(
+            alloc,
+            body,
+            app,
+            code,
+            depths,
+            at,
+            (Doing::Wait, &said),
+            last,
+        )?;
     }
     Ok(())
 }
@@ -350,7 +373,15 @@ pub(super) fn put_deadlock(
         explain_deadlock(alloc, app, &code.sources, found)?,
     );
     let last = put_taken(alloc, body, app, code, &depths, &run)?;
-    put_waits(alloc, body, app, code, &depths, (&run.lasts, &found.cycle), &last)?;
+    put_waits(
+        alloc,
+        body,
+        app,
+        code,
+        &depths,
+        (&run.lasts, &found.cycle),
+        &last,
+    )?;
     body.waits = arrows_of(alloc, app, &found.cycle)?;
     Ok(())
 }
