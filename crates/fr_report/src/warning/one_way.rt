@@ -85,6 +85,7 @@ fn uses_in(alloc: Global, app: &App) -> Result<Uses, AllocError> {
 }
 
 /// The warnings for variables that are read and never written, or written and never read, a line each. A wrong name can hide behind them.
+/// A variable with one value in its range is written so that a rule is broken there, and nobody has to read it.
 /// An error says that an allocation was refused. The lines' form is this project's own.
 pub fn used_one_way(alloc: Global, app: &App) -> Result<Vec<String>, AllocError> {
     let uses = uses_in(alloc, app)?;
@@ -97,7 +98,7 @@ pub fn used_one_way(alloc: Global, app: &App) -> Result<Vec<String>, AllocError>
                     "warning: the variable {name} is read and never written"
                 )?)?;
             }
-            (Some(false), Some(true)) => {
+            (Some(false), Some(true)) if variable.lo < variable.hi => {
                 lines.push(format!(in alloc;
                     "warning: the variable {name} is written and never read"
                 )?)?;
