@@ -54,7 +54,8 @@ fn reasons(
 {
     let mut reasons = Vec::new(alloc);
     let verdict = Verdict::No { point, part };
-    if let Some(found) = explain(alloc, app, certificate, sources, verdict, Detail::Told)? {
+    let detail = Detail::Told;
+    if let Some(found) = explain(alloc, app, certificate, sources, verdict, detail, false)? {
         for item in &found.items {
             let Line { of, said } = item.line(alloc, app)?;
             reasons.push(Reason { of, said })?;
