@@ -56,7 +56,7 @@ fn add_others(
 }
 
 /// Why the verdict on the application with this text is no, as it is asked for: None where nobody asks, or where it is yes. With all
-/// details the other points that fail follow, a line each, 1,000 at the most.
+/// details the other points that fail follow, a line each, 1,000 at the most. Where `blames` asks for it, lines are named that a person would change.
 pub(crate) fn why(
     alloc: Global,
     text: &[u8],
@@ -64,6 +64,7 @@ pub(crate) fn why(
     certificate: &Certificate,
     verdict: Verdict,
     detail: Option<Detail>,
+    blames: bool,
 ) -> Result<Option<Explanation>, AllocError>
     requires { CertificateFits app.now certificate.now }
     ensures yes { IfOk result (λ found. verdict ≡ Yes → found ≡ None) }
@@ -73,7 +74,8 @@ pub(crate) fn why(
         return Ok(None);
     };
     let sources = sources_in(alloc, text)?;
-    let Some(mut found) = explain(alloc, app, certificate, &sources, verdict, detail)? else {
+    let found = explain(alloc, app, certificate, &sources, verdict, detail, blames)?;
+    let Some(mut found) = found else {
         return Ok(None);
     };
     if detail == Detail::Whole {
@@ -127,7 +129,7 @@ pub(crate) fn judged<R: Threads + Wait + Sync, G: Gate>(
     let text = app;
     let reading = judge_reading(rt, alloc, text, certificate, workers, gate)?;
     let (app, certificate) = (&reading.app, &reading.certificate);
-    let why = why(alloc, text, app, certificate, reading.verdict, detail)?;
+    let why = why(alloc, text, app, certificate, reading.verdict, detail, false)?;
     let waits = waits(alloc, app, certificate, reading.verdict, asks)?;
     let judged = Judged::new(
         reading.app,

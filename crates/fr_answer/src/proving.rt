@@ -173,7 +173,7 @@ pub(crate) fn proved<R: Threads + Wait + Sync, G: Gate>(
             Err(left) => tried = Some(left),
         }
     }
-    let why = why(alloc, bytes, &app, &certificate, verdict, ways.detail)?;
+    let why = why(alloc, bytes, &app, &certificate, verdict, ways.detail, true)?;
     let judged = Judged::new(app, certificate, verdict, why, waits).after_search(tried);
     Ok((What::Judged(judged), text))
 }

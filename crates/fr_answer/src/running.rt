@@ -80,7 +80,7 @@ fn refusal(
     ensures unasked { IfOk result (λ r. detail ≡ None → string_bytes r.1 ≡ []) }
 {
     let line = report(alloc, app, &verdict)?;
-    let explanation = why(alloc, text, app, certificate, verdict, detail)?;
+    let explanation = why(alloc, text, app, certificate, verdict, detail, false)?;
     let more = explanation_text(alloc, app, &explanation)?;
     Ok((line, more))
 }

@@ -160,12 +160,91 @@ fn common_turn(
     Ok(None)
 }
 
+/// Adds the number that the note of one of them says the variable has, unless its actor has another one, or another
+/// actor has this one.
+fn add_turn(
+    values: &mut BTreeMap<ActorId, i64>,
+    insider: &Insider,
+    variable: usize,
+) -> Result<(), AllocError> {
+    if let Some(value) = only_number(insider.note, variable) {
+        let is_taken = values.values().any(|other| *other == value);
+        if !is_taken && !values.contains_key(&insider.actor) {
+            values.insert(insider.actor, value)?;
+        }
+    }
+    Ok(())
+}
+
+/// The turn of the variable for those whose notes say which number it has.
+fn turn_of_some(
+    alloc: Global,
+    insiders: &[Insider],
+    variable: usize,
+) -> Result<Guard, AllocError> {
+    let mut values = BTreeMap::new(alloc);
+    for insider in insiders {
+        add_turn(&mut values, insider, variable)?;
+    }
+    Ok(Guard::Turn(VarId(variable), values))
+}
+
+/// The guards that some of them can have: each mutex, the critical section, each actor alone, each variable's turn.
+fn guards_of_some(
+    alloc: Global,
+    app: &App,
+    insiders: &[Insider],
+) -> Result<Vec<Guard>, AllocError> {
+    let mut guards = Vec::new(alloc);
+    for object in 0..app.objects().len() {
+        guards.push(Guard::Mutex(ObjId(object)))?;
+    }
+    guards.push(Guard::Critical)?;
+    for actor in 0..app.actors().len() {
+        guards.push(Guard::Sole(ActorId(actor)))?;
+    }
+    for variable in 0..app.variables().len() {
+        guards.push(turn_of_some(alloc, insiders, variable)?)?;
+    }
+    Ok(guards)
+}
+
+/// For how many of them the note says that the guard holds of the actor.
+fn count_with(insiders: &[Insider], guard: &Guard) -> usize {
+    insiders
+        .iter()
+        .filter(|insider| note_says(insider.note, insider.actor, guard))
+        .count()
+}
+
+/// The guard that fits and that most of them have, the first of several.
+fn guard_of_most(
+    alloc: Global,
+    app: &App,
+    insiders: &[Insider],
+    end: EndName,
+) -> Result<Option<EndGuard>, AllocError>
+    ensures { IfOk result (λ found. IfSome found (λ g. EndFits app.now (end_of g))) }
+{
+    let (mut best, mut most) = (Guard::Critical, 0);
+    for guard in guards_of_some(alloc, app, insiders)? {
+        let count = count_with(insiders, &guard);
+        let guard = EndGuard { end, guard };
+        if count > most && guard.fits(app) {
+            (best, most) = (guard.guard, count);
+        }
+    }
+    Ok(fitting(app, end, best))
+}
+
 /// The guard of an end that the notes inside it imply: one actor alone, a mutex, the critical section
-/// or a turn, and where they imply none, the first actor alone. None where nobody can be inside.
+/// or a turn, and where they imply none, the first actor alone, or what most of them imply, as it is
+/// wanted. None where nobody can be inside.
 fn guard_at(
     alloc: Global,
     app: &App,
     notes: &Notes,
+    wanted: Wanted,
     end: EndName,
 ) -> Result<Option<EndGuard>, AllocError>
     requires { NotesFit app.now notes.now }
@@ -188,16 +267,21 @@ fn guard_at(
     if let Some(turn) = common_turn(alloc, app, &insiders, end)? {
         return Ok(Some(turn));
     }
-    Ok(fitting(app, end, sole))
+    match wanted {
+        Wanted::OfMost => guard_of_most(alloc, app, &insiders, end),
+        Wanted::Reached | Wanted::Called => Ok(fitting(app, end, sole)),
+    }
 }
 
-/// Which ends get a guard.
+/// Which ends get a guard, and which one where the notes inside an end imply none.
 #[derive(Clone, Copy, PartialEq, Eq)]
 enum Wanted {
-    /// Those inside which somebody can be.
+    /// Those inside which somebody can be: the first actor alone.
     Reached,
-    /// Those at which some line has a call.
+    /// Those at which some line has a call: the first actor alone.
     Called,
+    /// Those at which some line has a call: the guard that most of the notes imply.
+    OfMost,
 }
 
 /// The actor whose call at this end has the least number, whether or not it is reached, as the end's
@@ -242,8 +326,8 @@ fn add_end(
     requires ends { EndsFit app.now (map end_of ends.old.items) }
     ensures { EndsFit app.now (map end_of ends.new.items) }
 {
-    let guard = match (guard_at(alloc, app, notes, end)?, wanted) {
-        (None, Wanted::Called) => first_caller(app, notes, end),
+    let guard = match (guard_at(alloc, app, notes, wanted, end)?, wanted) {
+        (None, Wanted::Called | Wanted::OfMost) => first_caller(app, notes, end),
         (guard, _) => guard,
     };
     match guard {
@@ -306,4 +390,13 @@ pub fn all_ends(alloc: Global, app: &App, notes: &Notes) -> Result<Ends, AllocEr
     ensures { IfOk result (λ ends. EndsFit app.now ends) }
 {
     ends_wanted(alloc, app, notes, Wanted::Called)
+}
+
+/// The same, but that an end whose guard the notes inside it don't all imply gets the guard that most of them imply, so that it
+/// fails only at the points that lack it.
+pub fn ends_of_most(alloc: Global, app: &App, notes: &Notes) -> Result<Ends, AllocError>
+    requires { NotesFit app.now notes.now }
+    ensures { IfOk result (λ ends. EndsFit app.now ends) }
+{
+    ends_wanted(alloc, app, notes, Wanted::OfMost)
 }

@@ -16,7 +16,7 @@ mod start;
 pub use arrivals::{points_before, target};
 pub use fault::FindFault;
 pub use finding::{find, is_rounds};
-pub use guards::all_ends;
+pub use guards::{all_ends, ends_of_most};
 pub use landing::{left_to_mover, left_to_other};
 pub use merging::add;
 pub use start::claims_at_start;

@@ -1,7 +1,6 @@
 // Closing a point's note under the steps of other actors.
 use crate::effect::{Effect, Effects};
 use crate::trial::{Item, Trial};
-use fr_calls::Way;
 use fr_notes::{Alternative, Claim};
 use fr_program::{ObjId, Range, VarId};
 use std::alloc::{AllocError, Global};
@@ -34,11 +33,11 @@ impl<'a> Trial<'a> {
         effect: Effect,
     ) -> Result<bool, AllocError> {
         let mut changed = false;
-        for way in [Way::Then, Way::Else] {
+        for way in self.ways_from(effect.mover.number) {
             if !self.spend() {
                 return Ok(changed);
             }
-            if let Some(left) = self.spread(alloc, effect.mover, actor, item, way)? {
+            if let Some(left) = self.spread(alloc, effect.mover, actor, item, *way)? {
                 changed |= self.merge(alloc, actor, item.number, left, true)?;
             }
         }

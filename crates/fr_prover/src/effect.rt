@@ -6,8 +6,9 @@ use crate::place::{Place, changed_life, place_at};
 use crate::trial::{Item, Trial};
 use fr_calls::Way;
 use fr_notes::{Alternative, Claim, Known, change_by};
-use fr_program::{App, Instr, Range, VarId};
+use fr_program::{App, Instr, Operand, Operator, Range, VarId};
 use std::alloc::{AllocError, Global};
+use std::collections::HashMap;
 use std::hash::{FoldHasher, Hash, Hasher};
 
 /// A step from a point, where an alternative of its note holds.
@@ -35,6 +36,8 @@ pub struct Written {
     /// What is so wherever one of them is made.
     common: Option<Common>,
     pub effects: Vec<Effect>,
+    /// The alternatives and `set`s of which there is an effect, by a print.
+    sets: HashMap<u64, usize>,
 }
 
 /// What several alternatives have in common: they exclude no less than this does.
@@ -99,6 +102,41 @@ impl Common {
     }
 }
 
+/// Feeds an operand to a hash.
+fn feed_operand(operand: Operand, hasher: &mut FoldHasher) {
+    match operand {
+        Operand::Number(number) => number.hash(hasher),
+        Operand::Variable(variable) => {
+            usize::MAX.hash(hasher);
+            variable.0.hash(hasher);
+        }
+    }
+}
+
+/// A number that an alternative and what a `set` computes have in common with equal ones; None for another instruction.
+fn print_of_set(facts: usize, instr: &Instr) -> Option<u64> {
+    let Instr::Set {
+        left,
+        operator,
+        right,
+        ..
+    } = instr
+    else {
+        return None;
+    };
+    let mut hasher = FoldHasher::default();
+    facts.hash(&mut hasher);
+    let operation: u32 = match operator {
+        Operator::Plus => 0,
+        Operator::Minus => 1,
+        Operator::Times => 2,
+    };
+    operation.hash(&mut hasher);
+    feed_operand(*left, &mut hasher);
+    feed_operand(*right, &mut hasher);
+    Some(hasher.finish())
+}
+
 impl Written {
     /// Whether one of the steps may be made where the alternative of another actor holds, and write what
     /// that excludes of the variable.
@@ -109,6 +147,18 @@ impl Written {
             }
             (_, _) => false,
         }
+    }
+
+    /// Whether there is an effect of such a `set` by the same alternative, which leaves the same. Now there is.
+    fn has_set(&mut self, mover: Item, instr: &Instr) -> Result<bool, AllocError> {
+        let Some(print) = print_of_set(mover.facts, instr) else {
+            return Ok(false);
+        };
+        if self.sets.contains_key(&print) {
+            return Ok(true);
+        }
+        self.sets.insert(print, mover.number)?;
+        Ok(false)
     }
 
     /// Adds a step that writes these numbers.
@@ -151,6 +201,7 @@ fn no_writes(alloc: Global, count: usize) -> Result<Vec<Written>, AllocError> {
             reach: None,
             common: None,
             effects: Vec::new(alloc),
+            sets: HashMap::new(alloc),
         })?;
     }
     Ok(writes)
@@ -213,7 +264,12 @@ impl Effects {
             return Ok(());
         };
         match self.writes.get_mut(variable.0) {
-            Some(written) if trial.is_felt(variable.0) => written.add(alloc, mover, facts, range),
+            Some(written) if trial.is_felt(variable.0) => {
+                if written.has_set(mover, place.instr)? {
+                    return Ok(());
+                }
+                written.add(alloc, mover, facts, range)
+            }
             _ => Ok(()),
         }
     }

@@ -7,7 +7,7 @@ ghost use Rattle.fr_ends.specs.Fits.{CertificateFits};
 use crate::pool::Pool;
 use crate::trial::Trial;
 use fr_ends::{Certificate, Ends};
-use fr_finder::{add, all_ends};
+use fr_finder::{add, all_ends, ends_of_most};
 use fr_judge::{Judging, Lists, Part};
 use fr_notes::{Alternative, Note, Notes};
 use fr_program::App;
@@ -99,7 +99,22 @@ fn blank(alloc: Global, app: &App) -> Result<Certificate, AllocError>
     Ok(Certificate { notes, ends })
 }
 
-/// The certificate, if it fits the application; otherwise the one by which nobody is ever anywhere.
+/// The certificate with the guard for each end that all notes inside it imply, or most of them.
+fn with_guards_of_most(
+    alloc: Global,
+    app: &App,
+    certificate: Certificate,
+) -> Result<Certificate, AllocError>
+    requires { CertificateFits app.now certificate }
+    ensures { IfOk result (λ c. CertificateFits app.now c) }
+{
+    let notes = certificate.notes;
+    let ends = ends_of_most(alloc, app, &notes)?;
+    Ok(Certificate { notes, ends })
+}
+
+/// The certificate, if it fits the application, with the guard for each end that all notes inside it imply, or most of them;
+/// otherwise the one by which nobody is ever anywhere.
 pub fn fitting(
     alloc: Global,
     app: &App,
@@ -108,18 +123,38 @@ pub fn fitting(
     ensures { IfOk result (λ c. CertificateFits app.now c) }
 {
     if certificate.fits(app) {
-        Ok(certificate)
+        with_guards_of_most(alloc, app, certificate)
     } else {
         blank(alloc, app)
     }
 }
 
-/// The points at which the certificate fails.
-fn failures(alloc: Global, app: &App, certificate: &Certificate) -> Result<Vec<Failure>, AllocError>
+/// Whether the points at which there were failures all fail again; there has to be one.
+fn fail_again(judging: &Judging, app: &App, bar: &[Failure]) -> bool
+    requires { judging.now.app ≡ app.now }
+{
+    for failure in bar {
+        if failure.number >= app.points() || judging.part_at(failure.number).is_none() {
+            return false;
+        }
+    }
+    !bar.is_empty()
+}
+
+/// The points at which the certificate fails; only those of `bar` where it fails at all of them.
+fn failures(
+    alloc: Global,
+    app: &App,
+    certificate: &Certificate,
+    bar: &[Failure],
+) -> Result<Vec<Failure>, AllocError>
     requires { CertificateFits app.now certificate.now }
 {
     let lists = Lists::build(alloc, app, certificate)?;
     let judging = Judging::with(app, certificate, &lists);
+    if fail_again(&judging, app, bar) {
+        return Vec::from_slice(alloc, bar);
+    }
     let mut failures = Vec::new(alloc);
     for number in 0..app.points() {
         if let Some(part) = judging.part_at(number) {
@@ -129,13 +164,14 @@ fn failures(alloc: Global, app: &App, certificate: &Certificate) -> Result<Vec<F
     Ok(failures)
 }
 
-/// The certificate of a try, with guards for all ends of buffers, and the points at which it fails.
-pub fn measure(alloc: Global, trial: &Trial) -> Result<Measured, AllocError>
+/// The certificate of a try, with guards for all ends of buffers, and the points at which it fails; only those of `bar` where it
+/// fails at all of them, since it isn't better then than the try that failed there.
+pub fn measure(alloc: Global, trial: &Trial, bar: &[Failure]) -> Result<Measured, AllocError>
     ensures { IfOk result (λ m. CertificateFits trial.now.pool.app.now m.certificate) }
 {
     let app = trial.pool.app();
     let certificate = certificate_of(alloc, &trial.pool, &trial.notes)?;
-    let failures = failures(alloc, app, &certificate)?;
+    let failures = failures(alloc, app, &certificate, bar)?;
     Ok(Measured {
         certificate,
         failures,

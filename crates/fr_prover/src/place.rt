@@ -2,6 +2,7 @@
 ghost use Rattle.std.specs.Prelude.{IfSome};
 ghost use Rattle.fr_finder.specs.Spots.{IsPlaced};
 
+use fr_calls::Way;
 use fr_program::{Act, App, Attempt, Call, Instr, Operand, Point, VarId};
 
 /// A point with its instruction.
@@ -91,5 +92,15 @@ pub fn changed_life(instr: &Instr) -> Option<usize> {
     match instr {
         Instr::Call(Call::Create { object, .. } | Call::Delete { object, .. }) => Some(object.0),
         _ => None,
+    }
+}
+
+/// The rows by which an instruction can have a step.
+pub fn ways(instr: &Instr) -> &'static [Way] {
+    match instr {
+        Instr::Set { .. } | Instr::Pick { .. } | Instr::Goto { .. } | Instr::Return => {
+            &[Way::Then]
+        }
+        Instr::If { .. } | Instr::Call(_) => &[Way::Then, Way::Else],
     }
 }

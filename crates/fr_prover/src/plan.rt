@@ -159,6 +159,17 @@ impl<'a> Plan<'a> {
         Ok(kept)
     }
 
+    /// Whether the notes of all actors speak of all variables in any case.
+    pub fn keeps_everything(&self) -> bool {
+        let actors = self.app.actors().len();
+        for variable in 0..self.app.variables().len() {
+            if self.users.count(variable) == 1 && actors > 1 {
+                return false;
+            }
+        }
+        true
+    }
+
     /// Marks the variable as kept for each actor that names it, and for all where not one alone does.
     fn keep_for_all(&self, kept: &mut Table, variable: usize) {
         let shared = self.users.count(variable) != 1;

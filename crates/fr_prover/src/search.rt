@@ -51,11 +51,12 @@ struct Search<'a> {
 }
 
 impl<'a> Search<'a> {
-    /// One try with these divisions, and what it teaches.
+    /// One try with these divisions, and what it teaches. Where it fails at all points of `bar`, no others are looked for.
     fn try_once(
         &mut self,
         alloc: Global,
         divisions: &[Division],
+        bar: &[Failure],
     ) -> Result<(Measured, Vec<Lesson>), AllocError> {
         let mut trial = Trial::new(
             alloc,
@@ -67,7 +68,7 @@ impl<'a> Search<'a> {
         )?;
         rise(alloc, &mut trial)?;
         self.left = trial.left;
-        let measured = measure(alloc, &trial)?;
+        let measured = measure(alloc, &trial, bar)?;
         let lessons = lessons(alloc, &trial)?;
         Ok((measured, lessons))
     }
@@ -85,13 +86,18 @@ impl<'a> Search<'a> {
     }
 
     /// The best of a try with these divisions, and of others with what the first teaches.
-    fn solve(&mut self, alloc: Global, divisions: &[Division]) -> Result<Measured, AllocError> {
-        let (mut best, lessons) = self.try_once(alloc, divisions)?;
+    fn solve(
+        &mut self,
+        alloc: Global,
+        divisions: &[Division],
+        bar: &[Failure],
+    ) -> Result<Measured, AllocError> {
+        let (mut best, lessons) = self.try_once(alloc, divisions, bar)?;
         for _ in 0..RETRIES {
             if best.failures.is_empty() || self.left == 0 || !self.learn(&lessons)? {
                 break;
             }
-            let (now, _) = self.try_once(alloc, divisions)?;
+            let (now, _) = self.try_once(alloc, divisions, bar)?;
             if now.failures.len() < best.failures.len() {
                 best = now;
             }
@@ -105,10 +111,11 @@ impl<'a> Search<'a> {
         alloc: Global,
         divisions: &[Division],
         division: &Division,
+        bar: &[Failure],
     ) -> Result<Tried, AllocError> {
         let mut divisions = copied_all(alloc, divisions)?;
         divisions.push(division.copied(alloc)?)?;
-        let measured = self.solve(alloc, &divisions)?;
+        let measured = self.solve(alloc, &divisions, bar)?;
         Ok(Tried {
             measured,
             divisions,
@@ -140,7 +147,12 @@ impl<'a> Search<'a> {
             if has_division(&best.divisions, division) {
                 continue;
             }
-            let tried = self.with(alloc, &best.divisions, division)?;
+            let tried = self.with(
+                alloc,
+                &best.divisions,
+                division,
+                bar_of(failures, better.as_ref()),
+            )?;
             let new = &tried.measured.failures;
             let is_over = new.is_empty() || self.is_over_with_first(new, failures);
             if is_over || is_better(new, failures, better.as_ref()) {
@@ -156,7 +168,7 @@ impl<'a> Search<'a> {
     /// The best try that is found. Once the first actor of those that fail doesn't fail any more, the next one has as many divisions.
     fn run(&mut self, alloc: Global) -> Result<Tried, AllocError> {
         let divisions = Vec::new(alloc);
-        let measured = self.solve(alloc, &divisions)?;
+        let measured = self.solve(alloc, &divisions, &[])?;
         let mut best = Tried {
             measured,
             divisions,
@@ -178,6 +190,14 @@ impl<'a> Search<'a> {
             best = better;
         }
         Ok(best)
+    }
+}
+
+/// The failures all of which a try has that is no better: those without its division. None where the best so far has more.
+fn bar_of<'a>(old: &'a [Failure], better: Option<&Tried>) -> &'a [Failure] {
+    match better {
+        Some(better) if better.measured.failures.len() > old.len() => &[],
+        _ => old,
     }
 }
 
@@ -214,7 +234,7 @@ fn searched(
 fn best(alloc: Global, app: &App) -> Result<Certificate, AllocError> {
     let plan = Plan::new(alloc, app)?;
     let (first, left) = searched(alloc, &plan, false, MOST_STEPS)?;
-    if first.failures.is_empty() {
+    if first.failures.is_empty() || plan.keeps_everything() {
         return Ok(first.certificate);
     }
     let (second, _) = searched(alloc, &plan, true, left)?;

@@ -1,7 +1,6 @@
 // Working through one actor until its notes are stable under its own steps.
 use crate::effect::Effects;
 use crate::trial::{Item, Trial};
-use fr_calls::Way;
 use std::alloc::{AllocError, Global};
 use std::collections::{BTreeMap, HashMap};
 use std::hash::{FoldHasher, Hash, Hasher};
@@ -84,11 +83,11 @@ impl<'a> Work<'a> {
 
     /// Merges what the steps from a point leave, where this alternative of its note holds.
     fn step(&mut self, alloc: Global, trial: &mut Trial, from: Item) -> Result<(), AllocError> {
-        for way in [Way::Then, Way::Else] {
+        for way in trial.ways_from(from.number) {
             if !trial.spend() {
                 return Ok(());
             }
-            if let Some(left) = trial.land(alloc, from, way)? {
+            if let Some(left) = trial.land(alloc, from, *way)? {
                 self.arrive(alloc, trial, left)?;
             }
         }

@@ -4,9 +4,11 @@ ghost use Rattle.fr_notes.specs.Fits.{AlternativeFits};
 
 use crate::division::{Division, add_cuts, are_alike};
 use crate::growth::{Growth, grown};
+use crate::place::{place_at, ways};
 use crate::plan::Plan;
 use crate::pool::Pool;
 use crate::table::Table;
+use fr_calls::Way;
 use fr_notes::{Alternative, Claim, Known, keeps};
 use fr_program::{App, Range, VarId};
 use std::alloc::{AllocError, Global};
@@ -129,6 +131,14 @@ impl<'a> Trial<'a> {
     /// Whether the notes of several actors speak of the variable.
     pub fn is_felt(&self, variable: usize) -> bool {
         self.felt.get(variable).copied() == Some(true)
+    }
+
+    /// The rows by which the point's instruction can have a step.
+    pub fn ways_from(&self, number: usize) -> &'static [Way] {
+        match place_at(self.plan.app, number) {
+            Some(place) => ways(place.instr),
+            None => &[],
+        }
     }
 
     /// Takes one of the steps that may still be looked at. Whether there was one.

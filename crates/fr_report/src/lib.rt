@@ -29,7 +29,7 @@ pub use refuting::{ExplainedRun, breach_text, explain_deadlock, explain_run, fin
 pub use shown::{actor_name, object_name, rule_text, side_name};
 pub use sources::Sources;
 pub use text::{part_text, report, verdict_line};
-pub use told::{Explained, Explanation, Line, ShownState, Standing, explanation_text};
+pub use told::{Explained, Explanation, Line, Named, ShownState, Standing, explanation_text};
 pub use trace::trace_text;
 pub use waits::{deadlock_text, order_line};
 pub use warning::{

@@ -6,6 +6,7 @@ ghost use Rattle.fr_ends.specs.Fits.{CertificateFits};
 ghost use Rattle.fr_report.specs.Told.{IsTold, AreTold, IsFormed, IsScene, IsSite};
 
 mod changes;
+mod culprits;
 mod depths;
 mod guards;
 mod notes;
@@ -19,6 +20,7 @@ use crate::sources::Sources;
 use crate::told::{Explained, Explanation, ShownState};
 pub use changes::ExplainedStep;
 pub(crate) use changes::step_explained;
+use culprits::{add_deleters, add_lackers, add_set, add_way};
 pub use depths::{Depth, depth_in, depths_of, state_told};
 use fr_calls::{Rule, State, the_start_is_well_formed};
 use fr_ends::{Certificate, EndName};
@@ -151,7 +153,13 @@ fn add_lacking(
     put_unguarded(&mut so, app, guard, actor, state)?;
     items.push(Explained::Guard { end, who })?;
     items.push(Explained::But(so))?;
+    if scene.blames {
+        add_way(items, scene, guard, scene.site.point)?;
+    }
     add_rival(items, scene, certificate, end)?;
+    if scene.blames {
+        add_lackers(items, scene, certificate, end, guard)?;
+    }
     Ok(items.push(Explained::Allowed(ShownState::OneNote))?)
 }
 
@@ -159,10 +167,12 @@ fn add_lacking(
 fn add_breaking(
     items: &mut Vec<Explained>,
     scene: &Scene,
+    certificate: &Certificate,
     rule: Rule,
     state: &State,
 ) -> Result<(), AllocError>
-    requires { IsWellFormed scene.now.app.now state.now }
+    requires formed { IsWellFormed scene.now.app.now state.now }
+    requires fits { CertificateFits scene.now.app.now certificate.now }
 {
     let (site, mut so) = (scene.site, String::new(scene.alloc));
     put_breach(
@@ -175,6 +185,9 @@ fn add_breaking(
     )?;
     add_state(items, scene, ShownState::OneNote, state)?;
     items.push(Explained::But(so))?;
+    if scene.blames && rule == Rule::IsLive {
+        add_deleters(items, scene, certificate)?;
+    }
     Ok(items.push(Explained::Allowed(ShownState::OneNote))?)
 }
 
@@ -223,7 +236,9 @@ fn add_witness(
             add_state(items, scene, ShownState::Start, state)?;
             add_broken(items, scene, ShownState::Start, scene.site, state)
         }
-        (Part::Rule(rule), Witness::Breaks(state), _) => { add_breaking(items, scene, rule, state) }
+        (Part::Rule(rule), Witness::Breaks(state), _) => {
+            add_breaking(items, scene, certificate, rule, state)
+        }
         (Part::Guard(end), Witness::Unguarded(Some(state)), _) => {
             add_lacking(items, scene, certificate, end, state)
         }
@@ -240,6 +255,9 @@ fn add_witness(
         (_, Witness::Breaks(state), Some(other)) => add_beyond(items, scene, &other, state),
         (_, Witness::Both(state), _) => {
             add_state(items, scene, ShownState::BothNotes, state)?;
+            if scene.blames {
+                add_deleters(items, scene, certificate)?;
+            }
             Ok(items.push(Explained::Allowed(ShownState::BothNotes))?)
         }
         _ => Ok(()),
@@ -256,6 +274,7 @@ fn scene_of<'a>(
     point: Point,
     part: Part,
     detail: Detail,
+    blames: bool,
 ) -> Option<Scene<'a>>
     requires { CertificateFits app.now certificate.now }
     ensures { IfSome result (λ s. (s.app.now ≡ app.now) × IsScene s) }
@@ -276,6 +295,7 @@ fn scene_of<'a>(
         app,
         sources,
         detail,
+        blames,
         site,
         other,
         guarded,
@@ -298,6 +318,8 @@ fn add_points(items: &mut Vec<Explained>, scene: &Scene) -> Result<(), AllocErro
 /// Why a verdict is no, in the order in which it is told: a state that the notes allow, and where the part is about
 /// a step the step, as `witness` of fr_witness finds them; each point with its line of code, what the note says, and
 /// what is so. None where the verdict is yes. The certificate fits the application; `sources` says where its lines are in a source.
+/// Where `blames` asks for it, lines are named that a person would change: those at which a guard could have been got, by all points that
+/// lack it; those that delete the object of a call; and first the `set` that spoils the point, where that is out of its range itself.
 ///
 /// # Errors
 ///
@@ -309,6 +331,7 @@ pub fn explain(
     sources: &Sources,
     verdict: Verdict,
     detail: Detail,
+    blames: bool,
 ) -> Result<Option<Explanation>, AllocError>
     requires { CertificateFits app.now certificate.now }
     ensures { IfOk result (λ found. verdict ≡ Yes → found ≡ None) }
@@ -316,13 +339,19 @@ pub fn explain(
     let Verdict::No { point, part } = verdict else {
         return Ok(None);
     };
-    let Some(scene) = scene_of(alloc, app, certificate, sources, point, part, detail) else {
+    let found = scene_of(alloc, app, certificate, sources, point, part, detail, blames);
+    let Some(scene) = found else {
         return Ok(None);
     };
-    let mut items = Vec::new(alloc);
-    add_points(&mut items, &scene)?;
     app.recall_faultless();
     the_start_is_well_formed();
+    let mut items = Vec::new(alloc);
+    if let Part::Spoiled(by) = part
+        && blames
+    {
+        add_set(&mut items, &scene, certificate, by)?;
+    }
+    add_points(&mut items, &scene)?;
     match witness(alloc, app, certificate, verdict)? {
         Some(found) => add_witness(&mut items, &scene, certificate, part, &found)?,
         None => items.push(Explained::NotFound)?,

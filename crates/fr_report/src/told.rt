@@ -39,6 +39,21 @@ pub enum ShownState {
     BothNotes,
 }
 
+/// What a line of code has to do with a verdict.
+#[derive(Clone, Copy)]
+pub enum Named {
+    /// Another point at which a guard is missing.
+    Lacks,
+    /// A line that gives the guard, or tests it.
+    GetsAt,
+    /// A line before which the guard could be got, since no line of its actor gives it.
+    GetsAhead,
+    /// A line that deletes the object.
+    Deletes,
+    /// A `set` that is out of its range itself.
+    OutOfRange,
+}
+
 /// One thing that explains a verdict: a line of text.
 #[derive(Drop)]
 pub enum Explained {
@@ -79,6 +94,11 @@ pub enum Explained {
     Unguarded(EndName),
     /// The point of another actor that can be at the same end.
     Beside(Standing),
+    /// A line that a person would change, or another point that fails for the same reason.
+    Named {
+        as_what: Named,
+        at: Standing,
+    },
     /// The notes allow such a state, and don't say whether a run gets there.
     Allowed(ShownState),
     /// No state that shows it was found.
@@ -154,6 +174,19 @@ impl Line {
             String::from_str(alloc, &self.said)
         } else {
             format!(in alloc; "{}: {}", self.of, self.said)
+        }
+    }
+}
+
+impl Named {
+    /// The words before the line.
+    fn words(self) -> &'static str {
+        match self {
+            Named::Lacks => "without the guard, ",
+            Named::GetsAt => "could get it at ",
+            Named::GetsAhead => "could get it ahead of ",
+            Named::Deletes => "deleted by ",
+            Named::OutOfRange => "rule 12 fails first at ",
         }
     }
 }
@@ -251,7 +284,10 @@ impl Explained {
             Explained::Allowed(of) => text.push_str(of.words().2),
             Explained::NotFound => text.push_str("no state that shows it was found"),
             Explained::More(count) => write!(text, "and {count} more"),
-            Explained::Place(_) | Explained::Then(_) | Explained::Beside(_) => Ok(()),
+            Explained::Place(_)
+            | Explained::Then(_)
+            | Explained::Beside(_)
+            | Explained::Named { .. } => Ok(()),
         }
     }
 
@@ -266,6 +302,7 @@ impl Explained {
             Explained::Place(at) => return at.line(alloc, app, ""),
             Explained::Then(at) => return at.line(alloc, app, "then "),
             Explained::Beside(at) => return at.line(alloc, app, "beside "),
+            Explained::Named { as_what, at } => return at.line(alloc, app, as_what.words()),
             _ => {}
         }
         self.put_name(&mut of, app)?;

@@ -55,14 +55,9 @@ fn reasons(
 {
     let mut reasons = Vec::new(alloc);
     let verdict = Verdict::No { point, part };
-    if let Some(mut found) = explain(
-        alloc,
-        app,
-        certificate,
-        &code.sources,
-        verdict,
-        Detail::Told,
-    )? {
+    let detail = Detail::Told;
+    let sources = &code.sources;
+    if let Some(mut found) = explain(alloc, app, certificate, sources, verdict, detail, false)? {
         for item in &mut found.items {
             code.put_into(alloc, item)?;
             let Line { of, said } = item.line(alloc, app)?;

@@ -131,12 +131,11 @@ pub fn note_told(
     }
 }
 
-/// Whether another actor is at the end of a buffer at this site, which its note doesn't say it never reaches.
-fn is_rival(site: Site, actor: ActorId, end: EndName) -> bool {
+/// Whether an actor at this site is inside a call at the end of a buffer, and its note doesn't say that it is never there.
+pub(super) fn is_inside(site: Site, end: EndName) -> bool {
     match (site.point.side, site.instr) {
         (Side::Inside, Instr::Call(Call::On(call))) => {
-            site.point.actor.0 != actor.0
-                && call.object.0 == end.buffer.0
+            call.object.0 == end.buffer.0
                 && is_at_end(end.end, call.act)
                 && !site.note.alternatives().is_empty()
         }
@@ -155,7 +154,7 @@ pub(super) fn rival_of<'a>(
 {
     for number in 0..app.points() {
         if let Some(site) = site_of(app, certificate, app.point(number)) {
-            if is_rival(site, actor, end) {
+            if site.point.actor.0 != actor.0 && is_inside(site, end) {
                 return Some(site);
             }
         }

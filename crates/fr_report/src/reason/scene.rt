@@ -31,13 +31,15 @@ pub(super) struct Scene<'a> {
     /// Where its lines are in a source.
     pub sources: &'a Sources,
     pub detail: Detail,
+    /// Whether lines are named that a person would change.
+    pub blames: bool,
     pub site: Site<'a>,
     pub other: Option<Site<'a>>,
     pub guarded: Option<Subject>,
 }
 
 /// Whether the operand is this variable.
-fn is_variable(operand: Operand, variable: VarId) -> bool {
+pub(super) fn is_variable(operand: Operand, variable: VarId) -> bool {
     match operand {
         Operand::Number(_) => false,
         Operand::Variable(x) => x.0 == variable.0,
