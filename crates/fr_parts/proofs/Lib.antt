@@ -5,3 +5,4 @@ pub mod Operands
 pub mod Rows
 pub mod Breaches
 pub mod CutDown
+pub mod Divides
