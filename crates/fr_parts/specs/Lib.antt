@@ -1,0 +1,4 @@
+pub mod Parts
+pub mod Named
+pub mod View
+pub mod Laws
