@@ -1,0 +1,17 @@
+/* What a firmware's FreeRTOSConfig.h would have.
+ * SPDX-License-Identifier: MIT OR Apache-2.0
+ */
+#ifndef STUB_FREERTOS_CONFIG_H
+#define STUB_FREERTOS_CONFIG_H
+
+#ifndef configNUMBER_OF_CORES
+#define configNUMBER_OF_CORES 2
+#endif
+#define configMAX_TASK_NAME_LEN 16
+
+unsigned stub_interrupt_number(void);
+#define FR_TRACE_IRQ() stub_interrupt_number()
+
+#include "fr_trace.h"
+
+#endif
