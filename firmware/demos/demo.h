@@ -22,7 +22,7 @@ static void demo_line(const char *line)
 }
 
 /* Runs the tasks until one of them ends the scheduler, and writes the trace to the file that the argument names. */
-static int demo_run(int argc, char **argv)
+static int demo_run(int argc, char **argv, void (*print_line)(const char *line))
 {
     if (argc != 2) {
         (void) fprintf(stderr, "usage: %s TRACE\n", argv[0]);
@@ -34,7 +34,7 @@ static int demo_run(int argc, char **argv)
         perror(argv[1]);
         return 3;
     }
-    fr_trace_dump(demo_line);
+    fr_trace_dump(print_line);
     return (fclose(demo_file) == 0) ? 0 : 3;
 }
 

@@ -137,5 +137,5 @@ int main(int argc, char **argv)
     (void) xTaskCreate(shell, "shell", 100u, NULL, 1u, NULL);
 #endif
     stub_interrupt(7u, power_fails, 100000u);
-    return demo_run(argc, argv);
+    return demo_run(argc, argv, demo_line);
 }

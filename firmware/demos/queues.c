@@ -105,5 +105,5 @@ int main(int argc, char **argv)
     (void) xTaskCreate(consumer, "consumer", 100u, NULL, 1u, NULL);
     (void) xTaskCreate(user, "user", 100u, NULL, 1u, NULL);
     stub_interrupt(33u, timer, 1500u);
-    return demo_run(argc, argv);
+    return demo_run(argc, argv, demo_line);
 }

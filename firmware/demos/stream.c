@@ -67,5 +67,5 @@ int main(int argc, char **argv)
     fr_trace_irq(15u, "tick");
     (void) xTaskCreate(rx, "rx", 100u, NULL, 1u, NULL);
     stub_interrupt(15u, tick, 20u);
-    return demo_run(argc, argv);
+    return demo_run(argc, argv, demo_line);
 }

@@ -9,6 +9,9 @@
 #endif
 #define configMAX_TASK_NAME_LEN 16
 
+#ifndef FR_TRACE_RECORDS
+#define FR_TRACE_RECORDS 16384u
+#endif
 unsigned stub_interrupt_number(void);
 #define FR_TRACE_IRQ() stub_interrupt_number()
 
