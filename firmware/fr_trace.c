@@ -166,10 +166,11 @@ struct fr_actor {
     /* What follows is used by the actor itself alone. */
     const void *buffer;             /* where the item will be that it receives */
     uint8_t bytes;                  /* of this item; 0: it isn't recorded */
-    uint8_t call;                   /* that it is in; FR_NONE: not recorded */
+    uint8_t call;                   /* that it is in; FR_OTHER: not recorded */
     uint8_t object;                 /* of this call */
     uint8_t depth;                  /* how many functions of the kernel it is in */
     uint8_t floor;                  /* the depth between two calls: 1 where they aren't to be recorded */
+    uint8_t is_kernel;              /* the idle task, or the timer service */
 };
 
 struct fr_object {
@@ -390,18 +391,18 @@ static uintptr_t fr_begin_call(enum fr_call call)
         return FR_NOBODY;
     }
     me->bytes = 0u;
-    return at;
+    me->call = (uint8_t) FR_OTHER;
+    return (call != FR_OTHER) ? at : FR_NOBODY;
 }
 
-/* Records the begin of a call. An interrupt without a name counts only where it uses an object that has one: the tick
- * of a port for several cores would fill the ring. */
+/* Records the begin of a call. A task of the kernel and an interrupt without a name count only where they use an object
+ * that has one: the tick of a port for several cores would fill the ring. */
 static void fr_put_enter(enum fr_call call, uintptr_t at, const void *object, uint32_t ticks, const uint32_t *value)
 {
     struct fr_actor *me = &fr_actors[at];
     uint32_t handle = (uint32_t) (uintptr_t) object;
     me->object = (uint8_t) fr_find(&fr_object_table, (uintptr_t) object);
-    if ((me->object == FR_NOBODY) && (me->name == NULL) && (me->label[0] == '\0')) {
-        me->call = (uint8_t) FR_NONE;
+    if ((me->object == FR_NOBODY) && (me->name == NULL) && ((me->is_kernel != 0u) || (me->label[0] == '\0'))) {
         return;
     }
     me->call = (uint8_t) call;
@@ -483,7 +484,7 @@ void fr_trace_return(uintptr_t result)
     }
     me = &fr_actors[at];
     me->depth--;
-    if ((me->depth != 0u) || (me->call == (uint8_t) FR_NONE)) {
+    if ((me->depth != 0u) || (me->call == (uint8_t) FR_OTHER)) {
         return;
     }
     if (fr_forms[me->call].answer == 'c') {
@@ -520,10 +521,10 @@ static void fr_begin_actor(uintptr_t at, uintptr_t key)
     fr_give_key(&fr_actor_table, at, key);
 }
 
-/* A task that has the name of one before it is the same actor. */
-static void fr_name_actor(uintptr_t key, const char *name)
+/* The place of the actor that is given this name. One that had the name before is the same actor; if there is none, it is
+ * `now` unless that has a name, or a new one. */
+static uintptr_t fr_name_actor(uintptr_t now, const char *name)
 {
-    uintptr_t now = fr_find(&fr_actor_table, key);
     uintptr_t used = fr_used(&fr_actor_table);
     uintptr_t at = 0u;
     while ((at < used) && ((fr_actors[at].name == NULL) || (strcmp(fr_actors[at].name, name) != 0))) {
@@ -532,22 +533,56 @@ static void fr_name_actor(uintptr_t key, const char *name)
     if (at == used) {
         at = ((now != FR_NOBODY) && (fr_actors[now].name == NULL)) ? now : fr_new_place(&fr_actor_table);
     }
-    if ((at != FR_NOBODY) && (key != 0u)) {
+    if (at != FR_NOBODY) {
         fr_actors[at].name = name;
-        if (at != now) {
-            fr_begin_actor(at, key);
-        }
+    }
+    return at;
+}
+
+static void fr_name_key(uintptr_t key, const char *name)
+{
+    uintptr_t now = fr_find(&fr_actor_table, key);
+    uintptr_t at = fr_name_actor(now, name);
+    if ((at != FR_NOBODY) && (at != now)) {
+        fr_begin_actor(at, key);
     }
 }
 
 void fr_trace_task(const void *task, const char *name)
 {
-    fr_name_actor((task != NULL) ? (uintptr_t) task : (uintptr_t) xTaskGetCurrentTaskHandle(), name);
+    fr_name_key((task != NULL) ? (uintptr_t) task : (uintptr_t) xTaskGetCurrentTaskHandle(), name);
 }
 
 void fr_trace_irq(unsigned long number, const char *name)
 {
-    fr_name_actor((uintptr_t) number, name);
+    fr_name_key((uintptr_t) number, name);
+}
+
+void fr_trace_quiet(const char *name)
+{
+    uintptr_t at = fr_name_actor(FR_NOBODY, name);
+    if (at != FR_NOBODY) {
+        fr_actors[at].floor = 1u;
+        fr_actors[at].depth = 1u;
+    }
+}
+
+static void fr_set_floor(uintptr_t at, uint8_t floor)
+{
+    if (at != FR_NOBODY) {
+        fr_actors[at].floor = floor;
+        fr_actors[at].depth = floor;
+    }
+}
+
+void fr_callback_begin(void)
+{
+    fr_set_floor(fr_here(), 0u);
+}
+
+void fr_callback_end(void)
+{
+    fr_set_floor(fr_here(), 1u);
 }
 
 /* The hook of xTaskCreate, which is in a critical section. A task that is created again under its name is the same actor. */
@@ -565,7 +600,7 @@ void fr_trace_task_created(const void *task, const char *name)
     fr_forget(&fr_actor_table, (uintptr_t) task);       /* a deleted task may have been at this address */
     for (at = 0u; at < used; at++) {
         int is_free = (fr_load(&fr_actors[at].gone) != 0u) || (fr_load(&fr_actor_keys[at]) == 0u);
-        if (is_free && (fr_actors[at].name == NULL) && (strcmp(fr_actors[at].label, label) == 0)) {
+        if (is_free && (strcmp(fr_actor_name(at), label) == 0)) {
             fr_begin_actor(at, (uintptr_t) task);
             return;
         }
@@ -573,37 +608,9 @@ void fr_trace_task_created(const void *task, const char *name)
     at = fr_new_place(&fr_actor_table);
     if (at != FR_NOBODY) {
         (void) memcpy(fr_actors[at].label, label, sizeof label);
+        fr_actors[at].is_kernel = (uint8_t) ((strncmp(label, "IDLE", 4u) == 0) || (strcmp(label, "Tmr_Svc") == 0));
         fr_begin_actor(at, (uintptr_t) task);
     }
-}
-
-static void fr_set_floor(uintptr_t at, uint8_t floor)
-{
-    if (at != FR_NOBODY) {
-        fr_actors[at].floor = floor;
-        fr_actors[at].depth = floor;
-    }
-}
-
-void fr_trace_quiet(const char *name)
-{
-    uintptr_t used = fr_used(&fr_actor_table);
-    uintptr_t at;
-    for (at = 0u; at < used; at++) {
-        if (strcmp(fr_actor_name(at), name) == 0) {
-            fr_set_floor(at, 1u);
-        }
-    }
-}
-
-void fr_callback_begin(void)
-{
-    fr_set_floor(fr_here(), 0u);
-}
-
-void fr_callback_end(void)
-{
-    fr_set_floor(fr_here(), 1u);
 }
 
 /* An object that has the name of one before it is the same object, created again. */
@@ -636,6 +643,14 @@ static void fr_name_object(const void *object, const char *name, uintptr_t kind)
 void fr_trace_name(const void *object, const char *name, enum fr_kind kind)
 {
     fr_name_object(object, name, (uintptr_t) kind);
+}
+
+/* The hook of vQueueAddToRegistry, which the kernel calls for the queue of its timer service, too. */
+void fr_trace_registry(const void *queue, const char *name)
+{
+    if ((FR_TRACE_TIMERS != 0) || (strcmp(name, "TmrQ") != 0)) {
+        fr_name_object(queue, name, (uintptr_t) FR_QUEUE);
+    }
 }
 
 void fr_trace_queue(const void *queue, const char *name, unsigned item_bytes, int is_signed)
@@ -878,6 +893,9 @@ void fr_trace_dump(void (*print_line)(const char *line))
     }
 #endif
     print_line("fr_trace 1");
+#if !FR_TRACE_SUSPENSION
+    print_line("unseen vTaskSuspendAll xTaskResumeAll");
+#endif
 #if !FR_TRACE_WRAPPED
     print_line("unseen taskYIELD");
 #if !FR_TRACE_CRITICAL_HOOKS

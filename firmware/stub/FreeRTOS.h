@@ -19,6 +19,12 @@ typedef uint32_t TickType_t;
 #include "FreeRTOSConfig.h"
 
 /* As in the kernel's FreeRTOS.h: a hook that nobody defines is empty. The stub uses more of them than fr_trace.h has. */
+#ifndef traceENTER_vTaskSuspendAll
+#define traceENTER_vTaskSuspendAll()
+#define traceRETURN_vTaskSuspendAll()
+#define traceENTER_xTaskResumeAll()
+#define traceRETURN_xTaskResumeAll(xAlreadyYielded)
+#endif
 #ifndef traceENTER_vTaskEnterCritical
 #define traceENTER_vTaskEnterCritical()
 #define traceRETURN_vTaskEnterCritical()
