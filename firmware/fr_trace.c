@@ -744,8 +744,14 @@ static int fr_read(uintptr_t number, struct fr_event *event)
     return 1;
 }
 
-/* The name that the object was given which the create at record `number` makes. */
-static const char *fr_created_name(uintptr_t number, uintptr_t end, uint8_t actor)
+static void fr_add_unnamed(struct fr_text *text, uint32_t handle)
+{
+    fr_add(text, "unnamed_");
+    fr_add_number(text, handle, 16u);
+}
+
+/* The object that the create at record `number` makes: its name was recorded after the return of the create. */
+static void fr_add_created(struct fr_text *text, uintptr_t number, uintptr_t end, uint8_t actor)
 {
     struct fr_event event;
     uintptr_t handle = 0u;
@@ -759,23 +765,29 @@ static const char *fr_created_name(uintptr_t number, uintptr_t end, uint8_t acto
                 break;              /* the create failed */
             }
         } else if ((handle != 0u) && is_there && (event.call == (uint8_t) FR_NAMED) && (event.what == handle)) {
-            return fr_objects[event.object].name;
+            fr_add(text, fr_objects[event.object].name);
+            return;
+        } else if ((handle != 0u) && is_return && (event.what == handle) && (fr_forms[event.call & 0x7Fu].answer == 'c')) {
+            break;                  /* the next object at this address */
         } else {
             /* of others */
         }
     }
-    return "?";
+    if (handle != 0u) {
+        fr_add_unnamed(text, (uint32_t) handle);
+    } else {
+        fr_add_char(text, '?');
+    }
 }
 
 static void fr_add_object(struct fr_text *text, const struct fr_event *event, uintptr_t number, uintptr_t end)
 {
     if (fr_forms[event->call].answer == 'c') {
-        fr_add(text, fr_created_name(number, end, event->actor));
+        fr_add_created(text, number, end, event->actor);
     } else if (event->object != FR_NOBODY) {
         fr_add(text, fr_objects[event->object].name);
     } else {
-        fr_add(text, "unnamed_");
-        fr_add_number(text, event->value, 16u);     /* the handle */
+        fr_add_unnamed(text, event->value);
     }
 }
 

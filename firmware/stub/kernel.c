@@ -53,6 +53,7 @@ enum { MOST_TASKS = 16, MOST_INTERRUPTS = 8, TICK_US = 100, MOST_MS = 2000 };
 static pthread_mutex_t kernel = PTHREAD_MUTEX_INITIALIZER;
 static pthread_cond_t changed = PTHREAD_COND_INITIALIZER;
 static pthread_mutex_t critical_section;
+static pthread_once_t has_critical_section = PTHREAD_ONCE_INIT;
 static struct tskTaskControlBlock tasks[MOST_TASKS];
 static unsigned task_count;
 static struct interrupt interrupts[MOST_INTERRUPTS];
@@ -147,6 +148,12 @@ void stub_interrupt(unsigned number, void (*handler)(void), unsigned every_us)
     interrupt_count++;
 }
 
+void stub_act_as(TaskHandle_t task, unsigned interrupt)
+{
+    this_task = task;
+    this_interrupt = interrupt;
+}
+
 void stub_end_scheduler(void)
 {
     atomic_store(&has_ended, 1);
@@ -177,13 +184,9 @@ TaskHandle_t xTaskGetCurrentTaskHandle(void)
 
 void vTaskStartScheduler(void)
 {
-    pthread_mutexattr_t recursive;
     pthread_t thread;
     unsigned i;
-    (void) pthread_mutexattr_init(&recursive);
-    (void) pthread_mutexattr_settype(&recursive, PTHREAD_MUTEX_RECURSIVE);
-    (void) pthread_mutex_init(&critical_section, &recursive);
-    for (i = 0; i < task_count; i++) {
+    for (i = 0; (i < task_count) && !atomic_load(&has_ended); i++) {
         (void) pthread_create(&thread, NULL, run_task, &tasks[i]);
     }
     for (i = 0; i < interrupt_count; i++) {
@@ -210,9 +213,10 @@ void vTaskDelete(TaskHandle_t xTaskToDelete)
     traceENTER_vTaskDelete(xTaskToDelete);
     taskENTER_CRITICAL();
     taskEXIT_CRITICAL();
-    for (;;) {
+    while ((xTaskToDelete == NULL) && atomic_load(&is_running)) {
         stub_pause_us(1000000u);
     }
+    traceRETURN_vTaskDelete();
 }
 
 void vTaskSuspendAll(void)
@@ -236,8 +240,17 @@ void vPortYield(void)
     (void) sched_yield();
 }
 
+static void make_critical_section(void)
+{
+    pthread_mutexattr_t recursive;
+    (void) pthread_mutexattr_init(&recursive);
+    (void) pthread_mutexattr_settype(&recursive, PTHREAD_MUTEX_RECURSIVE);
+    (void) pthread_mutex_init(&critical_section, &recursive);
+}
+
 void vPortEnterCritical(void)
 {
+    (void) pthread_once(&has_critical_section, make_critical_section);
     (void) pthread_mutex_lock(&critical_section);
 }
 
@@ -456,6 +469,12 @@ BaseType_t xQueueGiveFromISR(QueueHandle_t xQueue, BaseType_t *pxHigherPriorityT
     xReturn = put_item(xQueue, NULL, 0u);
     traceRETURN_xQueueGiveFromISR(xReturn);
     return xReturn;
+}
+
+void vQueueDelete(QueueHandle_t xQueue)
+{
+    traceENTER_vQueueDelete(xQueue);
+    traceRETURN_vQueueDelete();
 }
 
 /* ---- stream_buffer.c ---- */

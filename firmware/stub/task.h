@@ -19,7 +19,7 @@ BaseType_t xTaskCreate(TaskFunction_t code, const char *name, unsigned stack, vo
 TaskHandle_t xTaskGetCurrentTaskHandle(void);
 void vTaskStartScheduler(void);                 /* returns after stub_end_scheduler, or after two seconds */
 void vTaskDelay(TickType_t ticks);              /* a tick has 100 us */
-void vTaskDelete(TaskHandle_t task);            /* NULL alone */
+void vTaskDelete(TaskHandle_t task);            /* with NULL it never returns */
 void vTaskSuspendAll(void);
 BaseType_t xTaskResumeAll(void);
 void vTaskEnterCritical(void);
@@ -57,16 +57,19 @@ BaseType_t xQueueReceiveFromISR(QueueHandle_t xQueue, void *pvBuffer, BaseType_t
 BaseType_t xQueueSemaphoreTake(QueueHandle_t xQueue, TickType_t xTicksToWait);
 BaseType_t xQueueTakeMutexRecursive(QueueHandle_t xMutex, TickType_t xTicksToWait);
 BaseType_t xQueueGiveMutexRecursive(QueueHandle_t xMutex);
+void vQueueDelete(QueueHandle_t xQueue);
 BaseType_t xQueueGiveFromISR(QueueHandle_t xQueue, BaseType_t *woken);
 
 #define xQueueCreate(length, item_size) xQueueGenericCreate((length), (item_size), 0u)
 #define xQueueSend(queue, item, ticks) xQueueGenericSend((queue), (item), (ticks), 0)
+#define xQueueSendToFront(queue, item, ticks) xQueueGenericSend((queue), (item), (ticks), 1)
 #define xSemaphoreCreateBinary() xQueueGenericCreate(1u, 0u, 3u)
 #define xSemaphoreCreateMutex() xQueueCreateMutex(1u)
 #define xSemaphoreCreateRecursiveMutex() xQueueCreateMutex(4u)
 #define xSemaphoreTake(semaphore, ticks) xQueueSemaphoreTake((semaphore), (ticks))
 #define xSemaphoreTakeFromISR(semaphore, woken) xQueueReceiveFromISR((semaphore), NULL, (woken))
 #define xSemaphoreGive(semaphore) xQueueGenericSend((semaphore), NULL, 0u, 0)
+#define vSemaphoreDelete(semaphore) vQueueDelete(semaphore)
 #define xSemaphoreGiveFromISR(semaphore, woken) xQueueGiveFromISR((semaphore), (woken))
 #define xSemaphoreTakeRecursive(mutex, ticks) xQueueTakeMutexRecursive((mutex), (ticks))
 #define xSemaphoreGiveRecursive(mutex) xQueueGiveMutexRecursive(mutex)
@@ -89,6 +92,7 @@ void vStreamBufferDelete(StreamBufferHandle_t buffer);
 
 void stub_interrupt(unsigned number, void (*handler)(void), unsigned every_us);     /* a thread that runs the handler */
 void stub_end_scheduler(void);
+void stub_act_as(TaskHandle_t task, unsigned interrupt);                            /* the calling thread is this one now */
 void stub_pause_us(unsigned us);
 
 #endif
