@@ -8,6 +8,7 @@
  *
  * Nothing here waits, allocates memory or calls the kernel, but for xTaskGetCurrentTaskHandle.
  */
+#include <stdbool.h>
 #include <string.h>
 
 #include "FreeRTOS.h"
@@ -91,10 +92,10 @@ static inline uintptr_t fr_add_one(fr_word *word)
     FR_TRACE_UNLOCK(state);
     return value;
 }
-static inline int fr_exchange(fr_word *word, uintptr_t before, uintptr_t after)
+static inline bool fr_exchange(fr_word *word, uintptr_t before, uintptr_t after)
 {
     uint32_t state = FR_TRACE_LOCK();
-    int same = (*word == before);
+    bool same = (*word == before);
     if (same) {
         *word = after;
     }
@@ -121,7 +122,7 @@ static inline uintptr_t fr_add_one(fr_word *word)
     return atomic_fetch_add_explicit(word, 1u, memory_order_seq_cst);
 }
 /* gives the word the value `after` if it has the value `before`; false where it has another one */
-static inline int fr_exchange(fr_word *word, uintptr_t before, uintptr_t after)
+static inline bool fr_exchange(fr_word *word, uintptr_t before, uintptr_t after)
 {
     return atomic_compare_exchange_strong_explicit(word, &before, after, memory_order_acquire, memory_order_relaxed);
 }
@@ -141,7 +142,7 @@ struct fr_event {
     uint8_t call;
     uint8_t actor;
     uint8_t object;
-    uint8_t has_value;
+    bool has_value;
     uintptr_t what;                 /* enter: the block time. return: the result. mark: the variable's name. naming: the handle */
     uint32_t value;                 /* the item, the length, or what a variable was given; of an unnamed object its handle */
 };
@@ -160,7 +161,7 @@ struct fr_table {
 };
 
 struct fr_actor {
-    const char *name;               /* that it was given by fr_trace_task or fr_trace_irq, or NULL */
+    fr_word name;                   /* a text: the one that it was given, or its label; 0: none */
     char label[FR_LABEL];           /* the name that xTaskCreate was given */
     fr_word gone;                   /* the task was deleted */
     /* What follows is used by the actor itself alone. */
@@ -170,11 +171,11 @@ struct fr_actor {
     uint8_t object;                 /* of this call */
     uint8_t depth;                  /* how many functions of the kernel it is in */
     uint8_t floor;                  /* the depth between two calls: 1 where they aren't to be recorded */
-    uint8_t is_kernel;              /* the idle task, or the timer service */
+    bool is_kernel;                 /* the idle task, or the timer service */
 };
 
 struct fr_object {
-    const char *name;
+    fr_word name;                   /* a text */
     fr_word kind;                   /* an fr_kind, and of a queue of integers: 16 times the bytes, 256 if they have a sign */
 };
 
@@ -307,6 +308,29 @@ static void fr_give_key(struct fr_table *table, uintptr_t at, uintptr_t key)
     }
 }
 
+/* The name of an actor, or NULL. */
+static const char *fr_actor_name(uintptr_t at)
+{
+    return (const char *) fr_load(&fr_actors[at].name);
+}
+
+/* It has another name than that which xTaskCreate was given. */
+static bool fr_was_named(uintptr_t at)
+{
+    const char *name = fr_actor_name(at);
+    return (name != NULL) && (name != fr_actors[at].label);
+}
+
+static const char *fr_object_name(uintptr_t at)
+{
+    return (const char *) fr_load(&fr_objects[at].name);
+}
+
+static bool fr_is_text(const char *name, const char *text)
+{
+    return (name != NULL) && (strcmp(name, text) == 0);
+}
+
 /* ---- Records ------------------------------------------------------------------------------------------------------ */
 
 /* The place of the next record, and its stamp. NULL: this one isn't kept. */
@@ -343,7 +367,7 @@ static void fr_put(unsigned call, uintptr_t actor, uintptr_t object, uintptr_t w
         place->event.call = (uint8_t) call;
         place->event.actor = (uint8_t) actor;
         place->event.object = (uint8_t) object;
-        place->event.has_value = (uint8_t) (value != NULL);
+        place->event.has_value = (value != NULL);
         place->event.what = what;
         place->event.value = (value != NULL) ? *value : 0u;
         fr_store(&place->stamp, stamp);
@@ -402,7 +426,7 @@ static void fr_put_enter(enum fr_call call, uintptr_t at, const void *object, ui
     struct fr_actor *me = &fr_actors[at];
     uint32_t handle = (uint32_t) (uintptr_t) object;
     me->object = (uint8_t) fr_find(&fr_object_table, (uintptr_t) object);
-    if ((me->object == FR_NOBODY) && (me->name == NULL) && ((me->is_kernel != 0u) || (me->label[0] == '\0'))) {
+    if ((me->object == FR_NOBODY) && !fr_was_named(at) && (me->is_kernel || (fr_actor_name(at) == NULL))) {
         return;
     }
     me->call = (uint8_t) call;
@@ -478,7 +502,7 @@ void fr_trace_return(uintptr_t result)
     uintptr_t at = fr_here();
     struct fr_actor *me;
     uint32_t value = 0u;
-    int has_item;
+    bool has_item;
     if ((at == FR_NOBODY) || (fr_actors[at].depth <= fr_actors[at].floor)) {
         return;
     }
@@ -508,11 +532,6 @@ void fr_trace_mark(enum fr_call mark, const char *variable, int32_t value)
 
 /* ---- Names -------------------------------------------------------------------------------------------------------- */
 
-static const char *fr_actor_name(uintptr_t at)
-{
-    return (fr_actors[at].name != NULL) ? fr_actors[at].name : fr_actors[at].label;
-}
-
 /* The actor `at` is now the task or interrupt that has this key. */
 static void fr_begin_actor(uintptr_t at, uintptr_t key)
 {
@@ -527,14 +546,14 @@ static uintptr_t fr_name_actor(uintptr_t now, const char *name)
 {
     uintptr_t used = fr_used(&fr_actor_table);
     uintptr_t at = 0u;
-    while ((at < used) && ((fr_actors[at].name == NULL) || (strcmp(fr_actors[at].name, name) != 0))) {
+    while ((at < used) && !(fr_was_named(at) && fr_is_text(fr_actor_name(at), name))) {
         at++;
     }
     if (at == used) {
-        at = ((now != FR_NOBODY) && (fr_actors[now].name == NULL)) ? now : fr_new_place(&fr_actor_table);
-    }
-    if (at != FR_NOBODY) {
-        fr_actors[at].name = name;
+        at = ((now != FR_NOBODY) && !fr_was_named(now)) ? now : fr_new_place(&fr_actor_table);
+        if (at != FR_NOBODY) {
+            fr_store(&fr_actors[at].name, (uintptr_t) name);
+        }
     }
     return at;
 }
@@ -594,13 +613,13 @@ void fr_trace_task_created(const void *task, const char *name)
     unsigned i;
     for (i = 0u; (i < (FR_LABEL - 1u)) && (name[i] != '\0'); i++) {
         char c = name[i];
-        int is_plain = ((c >= 'a') && (c <= 'z')) || ((c >= 'A') && (c <= 'Z')) || ((c >= '0') && (c <= '9'));
+        bool is_plain = ((c >= 'a') && (c <= 'z')) || ((c >= 'A') && (c <= 'Z')) || ((c >= '0') && (c <= '9'));
         label[i] = is_plain ? c : '_';
     }
     fr_forget(&fr_actor_table, (uintptr_t) task);       /* a deleted task may have been at this address */
     for (at = 0u; at < used; at++) {
-        int is_free = (fr_load(&fr_actors[at].gone) != 0u) || (fr_load(&fr_actor_keys[at]) == 0u);
-        if (is_free && (strcmp(fr_actor_name(at), label) == 0)) {
+        bool is_free = (fr_load(&fr_actors[at].gone) != 0u) || (fr_load(&fr_actor_keys[at]) == 0u);
+        if (is_free && fr_is_text(fr_actor_name(at), label)) {
             fr_begin_actor(at, (uintptr_t) task);
             return;
         }
@@ -608,7 +627,8 @@ void fr_trace_task_created(const void *task, const char *name)
     at = fr_new_place(&fr_actor_table);
     if (at != FR_NOBODY) {
         (void) memcpy(fr_actors[at].label, label, sizeof label);
-        fr_actors[at].is_kernel = (uint8_t) ((strncmp(label, "IDLE", 4u) == 0) || (strcmp(label, "Tmr_Svc") == 0));
+        fr_store(&fr_actors[at].name, (uintptr_t) fr_actors[at].label);
+        fr_actors[at].is_kernel = (strncmp(label, "IDLE", 4u) == 0) || (strcmp(label, "Tmr_Svc") == 0);
         fr_begin_actor(at, (uintptr_t) task);
     }
 }
@@ -619,20 +639,20 @@ static void fr_name_object(const void *object, const char *name, uintptr_t kind)
     uintptr_t used = fr_used(&fr_object_table);
     uintptr_t at = 0u;
     uintptr_t actor = fr_here();
-    while ((at < used) && ((fr_objects[at].name == NULL) || (strcmp(fr_objects[at].name, name) != 0))) {
+    while ((at < used) && !fr_is_text(fr_object_name(at), name)) {
         at++;
     }
-    if (at == used) {
+    if ((at == used) && (object != NULL)) {
         at = fr_new_place(&fr_object_table);
     }
     if ((at == FR_NOBODY) || (object == NULL)) {
         return;
     }
-    if (fr_objects[at].name == NULL) {
-        fr_objects[at].name = name;
+    if (fr_object_name(at) == NULL) {
+        fr_store(&fr_objects[at].name, (uintptr_t) name);
     }
-    if ((kind != (uintptr_t) FR_QUEUE) || (at == used)) {
-        fr_store(&fr_objects[at].kind, kind);       /* fr_trace_queue may have said more of it */
+    if (kind != (uintptr_t) FR_QUEUE) {             /* which is 0, and fr_trace_queue may have said more */
+        fr_store(&fr_objects[at].kind, kind);
     }
     fr_give_key(&fr_object_table, at, (uintptr_t) object);
     if (actor != FR_NOBODY) {
@@ -699,7 +719,7 @@ static void fr_add_number(struct fr_text *text, uintptr_t number, unsigned base)
 }
 
 /* An integer of so many bytes. */
-static void fr_add_integer(struct fr_text *text, uint32_t value, unsigned bytes, int is_signed)
+static void fr_add_integer(struct fr_text *text, uint32_t value, unsigned bytes, bool is_signed)
 {
     uint32_t sign = (uint32_t) 1u << ((8u * bytes) - 1u);
     uint32_t size = value;
@@ -714,7 +734,7 @@ static void fr_add_item(struct fr_text *text, const struct fr_event *event)
 {
     uintptr_t kind = (event->object != FR_NOBODY) ? fr_load(&fr_objects[event->object].kind) : 0u;
     unsigned bytes = (unsigned) (kind / 16u) % 16u;
-    if ((event->has_value != 0u) && (bytes != 0u)) {
+    if (event->has_value && (bytes != 0u)) {
         fr_add_integer(text, event->value, bytes, kind >= 256u);
     } else {
         fr_add_char(text, '?');
@@ -724,7 +744,7 @@ static void fr_add_item(struct fr_text *text, const struct fr_event *event)
 static void fr_add_actor(struct fr_text *text, uintptr_t at)
 {
     uintptr_t key = (at != FR_NOBODY) ? fr_load(&fr_actor_keys[at]) : 0u;
-    if ((at != FR_NOBODY) && (fr_actor_name(at)[0] != '\0')) {
+    if ((at != FR_NOBODY) && (fr_actor_name(at) != NULL)) {
         fr_add(text, fr_actor_name(at));
     } else {
         fr_add(text, (key < 4096u) ? "irq" : "task");
@@ -733,15 +753,15 @@ static void fr_add_actor(struct fr_text *text, uintptr_t at)
 }
 
 /* A copy of the event of record `number`; false where it isn't there. */
-static int fr_read(uintptr_t number, struct fr_event *event)
+static bool fr_read(uintptr_t number, struct fr_event *event)
 {
     struct fr_record *place = &fr_ring[number & (FR_TRACE_RECORDS - 1u)];
     if (!fr_exchange(&place->stamp, number + 1u, FR_CLAIMED)) {
-        return 0;
+        return false;
     }
     *event = place->event;
     fr_store(&place->stamp, number + 1u);
-    return 1;
+    return true;
 }
 
 static void fr_add_unnamed(struct fr_text *text, uint32_t handle)
@@ -757,15 +777,15 @@ static void fr_add_created(struct fr_text *text, uintptr_t number, uintptr_t end
     uintptr_t handle = 0u;
     uintptr_t at;
     for (at = number + 1u; at != end; at++) {
-        int is_there = fr_read(at, &event);
-        int is_return = is_there && ((event.call & FR_RETURN) != 0u);
+        bool is_there = fr_read(at, &event);
+        bool is_return = is_there && ((event.call & FR_RETURN) != 0u);
         if ((handle == 0u) && is_return && (event.actor == actor)) {
             handle = event.what;
             if (handle == 0u) {
                 break;              /* the create failed */
             }
         } else if ((handle != 0u) && is_there && (event.call == (uint8_t) FR_NAMED) && (event.what == handle)) {
-            fr_add(text, fr_objects[event.object].name);
+            fr_add(text, fr_object_name(event.object));
             return;
         } else if ((handle != 0u) && is_return && (event.what == handle) && (fr_forms[event.call & 0x7Fu].answer == 'c')) {
             break;                  /* the next object at this address */
@@ -785,7 +805,7 @@ static void fr_add_object(struct fr_text *text, const struct fr_event *event, ui
     if (fr_forms[event->call].answer == 'c') {
         fr_add_created(text, number, end, event->actor);
     } else if (event->object != FR_NOBODY) {
-        fr_add(text, fr_objects[event->object].name);
+        fr_add(text, fr_object_name(event->object));
     } else {
         fr_add_unnamed(text, event->value);
     }
@@ -822,7 +842,7 @@ static void fr_add_argument(struct fr_text *text, char kind, const struct fr_eve
 static void fr_add_enter(struct fr_text *text, const struct fr_event *event, uintptr_t number, uintptr_t end)
 {
     const struct fr_form *form = &fr_forms[event->call];
-    int is_message = (event->object < FR_TRACE_OBJECTS) &&
+    bool is_message = (event->object < FR_TRACE_OBJECTS) &&
                      (fr_load(&fr_objects[event->object].kind) == (uintptr_t) FR_MESSAGE);
     const char *c;
     fr_add(text, " enter ");
@@ -863,7 +883,7 @@ static void fr_print_event(const struct fr_event *event, uintptr_t number, uintp
         fr_add(&text, " set ");
         fr_add(&text, (const char *) event->what);
         fr_add_char(&text, ' ');
-        fr_add_integer(&text, event->value, 4u, 1);
+        fr_add_integer(&text, event->value, 4u, true);
     } else if (event->call == (uint8_t) FR_BEGIN) {
         fr_add(&text, " begin");
     } else if (event->call == (uint8_t) FR_END) {
@@ -891,7 +911,7 @@ void fr_trace_dump(void (*print_line)(const char *line))
     struct fr_event event;
     uintptr_t number = 0u;
     uintptr_t end;
-    int is_lost;
+    bool is_lost;
 
     fr_trace_stop();
     end = fr_load(&fr_next);
@@ -917,12 +937,12 @@ void fr_trace_dump(void (*print_line)(const char *line))
     is_lost = (number != 0u) || (fr_load(&fr_no_place) != 0u);
     for (; number != end; number++) {
         if (!fr_read(number, &event)) {
-            is_lost = 1;            /* printed before the next record that is there */
+            is_lost = true;         /* printed before the next record that is there */
         } else if (event.call != (uint8_t) FR_NAMED) {
             if (is_lost) {
                 print_line("lost");
             }
-            is_lost = 0;
+            is_lost = false;
             fr_print_event(&event, number, end, print_line);
         } else {
             /* A naming is no event. */

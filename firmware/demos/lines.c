@@ -1,4 +1,4 @@
-/* One thread acts as each task and interrupt in turn, so that its trace is always the same: lines.lines. It has each kind
+/* One thread acts as each task and interrupt in turn, so that its trace is always the same: lines.trace. It has each kind
  * of line, and names that come late, again, or never.
  * SPDX-License-Identifier: MIT OR Apache-2.0
  */
