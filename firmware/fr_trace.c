@@ -665,10 +665,10 @@ void fr_trace_name(const void *object, const char *name, enum fr_kind kind)
     fr_name_object(object, name, (uintptr_t) kind);
 }
 
-/* The hook of vQueueAddToRegistry, which the kernel calls for the queue of its timer service, too. */
+/* The hook of vQueueAddToRegistry. The kernel calls it for the queue of its timer service, which isn't recorded. */
 void fr_trace_registry(const void *queue, const char *name)
 {
-    if ((FR_TRACE_TIMERS != 0) || (strcmp(name, "TmrQ") != 0)) {
+    if (strcmp(name, "TmrQ") != 0) {
         fr_name_object(queue, name, (uintptr_t) FR_QUEUE);
     }
 }

@@ -39,10 +39,6 @@
 #ifndef FR_TRACE_SUSPENSION
 #define FR_TRACE_SUSPENSION 1
 #endif
-/* 1: the application lists the timer service, and each command to it is a send to the queue TmrQ. */
-#ifndef FR_TRACE_TIMERS
-#define FR_TRACE_TIMERS 0
-#endif
 /* 1: each file of the application that enters critical sections or yields includes fr_wrap.h. */
 #ifndef FR_TRACE_WRAPPED
 #define FR_TRACE_WRAPPED 0
@@ -321,7 +317,6 @@ void fr_trace_mark(enum fr_call mark, const char *variable, int32_t value);
 #define traceRETURN_pvTimerGetTimerID(...) FR_OTHER_RETURN()
 #define traceENTER_vTimerSetTimerID(...) FR_OTHER_ENTER()
 #define traceRETURN_vTimerSetTimerID(...) FR_OTHER_RETURN()
-#if !FR_TRACE_TIMERS
 #define traceENTER_xTimerGenericCommandFromTask(...) FR_OTHER_ENTER()
 #define traceRETURN_xTimerGenericCommandFromTask(...) FR_OTHER_RETURN()
 #define traceENTER_xTimerGenericCommandFromISR(...) FR_OTHER_ENTER()
@@ -330,7 +325,6 @@ void fr_trace_mark(enum fr_call mark, const char *variable, int32_t value);
 #define traceRETURN_xTimerPendFunctionCall(...) FR_OTHER_RETURN()
 #define traceENTER_xTimerPendFunctionCallFromISR(...) FR_OTHER_ENTER()
 #define traceRETURN_xTimerPendFunctionCallFromISR(...) FR_OTHER_RETURN()
-#endif
 
 #endif /* not in assembler files */
 #endif

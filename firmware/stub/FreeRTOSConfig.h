@@ -15,6 +15,15 @@
 unsigned stub_interrupt_number(void);
 #define FR_TRACE_IRQ() stub_interrupt_number()
 
+/* As on a core without an atomic add. */
+#ifdef STUB_LOCK
+unsigned stub_lock(void);
+void stub_unlock(unsigned state);
+#define FR_TRACE_LOCK() stub_lock()
+#define FR_TRACE_UNLOCK(state) stub_unlock(state)
+#define FR_TRACE_BARRIER() __atomic_thread_fence(__ATOMIC_SEQ_CST)
+#endif
+
 #include "fr_trace.h"
 
 #endif

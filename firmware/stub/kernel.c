@@ -148,6 +148,22 @@ void stub_interrupt(unsigned number, void (*handler)(void), unsigned every_us)
     interrupt_count++;
 }
 
+#ifdef STUB_LOCK
+static pthread_mutex_t spin_lock = PTHREAD_MUTEX_INITIALIZER;
+
+unsigned stub_lock(void)
+{
+    (void) pthread_mutex_lock(&spin_lock);
+    return 0u;
+}
+
+void stub_unlock(unsigned state)
+{
+    (void) state;
+    (void) pthread_mutex_unlock(&spin_lock);
+}
+#endif
+
 void stub_act_as(TaskHandle_t task, unsigned interrupt)
 {
     this_task = task;
