@@ -192,66 +192,69 @@ static fr_word fr_object_keys[FR_TRACE_OBJECTS];    /* a handle; 0: none now */
 static struct fr_object fr_objects[FR_TRACE_OBJECTS];
 static struct fr_table fr_object_table = { .most = FR_TRACE_OBJECTS, .keys = fr_object_keys };
 
-/* How a call is written. args: o an object, e an item, n a length, w a block time or a delay, a an actor, others
- * themselves. answer: '-' nothing, 'r' a result, 'i' a result and an item, 'c' a create's handle. A % in the name is
- * Stream or Message. outer: the kernel never makes this call within another one that is recorded. */
+/* How a record is written. %o is an object, %k its kind, Stream or Message, %e an item, %n a length, %w a block time or a
+ * delay, %a an actor, %v a variable, %i what it was given. answer: what the call returns, '-' nothing, 'r' a result, 'i' a
+ * result and an item, 'c' a create's handle; 'm' is no call. outer: the kernel never makes this call within another one that
+ * is recorded. */
 struct fr_form {
-    const char *name;
-    const char *args;
+    const char *text;
     char answer;
     uint8_t outer;
 };
 
 static const struct fr_form fr_forms[FR_CALLS] = {
-    [FR_SEND] = { "xQueueSend", "o, e, w", 'r', 0 },
-    [FR_SEND_ISR] = { "xQueueSendFromISR", "o, e", 'r', 0 },
-    [FR_RECEIVE] = { "xQueueReceive", "o, ?, w", 'i', 1 },
-    [FR_RECEIVE_ISR] = { "xQueueReceiveFromISR", "o, ?", 'i', 1 },
-    [FR_TAKE] = { "xSemaphoreTake", "o, w", 'r', 0 },
-    [FR_TAKE_ISR] = { "xSemaphoreTakeFromISR", "o", 'r', 1 },
-    [FR_TAKE_RECURSIVE] = { "xSemaphoreTakeRecursive", "o, w", 'r', 1 },
-    [FR_GIVE] = { "xSemaphoreGive", "o", 'r', 0 },
-    [FR_GIVE_ISR] = { "xSemaphoreGiveFromISR", "o", 'r', 1 },
-    [FR_GIVE_RECURSIVE] = { "xSemaphoreGiveRecursive", "o", 'r', 1 },
-    [FR_BUFFER_SEND] = { "x%BufferSend", "o, n, w", 'r', 1 },
-    [FR_BUFFER_SEND_ISR] = { "x%BufferSendFromISR", "o, n", 'r', 1 },
-    [FR_BUFFER_RECEIVE] = { "x%BufferReceive", "o, n, w", 'r', 1 },
-    [FR_BUFFER_RECEIVE_ISR] = { "x%BufferReceiveFromISR", "o, n", 'r', 1 },
-    [FR_BUFFER_RESET] = { "x%BufferReset", "o", 'r', 1 },
-    [FR_CREATE_QUEUE] = { "xQueueCreate", "o", 'c', 0 },
-    [FR_CREATE_MUTEX] = { "xSemaphoreCreateMutex", "o", 'c', 0 },
-    [FR_CREATE_COUNTING] = { "xSemaphoreCreateCounting", "o", 'c', 0 },
-    [FR_CREATE_BINARY] = { "xSemaphoreCreateBinary", "o", 'c', 0 },
-    [FR_CREATE_RECURSIVE] = { "xSemaphoreCreateRecursiveMutex", "o", 'c', 0 },
-    [FR_CREATE_STREAM] = { "xStreamBufferCreate", "o", 'c', 0 },
-    [FR_CREATE_MESSAGE] = { "xMessageBufferCreate", "o", 'c', 0 },
-    [FR_CREATE_BATCHING] = { "xStreamBatchingBufferCreate", "o", 'c', 0 },
-    [FR_CREATE_STATIC] = { "createStatic", "o", 'c', 0 },
-    [FR_DELETE_QUEUE] = { "vQueueDelete", "o", '-', 0 },
-    [FR_DELETE_SEMAPHORE] = { "vSemaphoreDelete", "o", '-', 0 },
-    [FR_DELETE_BUFFER] = { "v%BufferDelete", "o", '-', 1 },
-    [FR_DELAY] = { "vTaskDelay", "w", '-', 1 },
-    [FR_DELAY_UNTIL] = { "vTaskDelay", "?", '-', 1 },
-    [FR_TASK_DELETE] = { "vTaskDelete", "NULL", '-', 0 },
-    [FR_SUSPEND_ALL] = { "vTaskSuspendAll", "", '-', 0 },
-    [FR_RESUME_ALL] = { "xTaskResumeAll", "", '-', 0 },
-    [FR_YIELD] = { "taskYIELD", "", '-', 0 },
-    [FR_ENTER_CRITICAL] = { "taskENTER_CRITICAL", "", '-', 0 },
-    [FR_EXIT_CRITICAL] = { "taskEXIT_CRITICAL", "", '-', 0 },
-    [FR_ENTER_CRITICAL_ISR] = { "taskENTER_CRITICAL_FROM_ISR", "", '-', 0 },
-    [FR_EXIT_CRITICAL_ISR] = { "taskEXIT_CRITICAL_FROM_ISR", "", '-', 0 },
-    [FR_TASK_DELETE_OTHER] = { "vTaskDeleteOther", "a", '-', 0 },
-    [FR_TASK_SUSPEND] = { "vTaskSuspend", "", '-', 0 },
-    [FR_ABORT_DELAY] = { "xTaskAbortDelay", "", '-', 0 },
-    [FR_PREEMPTION_DISABLE] = { "vTaskPreemptionDisable", "", '-', 0 },
-    [FR_PEEK] = { "xQueuePeek", "o, ?, w", 'r', 0 },
-    [FR_PEEK_ISR] = { "xQueuePeekFromISR", "o, ?", 'r', 0 },
-    [FR_SEND_FRONT] = { "xQueueSendToFront", "o, e, w", 'r', 0 },
-    [FR_SEND_FRONT_ISR] = { "xQueueSendToFrontFromISR", "o, e", 'r', 0 },
-    [FR_OVERWRITE] = { "xQueueOverwrite", "o, e", 'r', 0 },
-    [FR_OVERWRITE_ISR] = { "xQueueOverwriteFromISR", "o, e", 'r', 0 },
-    [FR_QUEUE_RESET] = { "xQueueReset", "o", 'r', 0 },
-    [FR_BUFFER_RESET_ISR] = { "x%BufferResetFromISR", "o", 'r', 0 },
+    [FR_SEND] = { "xQueueSend(%o, %e, %w)", 'r', 0 },
+    [FR_SEND_ISR] = { "xQueueSendFromISR(%o, %e)", 'r', 0 },
+    [FR_RECEIVE] = { "xQueueReceive(%o, ?, %w)", 'i', 1 },
+    [FR_RECEIVE_ISR] = { "xQueueReceiveFromISR(%o, ?)", 'i', 1 },
+    [FR_TAKE] = { "xSemaphoreTake(%o, %w)", 'r', 0 },
+    [FR_TAKE_ISR] = { "xSemaphoreTakeFromISR(%o)", 'r', 1 },
+    [FR_TAKE_RECURSIVE] = { "xSemaphoreTakeRecursive(%o, %w)", 'r', 1 },
+    [FR_GIVE] = { "xSemaphoreGive(%o)", 'r', 0 },
+    [FR_GIVE_ISR] = { "xSemaphoreGiveFromISR(%o)", 'r', 1 },
+    [FR_GIVE_RECURSIVE] = { "xSemaphoreGiveRecursive(%o)", 'r', 1 },
+    [FR_BUFFER_SEND] = { "x%kBufferSend(%o, %n, %w)", 'r', 1 },
+    [FR_BUFFER_SEND_ISR] = { "x%kBufferSendFromISR(%o, %n)", 'r', 1 },
+    [FR_BUFFER_RECEIVE] = { "x%kBufferReceive(%o, %n, %w)", 'r', 1 },
+    [FR_BUFFER_RECEIVE_ISR] = { "x%kBufferReceiveFromISR(%o, %n)", 'r', 1 },
+    [FR_BUFFER_RESET] = { "x%kBufferReset(%o)", 'r', 1 },
+    [FR_CREATE_QUEUE] = { "xQueueCreate(%o)", 'c', 0 },
+    [FR_CREATE_MUTEX] = { "xSemaphoreCreateMutex(%o)", 'c', 0 },
+    [FR_CREATE_COUNTING] = { "xSemaphoreCreateCounting(%o)", 'c', 0 },
+    [FR_CREATE_BINARY] = { "xSemaphoreCreateBinary(%o)", 'c', 0 },
+    [FR_CREATE_RECURSIVE] = { "xSemaphoreCreateRecursiveMutex(%o)", 'c', 0 },
+    [FR_CREATE_STREAM] = { "xStreamBufferCreate(%o)", 'c', 0 },
+    [FR_CREATE_MESSAGE] = { "xMessageBufferCreate(%o)", 'c', 0 },
+    [FR_CREATE_BATCHING] = { "xStreamBatchingBufferCreate(%o)", 'c', 0 },
+    [FR_CREATE_STATIC] = { "createStatic(%o)", 'c', 0 },
+    [FR_DELETE_QUEUE] = { "vQueueDelete(%o)", '-', 0 },
+    [FR_DELETE_SEMAPHORE] = { "vSemaphoreDelete(%o)", '-', 0 },
+    [FR_DELETE_BUFFER] = { "v%kBufferDelete(%o)", '-', 1 },
+    [FR_DELAY] = { "vTaskDelay(%w)", '-', 1 },
+    [FR_DELAY_UNTIL] = { "vTaskDelay(?)", '-', 1 },
+    [FR_TASK_DELETE] = { "vTaskDelete(NULL)", '-', 0 },
+    [FR_SUSPEND_ALL] = { "vTaskSuspendAll()", '-', 0 },
+    [FR_RESUME_ALL] = { "xTaskResumeAll()", '-', 0 },
+    [FR_YIELD] = { "taskYIELD()", '-', 0 },
+    [FR_ENTER_CRITICAL] = { "taskENTER_CRITICAL()", '-', 0 },
+    [FR_EXIT_CRITICAL] = { "taskEXIT_CRITICAL()", '-', 0 },
+    [FR_ENTER_CRITICAL_ISR] = { "taskENTER_CRITICAL_FROM_ISR()", '-', 0 },
+    [FR_EXIT_CRITICAL_ISR] = { "taskEXIT_CRITICAL_FROM_ISR()", '-', 0 },
+    [FR_TASK_DELETE_OTHER] = { "vTaskDeleteOther(%a)", '-', 0 },
+    [FR_TASK_SUSPEND] = { "vTaskSuspend()", '-', 0 },
+    [FR_ABORT_DELAY] = { "xTaskAbortDelay()", '-', 0 },
+    [FR_PREEMPTION_DISABLE] = { "vTaskPreemptionDisable()", '-', 0 },
+    [FR_PEEK] = { "xQueuePeek(%o, ?, %w)", 'r', 0 },
+    [FR_PEEK_ISR] = { "xQueuePeekFromISR(%o, ?)", 'r', 0 },
+    [FR_SEND_FRONT] = { "xQueueSendToFront(%o, %e, %w)", 'r', 0 },
+    [FR_SEND_FRONT_ISR] = { "xQueueSendToFrontFromISR(%o, %e)", 'r', 0 },
+    [FR_OVERWRITE] = { "xQueueOverwrite(%o, %e)", 'r', 0 },
+    [FR_OVERWRITE_ISR] = { "xQueueOverwriteFromISR(%o, %e)", 'r', 0 },
+    [FR_QUEUE_RESET] = { "xQueueReset(%o)", 'r', 0 },
+    [FR_BUFFER_RESET_ISR] = { "x%kBufferResetFromISR(%o)", 'r', 0 },
+    [FR_MARK] = { "set %v %i", 'm', 0 },
+    [FR_BEGIN] = { "begin", 'm', 0 },
+    [FR_END] = { "end", 'm', 0 },
 };
 
 /* ---- Keys --------------------------------------------------------------------------------------------------------- */
@@ -811,11 +814,15 @@ static void fr_add_object(struct fr_text *text, const struct fr_event *event, ui
     }
 }
 
-static void fr_add_argument(struct fr_text *text, char kind, const struct fr_event *event, uintptr_t number, uintptr_t end)
+static void fr_add_part(struct fr_text *text, char part, const struct fr_event *event, uintptr_t number, uintptr_t end)
 {
-    switch (kind) {
+    bool is_named = (event->object != FR_NOBODY);
+    switch (part) {
     case 'o':
         fr_add_object(text, event, number, end);
+        break;
+    case 'k':
+        fr_add(text, (is_named && (fr_load(&fr_objects[event->object].kind) == (uintptr_t) FR_MESSAGE)) ? "Message" : "Stream");
         break;
     case 'e':
         fr_add_item(text, event);
@@ -833,31 +840,13 @@ static void fr_add_argument(struct fr_text *text, char kind, const struct fr_eve
     case 'a':
         fr_add_actor(text, event->object);
         break;
+    case 'v':
+        fr_add(text, (const char *) event->what);
+        break;
     default:
-        fr_add_char(text, kind);
+        fr_add_integer(text, event->value, 4u, true);
         break;
     }
-}
-
-static void fr_add_enter(struct fr_text *text, const struct fr_event *event, uintptr_t number, uintptr_t end)
-{
-    const struct fr_form *form = &fr_forms[event->call];
-    bool is_message = (event->object < FR_TRACE_OBJECTS) &&
-                     (fr_load(&fr_objects[event->object].kind) == (uintptr_t) FR_MESSAGE);
-    const char *c;
-    fr_add(text, " enter ");
-    for (c = form->name; *c != '\0'; c++) {
-        if (*c == '%') {
-            fr_add(text, is_message ? "Message" : "Stream");
-        } else {
-            fr_add_char(text, *c);
-        }
-    }
-    fr_add_char(text, '(');
-    for (c = form->args; *c != '\0'; c++) {
-        fr_add_argument(text, *c, event, number, end);
-    }
-    fr_add_char(text, ')');
 }
 
 static void fr_add_return(struct fr_text *text, const struct fr_event *event)
@@ -877,21 +866,22 @@ static void fr_add_return(struct fr_text *text, const struct fr_event *event)
 static void fr_print_event(const struct fr_event *event, uintptr_t number, uintptr_t end, void (*print_line)(const char *line))
 {
     struct fr_text text;
+    const struct fr_form *form = &fr_forms[event->call & 0x7Fu];
+    const char *c;
     text.length = 0u;
     fr_add_actor(&text, event->actor);
-    if (event->call == (uint8_t) FR_MARK) {
-        fr_add(&text, " set ");
-        fr_add(&text, (const char *) event->what);
-        fr_add_char(&text, ' ');
-        fr_add_integer(&text, event->value, 4u, true);
-    } else if (event->call == (uint8_t) FR_BEGIN) {
-        fr_add(&text, " begin");
-    } else if (event->call == (uint8_t) FR_END) {
-        fr_add(&text, " end");
-    } else if ((event->call & FR_RETURN) != 0u) {
+    if ((event->call & FR_RETURN) != 0u) {
         fr_add_return(&text, event);
     } else {
-        fr_add_enter(&text, event, number, end);
+        fr_add(&text, (form->answer == 'm') ? " " : " enter ");
+        for (c = form->text; *c != '\0'; c++) {
+            if (*c == '%') {
+                c++;
+                fr_add_part(&text, *c, event, number, end);
+            } else {
+                fr_add_char(&text, *c);
+            }
+        }
     }
     print_line(text.line);
 }
