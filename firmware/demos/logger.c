@@ -29,10 +29,18 @@
 #define FIRST_RUN 1
 #endif
 
+enum { RECORDS = 60 };
+
 static MessageBufferHandle_t logged;
 static atomic_int stop;
 static atomic_int a_done;
 static atomic_int b_done;
+/* The power stays on until writer_a has sent its records, and the task without a line has come. */
+#ifdef SHELL
+static atomic_int to_come = 2;
+#else
+static atomic_int to_come = 1;
+#endif
 #ifdef HASTY
 static atomic_int is_deleted;
 #endif
@@ -41,6 +49,9 @@ static void power_fails(void)
 {
     static unsigned runs;
 
+    if (to_come > 0) {
+        return;
+    }
     BEGIN();
     runs++;
     if (runs >= FIRST_RUN) {
@@ -62,16 +73,18 @@ static void write_record(void)
 
 static void writer_a(void *argument)
 {
+    unsigned records = 0u;
     (void) argument;
     while (stop != 1) {
-#ifdef HASTY
-        /* Higher priorities come between, and when this task goes on, the buffer is deleted. */
-        static unsigned records;
         records++;
-        while ((records > 20u) && !is_deleted) {
-            stub_pause_us(100u);
-        }
+        if (records == RECORDS) {
+            to_come--;
+#ifdef HASTY
+            while (!is_deleted) {
+                stub_pause_us(100u);        /* others come between */
+            }
 #endif
+        }
         write_record();
     }
     a_done = 1;
@@ -106,10 +119,17 @@ static void logger(void *argument)
     do {
         got = xMessageBufferReceive(logged, record, 32u, 0u);       /* what came while it looked */
     } while (got > 0u);
+#ifdef HASTY
+    while (!b_done) {
+        stub_pause_us(100u);        /* it is the other writer that comes too late */
+    }
+#endif
     vMessageBufferDelete(logged);
 #ifdef HASTY
     is_deleted = 1;
-    stub_pause_us(50000u);
+    while (!a_done) {
+        stub_pause_us(100u);
+    }
 #endif
     stub_end_scheduler();
     vTaskDelete(NULL);
@@ -119,8 +139,9 @@ static void logger(void *argument)
 static void shell(void *argument)
 {
     (void) argument;
-    vTaskDelay(300u);
+    vTaskDelay(30u);
     (void) xMessageBufferSend(logged, "hello", 5u, 0u);
+    to_come--;
     vTaskDelete(NULL);
 }
 #endif
@@ -136,6 +157,6 @@ int main(int argc, char **argv)
 #ifdef SHELL
     (void) xTaskCreate(shell, "shell", 100u, NULL, 1u, NULL);
 #endif
-    stub_interrupt(7u, power_fails, 100000u);
+    stub_interrupt(7u, power_fails, 10000u);
     return demo_run(argc, argv, demo_line);
 }

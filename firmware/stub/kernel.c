@@ -48,7 +48,7 @@ struct interrupt {
     void (*handler)(void);
 };
 
-enum { MOST_TASKS = 16, MOST_INTERRUPTS = 8, TICK_US = 100, MOST_MS = 2000 };
+enum { MOST_TASKS = 16, MOST_INTERRUPTS = 8, TICK_US = 100, MOST_MS = 1500 };
 
 static pthread_mutex_t kernel = PTHREAD_MUTEX_INITIALIZER;
 static pthread_cond_t changed = PTHREAD_COND_INITIALIZER;

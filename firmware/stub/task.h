@@ -17,7 +17,7 @@ typedef void (*TaskFunction_t)(void *);
 
 BaseType_t xTaskCreate(TaskFunction_t code, const char *name, unsigned stack, void *argument, UBaseType_t priority, TaskHandle_t *made);
 TaskHandle_t xTaskGetCurrentTaskHandle(void);
-void vTaskStartScheduler(void);                 /* returns after stub_end_scheduler, or after two seconds */
+void vTaskStartScheduler(void);                 /* returns after stub_end_scheduler, or after 1.5 seconds */
 void vTaskDelay(TickType_t ticks);              /* a tick has 100 us */
 void vTaskDelete(TaskHandle_t task);            /* with NULL it never returns */
 void vTaskSuspendAll(void);
