@@ -41,7 +41,7 @@ use Rattle.fr_request.specs.declared.format.Format.{Format}
 use Rattle.fr_request.specs.declared.request.Judged.{Judged as Named}
 use Rattle.fr_request.specs.declared.request.Judged.TheVariants.{One, Listed}
 use Rattle.fr_request.specs.declared.request.Request.{Request}
-use Rattle.fr_request.specs.declared.request.Request.TheVariants.{Check, Find, Prove, Points, Refute, Run, Translate}
+use Rattle.fr_request.specs.declared.request.Request.TheVariants.{Check, Find, Prove, Points, Refute, Run, Translate, Follow}
 use Rattle.fr_answer.specs.declared.answer.What.{What}
 use Rattle.fr_answer.specs.declared.found.Found.{Found}
 use Rattle.fr_answer.specs.Inputs.{Reading, AsApp, AsCertificate, AsList, AsSource}
@@ -50,6 +50,7 @@ use Rattle.fr_answer.specs.Checked.{IsFreeText, IsSafeText}
 use Rattle.fr_answer.specs.Pages.{IsPageOf}
 use Rattle.fr_answer.specs.Found.{IsCertificateFor, IsFound, found_line, found_status}
 use Rattle.fr_answer.specs.Ran.{IsRunText}
+use Rattle.fr_answer.specs.Traces.{IsTraceAnswered}
 use Rattle.fr_answer.specs.Words.{AreWords}
 
 -- what is asked for, and where a machine reads the answer never less than what matters
@@ -198,6 +199,7 @@ IsAnswered reads (Run asked) status old new =
     × AreRunWords (option_copied asked.words) words × IsRunText a c asked.polls words asked.detail status text × Appends old new text
 IsAnswered reads (Translate asked) status old new =
     (status ≡ 0) × IsTranslated reads asked.source.now (option_copied asked.out) old new
+IsAnswered reads (Follow asked) status old new = IsTraceAnswered reads asked.app.now asked.trace.now status old new
 
 -- the application in the file breaks no rule in any state of any run
 abbrev pub IsSafeIn : (Reading → List ℕ → List ℕ → Type 0) → List ℕ → Type 0
@@ -230,6 +232,7 @@ AreSafe reads (Run asked) = IsSafeIn reads asked.app.now
 AreSafe reads (Find asked) = Unit {0}
 AreSafe reads (Points app explains) = Unit {0}
 AreSafe reads (Translate asked) = Unit {0}
+AreSafe reads (Follow asked) = Unit {0}
 
 -- what is asked for is a text for a person about one application
 abbrev pub IsNamedText : Named → Option Format → Type 0
@@ -244,6 +247,7 @@ IsText (Find asked) = Unit {0}
 IsText (Points app explains) = Unit {0}
 IsText (Run asked) = Unit {0}
 IsText (Translate asked) = Unit {0}
+IsText (Follow asked) = Unit {0}
 
 -- the files are as they were, but that the one for the page may have been given a page, which begins with the heading and the first
 -- line of an answer; where that is a verdict, this is so of it
@@ -290,6 +294,7 @@ IsDone reads puts (Prove asked) old new = Unit {0}
 IsDone reads puts (Refute asked) old new = Unit {0}
 IsDone reads puts (Points app explains) old new = Unit {0}
 IsDone reads puts (Run asked) old new = Unit {0}
+IsDone reads puts (Follow asked) old new = Unit {0}
 
 -- the files are as they were, but that those that the request names were given what it asks for
 abbrev pub IsWritten : {Z : Type 0} → (Reading → List ℕ → List ℕ → Type 0) → (Z → List ℕ → List ℕ → Z → Type 0) → Request → Z → Z → Type 0
@@ -301,4 +306,5 @@ IsWritten reads puts (Refute asked) old new = IsPaged puts (IsSearchAt reads ask
 IsWritten reads puts (Find asked) old new = (new ≡ old) ⊎ PutsFound reads puts asked.app.now asked.out.now old new
 IsWritten reads puts (Points app explains) old new = new ≡ old
 IsWritten reads puts (Run asked) old new = new ≡ old
+IsWritten reads puts (Follow asked) old new = new ≡ old
 IsWritten reads puts (Translate asked) old new = (new ≡ old) ⊎ PutsOutput reads puts asked.source.now (option_copied asked.out) old new

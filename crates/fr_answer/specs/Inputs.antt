@@ -2,7 +2,7 @@
 --
 -- | word                              | meaning                                                                        |
 -- |-----------------------------------|--------------------------------------------------------------------------------|
--- | most_app_bytes, most_certificate_bytes, most_list_bytes, most_source_bytes | the most bytes of each kind of file   |
+-- | most_app_bytes, most_certificate_bytes, most_list_bytes, most_source_bytes, most_trace_bytes | the most bytes of each kind of file |
 -- | Reading                           | what a file is read as                                                         |
 -- | is_source                         | the path is that of a source: it ends in `.frc`                                |
 -- | ReadsSource                       | the text of the application that the source in a file means                    |
@@ -24,12 +24,17 @@ most_list_bytes = 1048576
 abbrev pub most_source_bytes : ℕ
 most_source_bytes = 1048576
 
--- what a file is read as: an application, which a source may mean, a certificate, a list, or a source
+-- the most bytes of a trace
+abbrev pub most_trace_bytes : ℕ
+most_trace_bytes = 67108864
+
+-- what a file is read as: an application, which a source may mean, a certificate, a list, a source, or a trace
 pub data Reading : Type 0 where
   AsApp : Reading
   AsCertificate : Reading
   AsList : Reading
   AsSource : Reading
+  AsTrace : Reading
 
 -- the path is that of a source
 abbrev pub is_source : List ℕ → Bool
@@ -50,3 +55,4 @@ Reads gives means AsApp path text = ReadsApp (is_source path) gives means path t
 Reads gives means AsCertificate path text = gives path most_certificate_bytes text
 Reads gives means AsList path text = gives path most_list_bytes text
 Reads gives means AsSource path text = ReadsSource gives means path text
+Reads gives means AsTrace path text = gives path most_trace_bytes text

@@ -6,6 +6,7 @@ ghost use Rattle.fr_answer.specs.Inputs.{Reads};
 
 mod check;
 mod find;
+mod follow;
 mod list;
 mod points;
 mod prove;
@@ -18,6 +19,7 @@ use crate::files::Files;
 use crate::printing::refuse;
 use check::check;
 use find::find;
+use follow::follow_trace;
 use fr_request::Request;
 use points::points;
 use prove::prove;
@@ -56,6 +58,7 @@ fn answered<R: Threads + Wait + Sync, F: Files, O: Write, E: Write>(
         Request::Refute(asked) => refute(rt, alloc, asked, files, out, err),
         Request::Run(asked) => run_files(rt, alloc, asked, files, out),
         Request::Translate(asked) => translate(alloc, asked, files, out, err),
+        Request::Follow(asked) => follow_trace(alloc, asked, files, out),
     }
 }
 

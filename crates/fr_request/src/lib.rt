@@ -9,6 +9,6 @@ mod request;
 pub use detail::Detail;
 pub use format::{Format, VERSION};
 pub use request::{
-    CheckRequest, FindRequest, Judged, ProveRequest, RefuteRequest, Request, RunRequest,
-    TranslateRequest,
+    CheckRequest, FindRequest, FollowRequest, Judged, ProveRequest, RefuteRequest, Request,
+    RunRequest, TranslateRequest,
 };

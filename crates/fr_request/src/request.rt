@@ -23,6 +23,8 @@ pub enum Request<'a> {
     Run(RunRequest<'a>),
     /// The application that a source means.
     Translate(TranslateRequest<'a>),
+    /// Whether a trace is one that a run of the application can have.
+    Follow(FollowRequest<'a>),
 }
 
 /// A verdict that the command line asks for.
@@ -118,6 +120,18 @@ pub struct RunRequest<'a> {
     pub words: Option<&'a str>,
     /// Whether it is printed why the verdict is no or where a refusal is, and how much of a state.
     pub detail: Option<Detail>,
+}
+
+/// A trace that the command line asks to follow.
+#[derive(Clone, Copy)]
+pub struct FollowRequest<'a> {
+    pub app: &'a str,
+    /// The file of the trace.
+    pub trace: &'a str,
+    /// The most states that are kept at each event.
+    pub states: u32,
+    /// Whether it is printed where a refusal is.
+    pub explains: bool,
 }
 
 /// A translation that the command line asks for.

@@ -16,12 +16,13 @@ use Rattle.fr_request.specs.declared.request.Judged.{Judged}
 use Rattle.fr_request.specs.declared.request.Judged.TheVariants.{One, Listed}
 use Rattle.fr_request.specs.declared.request.CheckRequest.{CheckRequest}
 use Rattle.fr_request.specs.declared.request.FindRequest.{FindRequest}
+use Rattle.fr_request.specs.declared.request.FollowRequest.{FollowRequest}
 use Rattle.fr_request.specs.declared.request.ProveRequest.{ProveRequest}
 use Rattle.fr_request.specs.declared.request.RefuteRequest.{RefuteRequest}
 use Rattle.fr_request.specs.declared.request.RunRequest.{RunRequest}
 use Rattle.fr_request.specs.declared.request.TranslateRequest.{TranslateRequest}
 use Rattle.fr_request.specs.declared.request.Request.{Request}
-use Rattle.fr_request.specs.declared.request.Request.TheVariants.{Check, Find, Prove, Points, Refute, Run, Translate}
+use Rattle.fr_request.specs.declared.request.Request.TheVariants.{Check, Find, Prove, Points, Refute, Run, Translate, Follow}
 use Rattle.fr_words.specs.Found.{Rows, subcommand, text_at, is_given, number_at, detail_at, format_at, proof_detail_at, warns_at}
 
 -- the word has a text after it
@@ -130,6 +131,16 @@ pub record IsTranslate (rs : Rows) (asked : TranslateRequest) : Type 0 where
 abbrev pub can_translate : Rows → Bool
 can_translate rs = has_text rs (codes "SOURCE") && has_text rs (codes "OUT")
 
+-- `follow`
+pub record IsFollow (rs : Rows) (asked : FollowRequest) : Type 0 where
+  pub app : text_at rs (codes "APP") ≡ Some asked.app.now
+  pub trace : text_at rs (codes "TRACE") ≡ Some asked.trace.now
+  pub states : number_at 32 rs (codes "states") ≡ Some asked.states
+  pub explains : asked.explains ≡ is_given rs (codes "explain")
+
+abbrev pub can_follow : Rows → Bool
+can_follow rs = has_text rs (codes "APP") && has_text rs (codes "TRACE") && has_number 32 rs (codes "states")
+
 -- the command with this name
 abbrev pub IsAsked : Text → Rows → Request → Type 0
 IsAsked name rs (Check asked) = (name ≡ codes "check") × IsCheck rs asked
@@ -139,6 +150,7 @@ IsAsked name rs (Points app explains) = (name ≡ codes "points") × IsPoints rs
 IsAsked name rs (Refute asked) = (name ≡ codes "refute") × IsRefute rs asked
 IsAsked name rs (Run asked) = (name ≡ codes "run") × IsRun rs asked
 IsAsked name rs (Translate asked) = (name ≡ codes "translate") × IsTranslate rs asked
+IsAsked name rs (Follow asked) = (name ≡ codes "follow") × IsFollow rs asked
 
 abbrev pub can_ask : Text → Rows → Bool
 can_ask name rs =
@@ -148,7 +160,8 @@ can_ask name rs =
     else if bytes_eq name (codes "points") then has_text rs (codes "APP")
     else if bytes_eq name (codes "refute") then can_refute rs
     else if bytes_eq name (codes "run") then can_run rs
-    else if bytes_eq name (codes "translate") then can_translate rs else false
+    else if bytes_eq name (codes "translate") then can_translate rs
+    else if bytes_eq name (codes "follow") then can_follow rs else false
 
 -- what was matched of the whole line asks for the request: there is a command, which is asked for this
 abbrev pub Asks : ArgMatches → Request → Type 0

@@ -5,6 +5,7 @@ ghost use Rattle.fr_words.specs.Asked.{IsAsked, Asks, can_ask, can_ask_any};
 
 use crate::check::{asked_check, check_command};
 use crate::find::{asked_find, find_command};
+use crate::follow::{asked_follow, follow_command};
 use crate::found::{is_given, text_at};
 use crate::points::points_command;
 use crate::prove::{asked_prove, prove_command};
@@ -32,9 +33,10 @@ enum Name {
     Points,
     Run,
     Translate,
+    Follow,
 }
 
-const NAMES: [Name; 7] = [
+const NAMES: [Name; 8] = [
     Name::Prove,
     Name::Check,
     Name::Refute,
@@ -42,6 +44,7 @@ const NAMES: [Name; 7] = [
     Name::Points,
     Name::Run,
     Name::Translate,
+    Name::Follow,
 ];
 
 /// The command with this name.
@@ -54,10 +57,11 @@ fn command_named<'a>(alloc: Global, name: Name) -> Result<Command<'a>, AllocErro
         Name::Points => points_command(alloc),
         Name::Run => run_command(alloc),
         Name::Translate => translate_command(alloc),
+        Name::Follow => follow_command(alloc),
     }
 }
 
-/// The whole command line, with its seven commands.
+/// The whole command line, with its eight commands.
 fn command<'a>(alloc: Global) -> Result<Command<'a>, AllocError> {
     let mut command = Command::new(alloc, NAME)
         .version(VERSION)
@@ -95,6 +99,7 @@ fn asked_of<'a>(name: &str, words: &ArgMatches<'a>) -> Option<Request<'a>>
         "refute" => Some(Request::Refute(asked_refute(words)?)),
         "run" => Some(Request::Run(asked_run(words)?)),
         "translate" => Some(Request::Translate(asked_translate(words)?)),
+        "follow" => Some(Request::Follow(asked_follow(words)?)),
         _ => None,
     }
 }

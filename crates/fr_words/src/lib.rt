@@ -6,6 +6,7 @@
 mod check;
 mod command;
 mod find;
+mod follow;
 mod found;
 mod points;
 mod prove;

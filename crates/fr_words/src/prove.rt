@@ -66,7 +66,7 @@ pub fn prove_command<'a>(alloc: Global) -> Result<Command<'a>, AllocError> {
         certificate_arg(alloc),
         workers_arg(alloc),
         no_search_arg(alloc),
-        states_arg(alloc),
+        states_arg(alloc, "1000000"),
         memory_arg(alloc, "512"),
         format_arg(alloc),
         deadlock_arg(alloc),

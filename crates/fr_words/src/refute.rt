@@ -27,7 +27,7 @@ pub fn refute_command<'a>(alloc: Global) -> Result<Command<'a>, AllocError> {
     let html = html_arg(alloc)?;
     let args = vec![in alloc;
         file_arg(alloc, "APP", APPLICATION),
-        states_arg(alloc),
+        states_arg(alloc, "1000000"),
         memory_arg(alloc, "2048"),
         workers_arg(alloc),
         deadlock_arg(alloc),

@@ -50,13 +50,13 @@ pub fn file_arg<'a>(alloc: Global, id: &'a str, help: &'a str) -> Arg<'a> {
         .help(help)
 }
 
-/// The word `--states` with its number.
-pub fn states_arg<'a>(alloc: Global) -> Arg<'a> {
+/// The word `--states` with its number, which is this one where it isn't given.
+pub fn states_arg<'a>(alloc: Global, otherwise: &'a str) -> Arg<'a> {
     Arg::new(alloc, "states")
         .long("states")
         .value_name("N")
         .value_parser(value_parser!(u32).range(1..=100_000_000))
-        .default_value("1000000")
+        .default_value(otherwise)
         .help("The most states that are looked at, 1 to 100000000")
 }
 
