@@ -339,7 +339,16 @@ pub fn explain(
     let Verdict::No { point, part } = verdict else {
         return Ok(None);
     };
-    let found = scene_of(alloc, app, certificate, sources, point, part, detail, blames);
+    let found = scene_of(
+        alloc,
+        app,
+        certificate,
+        sources,
+        point,
+        part,
+        detail,
+        blames,
+    );
     let Some(scene) = found else {
         return Ok(None);
     };
