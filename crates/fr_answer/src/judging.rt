@@ -129,7 +129,15 @@ pub(crate) fn judged<R: Threads + Wait + Sync, G: Gate>(
     let text = app;
     let reading = judge_reading(rt, alloc, text, certificate, workers, gate)?;
     let (app, certificate) = (&reading.app, &reading.certificate);
-    let why = why(alloc, text, app, certificate, reading.verdict, detail, false)?;
+    let why = why(
+        alloc,
+        text,
+        app,
+        certificate,
+        reading.verdict,
+        detail,
+        false,
+    )?;
     let waits = waits(alloc, app, certificate, reading.verdict, asks)?;
     let judged = Judged::new(
         reading.app,
