@@ -94,7 +94,7 @@ impl Names {
     }
 
     /// The variable whose name these bytes are.
-    pub(crate) fn variable_named(&self, word: &[u8]) -> Option<VarId>
+    pub fn variable_named(&self, word: &[u8]) -> Option<VarId>
         ensures { option_map (λ x. x.0) result ≡ place_of self.now.variables word.now }
     {
         let variables = &self.variables;
@@ -108,7 +108,7 @@ impl Names {
     }
 
     /// The object whose name these bytes are.
-    pub(crate) fn object_named(&self, word: &[u8]) -> Option<ObjId>
+    pub fn object_named(&self, word: &[u8]) -> Option<ObjId>
         ensures { option_map (λ o. o.0) result ≡ place_of self.now.objects word.now }
     {
         let objects = &self.objects;
@@ -117,6 +117,20 @@ impl Names {
         };
         match number_of(objects, name) {
             Some(i) => Some(ObjId(i)),
+            None => None,
+        }
+    }
+
+    /// The actor whose name these bytes are.
+    pub fn actor_named(&self, word: &[u8]) -> Option<ActorId>
+        ensures { option_map (λ a. a.0) result ≡ place_of self.now.actors word.now }
+    {
+        let actors = &self.actors;
+        let Ok(name) = std::str::from_utf8(word) else {
+            return None;
+        };
+        match number_of(actors, name) {
+            Some(i) => Some(ActorId(i)),
             None => None,
         }
     }

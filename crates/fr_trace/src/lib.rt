@@ -1,0 +1,13 @@
+// A recorded trace of firmware: the text that the recorder writes, format 1, and the events that it means for an
+// application. Below are `fr_instr`, whose tokens and whose table of calls it is read by, and `fr_program`.
+#![tactic(auto)]
+
+mod no_trace;
+mod recorded;
+mod seen_call;
+mod trace;
+
+pub use no_trace::{NoTrace, NotListed, TraceFault, Unlisted};
+pub use recorded::Recorded;
+pub use seen_call::{SeenCall, SeenTime, fits};
+pub use trace::{Event, Happening, Trace};
