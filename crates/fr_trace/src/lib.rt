@@ -4,6 +4,7 @@
 
 mod no_trace;
 mod recorded;
+mod said;
 mod seen_call;
 mod trace;
 

@@ -1,9 +1,9 @@
 // A kernel call as a trace shows it.
-ghost use Rattle.std.specs.Prelude.{◌↔◌, IsTrue, pos};
-ghost use Rattle.fr_trace.specs.Fits.{Fits, IsSo, IsTime};
+ghost use Rattle.std.specs.Prelude.{◌≡◌, ◌↔◌, IsTrue, pos};
+ghost use Rattle.fr_trace.specs.Fits.{Agrees, Fits, IsSo, IsTime};
 
 use crate::recorded::Recorded;
-use fr_instr::{Verb, given_of, verb_of};
+use fr_instr::{Given, Verb, given_of, verb_of};
 use fr_program::{BlockTime, Call, ObjId};
 
 /// A block time as a trace shows it: `portMAX_DELAY`, or any number of 64 bits with a sign. A number that no line of
@@ -69,16 +69,18 @@ fn is_time(seen: Recorded<SeenTime>, time: BlockTime) -> bool
     }
 }
 
-/// Whether the call of the code fits the call that the trace shows: the name is the same, and the object and the
-/// numbers are the same where they are recorded. The value that a queue send puts in, the variable of a receive, the
-/// target of an `else` and the variable of a result aren't looked at.
-pub fn fits(call: &Call, seen: &SeenCall) -> bool
-    ensures { IsTrue result ↔ Fits call.now seen.now }
+/// Whether these are one name of a call.
+pub(crate) fn is_same(one: Verb, other: Verb) -> bool
+    ensures { IsTrue result ↔ one ≡ other }
 {
-    if verb_of(*call) != seen.verb {
-        return false;
-    }
-    let given = given_of(*call);
+    one == other
+}
+
+/// Whether the trace allows what the line of a call gives: the object and the numbers are the same, where they are
+/// recorded.
+fn agrees(given: Given, seen: &SeenCall) -> bool
+    ensures { IsTrue result ↔ Agrees given seen.now }
+{
     if !is_object(seen.object, given.object) {
         return false;
     }
@@ -89,4 +91,13 @@ pub fn fits(call: &Call, seen: &SeenCall) -> bool
         return false;
     }
     is_number(seen.ticks, given.ticks)
+}
+
+/// Whether the call of the code fits the call that the trace shows: the name is the same, and the object and the
+/// numbers are the same where they are recorded. The value that a queue send puts in, the variable of a receive, the
+/// target of an `else` and the variable of a result aren't looked at.
+pub fn fits(call: &Call, seen: &SeenCall) -> bool
+    ensures { IsTrue result ↔ Fits call.now seen.now }
+{
+    is_same(verb_of(*call), seen.verb) && agrees(given_of(*call), seen)
 }
