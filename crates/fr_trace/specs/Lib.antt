@@ -1,3 +1,5 @@
+pub mod Args
 pub mod Fits
+pub mod Reads
 pub mod Said
 pub mod Views

@@ -2,10 +2,14 @@
 // application. Below are `fr_instr`, whose tokens and whose table of calls it is read by, and `fr_program`.
 #![tactic(auto)]
 
+mod args;
+mod effect;
 mod no_trace;
+mod progress;
 mod recorded;
 mod said;
 mod seen_call;
+mod stop;
 mod trace;
 
 pub use no_trace::{NoTrace, NotListed, TraceFault, Unlisted};
