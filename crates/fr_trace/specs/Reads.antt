@@ -7,8 +7,10 @@
 -- | is_open            | the actor is inside a call                                                                       |
 -- | marked, opened     | whether an actor is inside a call, from now on; the same by what it does                         |
 -- | after              | what is read with what a line adds                                                               |
--- | IsEnter            | the event at which the actor begins a call that the line shows                                   |
+-- | IsEnterOf, IsEnter | the event at which the actor begins a call                                                       |
 -- | Returned           | what a return adds: an event, or nothing where its enter is lost                                 |
+-- | HasReturned        | the same, with the tokens of the line                                                            |
+-- | HasSet             | the event at which the actor has set a variable                                                  |
 -- | OwnDoes            | what a line of an actor that is listed adds                                                      |
 -- | is_touched         | the line names an object or sets a variable that the application lists                           |
 -- | Does               | what a line adds                                                                                 |
@@ -37,6 +39,8 @@ use Rattle.fr_trace.specs.declared.effect.Effect.{Effect}
 use Rattle.fr_trace.specs.declared.effect.Effect.TheVariants.{Nothing, Add, Lose, Ignore}
 use Rattle.fr_trace.specs.declared.recorded.Recorded.{Recorded}
 use Rattle.fr_trace.specs.declared.seen_call.SeenCall.{SeenCall}
+use Rattle.fr_trace.specs.declared.stop.Stop.{Stop}
+use Rattle.fr_trace.specs.declared.stop.Stop.TheVariants.{Memory, NotListed, Wrong}
 use Rattle.fr_trace.specs.declared.trace.Event.{Event}
 use Rattle.fr_trace.specs.declared.trace.Happening.{Happening}
 use Rattle.fr_trace.specs.declared.trace.Happening.TheVariants.{Enter, Return, Set, Begin, End}
@@ -77,27 +81,37 @@ after Ignore s = record s { ignored = s.ignored + 1 }
 
 -- ---- what a line adds
 
--- the event at which the actor begins the call of this name, with these tokens after its bracket: the call isn't one that
--- the header names, and the actor is inside none
-pub record IsEnter (N : NamesOf) (n : ℕ) (s : Sofar) (a : ActorId) (k : List ℕ) (ts : List Tok) (event : Event) : Type 0 where
-  pub row : Row
+-- the event at which the actor begins this call, with these tokens after its bracket: the call isn't one that the header
+-- names, and the actor is inside none
+pub record IsEnterOf (N : NamesOf) (n : ℕ) (s : Sofar) (a : ActorId) (verb : Verb) (places : List Place) (ts : List Tok) (event : Event) : Type 0 where
   pub seen : SeenCall
-  pub named : row_named k ≡ Some row
-  pub args : PutsAll N row.places ts (unseen_parts row.verb) seen
-  pub shown : ¬ (Any (λ v. v ≡ row.verb) s.unseen)
+  pub args : PutsAll N places ts (unseen_parts verb) seen
+  pub shown : ¬ (Any (λ v. v ≡ verb) s.unseen)
   pub outside : is_open s a ≡ false
   pub is : event ≡ record { actor = a; line = n; what = Enter seen }
+
+-- so it is of the call of this name
+abbrev pub IsEnter : NamesOf → ℕ → Sofar → ActorId → List ℕ → List Tok → Event → Type 0
+IsEnter N n s a k ts event = (row : Row) × (row_named k ≡ Some row) × IsEnterOf N n s a row.verb row.places ts event
 
 -- an actor that is inside a call ends it; for one that isn't, the enter must be lost, and the return adds nothing
 abbrev pub Returned : ℕ → Sofar → ActorId → Recorded ℤ → Recorded ℤ → Bool → Effect → Type 0
 Returned n s a result value true e = e ≡ Add (record { actor = a; line = n; what = Return result value })
 Returned n s a result value false e = (0 < length s.lost) × (e ≡ Nothing)
 
+-- what a return of an actor adds, with these tokens as its result and its value
+abbrev pub HasReturned : ℕ → Sofar → ActorId → Tok → Tok → Effect → Type 0
+HasReturned n s a t u e = (r : Recorded ℤ) × (v : Recorded ℤ) × IsNumber t r × IsNumber u v × Returned n s a r v (is_open s a) e
+
+-- the event at which the actor has set this variable to this number
+abbrev pub HasSet : NamesOf → ℕ → ActorId → List ℕ → List ℕ → Effect → Type 0
+HasSet N n a x d e = (v : VarId) × (z : ℤ) × IsVariable N x v × IsInteger d z × (e ≡ Add (record { actor = a; line = n; what = Set v z }))
+
 -- what a line of an actor that is listed adds
 abbrev pub OwnDoes : NamesOf → ℕ → Sofar → ActorId → Said → Effect → Type 0
 OwnDoes N n s a (enter w k ts) e = (event : Event) × IsEnter N n s a k ts event × (e ≡ Add event)
-OwnDoes N n s a (returns w t u) e = (r : Recorded ℤ) × (v : Recorded ℤ) × IsNumber t r × IsNumber u v × Returned n s a r v (is_open s a) e
-OwnDoes N n s a (sets w x d) e = (v : VarId) × (z : ℤ) × IsVariable N x v × IsInteger d z × (e ≡ Add (record { actor = a; line = n; what = Set v z }))
+OwnDoes N n s a (returns w t u) e = HasReturned n s a t u e
+OwnDoes N n s a (sets w x d) e = HasSet N n a x d e
 OwnDoes N n s a (begins w) e = e ≡ Add (record { actor = a; line = n; what = Begin })
 OwnDoes N n s a (ends w) e = e ≡ Add (record { actor = a; line = n; what = End })
 OwnDoes N n s a said e = ⊥
@@ -180,5 +194,15 @@ is_strange_by N (Some a) said = false
 -- a line with something that the application doesn't list
 abbrev pub is_strange : NamesOf → Said → Bool
 is_strange N (enter w k ts) = is_strange_by N (place_of N.actors w) (enter w k ts)
+is_strange N (returns w t u) = is_strange_by N (place_of N.actors w) (returns w t u)
 is_strange N (sets w x d) = is_strange_by N (place_of N.actors w) (sets w x d)
+is_strange N (begins w) = is_strange_by N (place_of N.actors w) (begins w)
+is_strange N (ends w) = is_strange_by N (place_of N.actors w) (ends w)
 is_strange N said = false
+
+-- For private clauses: why a line isn't read. It has something that the application doesn't list; or it doesn't, and adds
+-- nothing of this kind. A refused allocation isn't the line's
+abbrev pub IsWhy : Stop → Bool → Type 0 → Type 0
+IsWhy Memory strange Adds = ⊤
+IsWhy (NotListed unlisted) strange Adds = strange ≡ true
+IsWhy (Wrong fault skip) strange Adds = (strange ≡ false) × (¬ Adds)
