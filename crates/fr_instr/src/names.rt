@@ -1,5 +1,5 @@
 // The names of an application's variables, objects and actors, with their numbers.
-ghost use Rattle.std.specs.Prelude.{◌≡◌, ◌≢◌, ◌++◌, All, AllPairs, IfOk, List, map, option_map, string_bytes};
+ghost use Rattle.std.specs.Prelude.{◌≡◌, ◌≢◌, ◌++◌, All, AllPairs, IfOk, List, length, map, option_map, string_bytes};
 ghost use Rattle.fr_program.specs.Limits.{IsName};
 ghost use Rattle.fr_instr.specs.Names.{NamesOf, place_of, name_at, AreNames};
 ghost use Rattle.fr_instr.specs.Views.{texts};
@@ -133,6 +133,13 @@ impl Names {
             Some(i) => Some(ActorId(i)),
             None => None,
         }
+    }
+
+    /// How many actors there are.
+    pub fn actor_count(&self) -> usize
+        ensures { result ≡ length self.now.actors }
+    {
+        self.actors.len()
     }
 
     /// Each is a name, and is given once among all of them.

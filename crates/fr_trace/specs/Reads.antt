@@ -20,7 +20,7 @@
 -- | ReadsLines         | what is read with lines, the first of which has this number, from 0                              |
 -- | is_strange_call    | a call that no line of the application can be: by its name, its object or whom it deletes        |
 -- | is_strange         | a line with something that the application doesn't list                                          |
-use Rattle.std.specs.Prelude.{◌≡◌, ◌+◌, ◌<◌, ⊤, ℕ, ℤ, List, [], ◌∷◌, ◌++◌, length, map, Any, Bool, true, false, not, cond, Option, Some, None, option_map, codes, is_none, is_some, replicate, slice_index_or, slice_set}
+use Rattle.std.specs.Prelude.{◌≡◌, ◌+◌, ◌<◌, ◌==◌, ⊤, ℕ, ℤ, List, [], ◌∷◌, ◌++◌, length, map, Any, Bool, true, false, not, cond, Option, Some, None, option_map, codes, is_none, is_some, replicate, slice_index_or, slice_set}
 use Rattle.std.specs.List.{list_any}
 use Rattle.std.specs.Str.{bytes_eq}
 use Rattle.fr_program.specs.declared.ids.ActorId.{ActorId}
@@ -35,6 +35,8 @@ use Rattle.fr_instr.specs.declared.call.Place.TheVariants.{Object, Null}
 use Rattle.fr_instr.specs.declared.call.Verb.{Verb}
 use Rattle.fr_trace.specs.Args.{IsNumber, PutsAll, unseen_parts}
 use Rattle.fr_trace.specs.Said.{Said, nothing, unseen, lost, enter, returns, sets, begins, ends, begins_comment, said_by}
+use Rattle.fr_trace.specs.declared.no_trace.NoTrace.{NoTrace}
+use Rattle.fr_trace.specs.declared.no_trace.NoTrace.TheVariants as no_trace
 use Rattle.fr_trace.specs.declared.effect.Effect.{Effect}
 use Rattle.fr_trace.specs.declared.effect.Effect.TheVariants.{Nothing, Add, Lose, Ignore}
 use Rattle.fr_trace.specs.declared.recorded.Recorded.{Recorded}
@@ -167,10 +169,13 @@ abbrev pub SaidReads : NamesOf → ℕ → Said → Sofar → Sofar → Type 0
 SaidReads N n (unseen ts) s t = Hides s ts t
 SaidReads N n said s t = (e : Effect) × Does N n s said e × (t ≡ after e s)
 
+-- what is read with a line of these tokens
+abbrev pub TokensRead : NamesOf → ℕ → List Tok → Sofar → Sofar → Type 0
+TokensRead N n ts s t = (said : Said) × (said_by ts ≡ Some said) × SaidReads N n said s t
+
 -- what is read with a line; a comment adds nothing
 abbrev pub LineReads : NamesOf → ℕ → List ℕ → Sofar → Sofar → Type 0
-LineReads N n line s t =
-    cond (begins_comment line) (t ≡ s) ((ts : List Tok) × (said : Said) × Spells line ts × (said_by ts ≡ Some said) × SaidReads N n said s t)
+LineReads N n line s t = cond (begins_comment line) (t ≡ s) ((ts : List Tok) × Spells line ts × TokensRead N n ts s t)
 
 -- ---- what the application doesn't list
 
@@ -206,3 +211,80 @@ abbrev pub IsWhy : Stop → Bool → Type 0 → Type 0
 IsWhy Memory strange Adds = ⊤
 IsWhy (NotListed unlisted) strange Adds = strange ≡ true
 IsWhy (Wrong fault skip) strange Adds = (strange ≡ false) × (¬ Adds)
+
+-- so it is of a line with these tokens
+abbrev pub IsStrangeTokens : NamesOf → List Tok → Type 0
+IsStrangeTokens N ts = (said : Said) × (said_by ts ≡ Some said) × (is_strange N said ≡ true)
+
+-- so it is of a line, which is no comment
+pub record IsStrangeLine (N : NamesOf) (line : List ℕ) : Type 0 where
+  pub tokens : List Tok
+  pub no_comment : begins_comment line ≡ false
+  pub spells : Spells line tokens
+  pub strange : IsStrangeTokens N tokens
+
+-- ---- lines
+
+-- what is read with the line at this place, from 0: the first is `fr_trace 1`
+abbrev pub ReadsAt : NamesOf → ℕ → List ℕ → Sofar → Sofar → Type 0
+ReadsAt N i line s t = cond (i == 0) ((line ≡ codes "fr_trace 1") × (t ≡ s)) (LineReads N (i + 1) line s t)
+
+-- what is read with these lines, the first of which is at this place
+abbrev pub ReadsLines : NamesOf → ℕ → List (List ℕ) → Sofar → Sofar → Type 0
+ReadsLines N i [] s t = t ≡ s
+ReadsLines N i (line ∷ lines) s t = (u : Sofar) × ReadsAt N i line s u × ReadsLines N (i + 1) lines u t
+
+-- the lines before the one with this number, from 1, are read, from where no actor is inside a call
+pub record ComesTo (N : NamesOf) (text : List (List ℕ)) (k : ℕ) (line : List ℕ) : Type 0 where
+  pub before : List (List ℕ)
+  pub after_it : List (List ℕ)
+  pub so_far : Sofar
+  pub parts : text ≡ before ++ line ∷ after_it
+  pub numbered : k ≡ length before + 1
+  pub reads : ReadsLines N 0 before (start (length N.actors)) so_far
+
+-- the line with this number is the first that can't be read
+abbrev pub StopsAt : NamesOf → List (List ℕ) → ℕ → List ℕ → Type 0
+StopsAt N text k line = (c : ComesTo N text k line) × (¬ ((t : Sofar) × ReadsAt N (length c.before) line c.so_far t))
+
+-- ---- for private clauses
+
+-- why tokens aren't read: they have something that the application doesn't list; or they don't, and can't be read
+abbrev pub IsStop : Stop → Type 0 → Type 0 → Type 0
+IsStop Memory Strange Reads = ⊤
+IsStop (NotListed unlisted) Strange Reads = Strange
+IsStop (Wrong fault skip) Strange Reads = (¬ Strange) × (¬ Reads)
+
+-- the refusal of the line with this number
+abbrev pub IsNoTrace : Stop → ℕ → NoTrace → Type 0
+IsNoTrace Memory n no_trace.Memory = ⊤
+IsNoTrace (NotListed unlisted) n (no_trace.NotListed l) = l.line ≡ n
+IsNoTrace (Wrong fault skip) n (no_trace.Faulty k column f) = k ≡ n
+IsNoTrace stop n why = ⊥
+
+-- the refusal of a line that no tokens spell
+abbrev pub IsSpellWhy : ℕ → List ℕ → NoTrace → Type 0
+IsSpellWhy n line no_trace.Memory = ⊤
+IsSpellWhy n line (no_trace.Faulty k column fault) = (k ≡ n) × ((ts : List Tok) → ¬ (Spells line ts))
+IsSpellWhy n line why = ⊥
+
+-- why the line with this number isn't read
+abbrev pub IsLineWhy : NamesOf → ℕ → List ℕ → Type 0 → NoTrace → Type 0
+IsLineWhy N n line Reads no_trace.Memory = ⊤
+IsLineWhy N n line Reads (no_trace.Faulty k column fault) = (k ≡ n) × (¬ (IsStrangeLine N line)) × (¬ Reads)
+IsLineWhy N n line Reads (no_trace.NotListed unlisted) = (unlisted.line ≡ n) × IsStrangeLine N line
+IsLineWhy N n line Reads other = ⊥
+
+-- why a line isn't read that is the first one, or isn't
+abbrev pub IsPlaceWhy : NamesOf → Bool → ℕ → List ℕ → Type 0 → NoTrace → Type 0
+IsPlaceWhy N true n line Reads (no_trace.Faulty k column fault) = (k ≡ n) × (¬ Reads)
+IsPlaceWhy N true n line Reads why = ⊥
+IsPlaceWhy N false n line Reads why = IsLineWhy N n line Reads why
+
+-- why a text isn't read
+abbrev pub IsTextWhy : NamesOf → List (List ℕ) → NoTrace → Type 0
+IsTextWhy N text no_trace.Memory = ⊤
+IsTextWhy N text no_trace.TooLong = ⊥
+IsTextWhy N text no_trace.NotText = ⊥
+IsTextWhy N text (no_trace.Faulty k column fault) = (line : List ℕ) × StopsAt N text k line × (1 < k → ¬ (IsStrangeLine N line))
+IsTextWhy N text (no_trace.NotListed unlisted) = (line : List ℕ) × ComesTo N text unlisted.line line × IsStrangeLine N line

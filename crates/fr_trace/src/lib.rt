@@ -6,6 +6,7 @@ mod args;
 mod effect;
 mod no_trace;
 mod progress;
+mod reading;
 mod recorded;
 mod said;
 mod seen_call;
@@ -13,6 +14,7 @@ mod stop;
 mod trace;
 
 pub use no_trace::{NoTrace, NotListed, TraceFault, Unlisted};
+pub use reading::{MOST_TRACE_BYTES, read_trace};
 pub use recorded::Recorded;
 pub use seen_call::{SeenCall, SeenTime, fits};
 pub use trace::{Event, Happening, Trace};

@@ -1,4 +1,8 @@
 // Why the bytes are no trace of the application.
+ghost use Rattle.std.specs.Prelude.{◌≡◌};
+ghost use Rattle.fr_trace.specs.declared.no_trace.NoTrace.TheVariants.{Memory};
+
+use std::alloc::AllocError;
 
 /// What is wrong in a line.
 #[derive(Clone, Copy, Debug, PartialEq, Eq)]
@@ -67,4 +71,12 @@ pub enum NoTrace<'a> {
     },
     /// They are a trace up to this event, which has something that the application doesn't list.
     NotListed(NotListed<'a>),
+}
+
+impl<'a> From<AllocError> for NoTrace<'a> {
+    ghost from_gives = { λ _ fault. fault ≡ Memory };
+
+    fn from(_refused: AllocError) -> NoTrace<'a> {
+        NoTrace::Memory
+    }
 }

@@ -1,5 +1,9 @@
 // Why a line isn't read.
+ghost use Rattle.std.specs.Prelude.{◌≡◌};
+ghost use Rattle.fr_trace.specs.declared.stop.Stop.TheVariants.{Memory};
+
 use crate::no_trace::{TraceFault, Unlisted};
+use std::alloc::{AllocError, AllocFailed};
 
 /// Why a line isn't read.
 #[derive(Clone, Copy)]
@@ -10,4 +14,20 @@ pub enum Stop<'a> {
     NotListed(Unlisted<'a>),
     /// It has this fault, after so many of its tokens.
     Wrong(TraceFault, usize),
+}
+
+impl<'a> From<AllocError> for Stop<'a> {
+    ghost from_gives = { λ _ stop. stop ≡ Memory };
+
+    fn from(_refused: AllocError) -> Stop<'a> {
+        Stop::Memory
+    }
+}
+
+impl<'a, T: Drop> From<AllocFailed<T>> for Stop<'a> {
+    ghost from_gives = { λ _ stop. stop ≡ Memory };
+
+    fn from(_refused: AllocFailed<T>) -> Stop<'a> {
+        Stop::Memory
+    }
 }
