@@ -14,7 +14,7 @@ mod stop;
 mod trace;
 
 pub use no_trace::{NoTrace, NotListed, TraceFault, Unlisted};
-pub use reading::{MOST_TRACE_BYTES, read_trace};
+pub use reading::{MOST_TRACE_BYTES, one_meaning, read_trace};
 pub use recorded::Recorded;
 pub use seen_call::{SeenCall, SeenTime, fits};
 pub use trace::{Event, Happening, Trace};
