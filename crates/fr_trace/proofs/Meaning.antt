@@ -1,5 +1,5 @@
 -- Bytes have one meaning at most: each line adds one thing at most to what is read before it.
-use Rattle.std.proofs.Common.{◌≡◌, ◌+◌, ◌∙◌, ◌==◌, ℕ, ℤ, List, [], ◌∷◌, ◌++◌, Bool, true, false, cond, codes, Option, Some, None, length, map, ap, refl, subst, sym}
+use Rattle.std.proofs.Common.{◌≡◌, ◌+◌, ◌∙◌, ◌==◌, ℕ, ℤ, List, [], ◌∷◌, ◌++◌, Bool, true, false, cond, codes, Option, Some, None, length, map, inl, inr, arith, ap, refl, subst, sym}
 use Rattle.std.proofs.lemmas.Option.{same_Some}
 use Rattle.std.specs.Str.Lines.{lines}
 use Rattle.fr_program.specs.declared.ids.ActorId.{ActorId}
@@ -11,11 +11,13 @@ use Rattle.fr_instr.specs.Tokens.{Tok, Spells}
 use Rattle.fr_instr.specs.declared.call.Place.{Place}
 use Rattle.fr_instr.specs.declared.call.Verb.{Verb}
 use Rattle.fr_trace.specs.Args.{IsNumber, unseen_parts}
-use Rattle.fr_trace.specs.Means.{TraceMeans, TraceOf, trace_of}
+use Rattle.fr_trace.specs.Means.{IsPresent, TraceMeans, TraceOf, trace_of}
 use Rattle.fr_trace.specs.Reads.{ActorDoes, AreCalls, Does, HasReturned, HasSet, Hides, IsEnter, IsEnterOf, LineReads, OwnDoes, ReadsAt, ReadsLines, Returned, SaidReads, Sofar, TokensRead, after, is_open, start}
 use Rattle.fr_trace.specs.Said.{Said, nothing, unseen, lost, enter, returns, sets, begins, ends, begins_comment, said_by}
 use Rattle.fr_trace.specs.declared.effect.Effect.{Effect}
 use Rattle.fr_trace.specs.declared.effect.Effect.TheVariants.{Add}
+use Rattle.fr_trace.specs.declared.no_trace.NoTrace.TheVariants.{Faulty}
+use Rattle.fr_trace.specs.declared.no_trace.TraceFault.{TraceFault}
 use Rattle.fr_trace.specs.declared.recorded.Recorded.{Recorded}
 use Rattle.fr_trace.specs.declared.trace.Event.{Event}
 use Rattle.fr_trace.specs.declared.trace.Happening.TheVariants.{Enter, Set}
@@ -125,3 +127,20 @@ lines-once N i (l ∷ ls) s t u (v, r, m) (w, q, p) =
 pub means-once : (N : NamesOf) (bytes : List ℕ) (one other : TraceOf) → TraceMeans N bytes one → TraceMeans N bytes other → one ≡ other
 means-once N bytes one other h k =
     h.is ∙ ap trace_of (lines-once N 0 (lines bytes) (start (length N.actors)) h.last k.last h.reads k.reads) ∙ sym k.is
+
+-- lines that are read are read up to each of them
+lines-split : (N : NamesOf) (i : ℕ) (before : List (List ℕ)) (line : List ℕ) (rest : List (List ℕ)) (s w : Sofar) → ReadsLines N i (before ++ line ∷ rest) s w
+    → (u : Sofar) × (v : Sofar) × ReadsLines N i before s u × ReadsAt N (i + length before) line u v
+lines-split N i [] line rest s w (v, r, m) = (s, v, refl, subst (λ j. ReadsAt N j line s v) (omega arith) r)
+lines-split N i (b ∷ before) line rest s w (v, r, m) =
+    let more = lines-split N (i + 1) before line rest v w m in
+    (more.0, more.1, (v, r, more.2), subst (λ j. ReadsAt N j line more.0 more.1) (omega arith) more.3)
+
+pub no-meaning : (N : NamesOf) (bytes : List ℕ) (k column : ℕ) (fault : TraceFault) (trace : TraceOf) → IsPresent N bytes (Faulty k column fault)
+    → TraceMeans N bytes trace → ⊥
+no-meaning N bytes k column fault trace (text, inl none) means = omega (arith, none, means.some)
+no-meaning N bytes k column fault trace (text, inr (line, (c, stuck), fine)) means =
+    let parts = lines-split N 0 c.before line c.after_it (start (length N.actors)) means.last
+    (subst (λ ls. ReadsLines N 0 ls (start (length N.actors)) means.last) c.parts means.reads) in
+    let same = lines-once N 0 c.before (start (length N.actors)) parts.0 c.so_far parts.2 c.reads in
+    stuck (parts.1, subst (λ x. ReadsAt N (length c.before) line x parts.1) same (subst (λ j. ReadsAt N j line parts.0 parts.1) (omega arith) parts.3))

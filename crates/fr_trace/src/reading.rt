@@ -8,6 +8,8 @@ ghost use Rattle.fr_instr.specs.Names.{NamesOf};
 ghost use Rattle.fr_instr.specs.Tokens.{Spells};
 ghost use Rattle.fr_trace.specs.Views.{said_of, so_far};
 ghost use Rattle.fr_instr.specs.declared.call.Verb.{Verb};
+ghost use Rattle.fr_trace.specs.declared.no_trace.NoTrace.TheVariants.{Faulty};
+ghost use Rattle.fr_trace.specs.declared.no_trace.TraceFault.{TraceFault};
 
 use crate::effect;
 use crate::no_trace::{NoTrace, NotListed, TraceFault, Unlisted};
@@ -352,4 +354,10 @@ pub fn read_trace<'a>(alloc: Global, names: &Names, bytes: &'a [u8]) -> Result<T
 /// The bytes of a trace have one meaning at the most.
 pub fn one_meaning()
     ensures { (N : NamesOf) (bytes : List ℕ) (one other : TraceOf) → TraceMeans N bytes one → TraceMeans N bytes other → one ≡ other }
+{}
+
+/// Bytes in which a fault is present mean no trace.
+pub fn no_meaning()
+    ensures { (N : NamesOf) (bytes : List ℕ) (line column : ℕ) (fault : TraceFault) (trace : TraceOf) →
+        IsPresent N bytes (Faulty line column fault) → TraceMeans N bytes trace → ⊥ }
 {}
