@@ -33,11 +33,7 @@ pub enum Effect {
 
 /// What no line of the application can be in a call with these places, by its first argument: its object isn't listed,
 /// or it deletes another task.
-fn unlisted_place<'a>(
-    names: &Names,
-    places: &[Place],
-    tokens: &[Token<'a>],
-) -> Option<Unlisted<'a>>
+fn unlisted_place<'a>(names: &Names, places: &[Place], tokens: &[Token<'a>]) -> Option<Unlisted<'a>>
     ensures { is_some result ≡ is_strange_place names.now places.now (toks tokens.now) }
 {
     let Some((place, _)) = places.split_first() else {

@@ -1,12 +1,15 @@
 // Reading: the trace that bytes mean for an application.
-ghost use Rattle.std.specs.Prelude.{◌≡◌, ◌+◌, ◌<◌, ◌≤◌, ◌^◌, ◌==◌, List, IfErr, IfOk, OnOk, false, length};
+ghost use Rattle.std.specs.Prelude.{◌≡◌, ◌+◌, ◌<◌, ◌≤◌, ◌^◌, ◌==◌, ℕ, List, IfErr, IfOk, OnOk, false, length};
 ghost use Rattle.std.specs.Str.Lines.{lines};
 ghost use Rattle.fr_instr.specs.Views.{tok, toks};
-ghost use Rattle.fr_trace.specs.Means.{IsPresent, TraceMeans, said_in};
+ghost use Rattle.fr_trace.specs.Means.{IsPresent, TraceMeans, TraceOf, said_in};
 ghost use Rattle.fr_trace.specs.Reads.{AreCalls, Hides, IsLineWhy, IsNoTrace, IsPlaceWhy, IsSpellWhy, IsStop, IsStrangeTokens, IsTextWhy, IsWhy, LineReads, ReadsAt, ReadsLines, SaidReads, Sofar, TokensRead, call_named, is_strange, start};
+ghost use Rattle.fr_instr.specs.Names.{NamesOf};
 ghost use Rattle.fr_instr.specs.Tokens.{Spells};
 ghost use Rattle.fr_trace.specs.Views.{said_of, so_far};
 ghost use Rattle.fr_instr.specs.declared.call.Verb.{Verb};
+ghost use Rattle.fr_trace.specs.declared.no_trace.NoTrace.TheVariants.{Faulty};
+ghost use Rattle.fr_trace.specs.declared.no_trace.TraceFault.{TraceFault};
 
 use crate::effect;
 use crate::no_trace::{NoTrace, NotListed, TraceFault, Unlisted};
@@ -130,7 +133,11 @@ fn place_in(tokens: &[Token<'_>]) -> usize {
         return 1;
     };
     if *kind == b"enter".as_slice() {
-        return if matches!(tokens.get(2), Some(Token::Word(_))) { 3 } else { 2 };
+        return if matches!(tokens.get(2), Some(Token::Word(_))) {
+            3
+        } else {
+            2
+        };
     }
     if *kind == b"return".as_slice() {
         return 4;
@@ -138,12 +145,20 @@ fn place_in(tokens: &[Token<'_>]) -> usize {
     if *kind == b"set".as_slice() {
         return match tokens.get(2) {
             Some(Token::Word(_)) => {
-                if matches!(tokens.get(3), Some(Token::Number(_))) { 4 } else { 3 }
+                if matches!(tokens.get(3), Some(Token::Number(_))) {
+                    4
+                } else {
+                    3
+                }
             }
             _ => 2,
         };
     }
-    if *kind == b"begin".as_slice() || *kind == b"end".as_slice() { 2 } else { 1 }
+    if *kind == b"begin".as_slice() || *kind == b"end".as_slice() {
+        2
+    } else {
+        1
+    }
 }
 
 /// The word that the line begins with.
@@ -308,11 +323,7 @@ fn read_lines<'a>(alloc: Global, names: &Names, text: &'a str) -> Result<Progres
 /// `TooLong` where there are more than 67,108,864 bytes, and `NotText` where there aren't and they aren't UTF-8. `Faulty`
 /// and `NotListed` have the first line that can't be read: `NotListed` comes where that line has something that the
 /// application doesn't list, and `Faulty` where it hasn't. `Memory` comes only where an allocation was refused.
-pub fn read_trace<'a>(
-    alloc: Global,
-    names: &Names,
-    bytes: &'a [u8],
-) -> Result<Trace, NoTrace<'a>>
+pub fn read_trace<'a>(alloc: Global, names: &Names, bytes: &'a [u8]) -> Result<Trace, NoTrace<'a>>
     ensures means { IfOk result (λ trace. TraceMeans names.now bytes.now (said_in trace)) }
     ensures fault { IfErr result (IsPresent names.now bytes.now) }
 {
@@ -339,3 +350,14 @@ pub fn read_trace<'a>(
         Err(why) => Err(why),
     }
 }
+
+/// The bytes of a trace have one meaning at the most.
+pub fn one_meaning()
+    ensures { (N : NamesOf) (bytes : List ℕ) (one other : TraceOf) → TraceMeans N bytes one → TraceMeans N bytes other → one ≡ other }
+{}
+
+/// Bytes in which a fault is present mean no trace.
+pub fn no_meaning()
+    ensures { (N : NamesOf) (bytes : List ℕ) (line column : ℕ) (fault : TraceFault) (trace : TraceOf) →
+        IsPresent N bytes (Faulty line column fault) → TraceMeans N bytes trace → ⊥ }
+{}

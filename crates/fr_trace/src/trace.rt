@@ -18,7 +18,10 @@ pub enum Happening {
     },
     /// `ACTOR set VARIABLE NUMBER`: it has just written this number to the variable. An actor with one such event for
     /// a variable has one for each of its writes of that variable.
-    Set { variable: VarId, number: i64 },
+    Set {
+        variable: VarId,
+        number: i64,
+    },
     /// `ACTOR begin`: its handler begins. An actor with such an event, or with an `End`, has both for each run of its
     /// handler.
     Begin,
