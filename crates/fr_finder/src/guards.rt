@@ -177,11 +177,7 @@ fn add_turn(
 }
 
 /// The turn of the variable for those whose notes say which number it has.
-fn turn_of_some(
-    alloc: Global,
-    insiders: &[Insider],
-    variable: usize,
-) -> Result<Guard, AllocError> {
+fn turn_of_some(alloc: Global, insiders: &[Insider], variable: usize) -> Result<Guard, AllocError> {
     let mut values = BTreeMap::new(alloc);
     for insider in insiders {
         add_turn(&mut values, insider, variable)?;

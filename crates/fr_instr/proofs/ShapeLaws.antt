@@ -9,7 +9,7 @@ use Rattle.fr_instr.specs.Tokens.{Tok, word, number, sign}
 use Rattle.fr_instr.specs.Shapes.{Word, name, numeral, Shape, set, set_to, branch, jump, pick, leave, call, word_tok, operator_sign, comparison_sign, more_toks, args_toks, else_toks, into_toks, shape_toks}
 use Rattle.fr_instr.specs.ShapeReading.{operator_of, comparison_of, is_open, is_close, is_comma, is_assign, take_word, take_number, take_value, take_sign, at_end, set_tail, set_at, branch_at, jump_at, pick_at, keyword_at, behind_open, behind_close, with_arg, arg_then, some_args, args_or, args_at, target_end, else_tail, else_at, call_at, head_at, counted_at, shape_behind, shape_at}
 use Rattle.fr_instr.specs.declared.token.Sign.{Sign}
-use Rattle.fr_instr.specs.declared.token.Sign.TheVariants.{Open, Close, Comma, Assign, Plus, Minus, Times, Less, LessEqual, Greater, GreaterEqual, Equal, NotEqual}
+use Rattle.fr_instr.specs.declared.token.Sign.TheVariants.{Open, Close, Comma, Assign, Plus, Minus, Times, Less, LessEqual, Greater, GreaterEqual, Equal, NotEqual, Question}
 use Rattle.fr_program.specs.declared.instr.Operator.{Operator}
 use Rattle.fr_program.specs.declared.instr.Operator.TheVariants as operator
 use Rattle.fr_program.specs.declared.instr.Comparison.{Comparison}
@@ -129,6 +129,7 @@ operator_found Greater x e = absurd (never x e)
 operator_found GreaterEqual x e = absurd (never x e)
 operator_found Equal x e = absurd (never x e)
 operator_found NotEqual x e = absurd (never x e)
+operator_found Question x e = absurd (never x e)
 
 comparison_found : (s : Sign) (x : Comparison) → comparison_of s ≡ Some x → s ≡ comparison_sign x
 comparison_found Less x e = ap comparison_sign (same_Some comparison.Less x e)
@@ -137,6 +138,7 @@ comparison_found Greater x e = ap comparison_sign (same_Some comparison.Greater 
 comparison_found GreaterEqual x e = ap comparison_sign (same_Some comparison.AtLeast x e)
 comparison_found Equal x e = ap comparison_sign (same_Some comparison.Equal x e)
 comparison_found NotEqual x e = ap comparison_sign (same_Some comparison.NotEqual x e)
+comparison_found Question x e = absurd (never x e)
 comparison_found Open x e = absurd (never x e)
 comparison_found Close x e = absurd (never x e)
 comparison_found Comma x e = absurd (never x e)
@@ -159,6 +161,7 @@ open_found Greater e = absurd (false≢true e)
 open_found GreaterEqual e = absurd (false≢true e)
 open_found Equal e = absurd (false≢true e)
 open_found NotEqual e = absurd (false≢true e)
+open_found Question e = absurd (false≢true e)
 
 close_found : (s : Sign) → is_close s ≡ true → s ≡ Close
 close_found Close e = refl
@@ -174,6 +177,7 @@ close_found Greater e = absurd (false≢true e)
 close_found GreaterEqual e = absurd (false≢true e)
 close_found Equal e = absurd (false≢true e)
 close_found NotEqual e = absurd (false≢true e)
+close_found Question e = absurd (false≢true e)
 
 comma_found : (s : Sign) → is_comma s ≡ true → s ≡ Comma
 comma_found Comma e = refl
@@ -189,6 +193,7 @@ comma_found Greater e = absurd (false≢true e)
 comma_found GreaterEqual e = absurd (false≢true e)
 comma_found Equal e = absurd (false≢true e)
 comma_found NotEqual e = absurd (false≢true e)
+comma_found Question e = absurd (false≢true e)
 
 assign_found : (s : Sign) → is_assign s ≡ true → s ≡ Assign
 assign_found Assign e = refl
@@ -204,6 +209,7 @@ assign_found Greater e = absurd (false≢true e)
 assign_found GreaterEqual e = absurd (false≢true e)
 assign_found Equal e = absurd (false≢true e)
 assign_found NotEqual e = absurd (false≢true e)
+assign_found Question e = absurd (false≢true e)
 
 jump_found : (ts : List Tok) (f : Shape) → jump_at ts ≡ Some f → word (codes "goto") ∷ ts ≡ shape_toks f
 unfolding jump_at

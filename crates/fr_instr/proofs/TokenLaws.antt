@@ -12,7 +12,7 @@ use Rattle.fr_instr.specs.Views.{tok}
 use Rattle.fr_instr.specs.declared.token.Token.{Token}
 use Rattle.fr_instr.specs.Reading.{front, after, sign_at, token_at}
 use Rattle.fr_instr.specs.declared.token.Sign.{Sign}
-use Rattle.fr_instr.specs.declared.token.Sign.TheVariants.{Open, Close, Comma, Assign, Plus, Minus, Times, Less, LessEqual, Greater, GreaterEqual, Equal, NotEqual}
+use Rattle.fr_instr.specs.declared.token.Sign.TheVariants.{Open, Close, Comma, Assign, Plus, Minus, Times, Less, LessEqual, Greater, GreaterEqual, Equal, NotEqual, Question}
 use Rattle.fr_instr.proofs.RunLemmas.{front_after, front_passes, after_stops, front_of, after_of}
 
 -- which way a test went
@@ -128,7 +128,10 @@ sign_found text p e no_number =
                       | inl w8 ↦ to text (Minus, 1) p w8.1 record { whole = one text 44 w8.0; good = tt; ends = rw (second_first text) (no_number w8.0) }
                       | inr r8 ↦ elim (chosen (eqb (first text) 42) _ _ _ r8.1) [
                         | inl w9 ↦ to text (Times, 1) p w9.1 (lone text Times 41 refl (λ b. refl) w9.0)
-                        | inr r9 ↦ absurd (no_sign p r9.1)
+                        | inr r9 ↦ elim (chosen (eqb (first text) 63) _ _ _ r9.1) [
+                          | inl w10 ↦ to text (Question, 1) p w10.1 (lone text Question 62 refl (λ b. refl) w10.0)
+                          | inr r10 ↦ absurd (no_sign p r10.1)
+                        ]
                       ]
                     ]
                   ]
@@ -222,6 +225,7 @@ again_sign Greater rest stop = rw stop refl
 again_sign GreaterEqual rest stop = refl
 again_sign Equal rest stop = refl
 again_sign NotEqual rest stop = refl
+again_sign Question rest stop = refl
 
 pub token_again : (t : Tok) (rest : List ℕ) → IsTok t → goes_on t (first rest) ≡ false → token_at (tok_bytes t ++ rest) ≡ Some (t, rest)
 token_again (word w) rest h stop = again_word w rest h stop
@@ -251,6 +255,7 @@ sign_no_space Greater rest = refl
 sign_no_space GreaterEqual rest = refl
 sign_no_space Equal rest = refl
 sign_no_space NotEqual rest = refl
+sign_no_space Question rest = refl
 
 no_space : (t : Tok) (rest : List ℕ) → IsTok t → is_space (first (tok_bytes t ++ rest)) ≡ false
 no_space (word w) rest h = word_no_space w rest h
@@ -330,6 +335,7 @@ sign_byte Greater = omega arith
 sign_byte GreaterEqual = omega arith
 sign_byte Equal = omega arith
 sign_byte NotEqual = omega arith
+sign_byte Question = omega arith
 
 some_byte : (t : Tok) → IsTok t → 0 < length (tok_bytes t)
 some_byte (word []) h = absurd (false≢true h.0)

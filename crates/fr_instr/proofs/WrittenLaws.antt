@@ -3,7 +3,7 @@ use Rattle.std.proofs.Common.{◌≡◌, ℕ, List, [], ◌∷◌, ◌++◌, Boo
 use Rattle.std.specs.List.{AllByRecursion}
 use Rattle.fr_instr.specs.Tokens.{Tok, word, number, sign, tok_bytes, IsTok, Spells, goes_on, first}
 use Rattle.fr_instr.specs.Written.{is_open, leans, gap, written}
-use Rattle.fr_instr.specs.declared.token.Sign.TheVariants.{Open, Close, Comma, Assign, Plus, Minus, Times, Less, LessEqual, Greater, GreaterEqual, Equal, NotEqual}
+use Rattle.fr_instr.specs.declared.token.Sign.TheVariants.{Open, Close, Comma, Assign, Plus, Minus, Times, Less, LessEqual, Greater, GreaterEqual, Equal, NotEqual, Question}
 
 -- bytes with which no token goes on
 stops_space : (t : Tok) → goes_on t 32 ≡ false
@@ -22,6 +22,7 @@ stops_space (sign Greater) = refl
 stops_space (sign GreaterEqual) = refl
 stops_space (sign Equal) = refl
 stops_space (sign NotEqual) = refl
+stops_space (sign Question) = refl
 
 stops_open : (t : Tok) → goes_on t 40 ≡ false
 stops_open (word w) = refl
@@ -39,6 +40,7 @@ stops_open (sign Greater) = refl
 stops_open (sign GreaterEqual) = refl
 stops_open (sign Equal) = refl
 stops_open (sign NotEqual) = refl
+stops_open (sign Question) = refl
 
 stops_close : (t : Tok) → goes_on t 41 ≡ false
 stops_close (word w) = refl
@@ -56,6 +58,7 @@ stops_close (sign Greater) = refl
 stops_close (sign GreaterEqual) = refl
 stops_close (sign Equal) = refl
 stops_close (sign NotEqual) = refl
+stops_close (sign Question) = refl
 
 stops_comma : (t : Tok) → goes_on t 44 ≡ false
 stops_comma (word w) = refl
@@ -73,6 +76,7 @@ stops_comma (sign Greater) = refl
 stops_comma (sign GreaterEqual) = refl
 stops_comma (sign Equal) = refl
 stops_comma (sign NotEqual) = refl
+stops_comma (sign Question) = refl
 
 stops_end : (t : Tok) → goes_on t 0 ≡ false
 stops_end (word w) = refl
@@ -90,6 +94,7 @@ stops_end (sign Greater) = refl
 stops_end (sign GreaterEqual) = refl
 stops_end (sign Equal) = refl
 stops_end (sign NotEqual) = refl
+stops_end (sign Question) = refl
 
 stops_open_sign : (t : Tok) (b : ℕ) → is_open t ≡ true → goes_on t b ≡ false
 stops_open_sign (word w) b h = absurd (no_true h)
@@ -149,6 +154,10 @@ stops_open_sign (sign NotEqual) b h = absurd (no_true h)
   where
     no_true : false ≡ true → ⊥
     no_true e = cc
+stops_open_sign (sign Question) b h = absurd (no_true h)
+  where
+    no_true : false ≡ true → ⊥
+    no_true e = cc
 
 -- a token that leans begins with a byte that ends every token
 leaning : (t u : Tok) (rest : List ℕ) → leans u ≡ true → goes_on t (first (tok_bytes u ++ rest)) ≡ false
@@ -167,6 +176,7 @@ leaning t (sign Greater) rest h = let e : false ≡ true = h in cc
 leaning t (sign GreaterEqual) rest h = let e : false ≡ true = h in cc
 leaning t (sign Equal) rest h = let e : false ≡ true = h in cc
 leaning t (sign NotEqual) rest h = let e : false ≡ true = h in cc
+leaning t (sign Question) rest h = let e : false ≡ true = h in cc
 
 -- a space before a text changes nothing
 spaced : (ts : List Tok) (text : List ℕ) → Spells text ts → Spells (32 ∷ text) ts

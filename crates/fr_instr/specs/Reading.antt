@@ -3,7 +3,7 @@ use Rattle.std.specs.Prelude.{ℕ, ◌+◌, ◌==◌, ◌&&◌, if◌then◌else
 use Rattle.std.specs.Char.{is_ascii_digit}
 use Rattle.fr_instr.specs.Tokens.{Tok, word, number, sign, is_letter, is_word_byte, first}
 use Rattle.fr_instr.specs.declared.token.Sign.{Sign}
-use Rattle.fr_instr.specs.declared.token.Sign.TheVariants.{Open, Close, Comma, Assign, Plus, Minus, Times, Less, LessEqual, Greater, GreaterEqual, Equal, NotEqual}
+use Rattle.fr_instr.specs.declared.token.Sign.TheVariants.{Open, Close, Comma, Assign, Plus, Minus, Times, Less, LessEqual, Greater, GreaterEqual, Equal, NotEqual, Question}
 
 -- the longest front of bytes that pass, and what follows it
 abbrev pub front : (ℕ → Bool) → List ℕ → List ℕ
@@ -28,6 +28,7 @@ sign_at a b =
     else if a == 43 then Some (Plus, 1)
     else if a == 45 then Some (Minus, 1)
     else if a == 42 then Some (Times, 1)
+    else if a == 63 then Some (Question, 1)
     else None
 
 -- the token with which the text begins, with no space before it, and what follows it

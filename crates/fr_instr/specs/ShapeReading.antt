@@ -21,7 +21,7 @@ use Rattle.std.specs.Str.{bytes_eq}
 use Rattle.fr_instr.specs.Tokens.{Tok, word, number, sign}
 use Rattle.fr_instr.specs.Shapes.{Word, name, numeral, Shape, set, set_to, branch, jump, pick, leave, call}
 use Rattle.fr_instr.specs.declared.token.Sign.{Sign}
-use Rattle.fr_instr.specs.declared.token.Sign.TheVariants.{Open, Close, Comma, Assign, Plus, Minus, Times, Less, LessEqual, Greater, GreaterEqual, Equal, NotEqual}
+use Rattle.fr_instr.specs.declared.token.Sign.TheVariants.{Open, Close, Comma, Assign, Plus, Minus, Times, Less, LessEqual, Greater, GreaterEqual, Equal, NotEqual, Question}
 use Rattle.fr_program.specs.declared.instr.Operator.{Operator}
 use Rattle.fr_program.specs.declared.instr.Operator.TheVariants as operator
 use Rattle.fr_program.specs.declared.instr.Comparison.{Comparison}

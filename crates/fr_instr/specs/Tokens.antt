@@ -14,7 +14,7 @@ use Rattle.std.specs.Prelude.{◌≡◌, ◌⊎◌, ℕ, ◌||◌, ◌==◌, Lis
 use Rattle.std.specs.Char.{is_ascii_digit, is_ascii_alphabetic}
 use Rattle.std.specs.List.{list_all}
 use Rattle.fr_instr.specs.declared.token.Sign.{Sign}
-use Rattle.fr_instr.specs.declared.token.Sign.TheVariants.{Open, Close, Comma, Assign, Plus, Minus, Times, Less, LessEqual, Greater, GreaterEqual, Equal, NotEqual}
+use Rattle.fr_instr.specs.declared.token.Sign.TheVariants.{Open, Close, Comma, Assign, Plus, Minus, Times, Less, LessEqual, Greater, GreaterEqual, Equal, NotEqual, Question}
 
 -- a word, a number or a sign; a word and a number are their bytes
 pub data Tok : Type 0 where
@@ -37,6 +37,7 @@ sign_bytes Greater = codes ">"
 sign_bytes GreaterEqual = codes ">="
 sign_bytes Equal = codes "=="
 sign_bytes NotEqual = codes "!="
+sign_bytes Question = codes "?"
 
 -- a space, which is all that may be between tokens
 abbrev pub is_space : ℕ → Bool

@@ -8,7 +8,7 @@ use fr_program::{BufferKind, CreatedKind, DeletedKind, End, Form, SemaphoreForm}
 /// What is in an argument's place: an object, an operand, a variable, a length, a block time, ticks,
 /// or the word NULL.
 #[derive(Clone, Copy)]
-pub(crate) enum Place {
+pub enum Place {
     Object,
     Operand,
     Variable,
@@ -20,7 +20,7 @@ pub(crate) enum Place {
 
 /// What may be written beside a call: nothing, an `else` behind it, or a `v =` before it.
 #[derive(Clone, Copy)]
-pub(crate) enum Tail {
+pub enum Tail {
     Nothing,
     Else,
     Into,
@@ -44,7 +44,7 @@ impl Tail {
 
 /// When an object call answers, without its block time.
 #[derive(Clone, Copy, PartialEq, Eq)]
-pub(crate) enum When {
+pub enum When {
     Now,
     FromIsr,
     Waits,
@@ -52,7 +52,7 @@ pub(crate) enum When {
 
 /// What an object call does, without its arguments.
 #[derive(Clone, Copy, PartialEq, Eq)]
-pub(crate) enum Deed {
+pub enum Deed {
     QueueSend,
     QueueReceive,
     Take(SemaphoreForm),
@@ -63,7 +63,7 @@ pub(crate) enum Deed {
 
 /// What a call is, without its arguments.
 #[derive(Clone, Copy, PartialEq, Eq)]
-pub(crate) enum Verb {
+pub enum Verb {
     Enter(Form),
     Exit(Form),
     SuspendAll,
@@ -78,7 +78,7 @@ pub(crate) enum Verb {
 
 /// A row of the table: the call's name, what it is, the places of its arguments, and what may be
 /// written beside it.
-pub(crate) type Row = (&'static str, Verb, &'static [Place], Tail);
+pub type Row = (&'static str, Verb, &'static [Place], Tail);
 
 /// The rows of a table, a row a line.
 macro_rules! rows {
@@ -154,7 +154,7 @@ fn place_by_verb(rows: &[Row], verb: Verb) -> Option<usize>
 }
 
 /// The row of the call with this name.
-pub(crate) fn row_named(name: &[u8]) -> Option<Row>
+pub fn row_named(name: &[u8]) -> Option<Row>
     ensures { option_map row_view result ≡ row_named name.now }
 {
     let rows = rows();

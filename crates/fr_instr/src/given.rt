@@ -8,7 +8,7 @@ use fr_program::{Act, Attempt, BlockTime, Call, ObjId, ObjectCall, Operand, Timi
 /// What a line gives to its call: one thing for each kind of place, and what is written beside the
 /// call.
 #[derive(Clone, Copy)]
-pub(crate) struct Given {
+pub struct Given {
     pub object: ObjId,
     pub operand: Operand,
     pub variable: VarId,
@@ -122,7 +122,7 @@ fn deed_of(act: Act) -> Deed
 }
 
 /// What the call is.
-pub(crate) fn verb_of(call: Call) -> Verb
+pub fn verb_of(call: Call) -> Verb
     ensures { result ≡ verb_of call }
 {
     match call {
@@ -176,7 +176,7 @@ fn act_given(act: Act) -> Given
 }
 
 /// What the line of the call gives.
-pub(crate) fn given_of(call: Call) -> Given
+pub fn given_of(call: Call) -> Given
     ensures { result ≡ given_of call }
 {
     match call {

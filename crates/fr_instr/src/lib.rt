@@ -1,6 +1,7 @@
 // Lines of code: one line of an actor's code is read from its text and written as its text. The grammar is a
 // definition in specs/, apart from the code. `Line` is an instruction of `fr_program`, the crate below; `fr_reader`
-// above reads the lines of an application's file with `read_line`.
+// above reads the lines of an application's file with `read_line`. `fr_trace` reads a recorded trace by the same tokens
+// and the same table of calls.
 #![tactic(auto)]
 
 mod app_names;
@@ -17,8 +18,13 @@ mod token;
 mod writing;
 
 pub use app_names::names_of;
+pub use call::{Deed, Place, Row, Tail, Verb, When, row_named};
 pub use fault::LineFault;
 pub use fr_program::Instr as Line;
+pub use given::{Given, given_of, verb_of};
 pub use names::Names;
+pub use number::integer_of;
 pub use reading::read_line;
+pub use shape::{head_behind, take_number, take_word};
+pub use token::{Sign, Token, next_token, tokens};
 pub use writing::write_line;

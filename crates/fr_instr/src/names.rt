@@ -1,5 +1,5 @@
 // The names of an application's variables, objects and actors, with their numbers.
-ghost use Rattle.std.specs.Prelude.{◌≡◌, ◌≢◌, ◌++◌, All, AllPairs, IfOk, List, map, option_map, string_bytes};
+ghost use Rattle.std.specs.Prelude.{◌≡◌, ◌≢◌, ◌++◌, All, AllPairs, IfOk, List, length, map, option_map, string_bytes};
 ghost use Rattle.fr_program.specs.Limits.{IsName};
 ghost use Rattle.fr_instr.specs.Names.{NamesOf, place_of, name_at, AreNames};
 ghost use Rattle.fr_instr.specs.Views.{texts};
@@ -94,7 +94,7 @@ impl Names {
     }
 
     /// The variable whose name these bytes are.
-    pub(crate) fn variable_named(&self, word: &[u8]) -> Option<VarId>
+    pub fn variable_named(&self, word: &[u8]) -> Option<VarId>
         ensures { option_map (λ x. x.0) result ≡ place_of self.now.variables word.now }
     {
         let variables = &self.variables;
@@ -108,7 +108,7 @@ impl Names {
     }
 
     /// The object whose name these bytes are.
-    pub(crate) fn object_named(&self, word: &[u8]) -> Option<ObjId>
+    pub fn object_named(&self, word: &[u8]) -> Option<ObjId>
         ensures { option_map (λ o. o.0) result ≡ place_of self.now.objects word.now }
     {
         let objects = &self.objects;
@@ -119,6 +119,27 @@ impl Names {
             Some(i) => Some(ObjId(i)),
             None => None,
         }
+    }
+
+    /// The actor whose name these bytes are.
+    pub fn actor_named(&self, word: &[u8]) -> Option<ActorId>
+        ensures { option_map (λ a. a.0) result ≡ place_of self.now.actors word.now }
+    {
+        let actors = &self.actors;
+        let Ok(name) = std::str::from_utf8(word) else {
+            return None;
+        };
+        match number_of(actors, name) {
+            Some(i) => Some(ActorId(i)),
+            None => None,
+        }
+    }
+
+    /// How many actors there are.
+    pub fn actor_count(&self) -> usize
+        ensures { result ≡ length self.now.actors }
+    {
+        self.actors.len()
     }
 
     /// Each is a name, and is given once among all of them.

@@ -62,7 +62,7 @@ fn number_of(text: &[u8]) -> Option<i64>
 }
 
 /// The number that the text is, of 64 bits with a sign.
-pub(crate) fn integer_of(text: &[u8]) -> Option<i64>
+pub fn integer_of(text: &[u8]) -> Option<i64>
     ensures some { IfSome result (IsInteger text.now) }
     ensures none { IfNone result ((z : ℤ) → ¬ IsInteger text.now z) }
 {

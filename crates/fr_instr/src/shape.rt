@@ -63,7 +63,7 @@ fn comparison_of(sign: Sign) -> Option<Comparison>
 }
 
 /// The first token if it is a word, and the tokens behind it.
-fn take_word<'a, 't>(tokens: &'t [Token<'a>]) -> Option<(&'a [u8], &'t [Token<'a>])>
+pub fn take_word<'a, 't>(tokens: &'t [Token<'a>]) -> Option<(&'a [u8], &'t [Token<'a>])>
     ensures { option_map (λ p. (p.0.now, toks p.1.now)) result ≡ take_word (toks tokens.now) }
 {
     let (first, rest) = tokens.split_first()?;
@@ -74,7 +74,7 @@ fn take_word<'a, 't>(tokens: &'t [Token<'a>]) -> Option<(&'a [u8], &'t [Token<'a
 }
 
 /// The first token if it is a number, and the tokens behind it.
-fn take_number<'a, 't>(tokens: &'t [Token<'a>]) -> Option<(&'a [u8], &'t [Token<'a>])>
+pub fn take_number<'a, 't>(tokens: &'t [Token<'a>]) -> Option<(&'a [u8], &'t [Token<'a>])>
     ensures { option_map (λ p. (p.0.now, toks p.1.now)) result ≡ take_number (toks tokens.now) }
 {
     let (first, rest) = tokens.split_first()?;
@@ -352,7 +352,7 @@ fn call_at<'a>(
 
 /// A call's name, where the variable before it has this name, and what follows the opening bracket.
 #[tactic(auto, unfolding(crate::specs::ShapeReading::head_at))]
-fn head_behind<'a, 't>(tokens: &'t [Token<'a>]) -> Option<(&'a [u8], &'t [Token<'a>])>
+pub fn head_behind<'a, 't>(tokens: &'t [Token<'a>]) -> Option<(&'a [u8], &'t [Token<'a>])>
     ensures { option_map (λ p. (p.0.now, toks p.1.now)) result ≡ head_at (toks tokens.now) }
 {
     let (name, rest) = take_word(tokens)?;

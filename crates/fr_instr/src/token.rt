@@ -25,6 +25,8 @@ pub enum Sign {
     GreaterEqual,
     Equal,
     NotEqual,
+    /// `?`, which no line of code has: in a recorded trace it is what wasn't recorded.
+    Question,
 }
 
 /// A token of a line, as its bytes.
@@ -115,6 +117,7 @@ fn sign_at(first: u8, second: u8) -> Option<(Sign, usize)>
         b'+' => Some((Sign::Plus, 1)),
         b'-' => Some((Sign::Minus, 1)),
         b'*' => Some((Sign::Times, 1)),
+        b'?' => Some((Sign::Question, 1)),
         _ => None,
     }
 }
@@ -151,7 +154,7 @@ fn token_at(text: &[u8]) -> Option<(Token<'_>, &[u8])>
 }
 
 /// The token that the text begins with, behind spaces, and the rest.
-pub(crate) fn next_token(text: &[u8]) -> Option<(Token<'_>, &[u8])>
+pub fn next_token(text: &[u8]) -> Option<(Token<'_>, &[u8])>
     ensures found { IfSome result (λ p. Begins text.now (tok p.0) p.1.now) }
     ensures none { IfNone result ((t : Tok) (rest : List ℕ) → ¬ Begins text.now t rest) }
     ensures shorter { IfSome result (λ p. length p.1.now < length text.now) }
@@ -168,7 +171,7 @@ pub(crate) fn is_blank(text: &[u8]) -> bool
 }
 
 /// The tokens that the text spells.
-pub(crate) fn tokens(alloc: Global, text: &[u8]) -> Result<Vec<Token<'_>>, LineFault>
+pub fn tokens(alloc: Global, text: &[u8]) -> Result<Vec<Token<'_>>, LineFault>
     ensures ok { IfOk result (λ v. Spells text.now (toks v.items)) }
     ensures err { IfErr result (λ f. ¬ (f ≡ Memory) → (f ≡ Syntax) × ((ts : List Tok) → ¬ Spells text.now ts)) }
 {

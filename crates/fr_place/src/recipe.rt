@@ -23,7 +23,7 @@ const TIMERS: &str = "see \"Software timers\" in docs/APPLICATION.md";
 const QUEUES: &str = "see \"Peek, overwrite and send to front\" in docs/APPLICATION.md";
 
 /// Of two beginnings, the longer one stands first.
-static RECIPES: [Recipe; 19] = recipes! {
+static RECIPES: [Recipe; 17] = recipes! {
     "xTaskNotify" NOTIFICATIONS;
     "xTaskGenericNotify" NOTIFICATIONS;
     "vTaskNotify" NOTIFICATIONS;
@@ -41,13 +41,17 @@ static RECIPES: [Recipe; 19] = recipes! {
     "xTaskDelayUntil" "write vTaskDelay";
     "vTaskDelayUntil" "write vTaskDelay";
     "xTaskCreate" "see \"A task that is created late\" in docs/APPLICATION.md";
+};
+
+/// The same for what a source has, and a line hasn't.
+static LINE_RECIPES: [Recipe; 2] = recipes! {
     "pdMS_TO_TICKS" "write the ticks, milliseconds times configTICK_RATE_HZ divided by 1000";
     "configASSERT" "see \"How to write what has no line\" in docs/APPLICATION.md";
 };
 
-/// What to write in place of a call that no line has: where the recipe for it is; None where there is none.
-pub(crate) fn recipe_for(call: &str) -> Option<&'static str> {
-    for recipe in &RECIPES {
+/// What to write in place of a call, by the first of these recipes for it.
+fn recipe_among(recipes: &[Recipe], call: &str) -> Option<&'static str> {
+    for recipe in recipes {
         if call.starts_with(recipe.calls) {
             return Some(recipe.instead);
         }
@@ -55,8 +59,13 @@ pub(crate) fn recipe_for(call: &str) -> Option<&'static str> {
     None
 }
 
-/// The same of the word that begins at this column of a line of a source, from 1.
+/// What to write in place of a call that no line has: where the recipe for it is; None where there is none.
+pub(crate) fn recipe_for(call: &str) -> Option<&'static str> {
+    recipe_among(&RECIPES, call).or(recipe_among(&LINE_RECIPES, call))
+}
+
+/// The same of a call that no source has, which begins at this column of a line of a source, from 1.
 pub fn recipe_at(line: &str, column: usize) -> Option<&'static str> {
     let (_, after) = line.split_at_checked(column.checked_sub(1)?)?;
-    recipe_for(after)
+    recipe_among(&RECIPES, after)
 }

@@ -20,6 +20,10 @@ use std::collections::BTreeSet;
 /// The most steps that a search looks at.
 pub const MOST_STEPS: u64 = 40_000_000;
 
+/// The most steps that a search looks at with divisions: a hundred times what any row needs, and seconds where an application is as
+/// large as may be.
+const MOST_DIVIDED: u64 = 1_000_000;
+
 /// So often divisions are added to those that served best, for each actor that fails first.
 const MOST_DIVISIONS: usize = 6;
 
@@ -98,7 +102,7 @@ impl<'a> Search<'a> {
                 break;
             }
             let (now, _) = self.try_once(alloc, divisions, bar)?;
-            if now.failures.len() < best.failures.len() {
+            if self.left > 0 && now.failures.len() < best.failures.len() {
                 best = now;
             }
         }
@@ -153,6 +157,9 @@ impl<'a> Search<'a> {
                 division,
                 bar_of(failures, better.as_ref()),
             )?;
+            if self.left == 0 {
+                break;
+            }
             let new = &tried.measured.failures;
             let is_over = new.is_empty() || self.is_over_with_first(new, failures);
             if is_over || is_better(new, failures, better.as_ref()) {
@@ -165,15 +172,10 @@ impl<'a> Search<'a> {
         Ok(better)
     }
 
-    /// The best try that is found. Once the first actor of those that fail doesn't fail any more, the next one has as many divisions.
-    fn run(&mut self, alloc: Global) -> Result<Tried, AllocError> {
-        let divisions = Vec::new(alloc);
-        let measured = self.solve(alloc, &divisions, &[])?;
-        let mut best = Tried {
-            measured,
-            divisions,
-        };
-        let mut count = 0usize;
+    /// The best try that is found from this one on. Once the first actor of those that fail doesn't fail any more, the next one has as
+    /// many divisions.
+    fn divided(&mut self, alloc: Global, first: Tried) -> Result<Tried, AllocError> {
+        let (mut best, mut count) = (first, 0usize);
         for _ in 0..MOST_DIVISIONS * MOST_ACTORS {
             if best.measured.failures.is_empty() || count >= MOST_DIVISIONS {
                 break;
@@ -189,6 +191,21 @@ impl<'a> Search<'a> {
             };
             best = better;
         }
+        Ok(best)
+    }
+
+    /// The best try that is found: without divisions, and with them as far as their share of the steps lasts.
+    fn run(&mut self, alloc: Global) -> Result<Tried, AllocError> {
+        let divisions = Vec::new(alloc);
+        let measured = self.solve(alloc, &divisions, &[])?;
+        let first = Tried {
+            measured,
+            divisions,
+        };
+        let rest = self.left.saturating_sub(MOST_DIVIDED);
+        self.left = self.left.min(MOST_DIVIDED);
+        let best = self.divided(alloc, first)?;
+        self.left = self.left.saturating_add(rest);
         Ok(best)
     }
 }

@@ -303,9 +303,21 @@ fn scene_of<'a>(
 }
 
 /// Adds the points that a part is about, each with its line of code: not the point that it goes to,
-/// which follows its step.
-fn add_points(items: &mut Vec<Explained>, scene: &Scene) -> Result<(), AllocError> {
+/// which follows its step. First of all comes the `set` that spoils the point, where it is out of its range itself.
+fn add_points(
+    items: &mut Vec<Explained>,
+    scene: &Scene,
+    certificate: &Certificate,
+    part: Part,
+) -> Result<(), AllocError>
+    requires { CertificateFits scene.now.app.now certificate.now }
+{
     let point = scene.site.point;
+    if let Part::Spoiled(by) = part
+        && scene.blames
+    {
+        add_set(items, scene, certificate, by)?;
+    }
     items.push(Explained::Place(scene.standing_at(point)?))?;
     match scene.other {
         Some(other) if other.point.actor.0 != point.actor.0 => {
@@ -339,19 +351,23 @@ pub fn explain(
     let Verdict::No { point, part } = verdict else {
         return Ok(None);
     };
-    let found = scene_of(alloc, app, certificate, sources, point, part, detail, blames);
+    let found = scene_of(
+        alloc,
+        app,
+        certificate,
+        sources,
+        point,
+        part,
+        detail,
+        blames,
+    );
     let Some(scene) = found else {
         return Ok(None);
     };
     app.recall_faultless();
     the_start_is_well_formed();
     let mut items = Vec::new(alloc);
-    if let Part::Spoiled(by) = part
-        && blames
-    {
-        add_set(&mut items, &scene, certificate, by)?;
-    }
-    add_points(&mut items, &scene)?;
+    add_points(&mut items, &scene, certificate, part)?;
     match witness(alloc, app, certificate, verdict)? {
         Some(found) => add_witness(&mut items, &scene, certificate, part, &found)?,
         None => items.push(Explained::NotFound)?,

@@ -20,7 +20,13 @@ fn gives(instr: &Instr, guard: &Guard) -> bool {
     match (guard, instr) {
         (Guard::Mutex(mutex), Instr::Call(Call::On(call))) => {
             call.object.0 == mutex.0
-                && matches!(call.act, Act::Try { attempt: Attempt::Take(_), .. })
+                && matches!(
+                    call.act,
+                    Act::Try {
+                        attempt: Attempt::Take(_),
+                        ..
+                    }
+                )
         }
         (Guard::Critical, Instr::Call(Call::EnterCritical(_))) => true,
         (Guard::Turn(variable, _), Instr::If { left, right, .. }) => {

@@ -1,0 +1,54 @@
+-- What the bytes of a trace mean for an application with these names. The form is this project's own.
+--
+-- | word       | meaning                                                                                    |
+-- |------------|--------------------------------------------------------------------------------------------|
+-- | TraceOf    | what a trace says                                                                          |
+-- | said_in    | what a value of the program says                                                           |
+-- | trace_of   | what is said at the end of the text                                                        |
+-- | IsText     | bytes that can be a trace: not too many, and UTF-8                                         |
+-- | TraceMeans | the bytes mean this trace                                                                  |
+-- | IsPresent  | the fault is in these bytes                                                                |
+use Rattle.std.specs.Prelude.{◌≡◌, ◌<◌, ◌≤◌, ◌⊎◌, ⊤, ℕ, List, [], length, IsUtf8}
+use Rattle.std.specs.Str.Lines.{lines}
+use Rattle.fr_instr.specs.Names.{NamesOf}
+use Rattle.fr_instr.specs.declared.call.Verb.{Verb}
+use Rattle.fr_trace.specs.Reads.{IsTextWhy, ReadsLines, Sofar, start}
+use Rattle.fr_trace.specs.declared.no_trace.NoTrace.{NoTrace}
+use Rattle.fr_trace.specs.declared.no_trace.NoTrace.TheVariants.{Memory, TooLong, NotText, Faulty, NotListed}
+use Rattle.fr_trace.specs.declared.trace.Event.{Event}
+use Rattle.fr_trace.specs.declared.trace.Trace.{Trace}
+
+-- what a trace says
+pub record TraceOf : Type 0 where
+  pub events : List Event
+  pub unseen : List Verb
+  pub lost : List ℕ
+  pub ignored : ℕ
+
+-- what a value of the program says
+abbrev pub said_in : Trace → TraceOf
+said_in t = record { events = t.events.items; unseen = t.unseen.items; lost = t.lost.items; ignored = t.ignored }
+
+-- what is said at the end of the text
+abbrev pub trace_of : Sofar → TraceOf
+trace_of s = record { events = s.events; unseen = s.unseen; lost = s.lost; ignored = s.ignored }
+
+-- bytes that can be a trace: not too many, and UTF-8
+abbrev pub IsText : List ℕ → Type 0
+IsText bytes = (length bytes ≤ 67_108_864) × IsUtf8 bytes
+
+-- the bytes mean this trace: their lines are read one after another, from where no actor is inside a call
+pub record TraceMeans (N : NamesOf) (bytes : List ℕ) (trace : TraceOf) : Type 0 where
+  pub text : IsText bytes
+  pub some : 0 < length bytes
+  pub last : Sofar
+  pub reads : ReadsLines N 0 (lines bytes) (start (length N.actors)) last
+  pub is : trace ≡ trace_of last
+
+-- the fault is in these bytes; a refused allocation isn't theirs
+abbrev pub IsPresent : NamesOf → List ℕ → NoTrace → Type 0
+IsPresent N bytes Memory = ⊤
+IsPresent N bytes TooLong = 67_108_864 < length bytes
+IsPresent N bytes NotText = (length bytes ≤ 67_108_864) × (¬ (IsUtf8 bytes))
+IsPresent N bytes (Faulty number column fault) = IsText bytes × ((length bytes ≡ 0) ⊎ IsTextWhy N (lines bytes) (Faulty number column fault))
+IsPresent N bytes (NotListed unlisted) = IsText bytes × IsTextWhy N (lines bytes) (NotListed unlisted)
