@@ -18,18 +18,20 @@ use Rattle.fr_trace.specs.declared.no_trace.NoTrace.TheVariants.{NotListed as Is
 use Rattle.fr_trace.specs.declared.trace.Trace.{Trace}
 use Rattle.fr_follower.specs.Follows.{IsFollowed}
 use Rattle.fr_follower.specs.declared.following.Followed.{Followed}
-use Rattle.fr_follower.specs.declared.following.Followed.TheVariants.{Whole, Stops, GaveUp}
+use Rattle.fr_follower.specs.declared.following.Followed.TheVariants.{Whole, UpToLost, Stops, GaveUp}
 use Rattle.fr_answer.specs.Inputs.{Reading, AsApp, AsTrace}
 
 -- 0 where a run explains the whole trace, and else 1
 abbrev pub followed_status : Followed → ℕ
 followed_status (Whole run) = 0
+followed_status (UpToLost event run) = 1
 followed_status (Stops event run) = 1
 followed_status (GaveUp event) = 1
 
 -- how the answer's line begins
 abbrev pub followed_head : Trace → Followed → List ℕ
 followed_head e (Whole run) = codes "followed: " ++ (decimal (length e.events.items) ++ codes " events")
+followed_head e (UpToLost event run) = codes "followed: " ++ (decimal event ++ (codes " of " ++ (decimal (length e.events.items) ++ codes " events")))
 followed_head e (Stops event run) =
     codes "not followed: event " ++ (decimal (event + 1) ++ (codes " of " ++ decimal (length e.events.items)))
 followed_head e (GaveUp event) = codes "gave up: "

@@ -148,6 +148,9 @@ fn rest_of(
             format!(in alloc; ", {ignored} of others ignored\n")
         }
         Followed::Whole { .. } => String::from_str(alloc, "\n"),
+        Followed::UpToLost { .. } => {
+            String::from_str(alloc, ", up to the first that were lost\n")
+        }
         Followed::Stops { event, .. } => {
             let number = match trace.events.get(*event) {
                 Some(event) => event.line,
@@ -169,6 +172,9 @@ fn head_of(alloc: Global, trace: &Trace, followed: &Followed) -> Result<String, 
     let total = trace.events.len();
     match followed {
         Followed::Whole { .. } => format!(in alloc; "followed: {total} events"),
+        Followed::UpToLost { event, .. } => {
+            format!(in alloc; "followed: {event} of {total} events")
+        }
         Followed::Stops { event, .. } => {
             let number = event.saturating_add(1);
             format!(in alloc; "not followed: event {number} of {total}")
@@ -183,7 +189,7 @@ fn status_of(followed: &Followed) -> u8
 {
     match followed {
         Followed::Whole { .. } => DONE,
-        Followed::Stops { .. } | Followed::GaveUp { .. } => NO,
+        Followed::UpToLost { .. } | Followed::Stops { .. } | Followed::GaveUp { .. } => NO,
     }
 }
 
