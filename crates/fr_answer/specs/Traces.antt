@@ -6,7 +6,7 @@
 -- | followed_head   | how the answer's line begins                                                       |
 -- | IsTraceAnswer   | the exit status, and the line, are those of a trace for an application             |
 -- | IsTraceAnswered | so it is of the texts in two files                                                 |
-use Rattle.std.specs.Prelude.{◌≡◌, ◌⊎◌, ◌++◌, ◌+◌, ℕ, suc, List, codes, decimal, length}
+use Rattle.std.specs.Prelude.{◌≡◌, ◌⊎◌, ◌++◌, ℕ, List, codes, decimal, length}
 use Rattle.std.specs.Io.KnownBytes.{Appends}
 use Rattle.std.specs.Prelude.{Option}
 use Rattle.fr_program.specs.Program.{Program}
@@ -32,8 +32,7 @@ followed_status (GaveUp event) = 1
 abbrev pub followed_head : Trace → Followed → List ℕ
 followed_head e (Whole run) = codes "followed: " ++ (decimal (length e.events.items) ++ codes " events")
 followed_head e (UpToLost event run) = codes "followed: " ++ (decimal event ++ (codes " of " ++ (decimal (length e.events.items) ++ codes " events")))
-followed_head e (Stops event run) =
-    codes "not followed: event " ++ (decimal (event + 1) ++ (codes " of " ++ decimal (length e.events.items)))
+followed_head e (Stops event run) = codes "not followed: event "
 followed_head e (GaveUp event) = codes "gave up: "
 
 -- the text means a trace, of which this is so; or it has something that the application doesn't list, which the line says

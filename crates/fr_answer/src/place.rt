@@ -49,7 +49,7 @@ fn source_fault(
 ) -> Result<(CheckFault, Place), AllocError>
     ensures { IfOk result (λ r. fault_status r.0 ≡ 2) }
 {
-    let fault = CheckFault::Source(message.report(alloc, path)?);
+    let report = message.report(alloc, path)?;
     let mut lines = Vec::new(alloc);
     for line in message.excerpt(alloc)? {
         lines.push(line)?;
@@ -57,7 +57,8 @@ fn source_fault(
     if let Some(recipe) = recipe_at(&message.shown, message.column) {
         lines.push(String::from_str(alloc, recipe)?)?;
     }
-    Ok((fault, place_of_texts(alloc, &lines)?))
+    let place = place_of_texts(alloc, &lines)?;
+    Ok((CheckFault::Source(report), place))
 }
 
 /// A fault alone.

@@ -51,7 +51,7 @@ fn line_shown(alloc: Global, trace: &[u8], number: usize) -> Result<String, Allo
 }
 
 /// The call that a line begins, or all that it says of its actor.
-fn call_in<'a>(unlisted: &NotListed<'a>) -> &'a str {
+fn call_in<'a>(unlisted: NotListed<'a>) -> &'a str {
     let Ok(line) = str::from_utf8(unlisted.text) else {
         return "";
     };
@@ -64,15 +64,20 @@ fn call_in<'a>(unlisted: &NotListed<'a>) -> &'a str {
     }
 }
 
+/// The name of a call.
+fn name_in(call: &str) -> &str {
+    match call.split_once('(') {
+        Some((name, _)) => name,
+        None => call,
+    }
+}
+
 /// What the trace has that the application doesn't list.
-fn unlisted_text(alloc: Global, unlisted: &NotListed) -> Result<String, AllocError> {
+fn unlisted_text<'a>(alloc: Global, unlisted: NotListed<'a>) -> Result<String, AllocError> {
     let number = unlisted.line;
     let actor = shown(alloc, unlisted.actor)?;
     let call = shown(alloc, call_in(unlisted).as_bytes())?;
-    let name = match call.split_once('(') {
-        Some((name, _)) => name,
-        None => call.as_str(),
-    };
+    let name = shown(alloc, name_in(&call).as_bytes())?;
     match unlisted.what {
         Unlisted::Actor { touches } => {
             let touched = shown(alloc, touches)?;
@@ -157,7 +162,10 @@ fn rest_of(
                 None => 0,
             };
             let line = line_shown(alloc, bytes, number)?;
-            format!(in alloc; ", line {number}: {line} (as far as the search saw)\n")
+            let (place, total) = (event.saturating_add(1), trace.events.len());
+            format!(in alloc;
+                "{place} of {total}, line {number}: {line} (as far as the search saw)\n"
+            )
         }
         Followed::GaveUp { event } => {
             format!(in alloc; "more than {states} states after event {event}\n")
@@ -175,10 +183,7 @@ fn head_of(alloc: Global, trace: &Trace, followed: &Followed) -> Result<String, 
         Followed::UpToLost { event, .. } => {
             format!(in alloc; "followed: {event} of {total} events")
         }
-        Followed::Stops { event, .. } => {
-            let number = event.saturating_add(1);
-            format!(in alloc; "not followed: event {number} of {total}")
-        }
+        Followed::Stops { .. } => String::from_str(alloc, "not followed: event "),
         Followed::GaveUp { .. } => String::from_str(alloc, "gave up: "),
     }
 }
@@ -222,7 +227,7 @@ fn answered(alloc: Global, app: &App, bytes: &[u8], states: u32) -> Result<Trace
     match read_trace(alloc, &names, bytes) {
         Ok(trace) => Ok(answer_of(alloc, app, bytes, &trace, states)?),
         Err(NoTrace::NotListed(unlisted)) => {
-            let text = unlisted_text(alloc, &unlisted)?;
+            let text = unlisted_text(alloc, unlisted)?;
             Ok(TraceAnswer {
                 line: format!(in alloc; "not listed: {text}")?,
                 status: NO,
