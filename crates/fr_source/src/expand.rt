@@ -1,6 +1,9 @@
 // From a body to the lines of an actor: each call of a function becomes the lines of the function, with labels and
 // variables of the actor's own.
 
+ghost use Rattle.std.specs.Prelude.{◌≡◌};
+ghost use Rattle.fr_source.specs.Steps.{ends};
+
 use crate::fault::{Fault, Spot, wrong};
 use crate::program::{
     Action, Actor, Argument, Call, Item, MOST_ITEMS, MOST_VARIABLES, Operand, Owner, Program,
@@ -37,7 +40,9 @@ impl Line {
     }
 
     /// Whether no way leads from this line to the next.
-    pub(crate) fn ends(self) -> bool {
+    pub(crate) fn ends(self) -> bool
+        ensures { result ≡ ends self.action }
+    {
         match self.action {
             Action::Goto | Action::Return | Action::End => true,
             Action::Call { call, .. } => call.kernel.name == "vTaskDelete",

@@ -29,6 +29,7 @@ mod text;
 mod tidy;
 mod token;
 mod translation;
+mod visible;
 
 pub use message::{Message, Refused};
 pub use translation::{MOST_APPLICATION_BYTES, MOST_SOURCE_BYTES, Translation, translated};

@@ -1,5 +1,9 @@
 // What a source says, once it is read: its variables and objects, and the bodies of its actors and functions.
 
+ghost use Rattle.std.specs.Prelude.{◌≡◌, Some};
+ghost use Rattle.fr_source.specs.Steps.{is_everyones, is_shared, is_shared_operand, looks};
+ghost use Rattle.fr_source.specs.Kept.{inverse, turned};
+
 use crate::fault::Spot;
 use crate::kernel::Kernel;
 use std::alloc::Global;
@@ -49,7 +53,9 @@ pub(crate) struct Variable<'a> {
 }
 
 impl Variable<'_> {
-    pub(crate) fn is_shared(&self) -> bool {
+    pub(crate) fn is_shared(&self) -> bool
+        ensures { result ≡ is_everyones (Some self.now) }
+    {
         matches!(self.owner, Owner::Everyone)
     }
 }
@@ -125,7 +131,9 @@ pub(crate) enum Comparison {
 
 impl Comparison {
     /// The comparison that holds where this one doesn't.
-    pub(crate) fn inverse(self) -> Comparison {
+    pub(crate) fn inverse(self) -> Comparison
+        ensures { result ≡ inverse self }
+    {
         match self {
             Comparison::Equal => Comparison::Unequal,
             Comparison::Unequal => Comparison::Equal,
@@ -238,6 +246,26 @@ pub(crate) enum Action {
     End,
 }
 
+impl Action {
+    /// The action, and of an `if` the one that asks for the opposite.
+    pub(crate) fn turned(self) -> Action
+        ensures { result ≡ turned self }
+    {
+        match self {
+            Action::If {
+                left,
+                comparison,
+                right,
+            } => Action::If {
+                left,
+                comparison: comparison.inverse(),
+                right,
+            },
+            _ => self,
+        }
+    }
+}
+
 /// A piece of a body, in order: a line with the label it may go to, the place of a label, or a call of a function.
 #[derive(Clone, Copy)]
 pub(crate) enum Item {
@@ -338,7 +366,9 @@ impl<'a> Program<'a> {
         self.variables.get(place).copied()
     }
 
-    pub(crate) fn is_shared(&self, place: usize) -> bool {
+    pub(crate) fn is_shared(&self, place: usize) -> bool
+        ensures { result ≡ is_shared self.now.variables.items place }
+    {
         match self.variables.get(place) {
             Some(variable) => variable.is_shared(),
             None => false,
@@ -350,6 +380,22 @@ impl<'a> Program<'a> {
         match operand {
             Operand::Variable(variable) if self.is_shared(variable) => Some(variable),
             _ => None,
+        }
+    }
+
+    /// Whether one of the operands of an `if` is a shared variable.
+    pub(crate) fn looks_at_shared(&self, left: Operand, right: Operand) -> bool
+        ensures { result ≡ looks self.now.variables.items left right }
+    {
+        self.is_shared_operand(left) || self.is_shared_operand(right)
+    }
+
+    fn is_shared_operand(&self, operand: Operand) -> bool
+        ensures { result ≡ is_shared_operand self.now.variables.items operand }
+    {
+        match operand {
+            Operand::Number(_) => false,
+            Operand::Variable(variable) => self.is_shared(variable),
         }
     }
 

@@ -1,13 +1,35 @@
 // Takes out jumps that aren't needed, and lines that no way leads to. A jump, and an `if` on an actor's own variables, are
-// seen by no other actor. No call and no access to a shared variable goes, comes, or changes its place.
+// seen by no other actor. No call and no access to a shared variable goes, comes, or changes its place: what is left is
+// compared with the lines before it is taken (`visible`).
+
+ghost use Rattle.std.specs.Prelude.{IfOk};
+ghost use Rattle.fr_source.specs.Steps.{ShowsNoLess};
 
 use crate::expand::Line;
 use crate::program::{Action, Program};
+use crate::visible::{Form, Kept, tidied_lines};
 use std::alloc::{AllocError, Global};
 
+/// A line that is kept so far, and the line that it was.
+#[derive(Clone, Copy)]
+struct Origin {
+    line: Line,
+    from: usize,
+    form: Form,
+}
+
+/// Lines that are being tidied.
+#[derive(Drop)]
+struct Tidying<'a> {
+    program: &'a Program<'a>,
+    kept: Vec<Origin>,
+    /// For each line that there was, the number of the kept line that goes on as it did; None where no way leads to it.
+    heirs: Vec<Option<usize>>,
+}
+
 /// The line that a way through this one comes to: the end of a goto, or the line itself.
-fn through(lines: &[Line], number: usize) -> Option<usize> {
-    let line = lines.get(number)?;
+fn through(kept: &[Origin], number: usize) -> Option<usize> {
+    let Origin { line, .. } = kept.get(number)?;
     if line.is_goto() {
         line.to
     } else {
@@ -16,10 +38,10 @@ fn through(lines: &[Line], number: usize) -> Option<usize> {
 }
 
 /// Where a jump to a line comes to in the end, through further gotos.
-fn end_of_jumps(lines: &[Line], first: usize) -> usize {
+fn end_of_jumps(kept: &[Origin], first: usize) -> usize {
     let mut target = first;
-    for _ in 0..lines.len() {
-        match through(lines, target) {
+    for _ in 0..kept.len() {
+        match through(kept, target) {
             Some(next) if next != target => target = next,
             _ => break,
         }
@@ -27,38 +49,46 @@ fn end_of_jumps(lines: &[Line], first: usize) -> usize {
     target
 }
 
-/// Lets each jump go to its end at once, and makes a goto to a return the return. Answers whether a line changed.
-fn shorten_jumps(lines: &mut [Line]) -> bool {
-    let mut has_changed = false;
-    for number in 0..lines.len() {
-        let Some(line) = lines.get(number).copied() else {
-            break;
-        };
-        let Some(first) = line.to else {
-            continue;
-        };
-        let target = end_of_jumps(lines, first);
-        let is_return = matches!(
-            lines.get(target),
-            Some(Line {
-                action: Action::Return,
-                ..
-            },),
-        );
-        let shorter = if line.is_goto() && is_return {
-            Line {
-                action: Action::Return,
-                to: None,
-                ..line
-            }
-        } else {
-            Line {
+/// The line with its jump to the end of all jumps; a goto to a return returns.
+fn shortened(kept: &[Origin], origin: Origin, first: usize) -> Origin {
+    let target = end_of_jumps(kept, first);
+    let is_return = match kept.get(target) {
+        Some(end) => matches!(end.line.action, Action::Return),
+        None => false,
+    };
+    let Origin { line, form, .. } = origin;
+    if line.is_goto() && is_return {
+        let (action, to) = (Action::Return, None);
+        Origin {
+            line: Line { action, to, ..line },
+            form: Form::Returns,
+            ..origin
+        }
+    } else {
+        Origin {
+            line: Line {
                 to: Some(target),
                 ..line
-            }
+            },
+            form,
+            ..origin
+        }
+    }
+}
+
+/// Lets each jump go to its end at once, and makes a goto to a return the return. Answers whether a line changed.
+fn shorten_jumps(kept: &mut [Origin]) -> bool {
+    let mut has_changed = false;
+    for number in 0..kept.len() {
+        let Some(origin) = kept.get(number).copied() else {
+            break;
         };
-        has_changed = has_changed || shorter.to != line.to;
-        if let Some(slot) = lines.get_mut(number) {
+        let Some(first) = origin.line.to else {
+            continue;
+        };
+        let shorter = shortened(kept, origin, first);
+        has_changed = has_changed || shorter.line.to != origin.line.to;
+        if let Some(slot) = kept.get_mut(number) {
             *slot = shorter;
         }
     }
@@ -90,31 +120,13 @@ pub(crate) fn reached(alloc: Global, lines: &[Line]) -> Result<Vec<bool>, AllocE
     Ok(seen)
 }
 
-/// Takes out a line. Who came to it comes to the line after it.
-fn take_out(lines: &mut Vec<Line>, number: usize) {
-    if number >= lines.len() {
-        return;
+/// The number of a line after the line with the number `gone` was taken out.
+fn moved_up(number: usize, gone: usize) -> usize {
+    if number > gone {
+        number.saturating_sub(1)
+    } else {
+        number
     }
-    let _ = lines.remove(number);
-    for line in lines.iter_mut() {
-        match line.to {
-            Some(target) if target > number => line.to = Some(target.saturating_sub(1)),
-            _ => {}
-        }
-    }
-}
-
-/// Takes out the lines that no way leads to.
-fn take_out_unreached(alloc: Global, lines: &mut Vec<Line>) -> Result<bool, AllocError> {
-    let seen = reached(alloc, lines)?;
-    let mut has_changed = false;
-    for number in (0..seen.len()).rev() {
-        if seen.get(number) == Some(&false) {
-            take_out(lines, number);
-            has_changed = true;
-        }
-    }
-    Ok(has_changed)
 }
 
 /// What is done at a line.
@@ -130,8 +142,8 @@ enum Change {
 }
 
 /// Whether a jump comes to the line with this number.
-fn is_aimed(lines: &[Line], number: usize) -> bool {
-    for line in lines {
+fn is_aimed(kept: &[Origin], number: usize) -> bool {
+    for Origin { line, .. } in kept {
         if line.to == Some(number) {
             return true;
         }
@@ -140,25 +152,23 @@ fn is_aimed(lines: &[Line], number: usize) -> bool {
 }
 
 /// What can be done at the line with this number.
-fn change_at(program: &Program<'_>, lines: &[Line], number: usize) -> Change {
+fn change_at(program: &Program<'_>, kept: &[Origin], number: usize) -> Change {
     let next = number.saturating_add(1);
-    let (Some(line), Some(after)) = (lines.get(number).copied(), lines.get(next).copied()) else {
+    let (Some(origin), Some(after)) = (kept.get(number).copied(), kept.get(next).copied()) else {
         return Change::Keep;
     };
+    let (line, after) = (origin.line, after.line);
     let Some(target) = line.to else {
         return Change::Keep;
     };
-    let leads_on = through(lines, next) == Some(target);
+    let leads_on = through(kept, next) == Some(target);
     match line.action {
         Action::Call { .. } if leads_on => Change::Forget,
         Action::If { left, right, .. } => {
             let can_turn = after.is_goto() && target == next.saturating_add(1);
             match after.to {
-                Some(other) if can_turn && !is_aimed(lines, next) => Change::Turn(other),
-                _
-                    if leads_on
-                        && program.shared_in(left).is_none()
-                        && program.shared_in(right).is_none() => Change::TakeOut,
+                Some(other) if can_turn && !is_aimed(kept, next) => Change::Turn(other),
+                _ if leads_on && !program.looks_at_shared(left, right) => Change::TakeOut,
                 _ => Change::Keep,
             }
         }
@@ -167,65 +177,141 @@ fn change_at(program: &Program<'_>, lines: &[Line], number: usize) -> Change {
     }
 }
 
-/// Turns an `if` around, and takes out the goto after it.
-fn turn(lines: &mut Vec<Line>, number: usize, target: usize) {
-    if let Some(line) = lines.get_mut(number) {
-        if let Action::If {
-            left,
-            comparison,
-            right,
-        } = line.action
-        {
-            line.action = Action::If {
-                left,
-                comparison: comparison.inverse(),
-                right,
-            };
-            line.to = Some(target);
-        }
+/// The `if` that asks for the opposite, and goes to this line.
+fn turned(origin: Origin, target: usize) -> Origin {
+    let Origin { line, from, form } = origin;
+    let form = match form {
+        Form::Turned => Form::Same,
+        _ => Form::Turned,
+    };
+    Origin {
+        line: Line {
+            action: line.action.turned(),
+            to: Some(target),
+            ..line
+        },
+        from,
+        form,
     }
-    take_out(lines, number.saturating_add(1));
 }
 
-/// Makes the changes that can be made, up to the first one that takes out a line. Answers whether one was made.
-fn change_one(program: &Program<'_>, lines: &mut Vec<Line>) -> bool {
-    let mut has_changed = false;
-    for number in 0..lines.len() {
-        match change_at(program, lines, number) {
-            Change::Keep => {}
-            Change::Forget => {
-                if let Some(line) = lines.get_mut(number) {
-                    line.to = None;
-                }
+impl Tidying<'_> {
+    /// Takes out a line. Who came to it comes to the line after it; the lines that it goes on for are those of `heir` then.
+    fn take_out(&mut self, number: usize, heir: Option<usize>) {
+        if number >= self.kept.len() {
+            return;
+        }
+        let _ = self.kept.remove(number);
+        for origin in self.kept.iter_mut() {
+            if let Some(target) = origin.line.to {
+                origin.line.to = Some(moved_up(target, number));
+            }
+        }
+        for slot in self.heirs.iter_mut() {
+            let now = match *slot {
+                Some(there) if there == number => heir,
+                there => there,
+            };
+            *slot = match now {
+                Some(there) => Some(moved_up(there, number)),
+                None => None,
+            };
+        }
+    }
+
+    /// Takes out the lines that no way leads to.
+    fn take_out_unreached(&mut self, alloc: Global) -> Result<bool, AllocError> {
+        let mut lines = Vec::new(alloc);
+        for origin in &self.kept {
+            lines.push(origin.line)?;
+        }
+        let seen = reached(alloc, &lines)?;
+        let mut has_changed = false;
+        for number in (0..seen.len()).rev() {
+            if seen.get(number) == Some(&false) {
+                self.take_out(number, None);
                 has_changed = true;
             }
-            Change::TakeOut => {
-                take_out(lines, number);
-                return true;
-            }
-            Change::Turn(target) => {
-                turn(lines, number, target);
-                return true;
+        }
+        Ok(has_changed)
+    }
+
+    /// Turns an `if` around, and takes out the goto after it.
+    fn turn(&mut self, number: usize, target: usize) {
+        if let Some(slot) = self.kept.get_mut(number) {
+            *slot = turned(*slot, target);
+        }
+        self.take_out(number.saturating_add(1), Some(target));
+    }
+
+    /// Makes the changes that can be made, up to the first one that takes out a line. Answers whether one was made.
+    fn change_one(&mut self) -> bool {
+        let mut has_changed = false;
+        for number in 0..self.kept.len() {
+            match change_at(self.program, &self.kept, number) {
+                Change::Keep => {}
+                Change::Forget => {
+                    if let Some(slot) = self.kept.get_mut(number) {
+                        slot.line.to = None;
+                    }
+                    has_changed = true;
+                }
+                Change::TakeOut => {
+                    self.take_out(number, Some(number.saturating_add(1)));
+                    return true;
+                }
+                Change::Turn(target) => {
+                    self.turn(number, target);
+                    return true;
+                }
             }
         }
+        has_changed
     }
-    has_changed
 }
 
-/// Takes out the jumps that aren't needed, and the lines that no way leads to.
-pub(crate) fn tidy(
+/// All lines as they are.
+fn untouched<'a>(
+    alloc: Global,
+    program: &'a Program<'a>,
+    lines: &[Line],
+) -> Result<Tidying<'a>, AllocError> {
+    let mut tidying = Tidying {
+        program,
+        kept: Vec::new(alloc),
+        heirs: Vec::new(alloc),
+    };
+    for (from, line) in lines.iter().enumerate() {
+        let (line, form) = (*line, Form::Same);
+        tidying.kept.push(Origin { line, from, form })?;
+        tidying.heirs.push(Some(from))?;
+    }
+    Ok(tidying)
+}
+
+/// The lines without jumps that aren't needed, and without lines that no way leads to. Others see of them what they see of the
+/// lines as they were.
+pub(crate) fn tidied(
     alloc: Global,
     program: &Program<'_>,
-    lines: &mut Vec<Line>,
-) -> Result<(), AllocError> {
+    lines: &[Line],
+) -> Result<Vec<Line>, AllocError>
+    ensures { IfOk result (λ tidied. ShowsNoLess program.now.variables.items lines.now tidied.items) }
+{
+    let mut tidying = untouched(alloc, program, lines)?;
     let most = lines.len().saturating_mul(4);
     for _ in 0..=most {
-        let is_shorter = shorten_jumps(lines);
-        let is_smaller = take_out_unreached(alloc, lines)?;
-        let is_changed = change_one(program, lines);
+        let is_shorter = shorten_jumps(&mut tidying.kept);
+        let is_smaller = tidying.take_out_unreached(alloc)?;
+        let is_changed = tidying.change_one();
         if !is_shorter && !is_smaller && !is_changed {
             break;
         }
     }
-    Ok(())
+    let mut kept = Vec::new(alloc);
+    for Origin { line, from, form } in &tidying.kept {
+        let (from, form, to) = (*from, *form, line.to);
+        kept.push(Kept { from, form, to })?;
+    }
+    tidied_lines(alloc, program, lines, &kept, &tidying.heirs)
 }

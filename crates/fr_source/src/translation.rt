@@ -9,7 +9,7 @@ use crate::program::{Action, Actor, ActorKind, Program};
 use crate::renamed::names_of;
 use crate::source::{Source, plain};
 use crate::text::Writer;
-use crate::tidy::{reached, tidy};
+use crate::tidy::{reached, tidied};
 use crate::token::{Scan, scanned};
 use std::alloc::{AllocError, Global};
 
@@ -150,7 +150,7 @@ fn codes_of(
         let mut code = code_of(alloc, program, actor, number)?;
         check_calls(alloc, actor, &code)?;
         warn(alloc, source, actor, &code, warnings)?;
-        tidy(alloc, program, &mut code.lines)?;
+        code.lines = tidied(alloc, program, &code.lines)?;
         check_code(alloc, actor, &code)?;
         codes.push(code)?;
     }

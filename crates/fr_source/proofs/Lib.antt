@@ -1,0 +1,3 @@
+mod Glides
+mod Push
+mod Law
