@@ -1,7 +1,7 @@
 // Sources: a C-shaped notation that is translated into an application (docs/SOURCE.md). `translated` reads the tokens of
 // a source (token), its declarations and statements (declare, template, statement, simple, call, expression, condition,
 // switch), and keeps each body as lines and labels (program, lines). Then it writes out the body of each actor (expand),
-// takes out jumps that aren't needed (tidy), and writes the application (text).
+// takes out jumps that aren't needed (tidy), where others are seen to see no less (visible), and writes the application (text).
 #![tactic(auto)]
 
 mod call;

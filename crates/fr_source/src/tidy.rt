@@ -7,7 +7,7 @@ ghost use Rattle.fr_source.specs.Steps.{ShowsNoLess};
 
 use crate::expand::Line;
 use crate::program::{Action, Program};
-use crate::visible::{Form, Kept, tidied_lines};
+use crate::visible::{Form, Heir, Kept, tidied_lines};
 use std::alloc::{AllocError, Global};
 
 /// A line that is kept so far, and the line that it was.
@@ -23,8 +23,8 @@ struct Origin {
 struct Tidying<'a> {
     program: &'a Program<'a>,
     kept: Vec<Origin>,
-    /// For each line that there was, the number of the kept line that goes on as it did; None where no way leads to it.
-    heirs: Vec<Option<usize>>,
+    /// For each line that there was, what goes on as it did.
+    heirs: Vec<Heir>,
 }
 
 /// The line that a way through this one comes to: the end of a goto, or the line itself.
@@ -197,7 +197,7 @@ fn turned(origin: Origin, target: usize) -> Origin {
 
 impl Tidying<'_> {
     /// Takes out a line. Who came to it comes to the line after it; the lines that it goes on for are those of `heir` then.
-    fn take_out(&mut self, number: usize, heir: Option<usize>) {
+    fn take_out(&mut self, number: usize, heir: Heir) {
         if number >= self.kept.len() {
             return;
         }
@@ -209,13 +209,28 @@ impl Tidying<'_> {
         }
         for slot in self.heirs.iter_mut() {
             let now = match *slot {
-                Some(there) if there == number => heir,
+                Heir::Line(there) if there == number => heir,
                 there => there,
             };
             *slot = match now {
-                Some(there) => Some(moved_up(there, number)),
-                None => None,
+                Heir::Line(there) => Heir::Line(moved_up(there, number)),
+                _ => now,
             };
+        }
+    }
+
+    /// What goes on for a line that no way leads to any more: where its jump leads, if a way leads there. `lines` are those before any was
+    /// taken out.
+    fn heir_of_unreached(&self, lines: &[Line], seen: &[bool], number: usize) -> Heir {
+        let (Some(line), Some(now)) = (lines.get(number), self.kept.get(number)) else {
+            return Heir::Nowhere;
+        };
+        match (line.action, line.to, now.line.to) {
+            (Action::Return, _, _) => Heir::Returns,
+            (Action::Goto, Some(was), Some(target)) if seen.get(was) == Some(&true) => {
+                Heir::Line(target)
+            }
+            _ => Heir::Nowhere,
         }
     }
 
@@ -229,7 +244,8 @@ impl Tidying<'_> {
         let mut has_changed = false;
         for number in (0..seen.len()).rev() {
             if seen.get(number) == Some(&false) {
-                self.take_out(number, None);
+                let heir = self.heir_of_unreached(&lines, &seen, number);
+                self.take_out(number, heir);
                 has_changed = true;
             }
         }
@@ -241,7 +257,7 @@ impl Tidying<'_> {
         if let Some(slot) = self.kept.get_mut(number) {
             *slot = turned(*slot, target);
         }
-        self.take_out(number.saturating_add(1), Some(target));
+        self.take_out(number.saturating_add(1), Heir::Line(target));
     }
 
     /// Makes the changes that can be made, up to the first one that takes out a line. Answers whether one was made.
@@ -257,7 +273,7 @@ impl Tidying<'_> {
                     has_changed = true;
                 }
                 Change::TakeOut => {
-                    self.take_out(number, Some(number.saturating_add(1)));
+                    self.take_out(number, Heir::Line(number.saturating_add(1)));
                     return true;
                 }
                 Change::Turn(target) => {
@@ -284,7 +300,7 @@ fn untouched<'a>(
     for (from, line) in lines.iter().enumerate() {
         let (line, form) = (*line, Form::Same);
         tidying.kept.push(Origin { line, from, form })?;
-        tidying.heirs.push(Some(from))?;
+        tidying.heirs.push(Heir::Line(from))?;
     }
     Ok(tidying)
 }

@@ -47,6 +47,17 @@ pub(crate) struct Kept {
     pub(crate) to: Option<usize>,
 }
 
+/// What goes on as a plain line did.
+#[derive(Clone, Copy)]
+pub(crate) enum Heir {
+    /// Nothing: no way leads to the line.
+    Nowhere,
+    /// The kept line with this number.
+    Line(usize),
+    /// Any return.
+    Returns,
+}
+
 /// What a line does that is kept in this form.
 fn made(form: Form, action: Action) -> Action
     ensures { result ≡ made form action }
@@ -307,17 +318,18 @@ impl Comparison<'_> {
     }
 }
 
-/// The mark of where the tidied lines go on for each plain line, by the tidied line that goes on for it.
+/// The mark of where the tidied lines go on for each plain line.
 fn aims_of(
     alloc: Global,
-    heirs: &[Option<usize>],
+    heirs: &[Heir],
     marks: &[usize],
 ) -> Result<Vec<Option<usize>>, AllocError> {
     let mut aims = Vec::new(alloc);
     for heir in heirs {
         aims.push(match heir {
-            Some(number) => marks.get(*number).copied(),
-            None => None,
+            Heir::Line(number) => marks.get(*number).copied(),
+            Heir::Returns => Some(0),
+            Heir::Nowhere => None,
         })?;
     }
     Ok(aims)
@@ -330,15 +342,14 @@ fn copied(alloc: Global, lines: &[Line]) -> Result<Vec<Line>, AllocError>
     lines.to_vec(alloc)
 }
 
-/// Whether tidied lines show others no less than the plain ones. `heirs` says for each plain line which tidied one goes on for it, and None
-/// where no way leads to it.
+/// Whether tidied lines show others no less than the plain ones. `heirs` has for each plain line what goes on for it.
 fn show_no_less<'a>(
     alloc: Global,
     program: &'a Program<'a>,
     plain: &'a [Line],
     kept: &'a [Kept],
     lines: &'a [Line],
-    heirs: &[Option<usize>],
+    heirs: &[Heir],
 ) -> Result<bool, AllocError>
     requires made { AreMade plain.now kept.now lines.now }
     ensures { IfOk result (λ found. IsTrue found → ShowsNoLess program.now.variables.items plain.now lines.now) }
@@ -372,14 +383,14 @@ fn are_kept<'a>(
     comparison.keeps_all()
 }
 
-/// The lines that are kept of the plain ones, where it is seen that they show others no less; otherwise the plain ones. `heirs` says for
-/// each plain line which kept one goes on for it, and None where no way leads to it.
+/// The lines that are kept of the plain ones, where it is seen that they show others no less; otherwise the plain ones. `heirs` has for
+/// each plain line what goes on for it.
 pub(crate) fn tidied_lines(
     alloc: Global,
     program: &Program<'_>,
     plain: &[Line],
     kept: &[Kept],
-    heirs: &[Option<usize>],
+    heirs: &[Heir],
 ) -> Result<Vec<Line>, AllocError>
     ensures { IfOk result (λ lines. ShowsNoLess program.now.variables.items plain.now lines.items) }
 {
