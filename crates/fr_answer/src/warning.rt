@@ -8,8 +8,8 @@ use fr_notes::Notes;
 use fr_program::App;
 use fr_refuter::{Finding, Left};
 use fr_report::{
-    NO_ACTORS, held_while_waiting, lost_updates, never_given, never_reached, never_used,
-    used_one_way,
+    NO_ACTORS, buffers_in_critical_sections, held_while_waiting, lost_updates, never_given,
+    never_reached, never_used, used_one_way,
 };
 use fr_source::Message;
 use std::alloc::{AllocError, Global};
@@ -44,10 +44,12 @@ fn add_noted(
     let held = held_while_waiting(alloc, app, notes)?;
     let taken = never_given(alloc, app, notes)?;
     let lost = lost_updates(alloc, app, notes)?;
+    let critical = buffers_in_critical_sections(alloc, app, notes)?;
     add(warnings, WarningKind::NeverReached, unreached)?;
     add(warnings, WarningKind::HeldWhileWaiting, held)?;
     add(warnings, WarningKind::NeverGiven, taken)?;
-    add(warnings, WarningKind::LostUpdate, lost)
+    add(warnings, WarningKind::LostUpdate, lost)?;
+    add(warnings, WarningKind::BufferInCriticalSection, critical)
 }
 
 /// The warnings for an application: that it has no actors, and where all are asked for what the notes hint at, where there are

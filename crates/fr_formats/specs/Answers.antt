@@ -16,7 +16,7 @@ use Rattle.fr_formats.specs.declared.answer.AnswerKind.TheVariants.{Yes, No, May
 use Rattle.fr_formats.specs.declared.answer.SideShown.{SideShown}
 use Rattle.fr_formats.specs.declared.answer.SideShown.TheVariants.{Before, Inside}
 use Rattle.fr_formats.specs.declared.answer.WarningKind.{WarningKind}
-use Rattle.fr_formats.specs.declared.answer.WarningKind.TheVariants.{NeverReached, NeverUsed, NoActors, HeldWhileWaiting, NeverGiven, LostUpdate, UsedOneWay}
+use Rattle.fr_formats.specs.declared.answer.WarningKind.TheVariants.{NeverReached, NeverUsed, NoActors, HeldWhileWaiting, NeverGiven, LostUpdate, UsedOneWay, BufferInCriticalSection}
 use Rattle.fr_formats.specs.declared.answer.Source.{Source}
 use Rattle.fr_formats.specs.declared.answer.AnswerShown.{AnswerShown}
 use Rattle.fr_formats.specs.declared.answer.Failure.{Failure}
@@ -49,6 +49,7 @@ warning_rule HeldWhileWaiting = codes "held-while-waiting"
 warning_rule NeverGiven = codes "never-given"
 warning_rule LostUpdate = codes "lost-update"
 warning_rule UsedOneWay = codes "used-one-way"
+warning_rule BufferInCriticalSection = codes "buffer-in-critical-section"
 
 abbrev pub status_of : AnswerKind → ℕ
 status_of Yes = 0

@@ -37,7 +37,8 @@ rule_names =
     ∷ codes "rule-7" ∷ codes "rule-8" ∷ codes "rule-9" ∷ codes "rule-10" ∷ codes "rule-11" ∷ codes "rule-12"
     ∷ codes "entry" ∷ codes "goes-to" ∷ codes "guard" ∷ codes "near" ∷ codes "spoiled-by" ∷ codes "refused"
     ∷ codes "states-left" ∷ codes "never-reached" ∷ codes "never-used" ∷ codes "no-actors" ∷ codes "deadlock" ∷ codes "may-deadlock"
-    ∷ codes "held-while-waiting" ∷ codes "never-given" ∷ codes "lost-update" ∷ codes "used-one-way" ∷ []
+    ∷ codes "held-while-waiting" ∷ codes "never-given" ∷ codes "lost-update" ∷ codes "used-one-way"
+    ∷ codes "buffer-in-critical-section" ∷ []
 
 -- the index of a name among all
 unfoldable pub rule_index : List ℕ → Option ℕ

@@ -121,6 +121,8 @@ pub enum WarningKind {
     LostUpdate,
     /// A variable is read and never written, or written and never read.
     UsedOneWay,
+    /// A task sends or receives bytes of a buffer in a critical section.
+    BufferInCriticalSection,
 }
 
 /// What an answer may hide.
@@ -220,6 +222,7 @@ impl WarningKind {
             WarningKind::NeverGiven => "never-given",
             WarningKind::LostUpdate => "lost-update",
             WarningKind::UsedOneWay => "used-one-way",
+            WarningKind::BufferInCriticalSection => "buffer-in-critical-section",
         }
     }
 }

@@ -18,7 +18,7 @@ pub(crate) struct Ident {
 }
 
 /// All of them: the twelve rules, the other parts of a verdict, and what else a report can say.
-const IDENTS: [Ident; 28] = [
+const IDENTS: [Ident; 29] = [
     Ident {
         name: "rule-1",
         short: "Two actors at the writing end of a buffer",
@@ -117,12 +117,12 @@ const IDENTS: [Ident; 28] = [
     Ident {
         name: "never-reached",
         short: "Lines of code are never reached",
-        help: "By the certificate the actor is never at these lines, and nothing is asked there. A wrong target can hide behind that.",
+        help: "By the certificate the actor is never at these lines, and nothing is asked there. A wrong target can be the cause.",
     },
     Ident {
         name: "never-used",
         short: "Variable or object is never used",
-        help: "No line of code names it. A line that names another one in its place can hide behind that.",
+        help: "No line of code names it. A line may name another one in its place.",
     },
     Ident {
         name: "no-actors",
@@ -157,7 +157,12 @@ const IDENTS: [Ident; 28] = [
     Ident {
         name: "used-one-way",
         short: "Variable is read and never written, or written and never read",
-        help: "A wrong name can hide behind that. Take the variable out, or name it where it is meant.",
+        help: "A wrong name can be the cause. Take the variable out, or name it where it is meant.",
+    },
+    Ident {
+        name: "buffer-in-critical-section",
+        short: "A buffer is used in a critical section of a task",
+        help: "A kernel with several cores calls vTaskSuspendAll in the call, which asserts that its task isn't in a critical section. Let a mutex guard the buffer.",
     },
 ];
 

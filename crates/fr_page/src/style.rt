@@ -61,13 +61,14 @@ article .fails td { padding-top: .4rem; }
 .never, .never .where { color: var(--soft); }
 .never code { opacity: .7; }
 
-.scroll { overflow-x: auto; border: 1px solid var(--rule); border-radius: 10px; background: var(--card); }
+.scroll { isolation: isolate; max-height: 62vh; overflow: auto; scroll-padding: 4rem 1rem 1rem 7rem; border: 1px solid var(--rule); border-radius: 10px; background: var(--card); }
 .lanes { min-width: 100%; }
-.lanes thead th { padding: .6rem .8rem; border-bottom: 1px solid var(--rule); vertical-align: bottom; }
-.lanes tbody th { padding: .4rem .9rem; white-space: nowrap; }
-.lanes td, .lanes thead th + th { min-width: 12rem; border-left: 1px solid var(--rule); }
+.lanes thead th { position: sticky; top: 0; z-index: 2; padding: .6rem .8rem; background: var(--card); box-shadow: inset 0 -1px var(--rule); vertical-align: bottom; }
+.lanes thead th:first-child { left: 0; z-index: 3; }
+.lanes tbody th { position: sticky; left: 0; z-index: 1; padding: .4rem .9rem; background: var(--card); white-space: nowrap; }
+.lanes td, .lanes thead th + th { min-width: 15rem; border-left: 1px solid var(--rule); }
 .lanes td { height: 1px; vertical-align: top; }
-.lanes tbody tr:nth-child(even) { background: var(--fill); }
+.lanes tbody tr:nth-child(even), .lanes tbody tr:nth-child(even) th { background: var(--fill); }
 .key { display: inline-block; margin-right: .8rem; }
 .key i { display: inline-block; width: 12px; height: 12px; margin-right: .4em; border-radius: 3px; vertical-align: -1px; }
 .lane { display: flex; gap: 4px; height: 100%; min-height: 2rem; padding-left: .8rem; }
@@ -80,7 +81,7 @@ article .fails td { padding-top: .4rem; }
 .last { border-bottom-left-radius: 5px; border-bottom-right-radius: 5px; }
 .does { padding: .4rem .9rem .4rem .3rem; }
 .does:first-child { padding-left: 0; }
-.does code { display: block; padding-left: 1.6em; text-indent: -1.6em; }
+.does code { display: block; padding-left: .8em; text-indent: -.8em; }
 .does span { color: var(--soft); }
 .breaks, .breaks:first-child { margin: .3rem .5rem .4rem .1rem; padding: .4rem .7rem; border: 1px solid var(--bad); border-radius: 6px; background: var(--bad-fill); }
 .breaks strong { display: block; font-size: 13px; }
@@ -93,6 +94,7 @@ article .fails td { padding-top: .4rem; }
 .wait .left p::after { content: '\\25C0'; left: -.3rem; }
 .wait .own p::after { content: '\\21BA'; right: -.3rem; }
 .current { outline: 2px solid var(--held); outline-offset: -2px; }
+.current th { box-shadow: inset 3px 0 var(--held); }
 .still { border: 1px solid var(--rule); border-top: 0; background: var(--card); }
 .still p { padding: 0 1rem .6rem; }
 .still span { margin-right: 1rem; }
@@ -112,7 +114,7 @@ output { margin: 0 .8rem; font-weight: 600; }
   header, main { padding-left: 1rem; padding-right: 1rem; }
   header { padding-top: 1.2rem; }
 }
-@page { margin: 14mm; }
+@page { size: landscape; margin: 12mm; }
 @media print {
   :root {
     color-scheme: light;
@@ -128,10 +130,14 @@ output { margin: 0 .8rem; font-weight: 600; }
   section { margin: 1.2rem 0; }
   header, main { max-width: none; padding: 0; }
   .player, .states { display: none; }
-  .scroll { overflow: visible; }
+  .scroll { max-height: none; overflow: visible; }
+  .lanes thead th, .lanes tbody th { position: static; }
+  .lanes tbody th, .does { padding: .2rem .4rem; }
+  .does code, .lanes p, .does small { font-size: 9px; }
   .lanes td, .lanes thead th + th { min-width: 0; }
   .current { outline: none; }
-  .actors { columns: 19rem 2; max-width: none; }
+  .current th { box-shadow: none; }
+  .actors { columns: 19rem 3; max-width: none; }
   article { break-inside: auto; }
   tr, article tbody, .why { break-inside: avoid; }
   h2, h3 { break-after: avoid; }

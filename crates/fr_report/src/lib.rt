@@ -33,6 +33,6 @@ pub use told::{Explained, Explanation, Line, Named, ShownState, Standing, explan
 pub use trace::trace_text;
 pub use waits::{deadlock_text, order_line};
 pub use warning::{
-    NO_ACTORS, held_while_waiting, lost_updates, never_given, never_reached, never_used,
-    used_one_way,
+    NO_ACTORS, buffers_in_critical_sections, held_while_waiting, lost_updates, never_given,
+    never_reached, never_used, used_one_way,
 };

@@ -1,11 +1,13 @@
 // What a verdict may hide: points that are never reached, variables and objects that are never used or used one way, mutexes that are held
-// for long, updates that can be lost, and an application without actors.
+// for long, updates that can be lost, buffers that are used in critical sections, and an application without actors.
+mod critical;
 mod mutexes;
 mod one_way;
 mod unused;
 mod updates;
 
 use crate::shown::actor_name;
+pub use critical::buffers_in_critical_sections;
 use fr_notes::Notes;
 use fr_program::{ActorId, App};
 pub use mutexes::{held_while_waiting, never_given};
@@ -83,7 +85,7 @@ fn line_of(alloc: Global, app: &App, row: Unreached) -> Result<String, AllocErro
 pub const NO_ACTORS: &str = "warning: no task or interrupt is in this file";
 
 /// The warnings for points that are never reached, a line for each row of points whose notes say that the actor is never
-/// there, with the actor and its lines of code. Nothing is asked at such points, so a wrong target can hide behind them. An
+/// there, with the actor and its lines of code. Nothing is asked at such points, and a wrong target can be the cause. An
 /// error says that an allocation was refused. The lines' form is this project's own.
 pub fn never_reached(alloc: Global, app: &App, notes: &Notes) -> Result<Vec<String>, AllocError> {
     let mut lines = Vec::new(alloc);

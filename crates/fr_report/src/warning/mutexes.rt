@@ -27,7 +27,7 @@ fn can_hold(notes: &Notes, number: usize, mutex: ObjId) -> bool {
 }
 
 /// The object call of the point's line.
-fn call_at(app: &App, point: Point) -> Option<ObjectCall> {
+pub(super) fn call_at(app: &App, point: Point) -> Option<ObjectCall> {
     match app.instr(point) {
         Some(Instr::Call(Call::On(call))) => Some(*call),
         _ => None,

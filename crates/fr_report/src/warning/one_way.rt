@@ -84,7 +84,7 @@ fn uses_in(alloc: Global, app: &App) -> Result<Uses, AllocError> {
     Ok(uses)
 }
 
-/// The warnings for variables that are read and never written, or written and never read, a line each. A wrong name can hide behind them.
+/// The warnings for variables that are read and never written, or written and never read, a line each. A wrong name can be the cause.
 /// A variable with one value in its range is written so that a rule is broken there, and nobody has to read it.
 /// An error says that an allocation was refused. The lines' form is this project's own.
 pub fn used_one_way(alloc: Global, app: &App) -> Result<Vec<String>, AllocError> {

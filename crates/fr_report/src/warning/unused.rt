@@ -58,7 +58,7 @@ fn used_in(alloc: Global, app: &App) -> Result<Used, AllocError> {
     Ok(used)
 }
 
-/// The warnings for variables and objects that no line of code names, a line each. A wrong name can hide behind them. An error
+/// The warnings for variables and objects that no line of code names, a line each. A wrong name can be the cause. An error
 /// says that an allocation was refused. The lines' form is this project's own.
 pub fn never_used(alloc: Global, app: &App) -> Result<Vec<String>, AllocError> {
     let used = used_in(alloc, app)?;
