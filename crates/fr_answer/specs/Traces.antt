@@ -10,6 +10,9 @@ use Rattle.std.specs.Prelude.{◌≡◌, ◌⊎◌, ◌++◌, ℕ, List, codes, 
 use Rattle.std.specs.Io.KnownBytes.{Appends}
 use Rattle.std.specs.Prelude.{Option}
 use Rattle.fr_program.specs.Program.{Program}
+use Rattle.fr_program.specs.Lookup.{actor_at}
+use Rattle.fr_calls.specs.Rule.{number_of}
+use Rattle.fr_report.specs.Report.{rule_text}
 use Rattle.fr_reader.specs.Meaning.{Means as AppMeans}
 use Rattle.fr_instr.specs.AppNames.{names_in}
 use Rattle.fr_trace.specs.Means.{TraceMeans, IsPresent, said_in}
@@ -18,7 +21,7 @@ use Rattle.fr_trace.specs.declared.no_trace.NoTrace.TheVariants.{NotListed as Is
 use Rattle.fr_trace.specs.declared.trace.Trace.{Trace}
 use Rattle.fr_follower.specs.Follows.{IsFollowed}
 use Rattle.fr_follower.specs.declared.following.Followed.{Followed}
-use Rattle.fr_follower.specs.declared.following.Followed.TheVariants.{Whole, UpToLost, Stops, GaveUp}
+use Rattle.fr_follower.specs.declared.following.Followed.TheVariants.{Whole, UpToLost, Stops, Breaks, GaveUp}
 use Rattle.fr_answer.specs.Inputs.{Reading, AsApp, AsTrace}
 
 -- 0 where a run explains the whole trace, and else 1
@@ -26,20 +29,23 @@ abbrev pub followed_status : Followed → ℕ
 followed_status (Whole run) = 0
 followed_status (UpToLost event run) = 1
 followed_status (Stops event run) = 1
+followed_status (Breaks event rule actor run) = 1
 followed_status (GaveUp event) = 1
 
 -- how the answer's line begins
-abbrev pub followed_head : Trace → Followed → List ℕ
-followed_head e (Whole run) = codes "followed: " ++ (decimal (length e.events.items) ++ codes " events")
-followed_head e (UpToLost event run) = codes "followed: " ++ (decimal event ++ (codes " of " ++ (decimal (length e.events.items) ++ codes " events")))
-followed_head e (Stops event run) = codes "not followed: event "
-followed_head e (GaveUp event) = codes "gave up: "
+abbrev pub followed_head : Program → Trace → Followed → List ℕ
+followed_head P e (Whole run) = codes "followed: " ++ (decimal (length e.events.items) ++ codes " events")
+followed_head P e (UpToLost event run) = codes "followed: " ++ (decimal event ++ (codes " of " ++ (decimal (length e.events.items) ++ codes " events")))
+followed_head P e (Stops event run) = codes "not followed: event "
+followed_head P e (Breaks event rule actor run) =
+    codes "breach: rule " ++ (decimal (number_of rule) ++ (codes ": " ++ (rule_text rule ++ (codes ": " ++ (actor_at P actor.0).name))))
+followed_head P e (GaveUp event) = codes "gave up: "
 
 -- the text means a trace, of which this is so; or it has something that the application doesn't list, which the line says
 abbrev pub IsTraceAnswer : Program → List ℕ → ℕ → List ℕ → Type 0
 IsTraceAnswer P text status line =
     ((e : Trace) × TraceMeans (names_in P) text (said_in e) × (f : Followed) × IsFollowed P e f
-    × (status ≡ followed_status f) × (rest : List ℕ) × (line ≡ followed_head e f ++ rest))
+    × (status ≡ followed_status f) × (rest : List ℕ) × (line ≡ followed_head P e f ++ rest))
     ⊎ ((unlisted : NotListed) × IsPresent (names_in P) text (IsNotListed unlisted)
     × (status ≡ 1) × (rest : List ℕ) × (line ≡ codes "not listed: " ++ rest))
 

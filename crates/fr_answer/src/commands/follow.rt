@@ -18,6 +18,7 @@ use fr_instr::names_of;
 use fr_place::is_unknown_word;
 use fr_program::App;
 use fr_reader::read_app;
+use fr_report::{actor_name, rule_text};
 use fr_request::FollowRequest;
 use fr_trace::{MOST_TRACE_BYTES, NoTrace, NotListed, Trace, TraceFault, Unlisted, read_trace};
 use std::alloc::{AllocError, Global};
@@ -48,6 +49,22 @@ fn line_shown(alloc: Global, trace: &[u8], number: usize) -> Result<String, Allo
         push_plain(&mut text, line.trim())?;
     }
     Ok(text)
+}
+
+/// Which one of all events the one with this number, from 0, is, with its line of the trace.
+fn event_shown(
+    alloc: Global,
+    bytes: &[u8],
+    trace: &Trace,
+    event: usize,
+) -> Result<String, AllocError> {
+    let number = match trace.events.get(event) {
+        Some(event) => event.line,
+        None => 0,
+    };
+    let line = line_shown(alloc, bytes, number)?;
+    let (place, total) = (event.saturating_add(1), trace.events.len());
+    format!(in alloc; "{place} of {total}, line {number}: {line}")
 }
 
 /// The call that a line begins, or all that it says of its actor.
@@ -157,15 +174,12 @@ fn rest_of(
             String::from_str(alloc, ", up to the first that were lost\n")
         }
         Followed::Stops { event, .. } => {
-            let number = match trace.events.get(*event) {
-                Some(event) => event.line,
-                None => 0,
-            };
-            let line = line_shown(alloc, bytes, number)?;
-            let (place, total) = (event.saturating_add(1), trace.events.len());
-            format!(in alloc;
-                "{place} of {total}, line {number}: {line} (as far as the search saw)\n"
-            )
+            let place = event_shown(alloc, bytes, trace, *event)?;
+            format!(in alloc; "{place} (as far as the search saw)\n")
+        }
+        Followed::Breaks { event, .. } => {
+            let place = event_shown(alloc, bytes, trace, *event)?;
+            format!(in alloc; ", at event {place}\n")
         }
         Followed::GaveUp { event } => {
             format!(in alloc; "more than {states} states after event {event}\n")
@@ -174,8 +188,13 @@ fn rest_of(
 }
 
 /// How the line begins.
-fn head_of(alloc: Global, trace: &Trace, followed: &Followed) -> Result<String, AllocError>
-    ensures { IfOk result (λ head. string_bytes head ≡ followed_head trace.now followed.now) }
+fn head_of(
+    alloc: Global,
+    app: &App,
+    trace: &Trace,
+    followed: &Followed,
+) -> Result<String, AllocError>
+    ensures { IfOk result (λ head. string_bytes head ≡ followed_head app.now trace.now followed.now) }
 {
     let total = trace.events.len();
     match followed {
@@ -184,6 +203,11 @@ fn head_of(alloc: Global, trace: &Trace, followed: &Followed) -> Result<String, 
             format!(in alloc; "followed: {event} of {total} events")
         }
         Followed::Stops { .. } => String::from_str(alloc, "not followed: event "),
+        Followed::Breaks { rule, actor, .. } => {
+            let (number, rule) = (rule.number(), rule_text(*rule));
+            let actor = actor_name(app, *actor);
+            format!(in alloc; "breach: rule {number}: {rule}: {actor}")
+        }
         Followed::GaveUp { .. } => String::from_str(alloc, "gave up: "),
     }
 }
@@ -194,7 +218,10 @@ fn status_of(followed: &Followed) -> u8
 {
     match followed {
         Followed::Whole { .. } => DONE,
-        Followed::UpToLost { .. } | Followed::Stops { .. } | Followed::GaveUp { .. } => NO,
+        Followed::UpToLost { .. }
+        | Followed::Stops { .. }
+        | Followed::Breaks { .. }
+        | Followed::GaveUp { .. } => NO,
     }
 }
 
@@ -207,10 +234,10 @@ fn answer_of(
     states: u32,
 ) -> Result<TraceAnswer, AllocError>
     ensures { IfOk result (λ answer. (f : FollowedOf) × IsFollowed app.now trace.now f × (answer.status ≡ followed_status f)
-        × (rest : List ℕ) × (string_bytes answer.line ≡ followed_head trace.now f ++ rest)) }
+        × (rest : List ℕ) × (string_bytes answer.line ≡ followed_head app.now trace.now f ++ rest)) }
 {
     let followed = follow(alloc, app, trace, states as usize)?;
-    let head = head_of(alloc, trace, &followed)?;
+    let head = head_of(alloc, app, trace, &followed)?;
     let rest = rest_of(alloc, bytes, trace, &followed, states)?;
     Ok(TraceAnswer {
         line: format!(in alloc; "{head}{rest}")?,
