@@ -7,7 +7,7 @@ use fr_program::{Act, Attempt, Call, Instr, ObjId, Operand, VarId};
 
 /// The variables of an instruction: the one that it sets, and those of its operands or its call.
 #[derive(Clone, Copy)]
-pub(crate) struct Named {
+pub struct Named {
     pub target: Option<VarId>,
     pub left: Option<VarId>,
     pub right: Option<VarId>,
@@ -46,7 +46,7 @@ fn act_variable(act: Act) -> Option<VarId>
 }
 
 /// The variables that the instruction names.
-pub(crate) fn variables_named(instr: &Instr) -> Named
+pub fn variables_named(instr: &Instr) -> Named
     ensures { named_list result ≡ variables_of instr.now }
 {
     match instr {
@@ -78,7 +78,7 @@ pub(crate) fn variables_named(instr: &Instr) -> Named
 }
 
 /// The object that the instruction names, if it names one.
-pub(crate) fn object_named(instr: &Instr) -> Option<ObjId>
+pub fn object_named(instr: &Instr) -> Option<ObjId>
     ensures { result ≡ object_named instr.now }
 {
     match instr {
