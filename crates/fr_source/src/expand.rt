@@ -4,7 +4,7 @@
 ghost use Rattle.std.specs.Prelude.{◌≡◌};
 ghost use Rattle.fr_source.specs.Steps.{ends};
 
-use crate::fault::{Fault, Spot, wrong};
+use crate::fault::{Fault, Spot, wrong, wrong_about};
 use crate::program::{
     Action, Actor, Argument, Call, Item, MOST_ITEMS, MOST_VARIABLES, Operand, Owner, Program,
     Variable,
@@ -235,10 +235,9 @@ impl<'a> Expander<'a> {
             return Ok(());
         };
         if program.written.len() >= MOST_VARIABLES {
-            let text = format!(in alloc;
-                "there may be at most 64 variables, and each actor that calls this function has its own: this is one more"
-            );
-            return Err(wrong(variable.spot, text));
+            let text =
+                "there may be at most 64 variables, and each actor that calls this function has its own: this is one more";
+            return Err(wrong(alloc, variable.spot, &[text]));
         }
         let copy = program.variables.len();
         program.variables.push(Variable {
@@ -333,13 +332,12 @@ impl<'a> Expander<'a> {
 
     /// The fault that an actor grows too large.
     fn too_large(&self, alloc: Global, place: Place) -> Fault {
-        let kind = self.actor.kind.text();
-        let name = self.actor.name;
-        let text = format!(in alloc;
-            "{kind} '{name}' grows to more than 4096 lines and labels: this construct passed the limit, and at most \
-             512 lines may be left in the end"
-        );
-        wrong(outermost(&self.calls, place), text)
+        let spot = outermost(&self.calls, place);
+        let why =
+            "' grows to more than 4096 lines and labels: this construct passed the limit, and at most 512 lines \
+            may be left in the end";
+        let (kind, name) = (self.actor.kind.text(), self.actor.name);
+        wrong_about(alloc, spot, kind, " '", name, why, "")
     }
 
     /// The lines, with the lines that their labels are before.

@@ -6,7 +6,7 @@ ghost use Rattle.fr_source.specs.Kept.{inverse, turned};
 
 use crate::fault::Spot;
 use crate::kernel::Kernel;
-use std::alloc::Global;
+use std::alloc::{AllocError, Global};
 
 /// The most variables of an application.
 pub(crate) const MOST_VARIABLES: usize = 64;
@@ -29,6 +29,12 @@ impl Range {
     /// Whether every number of another range is in this one.
     pub(crate) fn includes(self, other: Range) -> bool {
         self.low <= other.low && other.high <= self.high
+    }
+
+    /// The range as the source writes it.
+    pub(crate) fn text(self, alloc: Global) -> Result<String, AllocError> {
+        let Range { low, high } = self;
+        format!(in alloc; "{low}..{high}")
     }
 }
 
