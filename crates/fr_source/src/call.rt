@@ -64,6 +64,11 @@ impl<'a> Reader<'a> {
             let why = "' can't call itself: a function is expanded where it is called";
             return wrong(self.alloc, token.spot, &["'", shown, why]);
         }
+        if let Some(meaning) = self.scope.meaning(token.text) {
+            let why = ", and only a function or a call of the kernel is called";
+            let (is_of, kind) = ("' is the name of ", meaning.text());
+            return wrong_about(self.alloc, token.spot, "'", shown, is_of, kind, why);
+        }
         let what = "no function above and no kernel call '";
         match self.scope.near(token.text) {
             Some(near) => {

@@ -82,7 +82,7 @@ impl<'a> Reader<'a> {
         }
         match word.text {
             "const" => self.constant_declaration(),
-            "shared" => self.variable_declaration(Owner::Everyone, true),
+            "shared" => self.variable_declaration(Owner::Everyone, false),
             "task" => self.actor(ActorKind::Task),
             "interrupt" => self.actor(ActorKind::Interrupt),
             "function" => self.function(),
@@ -149,11 +149,14 @@ impl<'a> Reader<'a> {
         Ok(range)
     }
 
-    /// Reads a variable, without the word before its name. `may_begin`: it may have a first value.
-    fn variable_declaration(&mut self, owner: Owner, may_begin: bool) -> Result<(), Fault> {
+    /// Reads a variable, without the words before its name.
+    fn variable_declaration(&mut self, owner: Owner, is_static: bool) -> Result<(), Fault> {
         let name = self.new_name("the name of a variable")?;
         self.cursor.take("in", " and a range, as in 'in 0..8'")?;
         let range = self.range()?;
+        let may_begin = is_static
+            || matches!(owner, Owner::Everyone)
+            || matches!(self.home, Home::Task);
         let first = self.first_value(range, may_begin)?;
         self.cursor.take(";", " after the declaration")?;
         let function = match owner {
@@ -166,6 +169,7 @@ impl<'a> Reader<'a> {
             range,
             first,
             owner,
+            is_static,
             function,
         };
         let place = self.add_variable(variable)?;
@@ -365,7 +369,7 @@ impl<'a> Reader<'a> {
             }
             self.operators = 0;
             self.cursor.take("var", "")?;
-            self.variable_declaration(owner, is_static || matches!(home, Home::Task))?;
+            self.variable_declaration(owner, is_static)?;
         }
         let end = self.statements()?;
         self.check_labels()?;

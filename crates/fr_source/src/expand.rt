@@ -4,7 +4,7 @@
 ghost use Rattle.std.specs.Prelude.{◌≡◌};
 ghost use Rattle.fr_source.specs.Steps.{ends};
 
-use crate::fault::{Fault, Spot, wrong, wrong_about};
+use crate::fault::{Fault, Spot, said, wrong, wrong_about};
 use crate::program::{
     Action, Actor, Argument, Call, Item, MOST_ITEMS, MOST_VARIABLES, Operand, Owner, Program,
     Variable,
@@ -234,6 +234,14 @@ impl<'a> Expander<'a> {
         let Some(variable) = program.variable(declared) else {
             return Ok(());
         };
+        if let (true, Owner::Actor(first)) = (variable.is_static, variable.owner) {
+            let (name, one, other) = (variable.name, program.actor_name(first), self.actor.name);
+            let text = format!(in alloc;
+                "'{name}' is static, and '{one}' and '{other}' call the function: in C they share it. Declare it outside, \
+                 as 'shared {name} in ..;'"
+            );
+            return Err(said(variable.spot, text));
+        }
         if program.written.len() >= MOST_VARIABLES {
             let text =
                 "there may be at most 64 variables, and each actor that calls this function has its own: this is one more";
@@ -245,6 +253,9 @@ impl<'a> Expander<'a> {
             ..variable
         })?;
         program.written.push(copy)?;
+        if let Some(slot) = program.variables.get_mut(declared) {
+            slot.owner = Owner::Actor(self.number);
+        }
         self.own.push(Own { declared, copy })?;
         Ok(())
     }

@@ -54,6 +54,7 @@ pub(crate) struct Variable<'a> {
     pub(crate) range: Range,
     pub(crate) first: i64,
     pub(crate) owner: Owner,
+    pub(crate) is_static: bool,
     /// The name of the function that declares it.
     pub(crate) function: Option<&'a str>,
 }

@@ -121,6 +121,7 @@ impl<'a> Reader<'a> {
             range: Range { low: 0, high: 0 },
             first: 0,
             owner: Owner::Everyone,
+            is_static: false,
             function: None,
         };
         let place = self.add_variable(variable)?;
@@ -154,7 +155,15 @@ impl<'a> Reader<'a> {
             }
             Value::Number(number) => self.set_to(variable, spot, Operand::Number(number), None),
             Value::Variable(other) => self.set_to(variable, spot, Operand::Variable(other), None),
-            _ => {
+            Value::Null => {
+                let text = "NULL is no number, and a variable has a number: write 0";
+                Err(self.cursor.refused(term.spot, text))
+            }
+            Value::Test(_) => {
+                let text = "a condition is no value: write 'if (..) x = 1; else x = 0;'";
+                Err(self.cursor.refused(term.spot, text))
+            }
+            Value::Given { .. } => {
                 let text =
                     "one line has one operator at most: give a part of this to a variable first";
                 Err(self.cursor.refused(term.spot, text))
