@@ -347,10 +347,11 @@ class Maker:
         return statements
 
 
-def own_variables(chance):
+def own_variables(chance, begin_at_0=False):
     """The variables of a body. In each body they have the same names."""
     low = chance.choice([-1, 0, 0])
-    return [Variable("x", 0, 2, chance.choice([0, 0, 1])), Variable("y", low, 2, chance.choice([0, 0, low]))]
+    firsts = [0, 0] if begin_at_0 else [chance.choice([0, 0, 1]), chance.choice([0, 0, low])]
+    return [Variable("x", 0, 2, firsts[0]), Variable("y", low, 2, firsts[1])]
 
 
 def things(chance):
@@ -365,14 +366,15 @@ def things(chance):
 
 
 def random_source(chance, mixes_calls=False):
-    """A source with two functions, of which the second may call the first, and one or two tasks or interrupts. With `mixes_calls` the functions
-    have calls of interrupts too, which a task mustn't come to.
+    """A source with two functions, of which the second may call the first, and one or two tasks or interrupts. Where there are two, the variables of
+    functions begin at 0, so that they need not be static. With `mixes_calls` the functions have calls of interrupts too, which a task mustn't
+    come to.
     """
     shared = [Variable("s", 0, 1, chance.choice([0, 1])), Variable("t", 0, chance.choice([1, 1, 2]))]
     kinds = chance.choice([["task"], ["task"], ["interrupt"], ["task", "task"], ["interrupt", "task"]])
     functions = []
     for name in ("f", "g"):
-        own = own_variables(chance)
+        own = own_variables(chance, len(kinds) == 2)
         calls = CALLS_OF_INTERRUPTS if mixes_calls or kinds == ["interrupt"] else CALLS_OF_TASKS
         functions.append(Body(name, "function", own, Maker(chance, "function", calls, own, shared, functions[:]).whole(1)))
     actors = []

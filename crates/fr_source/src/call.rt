@@ -1,12 +1,12 @@
 // Calls of the kernel with their arguments.
 
 use crate::cursor::clipped;
-use crate::fault::{Fault, Spot, wrong};
+use crate::fault::{Fault, Spot, said, wrong, wrong_about};
 use crate::kernel::{Answer, Kernel, Place, kernel_named};
-use crate::near::with_hint;
-use crate::program::{Argument, Call, Object, Operand, Range};
+use crate::program::{Argument, Call, Object, Operand, Range, Variable};
 use crate::reader::{Home, Reader};
 use crate::scope::Meaning;
+use crate::texts::{joined, push_all};
 use crate::token::Token;
 use std::alloc::AllocError;
 
@@ -61,45 +61,53 @@ impl<'a> Reader<'a> {
     fn unknown_call(&self, token: Token<'a>) -> Fault {
         let shown = clipped(token.text);
         if token.text == self.name {
-            let text = format!(in self.alloc;
-                "'{shown}' can't call itself: a function is expanded where it is called"
-            );
-            return wrong(token.spot, text);
+            let why = "' can't call itself: a function is expanded where it is called";
+            return wrong(self.alloc, token.spot, &["'", shown, why]);
         }
-        let text = format!(in self.alloc; "no function above and no kernel call '{shown}'");
-        wrong(token.spot, with_hint(text, self.scope.near(token.text)))
+        if let Some(meaning) = self.scope.meaning(token.text) {
+            let why = ", and only a function or a call of the kernel is called";
+            let (is_of, kind) = ("' is the name of ", meaning.text());
+            return wrong_about(self.alloc, token.spot, "'", shown, is_of, kind, why);
+        }
+        let what = "no function above and no kernel call '";
+        match self.scope.near(token.text) {
+            Some(near) => {
+                let meant = "'. Did you mean '";
+                wrong_about(self.alloc, token.spot, what, shown, meant, near, "'?")
+            }
+            None => wrong(self.alloc, token.spot, &[what, shown, "'"]),
+        }
     }
 
     /// Refuses a task that makes a call of interrupts.
     fn check_home(&self, kernel: &Kernel, spot: Spot) -> Result<(), Fault> {
-        let name = kernel.name;
         if kernel.is_of_interrupts() && matches!(self.home, Home::Task) {
-            let text = format!(in self.alloc;
-                "a task doesn't make the call {name}, which is for interrupts"
-            );
-            return Err(wrong(spot, text));
+            let what = "a task doesn't make the call ";
+            let texts = &[what, kernel.name, ", which is for interrupts"];
+            return Err(wrong(self.alloc, spot, texts));
         }
         Ok(())
     }
 
     /// The call's name, with what its arguments are.
     pub(crate) fn shape(&self, kernel: &Kernel) -> Result<String, AllocError> {
-        let mut shape = String::from_str(self.alloc, kernel.name)?;
-        shape.push_str("(")?;
+        let mut shape = joined(self.alloc, &[kernel.name, "("])?;
         for (place, what) in kernel.places.iter().enumerate() {
-            if place > 0 {
-                shape.push_str(", ")?;
-            }
-            shape.push_str(what.text())?;
+            push_all(
+                &mut shape,
+                &[if place > 0 { ", " } else { "" }, what.text()],
+            )?;
         }
         shape.push_str(")")?;
         Ok(shape)
     }
 
-    /// What is expected in a call.
-    fn expected_in(&self, what: &str, kernel: &Kernel) -> Result<String, AllocError> {
+    /// The fault that something is expected in a call.
+    fn expected_in(&self, what: &str, kernel: &Kernel) -> Result<Fault, AllocError> {
         let shape = self.shape(kernel)?;
-        format!(in self.alloc; "{what} in {shape}; data pointers and '&woken' are left out")
+        let after = "; data pointers and '&woken' are left out";
+        let text = joined(self.alloc, &[what, " in ", shape.as_str(), after])?;
+        Ok(self.cursor.expected(text.as_str()))
     }
 
     /// Takes a sign between the arguments.
@@ -108,7 +116,7 @@ impl<'a> Reader<'a> {
             return Ok(());
         }
         let what = if sign == "," { "','" } else { "')'" };
-        Err(self.cursor.expected(self.expected_in(what, kernel)))
+        Err(self.expected_in(what, kernel)?)
     }
 
     /// Takes the argument in a place.
@@ -119,7 +127,7 @@ impl<'a> Reader<'a> {
         object: Option<Object<'a>>,
     ) -> Result<Argument, Fault> {
         if self.cursor.sees(")") {
-            return Err(self.cursor.expected(self.expected_in(place.text(), kernel)));
+            return Err(self.expected_in(place.text(), kernel)?);
         }
         match place {
             Place::Object => self.object_argument(kernel),
@@ -135,7 +143,7 @@ impl<'a> Reader<'a> {
                 Ok(Argument::Operand(Operand::Number(ticks)))
             }
             Place::Null if self.cursor.accepts("NULL") => Ok(Argument::Null),
-            Place::Null => Err(self.cursor.expected(self.expected_in("'NULL'", kernel))),
+            Place::Null => Err(self.expected_in("'NULL'", kernel)?),
         }
     }
 
@@ -168,20 +176,16 @@ impl<'a> Reader<'a> {
         if kernel.is_for(object.kind) {
             return Ok(());
         }
-        let kind = object.kind.text();
         let mut kinds = String::new(self.alloc);
         for one in kernel.kinds {
-            if !kinds.is_empty() {
-                kinds.push_str(", ")?;
-            }
-            kinds.push_str(one.text())?;
+            let comma = if kinds.is_empty() { "" } else { ", " };
+            push_all(&mut kinds, &[comma, one.text()])?;
         }
-        let object_name = object.name;
-        let name = kernel.name;
-        Err(wrong(
-            spot,
-            format!(in self.alloc; "'{object_name}' is a {kind}, and {name} is for: {kinds}"),
-        ))
+        let (object_name, kind, name) = (object.name, object.kind.text(), kernel.name);
+        let text = format!(in self.alloc;
+            "'{object_name}' is a {kind}, and {name} is for: {kinds}"
+        );
+        Err(said(spot, text))
     }
 
     /// Takes the variable that a queue's item goes to.
@@ -196,24 +200,37 @@ impl<'a> Reader<'a> {
                     ..
                 },
             ) if !variable.range.includes(items) => {
-                let name = variable.name;
-                let Range { low, high } = variable.range;
-                let least = items.low;
-                let most = items.high;
-                let text = format!(in self.alloc;
-                    "the range of '{name}', {low}..{high}, has to include the queue's, {least}..{most}"
-                );
-                Err(wrong(spot, text))
+                let around = ["the queue's, ", "", "", ""];
+                Err(self.too_narrow(variable, items, around, spot)?)
             }
             _ => Ok(Argument::Operand(Operand::Variable(place))),
         }
     }
 
+    /// The fault that a variable's range doesn't include another one. `around` is what is said before that, and after it.
+    pub(crate) fn too_narrow(
+        &self,
+        variable: Variable<'a>,
+        other: Range,
+        around: [&str; 4],
+        spot: Spot,
+    ) -> Result<Fault, AllocError> {
+        let [before, first, second, third] = around;
+        let (range, other) = (variable.range.text(self.alloc)?, other.text(self.alloc)?);
+        let text = joined(self.alloc, &[before, other.as_str(), first, second, third])?;
+        let (name, range) = (variable.name, range.as_str());
+        let what = ", has to include ";
+        let texts = &["the range of '", name, "', ", range, what, text.as_str()];
+        Ok(wrong(self.alloc, spot, texts))
+    }
+
     /// The greatest number that a call answers. Refuses one that answers nothing.
     pub(crate) fn greatest_answer(&self, call: Call, spot: Spot) -> Result<i64, Fault> {
-        let name = call.kernel.name;
         match call.kernel.answer {
-            Answer::Nothing => Err(wrong(spot, format!(in self.alloc; "{name} answers nothing"))),
+            Answer::Nothing => {
+                let texts = &[call.kernel.name, " answers nothing"];
+                Err(wrong(self.alloc, spot, texts))
+            }
             Answer::Bytes => Ok(call.length),
             Answer::Success | Answer::Handle => Ok(1),
         }

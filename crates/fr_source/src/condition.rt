@@ -70,15 +70,12 @@ impl Reader<'_> {
         if call.kernel.may_fail() {
             return Ok(());
         }
-        let name = call.kernel.name;
         let hint = match call.kernel.answer {
             Answer::Bytes => ": write (n = ..) > 0, where n is a variable",
             _ => "",
         };
-        Err(wrong(
-            spot,
-            format!(in self.alloc; "{name} doesn't answer whether it worked{hint}"),
-        ))
+        let texts = &[call.kernel.name, " doesn't answer whether it worked", hint];
+        Err(wrong(self.alloc, spot, texts))
     }
 
     /// The condition that two terms compare so.
@@ -116,11 +113,8 @@ impl Reader<'_> {
         if !variable.is_shared() {
             return Ok(());
         }
-        let name = variable.name;
-        Err(wrong(
-            spot,
-            format!(in self.alloc; "'{name}' is shared: give this to a 'var'"),
-        ))
+        let texts = &["'", variable.name, "' is shared: give this to a 'var'"];
+        Err(wrong(self.alloc, spot, texts))
     }
 
     /// The condition that a call answers so.
@@ -153,18 +147,14 @@ impl Reader<'_> {
 
     /// The fault that a call's answer is compared with something else.
     fn wrong_answer(&self, call: Call, is_handle: bool, spot: Spot) -> Fault {
-        let name = call.kernel.name;
         let answers = if is_handle {
             "NULL"
         } else {
             "pdTRUE, pdPASS, pdFALSE or pdFAIL"
         };
-        wrong(
-            spot,
-            format!(in self.alloc;
-                "the answer of {name} is compared by '==' or '!=' with {answers}"
-            ),
-        )
+        let what = " is compared by '==' or '!=' with ";
+        let texts = &["the answer of ", call.kernel.name, what, answers];
+        wrong(self.alloc, spot, texts)
     }
 
     /// The operand that is a side of a comparison.
@@ -218,19 +208,14 @@ impl Reader<'_> {
     fn check_two(&self, one: usize, other: usize, spot: Spot) -> Result<(), Fault> {
         let first = self.variable(one, spot)?;
         let second = self.variable(other, spot)?;
-        let name = first.name;
-        let other_name = second.name;
         if one == other {
-            return Err(wrong(
-                spot,
-                format!(in self.alloc; "'{name}' can't be both sides of a comparison"),
-            ));
+            let texts = &["'", first.name, "' can't be both sides of a comparison"];
+            return Err(wrong(self.alloc, spot, texts));
         }
         if first.is_shared() && second.is_shared() {
-            let text = format!(in self.alloc;
-                "this reads '{name}' and '{other_name}', which are shared, in one step: copy one to a 'var' first"
-            );
-            return Err(wrong(spot, text));
+            let why = "', which are shared, in one step: copy one to a 'var' first";
+            let texts = &["this reads '", first.name, "' and '", second.name, why];
+            return Err(wrong(self.alloc, spot, texts));
         }
         Ok(())
     }

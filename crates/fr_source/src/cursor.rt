@@ -1,8 +1,9 @@
 // Where a reader is among the tokens of a source.
 
-use crate::fault::{Fault, Spot, wrong};
+use crate::fault::{Fault, Spot, wrong, wrong_about};
+use crate::texts::joined;
 use crate::token::{Kind, Token};
-use std::alloc::{AllocError, Global};
+use std::alloc::Global;
 
 /// The most characters of a word that a message repeats.
 const MOST_REPEATED: usize = 40;
@@ -18,7 +19,8 @@ pub(crate) struct Cursor<'a> {
     pub(crate) alloc: Global,
     tokens: Vec<Token<'a>>,
     end: Token<'a>,
-    next: usize,
+    /// The place of the next token among all tokens.
+    pub(crate) next: usize,
 }
 
 impl<'a> Cursor<'a> {
@@ -29,16 +31,6 @@ impl<'a> Cursor<'a> {
             end,
             next: 0,
         }
-    }
-
-    /// The place of the next token among all tokens.
-    pub(crate) fn place(&self) -> usize {
-        self.next
-    }
-
-    /// Goes to the token with this place.
-    pub(crate) fn go_to(&mut self, place: usize) {
-        self.next = place;
     }
 
     /// The number of tokens that are left.
@@ -106,14 +98,32 @@ impl<'a> Cursor<'a> {
         if self.accepts(text) {
             return Ok(());
         }
-        let what = format!(in self.alloc; "'{text}'{why}");
+        let what = joined(self.alloc, &["'", text, "'", why])?;
         let mut spot = self.spot();
         if text == ";" {
             let before = self.previous();
             spot = before.spot;
             spot.column = spot.column.saturating_add(before.text.len());
         }
-        Err(wrong(spot, self.expectation(what)))
+        Err(self.expected_at(spot, what.as_str()))
+    }
+
+    /// Passes a body by, up to its closing brace.
+    pub(crate) fn pass_body(&mut self) -> Result<(), Fault> {
+        self.take("{", "")?;
+        let mut depth = 1usize;
+        for _ in 0..self.left() {
+            if self.sees("{") {
+                depth = depth.saturating_add(1);
+            } else if self.sees("}") {
+                depth = depth.saturating_sub(1);
+            }
+            self.advance();
+            if depth == 0 {
+                return Ok(());
+            }
+        }
+        Err(self.expected("'}'"))
     }
 
     /// Takes a word.
@@ -124,36 +134,30 @@ impl<'a> Cursor<'a> {
                 self.advance();
                 Ok(token)
             }
-            _ => Err(self.expected_text(what)),
+            _ => Err(self.expected(what)),
         }
     }
 
-    /// What was expected in place of the next token.
-    fn expectation(&self, what: Result<String, AllocError>) -> Result<String, AllocError> {
-        let mut text = String::from_str(self.alloc, "expected ")?;
-        text.push_str(what?.as_str())?;
+    /// The fault at a place that something else was expected in place of the next token.
+    fn expected_at(&self, spot: Spot, what: &str) -> Fault {
         if self.is_at_end() {
-            text.push_str(", found the end of the file")?;
-        } else {
-            text.push_str(", found '")?;
-            text.push_str(clipped(self.token().text))?;
-            text.push_str("'")?;
+            return wrong(
+                self.alloc,
+                spot,
+                &["expected ", what, ", found the end of the file"],
+            );
         }
-        Ok(text)
+        let found = clipped(self.token().text);
+        wrong_about(self.alloc, spot, "expected ", what, ", found '", found, "'")
     }
 
     /// The fault that something else was expected in place of the next token.
-    pub(crate) fn expected(&self, what: Result<String, AllocError>) -> Fault {
-        wrong(self.spot(), self.expectation(what))
-    }
-
-    /// The same, for a fixed text.
-    pub(crate) fn expected_text(&self, what: &str) -> Fault {
-        self.expected(String::from_str(self.alloc, what))
+    pub(crate) fn expected(&self, what: &str) -> Fault {
+        self.expected_at(self.spot(), what)
     }
 
     /// The fault of a fixed text at a place.
     pub(crate) fn refused(&self, spot: Spot, text: &str) -> Fault {
-        wrong(spot, String::from_str(self.alloc, text))
+        wrong(self.alloc, spot, &[text])
     }
 }

@@ -1,16 +1,17 @@
 // Declarations: constants, variables, objects, functions, tasks and interrupts.
 
 use crate::cursor::{Cursor, clipped};
-use crate::fault::{Fault, Spot, wrong};
+use crate::fault::{Fault, Spot, wrong, wrong_about};
 use crate::lines::Lines;
-use crate::near::{near_among, with_hint};
+use crate::near::near_among;
 use crate::program::{
     Action, Actor, ActorKind, MOST_VARIABLES, Object, ObjectKind, Owner, Program, Range, Variable,
 };
 use crate::reader::{Home, Reader};
 use crate::scope::Meaning;
+use crate::texts::numeral;
 use crate::token::Token;
-use std::alloc::Global;
+use std::alloc::{AllocError, Global};
 use std::mem;
 
 /// The most objects of an application.
@@ -62,7 +63,7 @@ pub(crate) fn program_in<'a>(
         return Err(
             reader
                 .cursor
-                .expected_text("a task or an interrupt: there is none"),
+                .expected("a task or an interrupt: there is none"),
         );
     }
     Ok(mem::replace(&mut reader.program, Program::new(alloc)))
@@ -71,9 +72,9 @@ pub(crate) fn program_in<'a>(
 impl<'a> Reader<'a> {
     /// Reads a declaration.
     fn declaration(&mut self) -> Result<(), Fault> {
-        self.begin_statement();
+        self.operators = 0;
         let word = self.cursor.word("a declaration")?;
-        if self.scope.count() >= MOST_NAMES {
+        if self.scope.outside.len() >= MOST_NAMES {
             return Err(
                 self.cursor
                     .refused(word.spot, "more than 1024 names are declared"),
@@ -81,7 +82,7 @@ impl<'a> Reader<'a> {
         }
         match word.text {
             "const" => self.constant_declaration(),
-            "shared" => self.variable_declaration(Owner::Everyone, true),
+            "shared" => self.variable_declaration(Owner::Everyone, false),
             "task" => self.actor(ActorKind::Task),
             "interrupt" => self.actor(ActorKind::Interrupt),
             "function" => self.function(),
@@ -94,15 +95,17 @@ impl<'a> Reader<'a> {
 
     /// The fault that a word begins no declaration.
     fn no_declaration(&self, word: Token<'a>) -> Fault {
-        let shown = clipped(word.text);
-        let text = format!(in self.alloc;
-            "expected a declaration, which begins with one of const, shared, task, interrupt, function, queue, binary, \
-             counting, mutex, recursive, stream, message; found '{shown}'"
-        );
-        wrong(
-            word.spot,
-            with_hint(text, near_among(&DECLARATIONS, word.text)),
-        )
+        let (shown, spot) = (clipped(word.text), word.spot);
+        let what =
+            "expected a declaration, which begins with one of const, shared, task, interrupt, function, queue, \
+            binary, counting, mutex, recursive, stream, message; found '";
+        match near_among(&DECLARATIONS, word.text) {
+            Some(near) => {
+                let meant = "'. Did you mean '";
+                wrong_about(self.alloc, spot, what, shown, meant, near, "'?")
+            }
+            None => wrong(self.alloc, spot, &[what, shown, "'"]),
+        }
     }
 
     /// Refuses one more of what there may be at most so many.
@@ -116,14 +119,14 @@ impl<'a> Reader<'a> {
         if count < most {
             return Ok(());
         }
-        Err(wrong(
-            spot,
-            format!(in self.alloc; "there may be at most {most} {what}, and this is one more"),
-        ))
+        let text = format!(in self.alloc;
+            "there may be at most {most} {what}, and this is one more"
+        )?;
+        Err(self.cursor.refused(spot, text.as_str()))
     }
 
     fn constant_declaration(&mut self) -> Result<(), Fault> {
-        let name = self.new_name("a constant")?;
+        let name = self.new_name("the name of a constant")?;
         self.cursor.take("=", "")?;
         let number = self.constant()?;
         self.scope
@@ -137,20 +140,23 @@ impl<'a> Reader<'a> {
         self.cursor.take("..", " and the greatest value")?;
         let spot = self.cursor.spot();
         let high = self.constant()?;
+        let range = Range { low, high };
         if low > high {
-            return Err(wrong(
-                spot,
-                format!(in self.alloc; "the range {low}..{high} is empty"),
-            ));
+            let text = range.text(self.alloc)?;
+            let texts = &["the range ", text.as_str(), " is empty"];
+            return Err(wrong(self.alloc, spot, texts));
         }
-        Ok(Range { low, high })
+        Ok(range)
     }
 
-    /// Reads a variable, without the word before its name. `may_begin`: it may have a first value.
-    fn variable_declaration(&mut self, owner: Owner, may_begin: bool) -> Result<(), Fault> {
-        let name = self.new_name("a variable")?;
+    /// Reads a variable, without the words before its name.
+    fn variable_declaration(&mut self, owner: Owner, is_static: bool) -> Result<(), Fault> {
+        let name = self.new_name("the name of a variable")?;
         self.cursor.take("in", " and a range, as in 'in 0..8'")?;
         let range = self.range()?;
+        let may_begin = is_static
+            || matches!(owner, Owner::Everyone)
+            || matches!(self.home, Home::Task);
         let first = self.first_value(range, may_begin)?;
         self.cursor.take(";", " after the declaration")?;
         let function = match owner {
@@ -163,6 +169,7 @@ impl<'a> Reader<'a> {
             range,
             first,
             owner,
+            is_static,
             function,
         };
         let place = self.add_variable(variable)?;
@@ -175,32 +182,36 @@ impl<'a> Reader<'a> {
     /// Takes the first value of a variable, if there is one.
     fn first_value(&mut self, range: Range, may_begin: bool) -> Result<i64, Fault> {
         let spot = self.cursor.spot();
-        let Range { low, high } = range;
         if !self.cursor.accepts("=") {
             if range.holds(0) {
                 return Ok(0);
             }
-            let text = format!(in self.alloc;
-                "expected '=' and the first value: 0 isn't in {low}..{high}"
-            );
-            return Err(wrong(spot, text));
+            return Err(self.not_in("expected '=' and the first value: ", 0, range, spot)?);
         }
         let first = self.constant()?;
         if !may_begin {
-            let kind = self.home.text();
-            let text = format!(in self.alloc;
-                "a variable of this {kind} keeps its value: write 'static var' for one that is set at the start alone, \
-                 or assign it below"
-            );
-            return Err(wrong(spot, text));
+            let why =
+                " keeps its value: write 'static var' for one that is set at the start alone, or assign it below";
+            let texts = &["a variable of this ", self.home.text(), why];
+            return Err(wrong(self.alloc, spot, texts));
         }
         if !range.holds(first) {
-            return Err(wrong(
-                spot,
-                format!(in self.alloc; "{first} isn't in {low}..{high}"),
-            ));
+            return Err(self.not_in("", first, range, spot)?);
         }
         Ok(first)
+    }
+
+    /// The fault that a number isn't in a range.
+    fn not_in(
+        &self,
+        before: &str,
+        number: i64,
+        range: Range,
+        spot: Spot,
+    ) -> Result<Fault, AllocError> {
+        let (number, range) = (numeral(self.alloc, number)?, range.text(self.alloc)?);
+        let texts = &[before, number.as_str(), " isn't in ", range.as_str()];
+        Ok(wrong(self.alloc, spot, texts))
     }
 
     /// Adds a variable of the application, or one of a function: each actor that calls it gets its own.
@@ -224,7 +235,7 @@ impl<'a> Reader<'a> {
 
     /// Reads an object, without the word of its kind.
     fn object(&mut self, kind: ObjectKind) -> Result<(), Fault> {
-        let name = self.new_name("an object")?;
+        let name = self.new_name("the name of an object")?;
         self.check_count(
             "objects",
             self.program.objects.len(),
@@ -285,7 +296,7 @@ impl<'a> Reader<'a> {
 
     /// Reads a function: its name means something only after it.
     fn function(&mut self) -> Result<(), Fault> {
-        let name = self.new_name("a function")?;
+        let name = self.new_name("the name of a function")?;
         self.cursor
             .take("(", " and ')' after the name of a function")?;
         self.cursor.take(")", ": a function has no arguments")?;
@@ -299,8 +310,8 @@ impl<'a> Reader<'a> {
     /// Reads a task or an interrupt, with a body of its own or made of a body with parameters. Or notes such a body.
     fn actor(&mut self, kind: ActorKind) -> Result<(), Fault> {
         let what = match kind {
-            ActorKind::Task => "a task",
-            ActorKind::Interrupt => "an interrupt",
+            ActorKind::Task => "the name of a task",
+            ActorKind::Interrupt => "the name of an interrupt",
         };
         let name = self.new_name(what)?;
         if self.cursor.sees("(") && self.cursor.following().text != ")" {
@@ -356,13 +367,13 @@ impl<'a> Reader<'a> {
             if !is_static && !self.cursor.sees("var") {
                 break;
             }
-            self.begin_statement();
+            self.operators = 0;
             self.cursor.take("var", "")?;
-            self.variable_declaration(owner, is_static || matches!(home, Home::Task))?;
+            self.variable_declaration(owner, is_static)?;
         }
         let end = self.statements()?;
         self.check_labels()?;
-        self.scope.leave();
+        self.scope.inside.clear();
         Ok(end)
     }
 

@@ -4,7 +4,7 @@
 ghost use Rattle.std.specs.Prelude.{◌≡◌};
 ghost use Rattle.fr_source.specs.Steps.{ends};
 
-use crate::fault::{Fault, Spot, wrong};
+use crate::fault::{Fault, Spot, said, wrong, wrong_about};
 use crate::program::{
     Action, Actor, Argument, Call, Item, MOST_ITEMS, MOST_VARIABLES, Operand, Owner, Program,
     Variable,
@@ -234,11 +234,18 @@ impl<'a> Expander<'a> {
         let Some(variable) = program.variable(declared) else {
             return Ok(());
         };
-        if program.written.len() >= MOST_VARIABLES {
+        if let (true, Owner::Actor(first)) = (variable.is_static, variable.owner) {
+            let (name, one, other) = (variable.name, program.actor_name(first), self.actor.name);
             let text = format!(in alloc;
-                "there may be at most 64 variables, and each actor that calls this function has its own: this is one more"
+                "'{name}' is static, and '{one}' and '{other}' call the function: in C they share it. Declare it outside, \
+                 as 'shared {name} in ..;'"
             );
-            return Err(wrong(variable.spot, text));
+            return Err(said(variable.spot, text));
+        }
+        if program.written.len() >= MOST_VARIABLES {
+            let text =
+                "there may be at most 64 variables, and each actor that calls this function has its own: this is one more";
+            return Err(wrong(alloc, variable.spot, &[text]));
         }
         let copy = program.variables.len();
         program.variables.push(Variable {
@@ -246,6 +253,9 @@ impl<'a> Expander<'a> {
             ..variable
         })?;
         program.written.push(copy)?;
+        if let Some(slot) = program.variables.get_mut(declared) {
+            slot.owner = Owner::Actor(self.number);
+        }
         self.own.push(Own { declared, copy })?;
         Ok(())
     }
@@ -333,13 +343,12 @@ impl<'a> Expander<'a> {
 
     /// The fault that an actor grows too large.
     fn too_large(&self, alloc: Global, place: Place) -> Fault {
-        let kind = self.actor.kind.text();
-        let name = self.actor.name;
-        let text = format!(in alloc;
-            "{kind} '{name}' grows to more than 4096 lines and labels: this construct passed the limit, and at most \
-             512 lines may be left in the end"
-        );
-        wrong(outermost(&self.calls, place), text)
+        let spot = outermost(&self.calls, place);
+        let why =
+            "' grows to more than 4096 lines and labels: this construct passed the limit, and at most 512 lines \
+            may be left in the end";
+        let (kind, name) = (self.actor.kind.text(), self.actor.name);
+        wrong_about(alloc, spot, kind, " '", name, why, "")
     }
 
     /// The lines, with the lines that their labels are before.

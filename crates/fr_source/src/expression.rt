@@ -2,12 +2,13 @@
 // itself: so the depth of brackets costs no stack.
 
 use crate::cursor::clipped;
-use crate::fault::{Fault, Spot, wrong};
+use crate::fault::{Fault, Spot, wrong, wrong_about};
 use crate::kernel::value_of;
 use crate::lines::Condition;
 use crate::program::{Action, Arithmetic, Call, Comparison, Operand, Range};
 use crate::reader::Reader;
 use crate::scope::Meaning;
+use crate::texts::numeral;
 use crate::token::{Kind, Token};
 use std::alloc::Global;
 
@@ -259,11 +260,8 @@ impl<'a> Reader<'a> {
         if self.cursor.is_at_word() && self.cursor.following().text == "(" {
             self.cursor.advance();
             if let Some(Meaning::Function(_)) = self.scope.meaning(text) {
-                let shown = clipped(text);
-                let fault = format!(in self.alloc;
-                    "'{shown}' is a function and answers nothing: let it set a variable"
-                );
-                return Err(wrong(spot, fault));
+                let why = "' is a function and answers nothing: let it set a variable";
+                return Err(wrong(self.alloc, spot, &["'", clipped(text), why]));
             }
             return Ok(Term {
                 value: Value::Called(self.kernel_call(token)?),
@@ -282,10 +280,14 @@ impl<'a> Reader<'a> {
         let high_spot = self.cursor.spot();
         let high = self.constant()?;
         if low > high {
-            return Err(wrong(
-                high_spot,
-                format!(in self.alloc; "there is no number from {low} to {high}"),
-            ));
+            let (low, high) = (numeral(self.alloc, low)?, numeral(self.alloc, high)?);
+            let texts = &[
+                "there is no number from ",
+                low.as_str(),
+                " to ",
+                high.as_str(),
+            ];
+            return Err(wrong(self.alloc, high_spot, texts));
         }
         self.cursor.take(")", "")?;
         Ok(Term {
@@ -304,26 +306,22 @@ impl<'a> Reader<'a> {
             ..
         } = token;
         let value = match kind {
-            Kind::Number => self.number_token(token)?,
+            Kind::Number => match number_in(text) {
+                Some(number) => Value::Number(number),
+                None => {
+                    let texts = &[clipped(text), " doesn't fit in 64 bits"];
+                    return Err(wrong(self.alloc, spot, texts));
+                }
+            },
             Kind::Word => self.named_operand(token)?,
             _ if text == "-" => {
                 self.cursor.advance();
                 Value::Number(i64::MIN)
             }
-            _ => return Err(self.cursor.expected_text("a variable, a number or a call")),
+            _ => return Err(self.cursor.expected("a variable, a number or a call")),
         };
         self.cursor.advance();
         Ok(Term { value, spot })
-    }
-
-    /// The number that a token is.
-    fn number_token(&self, token: Token<'a>) -> Result<Value, Fault> {
-        if let Some(number) = number_in(token.text) {
-            return Ok(Value::Number(number));
-        }
-        let shown = clipped(token.text);
-        let text = format!(in self.alloc; "{shown} doesn't fit in 64 bits");
-        Err(wrong(token.spot, text))
     }
 
     /// What the name of a constant or a variable is.
@@ -333,18 +331,15 @@ impl<'a> Reader<'a> {
             return Ok(Value::Number(number));
         }
         if text == "NULL" || text == "portMAX_DELAY" {
-            return Err(self.cursor.expected_text("a variable or a number"));
+            return Err(self.cursor.expected("a variable or a number"));
         }
         match self.meaning_of(token)? {
             Meaning::Constant(number) => Ok(Value::Number(number)),
             Meaning::Variable(variable) => Ok(Value::Variable(variable)),
             meaning => {
-                let shown = clipped(text);
-                let kind = meaning.text();
-                let fault = format!(in self.alloc;
-                    "'{shown}' is the name of {kind}, and a variable or a number is expected"
-                );
-                Err(wrong(spot, fault))
+                let why = ", and a variable or a number is expected";
+                let (shown, kind, is_of) = (clipped(text), meaning.text(), "' is the name of ");
+                Err(wrong_about(self.alloc, spot, "'", shown, is_of, kind, why))
             }
         }
     }
@@ -594,7 +589,7 @@ impl<'a> Reader<'a> {
         self.join(yard, 0)?;
         match (yard.waiting.is_empty(), yard.terms.pop()) {
             (true, Some(term)) => Ok(term),
-            _ => Err(self.cursor.expected_text("')'")),
+            _ => Err(self.cursor.expected("')'")),
         }
     }
 
@@ -616,13 +611,10 @@ impl<'a> Reader<'a> {
         let number = self.constant()?;
         let Range { low, high } = range;
         if range.holds(number) {
-            Ok(number)
-        } else {
-            Err(wrong(
-                spot,
-                format!(in self.alloc; "{what} is from {low} to {high}, and this is {number}"),
-            ))
+            return Ok(number);
         }
+        let text = format!(in self.alloc; "{what} is from {low} to {high}, and this is {number}")?;
+        Err(self.cursor.refused(spot, text.as_str()))
     }
 
     /// Reads a number or a variable.

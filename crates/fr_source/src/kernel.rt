@@ -196,7 +196,7 @@ pub(crate) fn value_of(text: &str) -> Option<i64> {
 }
 
 /// The types of C that a reader may expect.
-static TYPES: [&str; 20] = [
+pub(crate) static TYPES: [&str; 20] = [
     "int",
     "uint",
     "unsigned",
@@ -218,8 +218,3 @@ static TYPES: [&str; 20] = [
     "BaseType_t",
     "UBaseType_t",
 ];
-
-/// Whether the text is a type of C.
-pub(crate) fn is_type(text: &str) -> bool {
-    is_among(text, &TYPES)
-}

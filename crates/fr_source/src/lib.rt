@@ -26,6 +26,7 @@ mod statement;
 mod switch;
 mod template;
 mod text;
+mod texts;
 mod tidy;
 mod token;
 mod translation;

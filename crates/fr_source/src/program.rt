@@ -6,7 +6,7 @@ ghost use Rattle.fr_source.specs.Kept.{inverse, turned};
 
 use crate::fault::Spot;
 use crate::kernel::Kernel;
-use std::alloc::Global;
+use std::alloc::{AllocError, Global};
 
 /// The most variables of an application.
 pub(crate) const MOST_VARIABLES: usize = 64;
@@ -30,6 +30,12 @@ impl Range {
     pub(crate) fn includes(self, other: Range) -> bool {
         self.low <= other.low && other.high <= self.high
     }
+
+    /// The range as the source writes it.
+    pub(crate) fn text(self, alloc: Global) -> Result<String, AllocError> {
+        let Range { low, high } = self;
+        format!(in alloc; "{low}..{high}")
+    }
 }
 
 /// Who may use a variable: every actor, the actor with this number, or each actor that calls the function of this body,
@@ -48,6 +54,7 @@ pub(crate) struct Variable<'a> {
     pub(crate) range: Range,
     pub(crate) first: i64,
     pub(crate) owner: Owner,
+    pub(crate) is_static: bool,
     /// The name of the function that declares it.
     pub(crate) function: Option<&'a str>,
 }

@@ -1,14 +1,14 @@
 // What reads a source: its tokens, the names so far, and the body that is being read.
 
 use crate::cursor::{Cursor, clipped};
-use crate::fault::{Fault, Spot, wrong};
-use crate::kernel::{Kernel, is_reserved, is_type, kernel_named};
+use crate::fault::{Fault, Spot, said, wrong, wrong_about};
+use crate::kernel::{Kernel, TYPES, is_among, is_reserved, kernel_named};
 use crate::lines::Lines;
-use crate::near::with_hint;
 use crate::open::{Case, Open};
 use crate::program::{Program, Variable};
 use crate::scope::{Meaning, Scope};
 use crate::template::Template;
+use crate::texts::joined;
 use crate::token::Token;
 use std::alloc::{AllocError, Global};
 
@@ -65,7 +65,7 @@ pub(crate) struct Reader<'a> {
     /// The name of the actor or function that is read.
     pub(crate) name: &'a str,
     /// The operators of this statement so far.
-    operators: usize,
+    pub(crate) operators: usize,
     /// The variable of `configASSERT`, once there is one.
     pub(crate) assertion: Option<usize>,
     /// The call whose arguments are read.
@@ -92,11 +92,6 @@ impl<'a> Reader<'a> {
         }
     }
 
-    /// Begins the count of operators anew.
-    pub(crate) fn begin_statement(&mut self) {
-        self.operators = 0;
-    }
-
     /// Counts an operator of this statement.
     pub(crate) fn count_operator(&mut self, spot: Spot) -> Result<(), Fault> {
         self.operators = self.operators.saturating_add(1);
@@ -117,38 +112,27 @@ impl<'a> Reader<'a> {
         Ok(())
     }
 
-    /// Takes the name of something new.
+    /// Takes the name of something new. `what` is what is expected.
     pub(crate) fn new_name(&mut self, what: &str) -> Result<Token<'a>, Fault> {
         let token = self.cursor.token();
         let Token { text, spot, .. } = token;
-        let shown = clipped(text);
         if !self.cursor.is_at_word() {
-            return Err(
-                self.cursor
-                    .expected(format!(in self.alloc; "the name of {what}")),
-            );
+            return Err(self.cursor.expected(what));
         }
         if is_reserved(text) || kernel_named(text).is_some() {
-            return Err(wrong(
-                spot,
-                format!(in self.alloc;
-                    "'{shown}' is a word of this notation or of the kernel: choose another name"
-                ),
-            ));
+            let why = "' is a word of this notation or of the kernel: choose another name";
+            return Err(wrong(self.alloc, spot, &["'", clipped(text), why]));
         }
         if text.len() > LONGEST_NAME {
             let length = text.len();
-            return Err(wrong(
-                spot,
-                format!(in self.alloc; "a name has at most 32 characters, this one {length}"),
-            ));
+            let why = format!(in self.alloc;
+                "a name has at most 32 characters, this one {length}"
+            )?;
+            return Err(self.cursor.refused(spot, why.as_str()));
         }
         if let Some(meaning) = self.scope.meaning(text) {
-            let kind = meaning.text();
-            return Err(wrong(
-                spot,
-                format!(in self.alloc; "'{shown}' is already the name of {kind}"),
-            ));
+            let (already, kind) = ("' is already the name of ", meaning.text());
+            return Err(wrong_about(self.alloc, spot, "'", text, already, kind, ""));
         }
         self.cursor.advance();
         Ok(token)
@@ -158,40 +142,42 @@ impl<'a> Reader<'a> {
     pub(crate) fn meaning_of(&self, token: Token<'a>) -> Result<Meaning, Fault> {
         match self.scope.meaning(token.text) {
             Some(meaning) => Ok(meaning),
-            None => Err(wrong(token.spot, self.undeclared(token.text))),
+            None => {
+                let why = self.why_undeclared(token.text)?;
+                let texts = &["'", clipped(token.text), "' isn't declared", why.as_str()];
+                Err(wrong(self.alloc, token.spot, texts))
+            }
         }
     }
 
     /// What is said of a name that isn't declared.
-    fn undeclared(&self, name: &str) -> Result<String, AllocError> {
-        let shown = clipped(name);
-        if is_type(name) {
-            return format!(in self.alloc;
-                "'{shown}' isn't declared: there are no types, write 'var n in 0..9;'"
-            );
+    fn why_undeclared(&self, name: &str) -> Result<String, AllocError> {
+        if is_among(name, &TYPES) {
+            return String::from_str(self.alloc, ": there are no types, write 'var n in 0..9;'");
         }
         let near = self.scope.near(name);
         match self.call {
             Some(kernel) if near.is_none() => {
                 let shape = self.shape(kernel)?;
-                format!(in self.alloc;
-                    "'{shown}' isn't declared: data pointers are left out, as in {shape}"
+                joined(
+                    self.alloc,
+                    &[": data pointers are left out, as in ", shape.as_str()],
                 )
             }
-            _ => with_hint(format!(in self.alloc; "'{shown}' isn't declared"), near),
+            _ => match near {
+                Some(near) => joined(self.alloc, &[". Did you mean '", near, "'?"]),
+                None => Ok(String::new(self.alloc)),
+            },
         }
     }
 
     /// The fault that a name means something else than what is expected.
     pub(crate) fn other_meaning(&self, token: Token<'a>, what: &str, meaning: Meaning) -> Fault {
-        let shown = clipped(token.text);
-        let kind = meaning.text();
-        wrong(
-            token.spot,
-            format!(in self.alloc;
-                "expected the name of {what}, and '{shown}' is the name of {kind}"
-            ),
-        )
+        let (shown, kind) = (clipped(token.text), meaning.text());
+        let text = format!(in self.alloc;
+            "expected the name of {what}, and '{shown}' is the name of {kind}"
+        );
+        said(token.spot, text)
     }
 
     /// Takes the name of a variable.

@@ -2,6 +2,7 @@
 
 use crate::kernel::{is_reserved, kernel_named};
 use crate::program::{Owner, Program, Variable};
+use crate::texts::joined;
 use std::alloc::{AllocError, Global};
 
 /// The most characters of a name.
@@ -68,7 +69,7 @@ fn count_of_actor(program: &Program<'_>, number: usize, name: &str) -> usize {
 }
 
 /// The name of an actor's own variable: the actor's, and its own after it.
-fn joined(
+fn own_name(
     alloc: Global,
     program: &Program<'_>,
     variable: Variable<'_>,
@@ -78,9 +79,9 @@ fn joined(
     let name = variable.name;
     match variable.function {
         Some(function) if count_of_actor(program, number, name) > 1 => {
-            format!(in alloc; "{actor}_{function}_{name}")
+            joined(alloc, &[actor, "_", function, "_", name])
         }
-        _ => format!(in alloc; "{actor}_{name}"),
+        _ => joined(alloc, &[actor, "_", name]),
     }
 }
 
@@ -111,7 +112,7 @@ fn free_name(
     variable: Variable<'_>,
     number: usize,
 ) -> Result<String, AllocError> {
-    let mut text = joined(alloc, program, variable, number)?;
+    let mut text = own_name(alloc, program, variable, number)?;
     let short = variable.name.get(..28).unwrap_or(variable.name);
     for number in 2..MOST_TRIES {
         if is_free(program, names, text.as_str()) {

@@ -38,7 +38,7 @@ impl Meaning {
 }
 
 #[derive(Clone, Copy)]
-struct Name<'a> {
+pub(crate) struct Name<'a> {
     text: &'a str,
     meaning: Meaning,
 }
@@ -66,8 +66,8 @@ fn near_among<'a>(names: &[Name<'a>], word: &str) -> Option<&'a str> {
 /// The names outside, and those of the actor or function that is read.
 #[derive(Drop)]
 pub(crate) struct Scope<'a> {
-    outside: Vec<Name<'a>>,
-    inside: Vec<Name<'a>>,
+    pub(crate) outside: Vec<Name<'a>>,
+    pub(crate) inside: Vec<Name<'a>>,
 }
 
 impl<'a> Scope<'a> {
@@ -97,11 +97,6 @@ impl<'a> Scope<'a> {
         }
     }
 
-    /// The number of names outside.
-    pub(crate) fn count(&self) -> usize {
-        self.outside.len()
-    }
-
     pub(crate) fn add_outside(&mut self, text: &'a str, meaning: Meaning) -> Result<(), Fault> {
         self.outside.push(Name { text, meaning })?;
         Ok(())
@@ -110,10 +105,5 @@ impl<'a> Scope<'a> {
     pub(crate) fn add_inside(&mut self, text: &'a str, meaning: Meaning) -> Result<(), Fault> {
         self.inside.push(Name { text, meaning })?;
         Ok(())
-    }
-
-    /// Forgets the names of the actor or function that was read.
-    pub(crate) fn leave(&mut self) {
-        self.inside.clear();
     }
 }

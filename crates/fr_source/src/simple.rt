@@ -6,6 +6,7 @@ use crate::fault::{Fault, Spot, wrong};
 use crate::program::{Action, Arithmetic, Call, Operand, Owner, Range, Variable};
 use crate::reader::Reader;
 use crate::scope::Meaning;
+use crate::texts::numeral;
 use crate::token::Token;
 
 /// A simple statement.
@@ -51,10 +52,7 @@ impl<'a> Reader<'a> {
             return self.assigned(variable, token.spot, term);
         }
         let Some(sign) = joining(operator.text) else {
-            return Err(
-                self.cursor
-                    .expected_text("'=', '+=', '-=', '*=', '++' or '--'"),
-            );
+            return Err(self.cursor.expected("'=', '+=', '-=', '*=', '++' or '--'"));
         };
         self.cursor.advance();
         let by = if operator.text == "++" || operator.text == "--" {
@@ -123,6 +121,7 @@ impl<'a> Reader<'a> {
             range: Range { low: 0, high: 0 },
             first: 0,
             owner: Owner::Everyone,
+            is_static: false,
             function: None,
         };
         let place = self.add_variable(variable)?;
@@ -156,7 +155,15 @@ impl<'a> Reader<'a> {
             }
             Value::Number(number) => self.set_to(variable, spot, Operand::Number(number), None),
             Value::Variable(other) => self.set_to(variable, spot, Operand::Variable(other), None),
-            _ => {
+            Value::Null => {
+                let text = "NULL is no number, and a variable has a number: write 0";
+                Err(self.cursor.refused(term.spot, text))
+            }
+            Value::Test(_) => {
+                let text = "a condition is no value: write 'if (..) x = 1; else x = 0;'";
+                Err(self.cursor.refused(term.spot, text))
+            }
+            Value::Given { .. } => {
                 let text =
                     "one line has one operator at most: give a part of this to a variable first";
                 Err(self.cursor.refused(term.spot, text))
@@ -186,16 +193,15 @@ impl<'a> Reader<'a> {
         if target.range.includes(range) {
             return Ok(());
         }
-        let name = target.name;
-        let Range { low, high } = target.range;
-        let least = range.low;
-        let most = range.high;
-        Err(wrong(
-            spot,
-            format!(in self.alloc;
-                "{least} to {most} isn't in the range of '{name}', {low}..{high}"
-            ),
-        ))
+        let (low, high) = (
+            numeral(self.alloc, range.low)?,
+            numeral(self.alloc, range.high)?,
+        );
+        let (low, high) = (low.as_str(), high.as_str());
+        let has = target.range.text(self.alloc)?;
+        let what = " isn't in the range of '";
+        let texts = &[low, " to ", high, what, target.name, "', ", has.as_str()];
+        Err(wrong(self.alloc, spot, texts))
     }
 
     /// Refuses a call with an answer that the variable can't have.
@@ -207,16 +213,12 @@ impl<'a> Reader<'a> {
         call_spot: Spot,
     ) -> Result<(), Fault> {
         let most = self.greatest_answer(call, call_spot)?;
-        if target.range.includes(Range { low: 0, high: most }) {
+        let answers = Range { low: 0, high: most };
+        if target.range.includes(answers) {
             return Ok(());
         }
-        let name = target.name;
-        let Range { low, high } = target.range;
-        let called = call.kernel.name;
-        let text = format!(in self.alloc;
-            "the range of '{name}', {low}..{high}, has to include 0..{most}, which {called} can answer"
-        );
-        Err(wrong(spot, text))
+        let around = ["", ", which ", call.kernel.name, " can answer"];
+        Err(self.too_narrow(target, answers, around, spot)?)
     }
 
     /// Refuses what a line can't work out.
@@ -228,21 +230,16 @@ impl<'a> Reader<'a> {
         spot: Spot,
     ) -> Result<(), Fault> {
         if matches!(sign, Arithmetic::Divide | Arithmetic::Remainder) {
-            let sign = sign.text();
-            return Err(wrong(
-                spot,
-                format!(in self.alloc; "'{sign}' is for constants alone"),
-            ));
+            let texts = &["'", sign.text(), "' is for constants alone"];
+            return Err(wrong(self.alloc, spot, texts));
         }
         let (Operand::Variable(one), Operand::Variable(other)) = (left, right) else {
             return Ok(());
         };
         if one == other {
             let name = self.variable(one, spot)?.name;
-            let text = format!(in self.alloc;
-                "'{name}' can't be both operands: copy it to another variable"
-            );
-            return Err(wrong(spot, text));
+            let why = "' can't be both operands: copy it to another variable";
+            return Err(wrong(self.alloc, spot, &["'", name, why]));
         }
         if matches!(sign, Arithmetic::Times) {
             return Err(
@@ -271,10 +268,8 @@ impl<'a> Reader<'a> {
         }
         if let (Some(one), Some(_)) = (first, second) {
             let name = self.variable(one, spot)?.name;
-            let text = format!(in self.alloc;
-                "this reads two shared variables in one step: copy '{name}' to a 'var' first"
-            );
-            return Err(wrong(spot, text));
+            let what = "this reads two shared variables in one step: copy '";
+            return Err(wrong(self.alloc, spot, &[what, name, "' to a 'var' first"]));
         }
         Ok(Simple::Line(Action::Set {
             variable,
@@ -291,13 +286,11 @@ impl<'a> Reader<'a> {
         ) else {
             return Fault::Memory;
         };
-        let target = written.name;
-        let source = read.name;
-        let text = format!(in self.alloc;
-            "this reads '{source}' and writes '{target}', shared variables: on two cores these are two steps. \
-             Write two statements, with a 'var' between"
-        );
-        wrong(spot, text)
+        let (target, source) = (written.name, read.name);
+        let why =
+            "', shared variables: on two cores these are two steps. Write two statements, with a 'var' between";
+        let texts = &["this reads '", source, "' and writes '", target, why];
+        wrong(self.alloc, spot, texts)
     }
 
     /// Writes the lines of a simple statement.

@@ -1,7 +1,7 @@
 // Statements. The constructs whose end isn't read yet are on a list, and no call goes into itself.
 
 use crate::cursor::clipped;
-use crate::fault::{Fault, Spot, wrong};
+use crate::fault::{Fault, Spot, wrong, wrong_about};
 use crate::kernel::{is_among, is_reserved};
 use crate::open::{Margin, Open, Step};
 use crate::program::MOST_ITEMS;
@@ -21,7 +21,7 @@ impl<'a> Reader<'a> {
             if self.open.is_empty() && self.cursor.accepts("}") {
                 return Ok(spot);
             }
-            self.begin_statement();
+            self.operators = 0;
             if self.statement()? {
                 self.close_all()?;
             }
@@ -29,35 +29,33 @@ impl<'a> Reader<'a> {
                 return Err(self.too_large(spot));
             }
         }
-        Err(self.cursor.expected_text("'}'"))
+        Err(self.cursor.expected("'}'"))
     }
 
     /// The fault that a body is too large.
     fn too_large(&self, spot: Spot) -> Fault {
-        let kind = self.home.text();
-        let name = self.name;
-        wrong(
-            spot,
-            format!(in self.alloc;
-                "{kind} '{name}' grows to more than 4096 lines and labels: this passed the limit"
-            ),
-        )
+        let why = "' grows to more than 4096 lines and labels: this passed the limit";
+        wrong_about(self.alloc, spot, self.home.text(), " '", self.name, why, "")
     }
 
     /// Reads a statement, or the head of a construct. Answers whether a statement ends here.
     fn statement(&mut self) -> Result<bool, Fault> {
         let Token { kind, text, .. } = self.cursor.token();
         if matches!(kind, Kind::End) {
-            return Err(self.cursor.expected_text("'}'"));
+            return Err(self.cursor.expected("'}'"));
         }
         if let Some(Open::Switch { first_case, .. }) = self.open.last() {
             let has_case = self.cases.len() > *first_case;
             if !has_case && !is_among(text, &["case", "default", "}"]) {
-                return Err(self.cursor.expected_text("'case' or 'default'"));
+                return Err(self.cursor.expected("'case' or 'default'"));
             }
         }
         match text {
-            "{" => self.block(),
+            "{" => {
+                self.cursor.advance();
+                self.enter(Open::Block)?;
+                Ok(false)
+            }
             "}" if holds_many(self.open.last()) => self.end_of_block(),
             ";" => {
                 self.cursor.advance();
@@ -79,13 +77,6 @@ impl<'a> Reader<'a> {
     /// Whether a label is next, which belongs to the statement after it.
     fn is_at_label(&self) -> bool {
         self.cursor.is_at_word() && self.cursor.following().text == ":"
-    }
-
-    /// Takes the brace that begins a block.
-    fn block(&mut self) -> Result<bool, Fault> {
-        self.cursor.advance();
-        self.enter(Open::Block)?;
-        Ok(false)
     }
 
     /// Notes that a construct is open.
@@ -218,10 +209,8 @@ impl<'a> Reader<'a> {
         let head = self.cursor.previous();
         let first = self.cursor.token();
         if (word == "if" || word == "else") && first.text == ";" {
-            let text = format!(in self.alloc;
-                "an '{word}' with nothing but ';': write '{{ }}' if this is meant"
-            );
-            return Err(wrong(first.spot, text));
+            let why = "' with nothing but ';': write '{ }' if this is meant";
+            return Err(wrong(self.alloc, first.spot, &["an '", word, why]));
         }
         Ok(Margin {
             word,
@@ -245,11 +234,9 @@ impl<'a> Reader<'a> {
         if is_apart {
             return Ok(());
         }
-        let word = margin.word;
-        let text = format!(in self.alloc;
-            "this looks as if it were in the '{word}' above, and isn't: put braces around its body, or move this to the left"
-        );
-        Err(wrong(after.spot, text))
+        let why = "' above, and isn't: put braces around its body, or move this to the left";
+        let texts = &["this looks as if it were in the '", margin.word, why];
+        Err(wrong(self.alloc, after.spot, texts))
     }
 
     /// Closes the constructs that the end of a statement ends.
@@ -324,10 +311,10 @@ impl<'a> Reader<'a> {
         if !self.cursor.accepts("while") {
             return Err(
                 self.cursor
-                    .expected_text("'while' and the condition of the 'do' loop"),
+                    .expected("'while' and the condition of the 'do' loop"),
             );
         }
-        self.begin_statement();
+        self.operators = 0;
         let spot = self.cursor.spot();
         let test = self.condition()?;
         self.cursor.take(";", " after the 'do' loop")?;
@@ -347,11 +334,8 @@ impl<'a> Reader<'a> {
             "return" => self.return_here(spot)?,
             "goto" => self.goto_here(spot)?,
             "var" | "static" => {
-                let kind = self.home.text();
-                let text = format!(in self.alloc;
-                    "variables are declared at the beginning of the {kind}"
-                );
-                return Err(wrong(spot, text));
+                let what = "variables are declared at the beginning of the ";
+                return Err(wrong(self.alloc, spot, &[what, self.home.text()]));
             }
             _ => {
                 let simple = self.simple()?;
@@ -416,11 +400,8 @@ impl<'a> Reader<'a> {
         self.cursor.advance();
         self.cursor.advance();
         if is_reserved(name.text) {
-            let shown = clipped(name.text);
-            let text = format!(in self.alloc;
-                "'{shown}' is a word of this notation: choose another label"
-            );
-            return Err(wrong(name.spot, text));
+            let why = "' is a word of this notation: choose another label";
+            return Err(wrong(self.alloc, name.spot, &["'", clipped(name.text), why]));
         }
         let label = self.label_named(name, true)?;
         self.lines.place(label)
@@ -442,9 +423,8 @@ impl<'a> Reader<'a> {
         let place = self.place_of_label(text).unwrap_or(self.labels.len());
         if let Some(one) = self.labels.get_mut(place) {
             if one.is_placed && is_placed {
-                let shown = clipped(text);
-                let text = format!(in self.alloc; "the label '{shown}' is there already");
-                return Err(wrong(spot, text));
+                let texts = &["the label '", clipped(text), "' is there already"];
+                return Err(wrong(self.alloc, spot, texts));
             }
             one.is_placed = one.is_placed || is_placed;
             return Ok(one.label);
@@ -463,10 +443,9 @@ impl<'a> Reader<'a> {
     pub(crate) fn check_labels(&self) -> Result<(), Fault> {
         for one in &self.labels {
             if !one.is_placed {
-                let name = clipped(one.text);
-                let kind = self.home.text();
-                let text = format!(in self.alloc; "no label '{name}' in this {kind}");
-                return Err(wrong(one.spot, text));
+                let (name, kind) = (clipped(one.text), self.home.text());
+                let (what, place) = ("no label '", "' in this ");
+                return Err(wrong_about(self.alloc, one.spot, what, name, place, kind, ""));
             }
         }
         Ok(())

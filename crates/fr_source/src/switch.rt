@@ -4,6 +4,7 @@ use crate::fault::{Fault, Spot, wrong};
 use crate::open::{Case, Open};
 use crate::program::{Action, Comparison, Item, Operand, Range};
 use crate::reader::Reader;
+use crate::texts::numeral;
 use crate::token::Token;
 use std::alloc::{AllocError, Global};
 
@@ -73,10 +74,9 @@ impl<'a> Reader<'a> {
         let variable = self.variable_named("a variable")?;
         if self.program.is_shared(variable) {
             let name = self.variable(variable, variable_spot)?.name;
-            let text = format!(in self.alloc;
-                "'{name}' is shared, and each 'case' would read it again: copy it to a 'var' and switch on that"
-            );
-            return Err(wrong(variable_spot, text));
+            let why =
+                "' is shared, and each 'case' would read it again: copy it to a 'var' and switch on that";
+            return Err(wrong(self.alloc, variable_spot, &["'", name, why]));
         }
         self.cursor.take(")", "")?;
         self.cursor.take("{", "")?;
@@ -97,7 +97,7 @@ impl<'a> Reader<'a> {
     pub(crate) fn case(&mut self) -> Result<bool, Fault> {
         let Token { text, spot, .. } = self.cursor.token();
         let Some(Open::Switch { first_case, .. }) = self.open.last().copied() else {
-            return Err(self.cursor.expected_text("a statement"));
+            return Err(self.cursor.expected("a statement"));
         };
         self.cursor.advance();
         let value = if text == "case" {
@@ -122,11 +122,12 @@ impl<'a> Reader<'a> {
     ) -> Result<(), Fault> {
         for case in self.cases.iter().skip(first_case) {
             if case.value == value {
-                let text = match value {
-                    Some(number) => format!(in self.alloc; "this case {number} is there already"),
-                    None => String::from_str(self.alloc, "this default is there already"),
+                let Some(number) = value else {
+                    return Err(self.cursor.refused(spot, "this default is there already"));
                 };
-                return Err(wrong(spot, text));
+                let number = numeral(self.alloc, number)?;
+                let texts = &["this case ", number.as_str(), " is there already"];
+                return Err(wrong(self.alloc, spot, texts));
             }
         }
         Ok(())

@@ -2,7 +2,7 @@
 // tokens anew, with a value for each parameter.
 
 use crate::cursor::clipped;
-use crate::fault::{Fault, wrong};
+use crate::fault::{Fault, said, wrong, wrong_about};
 use crate::program::ActorKind;
 use crate::reader::Reader;
 use crate::scope::Meaning;
@@ -28,7 +28,7 @@ pub(crate) struct Template<'a> {
 impl<'a> Reader<'a> {
     /// Notes a body with parameters, and passes it by.
     pub(crate) fn template(&mut self, kind: ActorKind, name: Token<'a>) -> Result<(), Fault> {
-        let start = self.cursor.place();
+        let start = self.cursor.next;
         let count = self.parameters()?;
         let place = self.templates.len();
         self.templates.push(Template {
@@ -39,7 +39,7 @@ impl<'a> Reader<'a> {
             is_used: false,
         })?;
         self.scope.add_outside(name.text, Meaning::Template(place))?;
-        self.pass_body()
+        self.cursor.pass_body()
     }
 
     /// Reads the names of parameters with the brackets around them, and counts them.
@@ -48,7 +48,7 @@ impl<'a> Reader<'a> {
         for _ in 0..self.cursor.left() {
             self.cursor.advance();
             let spot = self.cursor.spot();
-            let parameter = self.new_name("a parameter")?;
+            let parameter = self.new_name("the name of a parameter")?;
             self.check_count("parameters", count, MOST_PARAMETERS, spot)?;
             self.scope.add_inside(parameter.text, Meaning::Parameter)?;
             count = count.saturating_add(1);
@@ -56,27 +56,9 @@ impl<'a> Reader<'a> {
                 break;
             }
         }
-        self.scope.leave();
+        self.scope.inside.clear();
         self.cursor.take(")", " or ',' after a parameter")?;
         Ok(count)
-    }
-
-    /// Passes a body by, up to its closing brace.
-    fn pass_body(&mut self) -> Result<(), Fault> {
-        self.cursor.take("{", "")?;
-        let mut depth = 1usize;
-        for _ in 0..self.cursor.left() {
-            if self.cursor.sees("{") {
-                depth = depth.saturating_add(1);
-            } else if self.cursor.sees("}") {
-                depth = depth.saturating_sub(1);
-            }
-            self.cursor.advance();
-            if depth == 0 {
-                return Ok(());
-            }
-        }
-        Err(self.cursor.expected_text("'}'"))
     }
 
     /// Reads what an actor is made of, after the `=`: a body with parameters, and a value for each of them.
@@ -88,10 +70,10 @@ impl<'a> Reader<'a> {
         self.cursor.take(")", " or ',' after a value")?;
         self.check_values(word, template.count, values.len())?;
         self.cursor.take(";", " after the declaration")?;
-        let after = self.cursor.place();
-        self.cursor.go_to(template.start);
+        let after = self.cursor.next;
+        self.cursor.next = template.start;
         let read = self.actor_here(kind, name, &values);
-        self.cursor.go_to(after);
+        self.cursor.next = after;
         match read {
             Ok(()) => Ok(()),
             Err(fault) => Err(self.fault_for(fault, name)),
@@ -112,8 +94,8 @@ impl<'a> Reader<'a> {
         let what = if given == 1 { "value" } else { "values" };
         let text = format!(in self.alloc;
             "'{shown}' has {count} {parameters}, and this gives {given} {what}"
-        );
-        Err(wrong(word.spot, text))
+        )?;
+        Err(self.cursor.refused(word.spot, text.as_str()))
     }
 
     /// The body with parameters that a word names, for an actor of this kind.
@@ -125,12 +107,10 @@ impl<'a> Reader<'a> {
                 if template.kind.text() == kind.text() {
                     return Ok(*template);
                 }
-                let shown = clipped(word.text);
-                let kind = template.kind.text();
-                let text = format!(in self.alloc;
-                    "'{shown}' begins with '{kind}', and so does each actor that is made of it"
-                );
-                return Err(wrong(word.spot, text));
+                let why = "', and so does each actor that is made of it";
+                let (shown, kind) = (clipped(word.text), template.kind.text());
+                let begins = "' begins with '";
+                return Err(wrong_about(self.alloc, word.spot, "'", shown, begins, kind, why));
             }
         }
         Err(self.other_meaning(word, "a body with parameters", meaning))
@@ -167,7 +147,7 @@ impl<'a> Reader<'a> {
     pub(crate) fn give(&mut self, values: &[Meaning]) -> Result<(), Fault> {
         for value in values {
             self.cursor.advance();
-            let parameter = self.new_name("a parameter")?;
+            let parameter = self.new_name("the name of a parameter")?;
             self.scope.add_inside(parameter.text, *value)?;
         }
         self.cursor.advance();
@@ -181,7 +161,7 @@ impl<'a> Reader<'a> {
                 let shown = clipped(name.text);
                 let line = name.spot.line;
                 let text = format!(in self.alloc; "{text} (read for '{shown}' of line {line})");
-                wrong(spot, text)
+                said(spot, text)
             }
             Fault::Memory => Fault::Memory,
         }
@@ -191,12 +171,11 @@ impl<'a> Reader<'a> {
     pub(crate) fn check_templates(&self) -> Result<(), Fault> {
         for template in &self.templates {
             if !template.is_used {
-                let kind = template.kind.text();
-                let shown = clipped(template.name.text);
+                let (kind, shown) = (template.kind.text(), clipped(template.name.text));
                 let text = format!(in self.alloc;
                     "no {kind} is made of this body: write '{kind} NAME = {shown}(..);' below it"
                 );
-                return Err(wrong(template.name.spot, text));
+                return Err(said(template.name.spot, text));
             }
         }
         Ok(())

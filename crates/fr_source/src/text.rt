@@ -6,6 +6,7 @@ use crate::program::{
     Action, Actor, Argument, Arithmetic, Call, Object, Operand, Owner, Program, Range, Variable,
 };
 use crate::source::Source;
+use crate::texts::{joined, joined_five, numeral, push_all};
 use std::alloc::{AllocError, Global};
 
 /// The most bytes of an application.
@@ -31,9 +32,8 @@ struct Said {
 
 impl Writer {
     pub(crate) fn new(alloc: Global, file: &str, names: Vec<String>) -> Result<Writer, AllocError> {
-        let text = format!(in alloc;
-            "# Generated from {file} by fr_check translate: edit that file, not this one.\n"
-        )?;
+        let after = " by fr_check translate: edit that file, not this one.\n";
+        let text = joined(alloc, &["# Generated from ", file, after])?;
         Ok(Writer { alloc, text, names })
     }
 
@@ -65,21 +65,15 @@ impl Writer {
         place: usize,
         variable: Variable<'_>,
     ) -> Result<(), AllocError> {
-        let Variable {
-            range,
-            first,
-            owner,
-            ..
-        } = variable;
-        let Range { low, high } = range;
-        let name = self.name(place);
-        let entry = format!(in self.alloc;
-            "\n[[variable]]\nname = \"{name}\"\nlo = {low}\nhi = {high}\ninit = {first}\n"
-        )?;
-        self.text.push_str(entry.as_str())?;
-        if let Owner::Actor(number) = owner {
+        let (begin, name, end) = ("\n[[variable]]\nname = \"", self.name(place), "\"\n");
+        let head = joined_five(self.alloc, begin, name, end, "", "")?;
+        self.text.push_str(head.as_str())?;
+        self.number_entry("lo", variable.range.low)?;
+        self.number_entry("hi", variable.range.high)?;
+        self.number_entry("init", variable.first)?;
+        if let Owner::Actor(number) = variable.owner {
             let actor = program.actor_name(number);
-            let entry = format!(in self.alloc; "owner = \"{actor}\"\n")?;
+            let entry = joined_five(self.alloc, "owner = \"", actor, "\"\n", "", "")?;
             self.text.push_str(entry.as_str())?;
         }
         Ok(())
@@ -102,8 +96,8 @@ impl Writer {
             first,
             is_live,
         } = object;
-        let kind = kind.text();
-        let head = format!(in self.alloc; "\n[[object]]\nname = \"{name}\"\nkind = \"{kind}\"\n")?;
+        let (begin, kind) = ("\n[[object]]\nname = \"", kind.text());
+        let head = joined_five(self.alloc, begin, name, "\"\nkind = \"", kind, "\"\n")?;
         self.text.push_str(head.as_str())?;
         if let Some(size) = size {
             self.number_entry("size", size)?;
@@ -123,8 +117,8 @@ impl Writer {
     }
 
     fn number_entry(&mut self, key: &str, number: i64) -> Result<(), AllocError> {
-        let entry = format!(in self.alloc; "{key} = {number}\n")?;
-        self.text.push_str(entry.as_str())
+        let number = numeral(self.alloc, number)?;
+        push_all(&mut self.text, &[key, " = ", number.as_str(), "\n"])
     }
 
     /// Writes an actor with its code.
@@ -136,16 +130,14 @@ impl Writer {
         code: &Code,
     ) -> Result<(), Fault> {
         let said = self.lines_said(program, code)?;
-        let name = actor.name;
-        let kind = actor.kind.text();
-        let head = format!(in self.alloc;
-            "\n[[actor]]\nname = \"{name}\"\nkind = \"{kind}\"\ncode = [\n"
-        )?;
+        let (name, kind) = (actor.name, actor.kind.text());
+        let (begin, end) = ("\n[[actor]]\nname = \"", "\"\ncode = [\n");
+        let head = joined_five(self.alloc, begin, name, "\"\nkind = \"", kind, end)?;
         self.text.push_str(head.as_str())?;
         self.rows(source, code, &said)?;
         if self.text.len() > MOST_BYTES {
-            let text = String::from_str(self.alloc, "the translation has more than 1 MiB");
-            return Err(wrong(actor.end, text));
+            let texts = &["the translation has more than 1 MiB"];
+            return Err(wrong(self.alloc, actor.end, texts));
         }
         self.text.push_str("]\n")?;
         Ok(())
@@ -174,7 +166,7 @@ impl Writer {
         let mut width = 0usize;
         for line in &code.lines {
             let text = self.line_said(program, *line)?;
-            let quoted = format!(in self.alloc; "\"{text}\",")?;
+            let quoted = joined(self.alloc, &["\"", text.as_str(), "\","])?;
             width = width.max(quoted.len());
             lines.push(quoted)?;
         }
@@ -191,9 +183,17 @@ impl Writer {
                 more,
             } => self.set_said(variable, left, more),
             Action::Pick { variable, range } => {
-                let name = self.name(variable);
-                let Range { low, high } = range;
-                format!(in self.alloc; "pick {name} {low} {high}")
+                let low = numeral(self.alloc, range.low)?;
+                let high = numeral(self.alloc, range.high)?;
+                let texts = &[
+                    "pick ",
+                    self.name(variable),
+                    " ",
+                    low.as_str(),
+                    " ",
+                    high.as_str(),
+                ];
+                joined(self.alloc, texts)
             }
             Action::Call { answer, call } => self.call_said(program, answer, call, line.to),
             Action::If {
@@ -202,9 +202,10 @@ impl Writer {
                 right,
             } => {
                 let condition = self.joined_said(left, comparison.text(), right)?;
-                format!(in self.alloc; "if {condition} goto {target}")
+                let after = self.numbered(" goto ", target)?;
+                joined(self.alloc, &["if ", condition.as_str(), after.as_str()])
             }
-            Action::Goto => format!(in self.alloc; "goto {target}"),
+            Action::Goto => self.numbered("goto ", target),
             Action::Return | Action::End => String::from_str(self.alloc, "return"),
         }
     }
@@ -216,25 +217,33 @@ impl Writer {
         left: Operand,
         more: Option<(Arithmetic, Operand)>,
     ) -> Result<String, AllocError> {
-        let name = self.name(variable);
         let value = match more {
             Some((sign, right)) => self.joined_said(left, sign.text(), right)?,
             None => self.operand_said(left)?,
         };
-        format!(in self.alloc; "set {name} = {value}")
+        let texts = &["set ", self.name(variable), " = ", value.as_str()];
+        joined(self.alloc, texts)
+    }
+
+    /// A text with a number after it.
+    fn numbered(&self, text: &str, number: usize) -> Result<String, AllocError> {
+        format!(in self.alloc; "{text}{number}")
     }
 
     /// Two operands with a sign between them.
     fn joined_said(&self, left: Operand, sign: &str, right: Operand) -> Result<String, AllocError> {
         let first = self.operand_said(left)?;
         let second = self.operand_said(right)?;
-        format!(in self.alloc; "{first} {sign} {second}")
+        joined(
+            self.alloc,
+            &[first.as_str(), " ", sign, " ", second.as_str()],
+        )
     }
 
     fn operand_said(&self, operand: Operand) -> Result<String, AllocError> {
         match operand {
             Operand::Variable(variable) => String::from_str(self.alloc, self.name(variable)),
-            Operand::Number(number) => format!(in self.alloc; "{number}"),
+            Operand::Number(number) => numeral(self.alloc, number),
         }
     }
 
@@ -248,11 +257,9 @@ impl Writer {
     ) -> Result<String, AllocError> {
         let mut said = String::new(self.alloc);
         if let Some(variable) = answer {
-            said.push_str(self.name(variable))?;
-            said.push_str(" = ")?;
+            push_all(&mut said, &[self.name(variable), " = "])?;
         }
-        said.push_str(call.kernel.name)?;
-        said.push_str("(")?;
+        push_all(&mut said, &[call.kernel.name, "("])?;
         for (number, argument) in call.arguments.iter().enumerate() {
             if number > 0 && !matches!(argument, Argument::Absent) {
                 said.push_str(", ")?;
@@ -262,7 +269,7 @@ impl Writer {
         }
         said.push_str(")")?;
         if let Some(target) = to {
-            let tail = format!(in self.alloc; " else {target}")?;
+            let tail = self.numbered(" else ", target)?;
             said.push_str(tail.as_str())?;
         }
         Ok(said)
@@ -301,25 +308,23 @@ impl Writer {
         place: Place,
         last: Option<Place>,
     ) -> Result<(), AllocError> {
-        self.text.push_str(source.file)?;
         let Spot { line, .. } = place.spot;
-        let number = format!(in self.alloc; ":{line}")?;
+        let number = self.numbered(":", line)?;
+        self.text.push_str(source.file)?;
         self.text.push_str(number.as_str())?;
         self.callers(code, place)?;
         match last {
             Some(last) if are_of_one_place(code, last, place) => return self.text.push_str("\n"),
             _ => {}
         }
-        self.text.push_str(": ")?;
         let shown = source.excerpt(self.alloc, line)?;
+        self.text.push_str(": ")?;
         match shown.as_str().get(..LONGEST_EXCERPT - 3) {
             Some(cut) if shown.len() > LONGEST_EXCERPT => {
-                self.text.push_str(cut)?;
-                self.text.push_str("...")?;
+                push_all(&mut self.text, &[cut, "...\n"])
             }
-            _ => self.text.push_str(shown.as_str())?,
+            _ => push_all(&mut self.text, &[shown.as_str(), "\n"]),
         }
-        self.text.push_str("\n")
     }
 
     /// Writes the lines that call the function that a line is of, the innermost first.
@@ -329,8 +334,7 @@ impl Writer {
             let Some(outer) = caller(&code.calls, place) else {
                 break;
             };
-            let line = outer.spot.line;
-            let text = format!(in self.alloc; " from {line}")?;
+            let text = self.numbered(" from ", outer.spot.line)?;
             self.text.push_str(text.as_str())?;
             place = outer;
         }

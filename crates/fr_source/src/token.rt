@@ -1,6 +1,7 @@
 // The words, numbers and signs of a source, with their places.
 
 use crate::fault::{Fault, Spot, wrong};
+use crate::texts::numeral;
 use std::alloc::{AllocError, Global};
 
 /// What a token is.
@@ -182,49 +183,44 @@ fn piece_of(text: &[u8], first: u8) -> (Piece, usize) {
     }
 }
 
-fn unended_comment(alloc: Global, spot: Spot) -> Fault {
-    wrong(spot, String::from_str(alloc, "this comment doesn't end"))
-}
-
 /// Why a byte that begins no token is refused.
-fn unknown_sign(alloc: Global, spot: Spot, byte: u8) -> Fault {
+fn unknown_sign(alloc: Global, spot: Spot, text: &[u8], byte: u8) -> Fault {
     let hint = if byte == b'&' {
         ": data pointers and '&woken' are left out"
     } else {
         ""
     };
     if byte.is_ascii_graphic() {
-        let sign = char::from(byte);
+        let sign = std::str::from_utf8(text).unwrap_or("");
         wrong(
+            alloc,
             spot,
-            format!(in alloc; "the sign '{sign}' means nothing here{hint}"),
+            &["the sign '", sign, "' means nothing here", hint],
         )
     } else {
-        wrong(
-            spot,
-            format!(in alloc; "the sign of code {byte} means nothing here"),
-        )
+        match numeral(alloc, i64::from(byte)) {
+            Ok(code) => {
+                let texts = &["the sign of code ", code.as_str(), " means nothing here"];
+                wrong(alloc, spot, texts)
+            }
+            Err(_) => Fault::Memory,
+        }
     }
 }
 
 /// Refuses numbers that C reads otherwise, and ones with a suffix.
 fn check_number(alloc: Global, spot: Spot, text: &[u8], rest: &[u8]) -> Result<(), Fault> {
-    if Class::Word.length(rest) > 0 {
-        return Err(wrong(
-            spot,
-            String::from_str(alloc, "this number has a suffix: write it without"),
-        ));
-    }
-    if text.len() > 1 && text.starts_with(b"0") && Class::Digit.length(text) == text.len() {
-        return Err(wrong(
-            spot,
-            String::from_str(
-                alloc,
-                "a number with a leading zero would be octal in C: write it without",
-            ),
-        ));
-    }
-    Ok(())
+    let is_hexadecimal = rest.starts_with(b"x") || rest.starts_with(b"X");
+    let why = if text == b"0".as_slice() && is_hexadecimal {
+        "hexadecimal digits have to be after 0x, as in 0x1F"
+    } else if Class::Word.length(rest) > 0 {
+        "this number has a suffix: write it without"
+    } else if text.len() > 1 && text.starts_with(b"0") && Class::Digit.length(text) == text.len() {
+        "a number with a leading zero would be octal in C: write it without"
+    } else {
+        return Ok(());
+    };
+    Err(wrong(alloc, spot, &[why]))
 }
 
 /// The tokens of a source, its end, and its bytes with blanks in place of comments.
@@ -285,8 +281,10 @@ pub(crate) fn scanned<'a>(alloc: Global, source: &'a [u8]) -> Result<Scan<'a>, F
                 tokens.push(token_of(alloc, kind, position, text, after)?)?;
                 blank.extend_from_slice(text)?;
             }
-            Piece::Unended => return Err(unended_comment(alloc, position.spot)),
-            Piece::Unknown => return Err(unknown_sign(alloc, position.spot, first)),
+            Piece::Unended => {
+                return Err(wrong(alloc, position.spot, &["this comment doesn't end"]));
+            }
+            Piece::Unknown => return Err(unknown_sign(alloc, position.spot, text, first)),
         }
         position = position.past(text);
         rest = after;

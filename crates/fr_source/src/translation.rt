@@ -3,12 +3,13 @@ ghost use Rattle.std.specs.Prelude.{◌≤◌, length, IfOk, string_bytes};
 
 use crate::declare::program_in;
 use crate::expand::{Code, Line, Place, code_of, outermost};
-use crate::fault::{Fault, Spot, wrong};
+use crate::fault::{Fault, Spot, wrong, wrong_about};
 use crate::message::{Message, Refused, message_at, refused_by};
 use crate::program::{Action, Actor, ActorKind, Program};
 use crate::renamed::names_of;
 use crate::source::{Source, plain};
 use crate::text::Writer;
+use crate::texts::joined_five;
 use crate::tidy::{reached, tidied};
 use crate::token::{Scan, scanned};
 use std::alloc::{AllocError, Global};
@@ -36,17 +37,15 @@ pub struct Translation {
 
 /// Refuses a task that makes a call of interrupts, in a function that it calls.
 fn check_calls(alloc: Global, actor: Actor<'_>, code: &Code) -> Result<(), Fault> {
-    let name = actor.name;
     for line in &code.lines {
         if let Action::Call { call, .. } = line.action
             && call.kernel.is_of_interrupts()
             && matches!(actor.kind, ActorKind::Task)
         {
-            let made = call.kernel.name;
-            let text = format!(in alloc;
-                "task '{name}' makes the call {made} here, which is for interrupts"
-            );
-            return Err(wrong(outermost(&code.calls, line.place), text));
+            let spot = outermost(&code.calls, line.place);
+            let (name, called) = (actor.name, call.kernel.name);
+            let (makes, after) = ("' makes the call ", " here, which is for interrupts");
+            return Err(wrong_about(alloc, spot, "task '", name, makes, called, after));
         }
     }
     Ok(())
@@ -66,19 +65,17 @@ fn can_end(lines: &[Line]) -> bool {
 fn check_code(alloc: Global, actor: Actor<'_>, code: &Code) -> Result<(), Fault> {
     let name = actor.name;
     if can_end(&code.lines) {
-        let text = format!(in alloc;
-            "task '{name}' can come to its end here, and a task doesn't return (rule 11): write vTaskDelete(NULL) or an \
-             endless loop"
-        );
-        return Err(wrong(actor.end, text));
+        let why =
+            "' can come to its end here, and a task doesn't return (rule 11): write vTaskDelete(NULL) or an endless loop";
+        return Err(wrong(alloc, actor.end, &["task '", name, why]));
     }
     if let Some(line) = code.lines.get(MOST_LINES) {
         let count = code.lines.len();
         let kind = actor.kind.text();
         let text = format!(in alloc;
             "{kind} '{name}' has {count} lines, at most 512 are allowed: this construct passed the limit"
-        );
-        return Err(wrong(outermost(&code.calls, line.place), text));
+        )?;
+        return Err(Fault::Wrong(outermost(&code.calls, line.place), text));
     }
     Ok(())
 }
@@ -127,9 +124,8 @@ fn warn(
         if warnings.len() >= MOST_WARNINGS {
             break;
         }
-        let text = format!(in alloc;
-            "warning: this is never reached in {kind} '{name}', and left out"
-        )?;
+        let what = "warning: this is never reached in ";
+        let text = joined_five(alloc, what, kind, " '", name, "', and left out")?;
         warnings.push(message_at(alloc, source, *spot, text)?)?;
     }
     Ok(())
@@ -183,8 +179,8 @@ fn translation_of(
     ensures { IfOk result (λ translation. length (string_bytes translation.text) ≤ 1048576) }
 {
     if bytes.len() > MOST_SOURCE_BYTES {
-        let text = String::from_str(alloc, "the source has more than 1 MiB");
-        return Err(wrong(Spot { line: 1, column: 1 }, text));
+        let spot = Spot { line: 1, column: 1 };
+        return Err(wrong(alloc, spot, &["the source has more than 1 MiB"]));
     }
     let Scan { tokens, end, blank } = scanned(alloc, bytes)?;
     source.blank = blank;
@@ -193,8 +189,8 @@ fn translation_of(
     let codes = codes_of(alloc, source, &mut program, &mut warnings)?;
     let text = text_of(alloc, source, &program, &codes)?;
     if text.len() > MOST_APPLICATION_BYTES {
-        let text = String::from_str(alloc, "the translation has more than 1 MiB");
-        return Err(wrong(Spot { line: 1, column: 1 }, text));
+        let spot = Spot { line: 1, column: 1 };
+        return Err(wrong(alloc, spot, &["the translation has more than 1 MiB"]));
     }
     Ok(Translation { text, warnings })
 }
