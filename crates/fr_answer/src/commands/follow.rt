@@ -4,7 +4,7 @@ ghost use Rattle.fr_follower.specs.Follows.{IsFollowed};
 ghost use Rattle.fr_follower.specs.declared.following.Followed.{Followed as FollowedOf};
 ghost use Rattle.fr_answer.specs.Checked.{fault_status};
 ghost use Rattle.fr_answer.specs.Inputs.{Reads};
-ghost use Rattle.fr_answer.specs.Traces.{IsTraceAnswer, IsTraceAnswered, followed_head, followed_status};
+ghost use Rattle.fr_answer.specs.Traces.{IsTraceAnswer, IsTraceAnswered, followed_end, followed_head, followed_status};
 
 use crate::answer::Refusal;
 use crate::exit::{DONE, NO};
@@ -156,7 +156,7 @@ fn refused(alloc: Global, why: NoTrace) -> Refusal
     }
 }
 
-/// How the line ends after its head.
+/// What the line says after its head, without its end.
 fn rest_of(
     alloc: Global,
     bytes: &[u8],
@@ -167,23 +167,31 @@ fn rest_of(
     match followed {
         Followed::Whole { .. } if trace.ignored > 0 => {
             let ignored = trace.ignored;
-            format!(in alloc; ", {ignored} of others ignored\n")
+            format!(in alloc; ", {ignored} of others ignored")
         }
-        Followed::Whole { .. } => String::from_str(alloc, "\n"),
-        Followed::UpToLost { .. } => {
-            String::from_str(alloc, ", up to the first that were lost\n")
-        }
-        Followed::Stops { event, .. } => {
-            let place = event_shown(alloc, bytes, trace, *event)?;
-            format!(in alloc; "{place} (as far as the search saw)\n")
-        }
+        Followed::Whole { .. } => Ok(String::new(alloc)),
+        Followed::UpToLost { .. } => { String::from_str(alloc, ", up to the first that were lost") }
+        Followed::Stops { event, .. } => event_shown(alloc, bytes, trace, *event),
         Followed::Breaks { event, .. } => {
             let place = event_shown(alloc, bytes, trace, *event)?;
-            format!(in alloc; ", at event {place}\n")
+            format!(in alloc; ", at event {place}")
         }
         Followed::GaveUp { event } => {
-            format!(in alloc; "more than {states} states after event {event}\n")
+            format!(in alloc; "more than {states} states after event {event}")
         }
+    }
+}
+
+/// How the line ends.
+fn end_of(followed: &Followed) -> &'static str
+    ensures { result.now ≡ followed_end followed.now }
+{
+    match followed {
+        Followed::Stops {
+            is_proved: false,
+            ..
+        } => " (as far as the search saw)\n",
+        _ => "\n",
     }
 }
 
@@ -234,13 +242,14 @@ fn answer_of(
     states: u32,
 ) -> Result<TraceAnswer, AllocError>
     ensures { IfOk result (λ answer. (f : FollowedOf) × IsFollowed app.now trace.now f × (answer.status ≡ followed_status f)
-        × (rest : List ℕ) × (string_bytes answer.line ≡ followed_head app.now trace.now f ++ rest)) }
+        × (rest : List ℕ) × (string_bytes answer.line ≡ followed_head app.now trace.now f ++ (rest ++ followed_end f))) }
 {
     let followed = follow(alloc, app, trace, states as usize)?;
     let head = head_of(alloc, app, trace, &followed)?;
     let rest = rest_of(alloc, bytes, trace, &followed, states)?;
+    let end = end_of(&followed);
     Ok(TraceAnswer {
-        line: format!(in alloc; "{head}{rest}")?,
+        line: format!(in alloc; "{head}{rest}{end}")?,
         status: status_of(&followed),
     })
 }
