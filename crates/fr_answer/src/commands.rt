@@ -19,7 +19,7 @@ use crate::files::Files;
 use crate::printing::refuse;
 use check::check;
 use find::find;
-use follow::follow_trace;
+use follow::follow_traces;
 use fr_request::Request;
 use points::points;
 use prove::prove;
@@ -58,7 +58,7 @@ fn answered<R: Threads + Wait + Sync, F: Files, O: Write, E: Write>(
         Request::Refute(asked) => refute(rt, alloc, asked, files, out, err),
         Request::Run(asked) => run_files(rt, alloc, asked, files, out),
         Request::Translate(asked) => translate(alloc, asked, files, out, err),
-        Request::Follow(asked) => follow_trace(alloc, asked, files, out),
+        Request::Follow(asked) => follow_traces(alloc, asked, files, out),
     }
 }
 

@@ -1,0 +1,133 @@
+// A trace's lines, and what is printed of them.
+use fr_escape::push_plain;
+use fr_trace::{NotListed, Trace, TraceFault, Unlisted};
+use std::alloc::{AllocError, Global};
+
+/// How many events are shown before the one that is spoken of.
+const MOST_BEFORE: usize = 3;
+
+/// The words of a trace as they are printed: without what steers a terminal.
+fn shown(alloc: Global, words: &[u8]) -> Result<String, AllocError> {
+    let mut text = String::new(alloc);
+    if let Ok(words) = str::from_utf8(words) {
+        push_plain(&mut text, words)?;
+    }
+    Ok(text)
+}
+
+/// The line of a trace with this number, from 1, as it is printed.
+pub(crate) fn line_shown(alloc: Global, trace: &[u8], number: usize) -> Result<String, AllocError> {
+    let mut text = String::new(alloc);
+    if let Ok(lines) = str::from_utf8(trace)
+        && let Some(line) = lines.lines().nth(number.saturating_sub(1))
+    {
+        push_plain(&mut text, line.trim())?;
+    }
+    Ok(text)
+}
+
+/// The number of the line of the event with this number, from 0; 0 where there is no such event.
+fn line_of(trace: &Trace, event: usize) -> usize {
+    match trace.events.get(event) {
+        Some(event) => event.line,
+        None => 0,
+    }
+}
+
+/// Which one of all events the one with this number, from 0, is, with its line of the trace.
+pub(crate) fn event_shown(
+    alloc: Global,
+    bytes: &[u8],
+    trace: &Trace,
+    event: usize,
+) -> Result<String, AllocError> {
+    let number = line_of(trace, event);
+    let line = line_shown(alloc, bytes, number)?;
+    let (place, total) = (event.saturating_add(1), trace.events.len());
+    format!(in alloc; "{place} of {total}, line {number}: {line}")
+}
+
+/// The last events before the one with this number, from 0, a text each.
+pub(crate) fn events_before(
+    alloc: Global,
+    bytes: &[u8],
+    trace: &Trace,
+    event: usize,
+) -> Result<Vec<String>, AllocError> {
+    let mut texts = Vec::new(alloc);
+    for before in event.saturating_sub(MOST_BEFORE)..event {
+        let number = line_of(trace, before);
+        let line = line_shown(alloc, bytes, number)?;
+        texts.push(format!(in alloc; "before it, line {number}: {line}")?)?;
+    }
+    Ok(texts)
+}
+
+/// The call that a line begins, or all that it says of its actor.
+fn call_in<'a>(unlisted: NotListed<'a>) -> &'a str {
+    let Ok(line) = str::from_utf8(unlisted.text) else {
+        return "";
+    };
+    let Some((_, rest)) = line.trim().split_once(' ') else {
+        return line;
+    };
+    match rest.trim().split_once(' ') {
+        Some(("enter", call)) => call.trim(),
+        _ => rest,
+    }
+}
+
+/// The name of a call.
+fn name_in(call: &str) -> &str {
+    match call.split_once('(') {
+        Some((name, _)) => name,
+        None => call,
+    }
+}
+
+/// What the trace has that the application doesn't list.
+pub(crate) fn unlisted_text<'a>(
+    alloc: Global,
+    unlisted: NotListed<'a>,
+) -> Result<String, AllocError> {
+    let number = unlisted.line;
+    let actor = shown(alloc, unlisted.actor)?;
+    let call = shown(alloc, call_in(unlisted).as_bytes())?;
+    let name = shown(alloc, name_in(&call).as_bytes())?;
+    match unlisted.what {
+        Unlisted::Actor { touches } => {
+            let touched = shown(alloc, touches)?;
+            format!(in alloc;
+                "line {number}: {actor} touches {touched} in {call}, but no actor is named {actor}\n"
+            )
+        }
+        Unlisted::Object { object } => {
+            let object = shown(alloc, object)?;
+            format!(in alloc;
+                "line {number}: {actor} calls {name} on {object}, but no object is named {object}\n"
+            )
+        }
+        Unlisted::Call => {
+            format!(in alloc;
+                "line {number}: {actor} calls {name}, for which the application has no line\n"
+            )
+        }
+    }
+}
+
+/// What is wrong in a line of a trace.
+pub(crate) fn fault_text(fault: TraceFault) -> &'static str {
+    match fault {
+        TraceFault::Version => "the first line isn't `fr_trace 1`",
+        TraceFault::NoEvent => "no event",
+        TraceFault::BadNumber => "no number of 64 bits",
+        TraceFault::UnknownCall => "no call",
+        TraceFault::LateHeader => "`unseen` after an event",
+        TraceFault::UnknownVariable => "no variable of the application",
+        TraceFault::ArgCount => "another number of arguments",
+        TraceFault::BadArgument => "no such argument",
+        TraceFault::EnterUnseen => "a call that is unseen",
+        TraceFault::EnterInCall => "the actor has not returned from the call before",
+        TraceFault::ReturnOutside => "the actor returns, but is in no call",
+    }
+}
