@@ -73,8 +73,8 @@ fn answered<R: Threads + Wait + Sync, F: Files, O: Write, E: Write>(
 /// answer is a text for a person about one application. It is 3 where the machine failed: what was written then is open, unless it is
 /// such an answer.
 ///
-/// A file is replaced only by a certificate on which the verdict is yes, by a page, by the certificate that `find` was asked for, or by the
-/// application that a source means.
+/// A file is replaced only by a certificate on which the verdict is yes, by a page, by the certificate that `find` was asked for, by the
+/// application that a source means, or by the run that was found for a trace.
 pub fn run<R: Threads + Wait + Sync, F: Files, O: Write, E: Write>(
     rt: &R,
     alloc: Global,

@@ -7,7 +7,7 @@ ghost use Rattle.fr_trail.specs.Answered.{IsTraceAnswer, followed_head, followed
 ghost use Rattle.fr_trail.specs.Runs.{IsRunIn, IsRunOf, IsRunText};
 
 use crate::run_text::run_text;
-use crate::texts::{event_shown, fault_text, line_shown, unlisted_text};
+use crate::texts::{event_shown, fault_text, marked, unlisted_text, unlisted_texts};
 use crate::times::as_asked;
 use crate::why::why;
 use fr_follower::{Followed, Item, follow};
@@ -15,7 +15,7 @@ use fr_instr::names_of;
 use fr_place::place_of_texts;
 use fr_program::App;
 use fr_report::{actor_name, rule_text, text_of};
-use fr_trace::{NoTrace, Trace, read_trace};
+use fr_trace::{NoTrace, NotListed, Trace, read_trace};
 use std::alloc::{AllocError, Global};
 
 /// How a trace is followed.
@@ -190,6 +190,20 @@ fn why_text(
     }
 }
 
+/// The lines that explain that something isn't listed, where that is asked for.
+fn unlisted_why<'a>(
+    alloc: Global,
+    app: &App,
+    unlisted: NotListed<'a>,
+    explains: bool,
+) -> Result<String, AllocError> {
+    if explains {
+        below(alloc, &unlisted_texts(alloc, app, unlisted)?)
+    } else {
+        Ok(String::new(alloc))
+    }
+}
+
 /// What is answered of a trace.
 fn answer_of(
     alloc: Global,
@@ -214,20 +228,6 @@ fn answer_of(
         followed: Some(followed),
         run,
     })
-}
-
-/// The line of a trace with this number, from 1, and where a column is given a mark below it.
-fn marked(
-    alloc: Global,
-    bytes: &[u8],
-    line: usize,
-    column: usize,
-) -> Result<Vec<String>, AllocError> {
-    let width = column.saturating_sub(1);
-    let mut lines = Vec::new(alloc);
-    lines.push(line_shown(alloc, bytes, line)?)?;
-    lines.push(format!(in alloc; "{:width$}^", "")?)?;
-    Ok(lines)
 }
 
 /// Why the bytes are no trace.
@@ -273,8 +273,9 @@ pub fn answered(
         }
         Err(NoTrace::NotListed(unlisted)) => {
             let text = unlisted_text(alloc, unlisted)?;
+            let why = unlisted_why(alloc, app, unlisted, asked.explains)?;
             Ok(TraceAnswer {
-                text: format!(in alloc; "not listed: {text}")?,
+                text: format!(in alloc; "not listed: {text}{why}")?,
                 status: 1,
                 followed: None,
                 run: None,

@@ -1,10 +1,14 @@
 // A trace's lines, and what is printed of them.
 use fr_escape::push_plain;
+use fr_program::App;
 use fr_trace::{NotListed, Trace, TraceFault, Unlisted};
 use std::alloc::{AllocError, Global};
 
 /// How many events are shown before the one that is spoken of.
 const MOST_BEFORE: usize = 3;
+
+/// The most bytes of a line that are shown before a mark, and from it on.
+const MOST_AROUND: usize = 60;
 
 /// The words of a trace as they are printed: without what steers a terminal.
 fn shown(alloc: Global, words: &[u8]) -> Result<String, AllocError> {
@@ -15,15 +19,41 @@ fn shown(alloc: Global, words: &[u8]) -> Result<String, AllocError> {
     Ok(text)
 }
 
+/// The line of a trace with this number, from 1; an empty one where there is none.
+fn line_in(trace: &[u8], number: usize) -> &str {
+    let Ok(lines) = str::from_utf8(trace) else {
+        return "";
+    };
+    let line = lines.lines().nth(number.saturating_sub(1));
+    line.unwrap_or("")
+}
+
 /// The line of a trace with this number, from 1, as it is printed.
-pub(crate) fn line_shown(alloc: Global, trace: &[u8], number: usize) -> Result<String, AllocError> {
+fn line_shown(alloc: Global, trace: &[u8], number: usize) -> Result<String, AllocError> {
     let mut text = String::new(alloc);
-    if let Ok(lines) = str::from_utf8(trace)
-        && let Some(line) = lines.lines().nth(number.saturating_sub(1))
-    {
-        push_plain(&mut text, line.trim())?;
-    }
+    push_plain(&mut text, line_in(trace, number).trim())?;
     Ok(text)
+}
+
+/// What is around the column, from 1, of the line of a trace with this number, from 1, and below it a mark.
+pub(crate) fn marked(
+    alloc: Global,
+    trace: &[u8],
+    number: usize,
+    column: usize,
+) -> Result<Vec<String>, AllocError> {
+    let line = line_in(trace, number);
+    let at = column.saturating_sub(1).min(line.len());
+    let (from, to) = (
+        at.saturating_sub(MOST_AROUND),
+        at.saturating_add(MOST_AROUND).min(line.len()),
+    );
+    let mut text = String::new(alloc);
+    push_plain(&mut text, line.get(from..at).unwrap_or(""))?;
+    let width = text.chars().count();
+    push_plain(&mut text, line.get(at..to).unwrap_or(""))?;
+    let mark = format!(in alloc; "{:width$}^", "")?;
+    Ok(vec![in alloc; text, mark]?)
 }
 
 /// The number of the line of the event with this number, from 0; 0 where there is no such event.
@@ -113,6 +143,55 @@ pub(crate) fn unlisted_text<'a>(
             )
         }
     }
+}
+
+/// Appends a name to others.
+fn put_name(text: &mut String, name: &str) -> Result<(), AllocError> {
+    if !text.is_empty() {
+        text.push_str(", ")?;
+    }
+    text.push_str(name)
+}
+
+/// The names of the application's actors.
+fn actors_shown(alloc: Global, app: &App) -> Result<String, AllocError> {
+    let mut text = String::new(alloc);
+    for actor in app.actors() {
+        put_name(&mut text, &actor.name)?;
+    }
+    Ok(text)
+}
+
+/// The names of the application's objects.
+fn objects_shown(alloc: Global, app: &App) -> Result<String, AllocError> {
+    let mut text = String::new(alloc);
+    for object in app.objects() {
+        put_name(&mut text, &object.name)?;
+    }
+    Ok(text)
+}
+
+/// What explains that the application doesn't list something: the trace's line, and what is listed in its place, a text each.
+pub(crate) fn unlisted_texts<'a>(
+    alloc: Global,
+    app: &App,
+    unlisted: NotListed<'a>,
+) -> Result<Vec<String>, AllocError> {
+    let (number, line) = (unlisted.line, shown(alloc, unlisted.text.trim_ascii())?);
+    let mut texts = Vec::new(alloc);
+    texts.push(format!(in alloc; "line {number}: {line}")?)?;
+    match unlisted.what {
+        Unlisted::Actor { .. } => {
+            let names = actors_shown(alloc, app)?;
+            texts.push(format!(in alloc; "the actors are: {names}")?)?;
+        }
+        Unlisted::Object { .. } => {
+            let names = objects_shown(alloc, app)?;
+            texts.push(format!(in alloc; "the objects are: {names}")?)?;
+        }
+        Unlisted::Call => {}
+    }
+    Ok(texts)
 }
 
 /// What is wrong in a line of a trace.
