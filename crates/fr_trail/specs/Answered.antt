@@ -5,8 +5,8 @@
 -- | untimed, IsUntimed | a call, an event, a trace without block times and ticks                         |
 -- | IsAsked         | the trace as it is followed: where that is asked, without block times              |
 -- | followed_status | the exit status: 0 where a run explains the whole trace                            |
--- | followed_head   | how the answer's line begins                                                       |
--- | IsTraceAnswer   | the exit status, and the line, are those of a trace for an application             |
+-- | followed_head, followed_end | how the answer's line begins, and how it ends                          |
+-- | IsTraceAnswer   | the exit status, and what is shown, are those of a trace for an application        |
 use Rattle.std.specs.Prelude.{◌≡◌, ◌⊎◌, ◌++◌, ℕ, Bool, true, false, List, codes, decimal, length, map}
 use Rattle.fr_program.specs.Program.{Program}
 use Rattle.fr_program.specs.Lookup.{actor_at}
@@ -66,10 +66,15 @@ followed_head P e (Breaks event rule actor run) =
     codes "breach: rule " ++ (decimal (number_of rule) ++ (codes ": " ++ (rule_text rule ++ (codes ": " ++ (actor_at P actor.0).name))))
 followed_head P e (GaveUp event) = codes "gave up: "
 
--- the text means a trace, of which this is so; or it has something that the application doesn't list, which the line says
+-- how it ends: where nothing proves that no run explains the event that is named, it says so
+abbrev pub followed_end : Followed → List ℕ
+followed_end (Stops event run) = codes " (as far as the search saw)\n"
+followed_end f = codes "\n"
+
+-- the text means a trace, of which this is so, whatever is below the line; or it has something that the application doesn't list, which the line says
 abbrev pub IsTraceAnswer : Bool → Program → List ℕ → ℕ → List ℕ → Type 0
-IsTraceAnswer any P text status line =
+IsTraceAnswer any P text status shown =
     ((e : Trace) × TraceMeans (names_in P) text (said_in e) × (u : Trace) × IsAsked any e u × (f : Followed) × IsFollowed P u f
-    × (status ≡ followed_status f) × (rest : List ℕ) × (line ≡ followed_head P u f ++ rest))
+    × (status ≡ followed_status f) × (rest why : List ℕ) × (shown ≡ followed_head P u f ++ (rest ++ (followed_end f ++ why))))
     ⊎ ((unlisted : NotListed) × IsPresent (names_in P) text (IsNotListed unlisted)
-    × (status ≡ 1) × (rest : List ℕ) × (line ≡ codes "not listed: " ++ rest))
+    × (status ≡ 1) × (rest : List ℕ) × (shown ≡ codes "not listed: " ++ rest))

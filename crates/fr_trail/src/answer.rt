@@ -1,9 +1,9 @@
 // The answer to a trace.
-ghost use Rattle.std.specs.Prelude.{◌≡◌, ◌++◌, ℕ, List, IfOk, IfSome, string_bytes};
+ghost use Rattle.std.specs.Prelude.{◌≡◌, ◌≤◌, ◌++◌, ℕ, List, IfOk, IfSome, string_bytes};
 ghost use Rattle.fr_follower.specs.Follows.{IsFollowed};
 ghost use Rattle.fr_follower.specs.declared.following.Followed.{Followed as FollowedOf};
 ghost use Rattle.fr_follower.specs.declared.item.Item.{Item as ItemOf};
-ghost use Rattle.fr_trail.specs.Answered.{IsTraceAnswer, followed_head, followed_status};
+ghost use Rattle.fr_trail.specs.Answered.{IsTraceAnswer, followed_end, followed_head, followed_status};
 ghost use Rattle.fr_trail.specs.Runs.{IsRunIn, IsRunOf, IsRunText};
 
 use crate::run_text::run_text;
@@ -68,7 +68,7 @@ impl From<AllocError> for NoAnswer {
     }
 }
 
-/// How the line ends after its head.
+/// What the line says after its head, without its end.
 fn rest_of(
     alloc: Global,
     bytes: &[u8],
@@ -79,23 +79,28 @@ fn rest_of(
     match followed {
         Followed::Whole { .. } if trace.ignored > 0 => {
             let ignored = trace.ignored;
-            format!(in alloc; ", {ignored} of others ignored\n")
+            format!(in alloc; ", {ignored} of others ignored")
         }
-        Followed::Whole { .. } => String::from_str(alloc, "\n"),
-        Followed::UpToLost { .. } => {
-            String::from_str(alloc, ", up to the first that were lost\n")
-        }
-        Followed::Stops { event, .. } => {
-            let place = event_shown(alloc, bytes, trace, *event)?;
-            format!(in alloc; "{place} (as far as the search saw)\n")
-        }
+        Followed::Whole { .. } => Ok(String::new(alloc)),
+        Followed::UpToLost { .. } => { String::from_str(alloc, ", up to the first that were lost") }
+        Followed::Stops { event, .. } => event_shown(alloc, bytes, trace, *event),
         Followed::Breaks { event, .. } => {
             let place = event_shown(alloc, bytes, trace, *event)?;
-            format!(in alloc; ", at event {place}\n")
+            format!(in alloc; ", at event {place}")
         }
         Followed::GaveUp { event } => {
-            format!(in alloc; "more than {states} states after event {event}\n")
+            format!(in alloc; "more than {states} states after event {event}")
         }
+    }
+}
+
+/// How the line ends.
+fn end_of(followed: &Followed) -> &'static str
+    ensures { result.now ≡ followed_end followed.now }
+{
+    match followed {
+        Followed::Stops { .. } => " (as far as the search saw)\n",
+        _ => "\n",
     }
 }
 
@@ -126,7 +131,8 @@ fn head_of(
 
 /// The exit status.
 fn status_of(followed: &Followed) -> u8
-    ensures { result ≡ followed_status followed.now }
+    ensures status { result ≡ followed_status followed.now }
+    ensures most { result ≤ 1 }
 {
     match followed {
         Followed::Whole { .. } => 0,
@@ -213,17 +219,21 @@ fn answer_of(
     asked: Asked,
 ) -> Result<TraceAnswer, AllocError>
     ensures answer { IfOk result (λ answer. (f : FollowedOf) × IsFollowed app.now trace.now f × (answer.status ≡ followed_status f)
-        × (rest : List ℕ) × (string_bytes answer.text ≡ followed_head app.now trace.now f ++ rest)) }
+        × (rest why : List ℕ) × (string_bytes answer.text ≡ followed_head app.now trace.now f ++ (rest ++ (followed_end f ++ why)))) }
     ensures run { IfOk result (λ answer. IfSome answer.run (λ text. (f : FollowedOf) × IsFollowed app.now trace.now f
         × (items : List ItemOf) × IsRunIn f items × IsRunText app.now items (string_bytes text))) }
+    ensures most { IfOk result (λ answer. answer.status ≤ 1) }
 {
     let followed = follow(alloc, app, trace, asked.states as usize)?;
     let head = head_of(alloc, app, trace, &followed)?;
     let rest = rest_of(alloc, bytes, trace, &followed, asked.states)?;
-    let why = why_text(alloc, app, bytes, trace, &followed, asked)?;
+    let (end, why) = (
+        end_of(&followed),
+        why_text(alloc, app, bytes, trace, &followed, asked)?,
+    );
     let run = lines_of(alloc, app, bytes, trace, &followed, asked.writes)?;
     Ok(TraceAnswer {
-        text: format!(in alloc; "{head}{rest}{why}")?,
+        text: format!(in alloc; "{head}{rest}{end}{why}")?,
         status: status_of(&followed),
         followed: Some(followed),
         run,
@@ -255,7 +265,12 @@ fn refused(alloc: Global, bytes: &[u8], why: NoTrace) -> Result<NoAnswer, AllocE
     Ok(NoAnswer::Refused { line, place })
 }
 
-/// What is answered of the text of a trace.
+/// What is answered of the text of a trace, which is followed by runs of the application: a line, and where that is asked for the lines
+/// below it that explain it.
+///
+/// # Errors
+///
+/// `Refused` where the bytes are no trace; `Memory` where memory is refused. The lines' form is this project's own.
 pub fn answered(
     alloc: Global,
     app: &App,
@@ -264,6 +279,7 @@ pub fn answered(
 ) -> Result<TraceAnswer, NoAnswer>
     ensures answer { IfOk result (λ answer. IsTraceAnswer asked.any_times app.now bytes.now answer.status (string_bytes answer.text)) }
     ensures run { IfOk result (λ answer. IfSome answer.run (λ text. IsRunOf asked.any_times app.now bytes.now (string_bytes text))) }
+    ensures most { IfOk result (λ answer. answer.status ≤ 1) }
 {
     let names = names_of(alloc, app)?;
     match read_trace(alloc, &names, bytes) {

@@ -69,6 +69,7 @@ fn answer_at<F: Files>(
         (record { path = path.now; status = answer.status; text = string_bytes answer.text })) }
     ensures run { IfOk result (λ answer. IfSome answer.run (λ text.
         IsRunAt (Reads (F.Gives files.now) F.Means) asked.now.any_times app.now (path.now ∷ []) (string_bytes text))) }
+    ensures most { IfOk result (λ answer. answer.status ≤ 1) }
     ensures fault { IfErr result (λ refusal. 2 ≤ fault_status refusal.fault) }
 {
     let bytes = input(alloc, files, path, MOST_TRACE_BYTES, asked.explains)?;
@@ -156,8 +157,8 @@ fn follow_each<F: Files, O: Write>(
 {
     let mut greatest = 0u8;
     for path in paths {
-        let answer = answer_shown(alloc, app, path, asked, files)?;
-        let heading = heading(alloc, path)?;
+        let answer = answer_shown(alloc, app, *path, asked, files)?;
+        let heading = heading(alloc, *path)?;
         put(&format!(in alloc; "{heading}{}", answer.text)?, out)?;
         coverage.add(alloc, app, &answer)?;
         greatest = greatest.max(answer.status);
@@ -186,7 +187,7 @@ fn follow_named<F: Files, O: Write>(
     if let Some((path, others)) = asked.traces.split_first()
         && others.is_empty()
     {
-        follow_one(alloc, app, path, asked, coverage, files, out)
+        follow_one(alloc, app, *path, asked, coverage, files, out)
     } else {
         let status = follow_each(alloc, app, asked.traces, asked, coverage, files, out)?;
         Ok((status, None))
