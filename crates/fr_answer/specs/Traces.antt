@@ -42,9 +42,9 @@ greater_of status t = max status t.status
 abbrev pub greatest_of : List TraceAnswerAt → ℕ
 greatest_of answers = fold greater_of 0 answers
 
--- several traces are named
-abbrev pub is_several : List (List ℕ) → Bool
-is_several paths = not (length paths == 1)
+-- so many traces aren't one alone
+abbrev pub is_several : ℕ → Bool
+is_several count = not (count == 1)
 
 -- what is printed of an answer: where several traces are named, after the path
 abbrev pub text_at : Bool → TraceAnswerAt → List ℕ
@@ -66,7 +66,7 @@ AreCovered false old new = new ≡ old
 abbrev pub IsTracesAnswered : (Reading → List ℕ → List ℕ → Type 0) → FollowRequest → ℕ → Option (List ℕ) → Option (List ℕ) → Type 0
 IsTracesAnswered reads asked status old new =
     (P : Program) × IsReadAs reads asked.app.now P × (mid : Option (List ℕ))
-    × AreTracesAnswered reads asked.any_times P (is_several (map (λ s. s.now) asked.traces.now)) (map (λ s. s.now) asked.traces.now) status old mid
+    × AreTracesAnswered reads asked.any_times P (is_several (length asked.traces.now)) (map (λ s. s.now) asked.traces.now) status old mid
     × AreCovered asked.covers mid new
 
 -- the lines of a run that was found for the one of these traces

@@ -1,5 +1,5 @@
 // The command `follow`.
-ghost use Rattle.std.specs.Prelude.{◌≡◌, ◌≤◌, ◌⊎◌, ◌∷◌, [], ℕ, List, IfErr, IfOk, IfSome, Some, length, map, option_copied, option_map, string_bytes};
+ghost use Rattle.std.specs.Prelude.{◌≡◌, ◌≤◌, ◌⊎◌, ◌∷◌, [], ℕ, List, IfErr, IfNone, IfOk, IfSome, Some, false, length, map, option_copied, option_map, string_bytes, true};
 ghost use Rattle.fr_answer.specs.Checked.{fault_status};
 ghost use Rattle.fr_answer.specs.Inputs.{Reads};
 ghost use Rattle.fr_answer.specs.Traces.{AreCovered, AreTracesAnswered, IsAnswerAt, IsReadAs, IsRunAt, IsTracesAnswered, PutsRun, is_several};
@@ -166,6 +166,18 @@ fn follow_each<F: Files, O: Write>(
     Ok(greatest)
 }
 
+/// The one trace that is named; None where there are several.
+fn one_named<'a>(traces: &'a [&'a str]) -> Option<&'a str>
+    ensures some { IfSome result (λ path. traces.now ≡ path ∷ []) }
+    ensures none { IfNone result (is_several (length traces.now) ≡ true) }
+{
+    if traces.len() == 1 {
+        traces.first().copied()
+    } else {
+        None
+    }
+}
+
 /// Answers the traces that are named, and prints the answers: the one alone, or each of several after its path; gives the greatest exit
 /// status, and for one trace the lines of the run that was found, where they are asked for.
 fn follow_named<F: Files, O: Write>(
@@ -177,20 +189,19 @@ fn follow_named<F: Files, O: Write>(
     out: &mut O,
 ) -> Result<(u8, Option<String>), Refusal>
     ensures answered { IfOk result (λ r. AreTracesAnswered (Reads (F.Gives files.now) F.Means) asked.now.any_times app.now
-        (is_several (map (λ s. s.now) asked.now.traces.now)) (map (λ s. s.now) asked.now.traces.now) r.0 (O.contents out.old) (O.contents out.new)) }
+        (is_several (length asked.now.traces.now)) (map (λ s. s.now) asked.now.traces.now) r.0 (O.contents out.old) (O.contents out.new)) }
     ensures run { IfOk result (λ r. IfSome r.1 (λ text.
         IsRunAt (Reads (F.Gives files.now) F.Means) asked.now.any_times app.now (map (λ s. s.now) asked.now.traces.now) (string_bytes text))) }
     ensures most { IfOk result (λ r. r.0 ≤ 3) }
     ensures kept { IfOk result (λ r. 2 ≤ r.0 → length asked.now.traces.now ≡ 1 → out.new ≡ out.old) }
     ensures refused { IfErr result (λ refusal. fault_status refusal.fault ≡ 2 → out.new ≡ out.old) }
 {
-    if let Some((path, others)) = asked.traces.split_first()
-        && others.is_empty()
-    {
-        follow_one(alloc, app, *path, asked, coverage, files, out)
-    } else {
-        let status = follow_each(alloc, app, asked.traces, asked, coverage, files, out)?;
-        Ok((status, None))
+    match one_named(asked.traces) {
+        Some(path) => follow_one(alloc, app, path, asked, coverage, files, out),
+        None => {
+            let status = follow_each(alloc, app, asked.traces, asked, coverage, files, out)?;
+            Ok((status, None))
+        }
     }
 }
 
