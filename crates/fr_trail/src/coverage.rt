@@ -1,6 +1,6 @@
 // Which lines of code the runs that were found took, and how their calls went.
 use crate::answer::{TraceAnswer, run_in};
-use crate::replay::{Visit, effect_at, replayed};
+use crate::replay::{Visit, effect_at, replay};
 use fr_calls::can_time_out;
 use fr_program::{Act, Actor, ActorId, App, Attempt, Call, Instr, Kind, Point, Side};
 use fr_report::{line_of_code, text_of};
@@ -123,7 +123,7 @@ impl Coverage {
         let Some(run) = run_in(followed) else {
             return Ok(());
         };
-        for visit in &replayed(alloc, app, run)?.visits {
+        for visit in &replay(alloc, app, run)?.visits {
             self.see(app, *visit);
         }
         Ok(())

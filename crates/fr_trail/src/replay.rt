@@ -73,7 +73,7 @@ fn take(
 }
 
 /// The run, step by step.
-pub(crate) fn replayed(alloc: Global, app: &App, run: &[Item]) -> Result<Replayed, AllocError>
+pub(crate) fn replay(alloc: Global, app: &App, run: &[Item]) -> Result<Replayed, AllocError>
     ensures { IfOk result (λ replayed. IsWellFormed app.now replayed.state) }
 {
     app.recall_faultless();

@@ -1,8 +1,9 @@
 // Why a trace isn't followed further: where its actor may be, by the run that explains the events before.
+ghost use Rattle.std.specs.Prelude.{IfOk};
 ghost use Rattle.fr_calls.specs.State.{IsWellFormed};
 
 use crate::awaited::awaited;
-use crate::replay::{Replayed, Visit, effect_at, replayed};
+use crate::replay::{Replayed, Visit, effect_at, replay};
 use crate::texts::{event_shown, events_before};
 use fr_calls::{Moves, Place, State};
 use fr_follower::{Followed, Item};
@@ -134,7 +135,7 @@ fn places(
     event: &Event,
     run: &[Item],
 ) -> Result<Vec<String>, AllocError> {
-    let Replayed { visits, mut state } = replayed(alloc, app, run)?;
+    let Replayed { visits, mut state } = replay(alloc, app, run)?;
     let actor = event.actor;
     let Place::At { pc, side } = actor_place(app, &state, actor) else {
         let name = actor_name(app, actor);

@@ -1,5 +1,5 @@
 use Rattle.fr_calls.specs.State.{IsWellFormed}
-use Rattle.fr_trail.proofs.replay.replayed.Given as goal
+use Rattle.fr_trail.proofs.replay.replay.Given as goal
 
 -- the steps so far lead to a state of the application
 abbrev pub invariant-loop-item : goal.invariant-loop-item
