@@ -3,6 +3,7 @@ use Rattle.std.proofs.Common.{inl, inr, refl, subst}
 use Rattle.std.specs.Prelude.{string_bytes}
 use Rattle.fr_trace.specs.Means.{TraceMeans, IsPresent, said_in}
 use Rattle.fr_trace.specs.declared.no_trace.NoTrace.TheVariants.{NotListed}
+use Rattle.fr_trail.proofs.RunLaws.{run-of}
 use Rattle.fr_trail.proofs.answer.answered.Goals as goal
 
 pub returns-in-Ok-clause-answer : goal.returns-in-Ok-clause-answer
@@ -19,6 +20,12 @@ returns-in-Ok-clause-answer c =
       c.in_ok-answer_of-in-Ok.ensures.answer.4,
       c.in_ok-answer_of-in-Ok.ensures.answer.5,
     )
+
+pub returns-in-Ok-clause-run : goal.returns-in-Ok-clause-run
+returns-in-Ok-clause-run c =
+    run-of c.args.asked.any_times c.args.app.now c.args.bytes.now c.in-Ok.trace c.in_ok-trace-in-Ok.trace
+        (subst (λ N. TraceMeans N c.args.bytes.now (said_in c.in-Ok.trace)) c.in_ok-names.ensures c.in-Ok.ensures.means) c.in_ok-trace-in-Ok.ensures
+        _ c.in_ok-answer_of-in-Ok.ensures.run
 
 pub returns-in-Err-NotListed-clause-answer : goal.returns-in-Err-NotListed-clause-answer
 returns-in-Err-NotListed-clause-answer c =
