@@ -44,6 +44,7 @@ fn answers_at(
     let moves = state.moves(app, actor);
     match call {
         Call::On(_) | Call::Create { .. } => answers_text(alloc, moves),
+        Call::DeleteSelf => String::from_str(alloc, "it never returns"),
         _ if moves == Moves::None => answers_text(alloc, moves),
         _ => String::from_str(alloc, "it can return"),
     }
