@@ -10,7 +10,7 @@
 -- | IsPrinted                         | an answer was written: its text, or a report that shows it                     |
 -- | IsShown                           | such an answer has this exit status, and was printed                           |
 -- | IsAnswerBy, LineAnswer, IsLineAnswer | the answer to a line of a list                                              |
--- | heading, IsLineText               | what is printed of a line: the path, and the answer's lines                    |
+-- | IsLineText                        | what is printed of a line: the path, and the answer's lines                    |
 -- | AreLinesPrinted, IsListAnswered   | the lines of a list, each answered and printed, in their order                 |
 -- | AreRunWords                       | the words of a run that are asked for                                          |
 -- | AreShown, IsListed, IsListing     | the points of the application in a file, with places in a source where that is asked |
@@ -20,15 +20,14 @@
 -- | IsText                            | the answer is a text about one application                                     |
 -- | PutsFound, PutsTranslated, PutsOutput, IsDone | the file that is asked for was given what was found, or what a source means |
 -- | IsPaged, IsKept, IsWritten        | the files are as they were, but for a page, for a certificate with a yes; for what the request names |
-use Rattle.std.specs.Prelude.{◌≡◌, ◌≤◌, ◌⊎◌, ◌++◌, ℕ, Bool, true, false, IsTrue, List, [], ◌∷◌, All, Option, None, Some, codes, encode_utf8_all, fold, if◌then◌else◌, map, max, nat_eq, option_copied, string_bytes}
-use Rattle.std.specs.List.{concat, starts_with}
+use Rattle.std.specs.Prelude.{◌≡◌, ◌≤◌, ◌⊎◌, ◌++◌, ℕ, Bool, true, false, IsTrue, List, [], ◌∷◌, All, Option, None, Some, codes, fold, length, map, max, option_copied, string_bytes}
+use Rattle.std.specs.List.{concat}
 use Rattle.std.specs.Option.{is_some}
 use Rattle.std.specs.Io.KnownBytes.{Appends}
 use Rattle.fr_program.specs.Program.{Program}
 use Rattle.fr_reader.specs.Meaning.{Means as AppMeans}
 use Rattle.fr_text.specs.Texts.{IsJudged}
 use Rattle.fr_judge.specs.declared.part.Verdict.TheVariants.{Yes}
-use Rattle.fr_escape.specs.Plain.{plain}
 use Rattle.fr_formats.specs.declared.answer.AnswerShown.{AnswerShown}
 use Rattle.fr_formats.specs.Reports.{IsReport}
 use Rattle.fr_list.specs.Means.{Entry, ListMeans}
@@ -50,7 +49,8 @@ use Rattle.fr_answer.specs.Checked.{IsFreeText, IsSafeText}
 use Rattle.fr_answer.specs.Pages.{IsPageOf}
 use Rattle.fr_answer.specs.Found.{IsCertificateFor, IsFound, found_line, found_status}
 use Rattle.fr_answer.specs.Ran.{IsRunText}
-use Rattle.fr_answer.specs.Traces.{IsTraceAnswered}
+use Rattle.fr_answer.specs.Heading.{heading}
+use Rattle.fr_answer.specs.Traces.{IsTracesAnswered, PutsRun}
 use Rattle.fr_answer.specs.Words.{AreWords}
 
 -- what is asked for, and where a machine reads the answer never less than what matters
@@ -117,10 +117,6 @@ Each Is [] [] = Unit {0}
 Each Is [] (y ∷ ys) = ⊥
 Each Is (x ∷ xs) [] = ⊥
 Each Is (x ∷ xs) (y ∷ ys) = Is x y × Each Is xs ys
-
--- how a path begins a line: without what steers a terminal, and never as `::`, which build servers take for a command
-abbrev pub heading : List ℕ → List ℕ
-heading path = (if starts_with nat_eq path (codes "::") then codes "./" else []) ++ (encode_utf8_all (plain path) ++ codes ": ")
 
 -- what is printed of the answer to an application with this path: its first line, whether actors can deadlock, and the other lines where
 -- they are asked for
@@ -199,7 +195,7 @@ IsAnswered reads (Run asked) status old new =
     × AreRunWords (option_copied asked.words) words × IsRunText a c asked.polls words asked.detail status text × Appends old new text
 IsAnswered reads (Translate asked) status old new =
     (status ≡ 0) × IsTranslated reads asked.source.now (option_copied asked.out) old new
-IsAnswered reads (Follow asked) status old new = IsTraceAnswered reads asked.app.now asked.trace.now status old new
+IsAnswered reads (Follow asked) status old new = IsTracesAnswered reads asked status old new
 
 -- the application in the file breaks no rule in any state of any run
 abbrev pub IsSafeIn : (Reading → List ℕ → List ℕ → Type 0) → List ℕ → Type 0
@@ -234,7 +230,7 @@ AreSafe reads (Points app explains) = Unit {0}
 AreSafe reads (Translate asked) = Unit {0}
 AreSafe reads (Follow asked) = Unit {0}
 
--- what is asked for is a text for a person about one application
+-- what is asked for is a text for a person about one application, or about one trace
 abbrev pub IsNamedText : Named → Option Format → Type 0
 IsNamedText (One app certificate) format = format ≡ None
 IsNamedText (Listed list) format = ⊥
@@ -247,7 +243,7 @@ IsText (Find asked) = Unit {0}
 IsText (Points app explains) = Unit {0}
 IsText (Run asked) = Unit {0}
 IsText (Translate asked) = Unit {0}
-IsText (Follow asked) = Unit {0}
+IsText (Follow asked) = length asked.traces.now ≡ 1
 
 -- the files are as they were, but that the one for the page may have been given a page, which begins with the heading and the first
 -- line of an answer; where that is a verdict, this is so of it
@@ -306,5 +302,5 @@ IsWritten reads puts (Refute asked) old new = IsPaged puts (IsSearchAt reads ask
 IsWritten reads puts (Find asked) old new = (new ≡ old) ⊎ PutsFound reads puts asked.app.now asked.out.now old new
 IsWritten reads puts (Points app explains) old new = new ≡ old
 IsWritten reads puts (Run asked) old new = new ≡ old
-IsWritten reads puts (Follow asked) old new = new ≡ old
+IsWritten reads puts (Follow asked) old new = PutsRun reads puts asked old new
 IsWritten reads puts (Translate asked) old new = (new ≡ old) ⊎ PutsOutput reads puts asked.source.now (option_copied asked.out) old new

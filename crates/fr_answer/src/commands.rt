@@ -19,7 +19,7 @@ use crate::files::Files;
 use crate::printing::refuse;
 use check::check;
 use find::find;
-use follow::follow_trace;
+use follow::follow_traces;
 use fr_request::Request;
 use points::points;
 use prove::prove;
@@ -58,7 +58,7 @@ fn answered<R: Threads + Wait + Sync, F: Files, O: Write, E: Write>(
         Request::Refute(asked) => refute(rt, alloc, asked, files, out, err),
         Request::Run(asked) => run_files(rt, alloc, asked, files, out),
         Request::Translate(asked) => translate(alloc, asked, files, out, err),
-        Request::Follow(asked) => follow_trace(alloc, asked, files, out),
+        Request::Follow(asked) => follow_traces(alloc, asked, files, out),
     }
 }
 
@@ -73,8 +73,8 @@ fn answered<R: Threads + Wait + Sync, F: Files, O: Write, E: Write>(
 /// answer is a text for a person about one application. It is 3 where the machine failed: what was written then is open, unless it is
 /// such an answer.
 ///
-/// A file is replaced only by a certificate on which the verdict is yes, by a page, by the certificate that `find` was asked for, or by the
-/// application that a source means.
+/// A file is replaced only by a certificate on which the verdict is yes, by a page, by the certificate that `find` was asked for, by the
+/// application that a source means, or by the run that was found for a trace.
 pub fn run<R: Threads + Wait + Sync, F: Files, O: Write, E: Write>(
     rt: &R,
     alloc: Global,

@@ -21,7 +21,7 @@ use crate::told::{Explained, Explanation, ShownState};
 pub use changes::ExplainedStep;
 pub(crate) use changes::step_explained;
 use culprits::{add_deleters, add_lackers, add_set, add_way};
-pub use depths::{Depth, depth_in, depths_of, state_told};
+pub use depths::{Depth, depth_in, depths_of, object_told, state_told};
 use fr_calls::{Rule, State, the_start_is_well_formed};
 use fr_ends::{Certificate, EndName};
 use fr_judge::{Part, Verdict};

@@ -23,7 +23,7 @@ pub enum Request<'a> {
     Run(RunRequest<'a>),
     /// The application that a source means.
     Translate(TranslateRequest<'a>),
-    /// Whether a trace is one that a run of the application can have.
+    /// Whether traces are those that runs of the application can have.
     Follow(FollowRequest<'a>),
 }
 
@@ -122,16 +122,22 @@ pub struct RunRequest<'a> {
     pub detail: Option<Detail>,
 }
 
-/// A trace that the command line asks to follow.
+/// Traces that the command line asks to follow.
 #[derive(Clone, Copy)]
 pub struct FollowRequest<'a> {
     pub app: &'a str,
-    /// The file of the trace.
-    pub trace: &'a str,
+    /// The files of the traces, one or more.
+    pub traces: &'a [&'a str],
     /// The most states that are kept at each event.
     pub states: u32,
-    /// Whether it is printed where a refusal is.
+    /// Whether it is printed why a trace isn't followed further, or where a refusal is.
     pub explains: bool,
+    /// Whether it is printed which lines of code the runs that were found didn't take.
+    pub covers: bool,
+    /// Whether any block time in a trace will do.
+    pub any_times: bool,
+    /// The file for the run that is found, where one is wanted.
+    pub run: Option<&'a str>,
 }
 
 /// A translation that the command line asks for.

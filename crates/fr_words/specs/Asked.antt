@@ -3,11 +3,11 @@
 -- | word                          | meaning                                                     |
 -- |-------------------------------|-------------------------------------------------------------|
 -- | IsJudged, IsCheck, ..         | the request, field by field                                 |
--- | has_text, has_number          | a word has a text, a number after it                        |
+-- | has_text, has_texts, has_number | a word has a text, texts, a number after it               |
 -- | can_judge, can_check, ..      | the words that have to be there are there                   |
 -- | IsAsked, can_ask              | the same of the command with this name                      |
 -- | Asks, can_ask_any             | the same of the whole line                                  |
-use Rattle.std.specs.Prelude.{◌≡◌, ℕ, Bool, false, not, ◌&&◌, ◌||◌, Option, Some, None, option_map, is_some, codes, if◌then◌else◌}
+use Rattle.std.specs.Prelude.{◌≡◌, ℕ, Bool, false, not, ◌&&◌, ◌||◌, Option, Some, None, option_map, is_some, codes, map, if◌then◌else◌}
 use Rattle.std.specs.Str.{bytes_eq}
 use Rattle.std.specs.Option.{option_map_or}
 use Rattle.clap.specs.Walk.{Text}
@@ -23,11 +23,15 @@ use Rattle.fr_request.specs.declared.request.RunRequest.{RunRequest}
 use Rattle.fr_request.specs.declared.request.TranslateRequest.{TranslateRequest}
 use Rattle.fr_request.specs.declared.request.Request.{Request}
 use Rattle.fr_request.specs.declared.request.Request.TheVariants.{Check, Find, Prove, Points, Refute, Run, Translate, Follow}
-use Rattle.fr_words.specs.Found.{Rows, subcommand, text_at, is_given, number_at, detail_at, format_at, proof_detail_at, warns_at}
+use Rattle.fr_words.specs.Found.{Rows, subcommand, text_at, texts_at, is_given, number_at, detail_at, format_at, proof_detail_at, warns_at}
 
 -- the word has a text after it
 abbrev pub has_text : Rows → Text → Bool
 has_text rs id = is_some (text_at rs id)
+
+-- the word has texts after it
+abbrev pub has_texts : Rows → Text → Bool
+has_texts rs id = is_some (texts_at rs id)
 
 -- the word has a number of so many bits after it
 abbrev pub has_number : ℕ → Rows → Text → Bool
@@ -134,12 +138,15 @@ can_translate rs = has_text rs (codes "SOURCE") && has_text rs (codes "OUT")
 -- `follow`
 pub record IsFollow (rs : Rows) (asked : FollowRequest) : Type 0 where
   pub app : text_at rs (codes "APP") ≡ Some asked.app.now
-  pub trace : text_at rs (codes "TRACE") ≡ Some asked.trace.now
+  pub traces : texts_at rs (codes "TRACE") ≡ Some (map (λ s. s.now) asked.traces.now)
   pub states : number_at 32 rs (codes "states") ≡ Some asked.states
   pub explains : asked.explains ≡ is_given rs (codes "explain")
+  pub covers : asked.covers ≡ is_given rs (codes "coverage")
+  pub any_times : asked.any_times ≡ is_given rs (codes "any-times")
+  pub run : option_map (λ s. s.now) asked.run ≡ text_at rs (codes "run")
 
 abbrev pub can_follow : Rows → Bool
-can_follow rs = has_text rs (codes "APP") && has_text rs (codes "TRACE") && has_number 32 rs (codes "states")
+can_follow rs = has_text rs (codes "APP") && has_texts rs (codes "TRACE") && has_number 32 rs (codes "states")
 
 -- the command with this name
 abbrev pub IsAsked : Text → Rows → Request → Type 0

@@ -5,6 +5,7 @@
 -- | Rows, rows              | what was found for each word; that of all matches                        |
 -- | subcommand              | the name of the command that was met, and what was found for its words   |
 -- | text_at                 | the text after a word, where it is there                                 |
+-- | texts_at                | the texts after a word that can be there several times                   |
 -- | is_given                | a word without a text after it is there                                  |
 -- | number_in, number_at    | the number of so many bits that a text, a word's text, writes            |
 -- | detail_at, format_at    | how much is printed; the form of the answer, None for a person's text    |
@@ -16,7 +17,7 @@ use Rattle.std.specs.Str.{bytes_eq}
 use Rattle.std.specs.Char.{digit_value}
 use Rattle.std.specs.Str.Parse.{digits_value, without_leading_plus}
 use Rattle.clap.specs.Matches.{found_of}
-use Rattle.clap.specs.Walk.{Row, Text, first_of, one_of, rows_of}
+use Rattle.clap.specs.Walk.{Row, Text, all_of, first_of, one_of, rows_of}
 use Rattle.clap.specs.Simple.{subcommand_rows_of}
 use Rattle.clap.specs.declared.parser.matches.ArgMatches.{ArgMatches}
 use Rattle.fr_request.specs.declared.detail.Detail.{Detail}
@@ -39,6 +40,10 @@ subcommand m = subcommand_rows_of m
 -- the text after the word, where it is there
 unfoldable pub text_at : Rows → Text → Option Text
 text_at rs id = first_of id rs
+
+-- the texts after the word, of all its uses, where it is there
+unfoldable pub texts_at : Rows → Text → Option (List Text)
+texts_at rs id = all_of id rs
 
 -- the word is there, for which clap has the value `true`
 unfoldable pub is_given : Rows → Text → Bool

@@ -3,39 +3,67 @@ ghost use Rattle.std.specs.Prelude.{◌≡◌, IfSome, is_some};
 ghost use Rattle.fr_words.specs.Found.{rows};
 ghost use Rattle.fr_words.specs.Asked.{IsFollow, can_follow};
 
-use crate::found::{is_given, number_at, text_at};
-use crate::shared::{APPLICATION, EXPLAINS_REFUSAL, command_of, explain_arg, file_arg, states_arg};
-use clap::{ArgMatches, Command};
+use crate::found::{is_given, number_at, text_at, texts_at};
+use crate::shared::{
+    APPLICATION, command_of, explain_arg, file_arg, flag_arg, states_arg, text_arg,
+};
+use clap::{Arg, ArgAction, ArgMatches, Command};
 use fr_request::FollowRequest;
 use std::alloc::{AllocError, Global};
 
 const STATUSES: &str = "Exit status:
-  0  A run of the application explains all events of the trace
-  1  No such run was found, or the trace has something that the application doesn't list
-  2  The words, the application or the trace are refused
+  0  For each trace, a run of the application explains all its events
+  1  No such run was found, or a trace has something that the application doesn't list
+  2  The words, the application or a trace are refused, or the file for the run is one of these files
   3  The machine failed: no memory, or a file that can't be read or written";
+
+/// What `--explain` does.
+const EXPLAINS: &str =
+    "Print why a trace isn't followed further, and on standard error where a refused file is at fault";
+
+/// The word that names the files of the traces, of which one has to be given.
+fn traces_arg<'a>(alloc: Global) -> Arg<'a> {
+    file_arg(alloc, "TRACE", "The traces that the recorder wrote")
+        .action(ArgAction::Append)
+        .num_args(1..)
+}
 
 /// The command `follow`: its words, its help and its exit statuses.
 pub fn follow_command<'a>(alloc: Global) -> Result<Command<'a>, AllocError> {
-    let about = "Looks for a run of an application that explains a trace of the firmware";
+    let about = "Looks for runs of an application that explain traces of the firmware";
     let args = vec![in alloc;
         file_arg(alloc, "APP", APPLICATION),
-        file_arg(alloc, "TRACE", "The trace that the recorder wrote"),
+        traces_arg(alloc),
         states_arg(alloc, "20000"),
-        explain_arg(alloc, EXPLAINS_REFUSAL),
+        flag_arg(alloc, "any-times", "Compare no block times and no delays"),
+        explain_arg(alloc, EXPLAINS),
+        flag_arg(
+            alloc,
+            "coverage",
+            "Print the lines of code that the runs that were found didn't take"
+        ),
+        text_arg(
+            alloc,
+            "run",
+            "FILE",
+            "Write the run that was found into this file"
+        ),
     ]?;
     command_of(alloc, "follow", about, STATUSES, args)
 }
 
 /// What the matched words ask to follow. Words that were matched always ask for something, so it is never None.
-pub fn asked_follow<'a>(words: &ArgMatches<'a>) -> Option<FollowRequest<'a>>
+pub fn asked_follow<'a>(words: &'a ArgMatches<'a>) -> Option<FollowRequest<'a>>
     ensures fields { IfSome result (IsFollow (rows words.now)) }
     ensures whether { is_some result ≡ can_follow (rows words.now) }
 {
     Some(FollowRequest {
         app: text_at(words, "APP")?,
-        trace: text_at(words, "TRACE")?,
+        traces: texts_at(words, "TRACE")?,
         states: number_at(words, "states")?,
         explains: is_given(words, "explain"),
+        covers: is_given(words, "coverage"),
+        any_times: is_given(words, "any-times"),
+        run: text_at(words, "run"),
     })
 }

@@ -1,6 +1,6 @@
 // What was matched of each word.
-ghost use Rattle.std.specs.Prelude.{◌≡◌, option_map};
-ghost use Rattle.fr_words.specs.Found.{rows, text_at, is_given, number_at};
+ghost use Rattle.std.specs.Prelude.{◌≡◌, map, option_map};
+ghost use Rattle.fr_words.specs.Found.{rows, text_at, texts_at, is_given, number_at};
 
 use clap::ArgMatches;
 
@@ -9,6 +9,13 @@ pub fn text_at<'a>(words: &ArgMatches<'a>, id: &str) -> Option<&'a str>
     ensures { option_map (λ s. s.now) result ≡ text_at (rows words.now) id.now }
 {
     words.get_str(id)
+}
+
+/// The texts after the word, of all its uses; None where it isn't there.
+pub fn texts_at<'a>(words: &'a ArgMatches<'a>, id: &str) -> Option<&'a [&'a str]>
+    ensures { option_map (λ s. map (λ t. t.now) s.now) result ≡ texts_at (rows words.now) id.now }
+{
+    words.get_strs(id)
 }
 
 /// Whether the word is there, which has no text after it.

@@ -1,301 +1,284 @@
 // The command `follow`.
-ghost use Rattle.std.specs.Prelude.{◌≡◌, ◌≤◌, ◌++◌, ℕ, List, IfErr, IfOk, string_bytes};
-ghost use Rattle.fr_follower.specs.Follows.{IsFollowed};
-ghost use Rattle.fr_follower.specs.declared.following.Followed.{Followed as FollowedOf};
+ghost use Rattle.std.specs.Prelude.{◌≡◌, ◌≤◌, ◌⊎◌, ◌∷◌, [], ℕ, List, IfErr, IfNone, IfOk, IfSome, Some, false, length, map, option_copied, option_map, string_bytes, true};
 ghost use Rattle.fr_answer.specs.Checked.{fault_status};
 ghost use Rattle.fr_answer.specs.Inputs.{Reads};
-ghost use Rattle.fr_answer.specs.Traces.{IsTraceAnswer, IsTraceAnswered, followed_end, followed_head, followed_status};
+ghost use Rattle.fr_answer.specs.Traces.{AreCovered, AreTracesAnswered, IsAnswerAt, IsReadAs, IsRunAt, IsTracesAnswered, PutsRun, is_several};
 
-use crate::answer::Refusal;
-use crate::exit::{DONE, NO};
+use super::list::heading;
+use crate::answer::{Refusal, What};
 use crate::fault::CheckFault;
 use crate::files::Files;
 use crate::printing::put;
 use crate::reading::{AppText, application, input};
-use fr_escape::push_plain;
-use fr_follower::{Followed, follow};
-use fr_instr::names_of;
-use fr_place::is_unknown_word;
+use crate::ways::output_at;
+use fr_files::Holds;
+use fr_place::{is_unknown_word, place_of_texts};
 use fr_program::App;
 use fr_reader::read_app;
-use fr_report::{actor_name, rule_text};
 use fr_request::FollowRequest;
-use fr_trace::{MOST_TRACE_BYTES, NoTrace, NotListed, Trace, TraceFault, Unlisted, read_trace};
+use fr_trace::MOST_TRACE_BYTES;
+use fr_trail::{Asked, Coverage, NoAnswer, TraceAnswer, answered};
 use std::alloc::{AllocError, Global};
 use std::io::Write;
 
-/// What is printed of a trace, with its exit status.
-#[derive(Drop)]
-struct TraceAnswer {
-    line: String,
-    status: u8,
-}
-
-/// The words of a trace as they are printed: without what steers a terminal.
-fn shown(alloc: Global, words: &[u8]) -> Result<String, AllocError> {
-    let mut text = String::new(alloc);
-    if let Ok(words) = str::from_utf8(words) {
-        push_plain(&mut text, words)?;
-    }
-    Ok(text)
-}
-
-/// The line of a trace with this number, from 1, as it is printed.
-fn line_shown(alloc: Global, trace: &[u8], number: usize) -> Result<String, AllocError> {
-    let mut text = String::new(alloc);
-    if let Ok(lines) = str::from_utf8(trace)
-        && let Some(line) = lines.lines().nth(number.saturating_sub(1))
-    {
-        push_plain(&mut text, line.trim())?;
-    }
-    Ok(text)
-}
-
-/// Which one of all events the one with this number, from 0, is, with its line of the trace.
-fn event_shown(
-    alloc: Global,
-    bytes: &[u8],
-    trace: &Trace,
-    event: usize,
-) -> Result<String, AllocError> {
-    let number = match trace.events.get(event) {
-        Some(event) => event.line,
-        None => 0,
-    };
-    let line = line_shown(alloc, bytes, number)?;
-    let (place, total) = (event.saturating_add(1), trace.events.len());
-    format!(in alloc; "{place} of {total}, line {number}: {line}")
-}
-
-/// The call that a line begins, or all that it says of its actor.
-fn call_in<'a>(unlisted: NotListed<'a>) -> &'a str {
-    let Ok(line) = str::from_utf8(unlisted.text) else {
-        return "";
-    };
-    let Some((_, rest)) = line.trim().split_once(' ') else {
-        return line;
-    };
-    match rest.trim().split_once(' ') {
-        Some(("enter", call)) => call.trim(),
-        _ => rest,
-    }
-}
-
-/// The name of a call.
-fn name_in(call: &str) -> &str {
-    match call.split_once('(') {
-        Some((name, _)) => name,
-        None => call,
-    }
-}
-
-/// What the trace has that the application doesn't list.
-fn unlisted_text<'a>(alloc: Global, unlisted: NotListed<'a>) -> Result<String, AllocError> {
-    let number = unlisted.line;
-    let actor = shown(alloc, unlisted.actor)?;
-    let call = shown(alloc, call_in(unlisted).as_bytes())?;
-    let name = shown(alloc, name_in(&call).as_bytes())?;
-    match unlisted.what {
-        Unlisted::Actor { touches } => {
-            let touched = shown(alloc, touches)?;
-            format!(in alloc;
-                "line {number}: {actor} touches {touched} in {call}, but no actor is named {actor}\n"
-            )
-        }
-        Unlisted::Object { object } => {
-            let object = shown(alloc, object)?;
-            format!(in alloc;
-                "line {number}: {actor} calls {name} on {object}, but no object is named {object}\n"
-            )
-        }
-        Unlisted::Call => {
-            format!(in alloc;
-                "line {number}: {actor} calls {name}, for which the application has no line\n"
-            )
+/// The application in the file that is named.
+fn app_asked<F: Files>(alloc: Global, asked: &FollowRequest, files: &F) -> Result<App, Refusal>
+    ensures read { IfOk result (IsReadAs (Reads (F.Gives files.now) F.Means) asked.now.app.now) }
+    ensures fault { IfErr result (λ refusal. 2 ≤ fault_status refusal.fault) }
+{
+    let AppText { bytes: text, .. } = application(alloc, files, asked.app, asked.explains)?;
+    match read_app(alloc, &text) {
+        Ok(app) => Ok(app),
+        Err(fault) => {
+            let places = asked.explains || is_unknown_word(&fault);
+            let fault = CheckFault::from(fault);
+            Err(Refusal::of_texts(alloc, &text, None, fault, places))
         }
     }
 }
 
-/// What is wrong in a line of a trace.
-fn fault_text(fault: TraceFault) -> &'static str {
-    match fault {
-        TraceFault::Version => "the first line isn't `fr_trace 1`",
-        TraceFault::NoEvent => "no event",
-        TraceFault::BadNumber => "no number of 64 bits",
-        TraceFault::UnknownCall => "no call",
-        TraceFault::LateHeader => "`unseen` after an event",
-        TraceFault::UnknownVariable => "no variable of the application",
-        TraceFault::ArgCount => "another number of arguments",
-        TraceFault::BadArgument => "no such argument",
-        TraceFault::EnterUnseen => "a call that is unseen",
-        TraceFault::EnterInCall => "the actor has not returned from the call before",
-        TraceFault::ReturnOutside => "the actor returns, but is in no call",
-    }
-}
-
-/// Why the bytes are no trace.
-fn refused(alloc: Global, why: NoTrace) -> Refusal
+/// Why there is no answer, and where that is asked for the place.
+fn refused(alloc: Global, why: NoAnswer, places: bool) -> Refusal
     ensures { 2 ≤ fault_status result.fault }
 {
-    let text = match why {
-        NoTrace::TooLong => String::from_str(alloc, "refused: trace 1 TooLong"),
-        NoTrace::NotText => String::from_str(alloc, "refused: trace 2 NotText"),
-        NoTrace::Faulty {
-            line,
-            column,
-            fault,
-        } => {
-            let said = fault_text(fault);
-            format!(in alloc; "refused: trace line {line}, column {column}: {said}")
-        }
-        _ => Err(AllocError),
+    let NoAnswer::Refused { line, place } = why else {
+        return Refusal::from(CheckFault::Memory);
     };
-    match text {
-        Ok(text) => Refusal::from(CheckFault::Source(text)),
+    let fault = CheckFault::Source(line);
+    if !places || place.is_empty() {
+        return Refusal::from(fault);
+    }
+    match place_of_texts(alloc, &place) {
+        Ok(place) => Refusal {
+            fault,
+            place: Some(place),
+        },
         Err(_) => Refusal::from(CheckFault::Memory),
     }
 }
 
-/// What the line says after its head, without its end.
-fn rest_of(
-    alloc: Global,
-    bytes: &[u8],
-    trace: &Trace,
-    followed: &Followed,
-    states: u32,
-) -> Result<String, AllocError> {
-    match followed {
-        Followed::Whole { .. } if trace.ignored > 0 => {
-            let ignored = trace.ignored;
-            format!(in alloc; ", {ignored} of others ignored")
-        }
-        Followed::Whole { .. } => Ok(String::new(alloc)),
-        Followed::UpToLost { .. } => { String::from_str(alloc, ", up to the first that were lost") }
-        Followed::Stops { event, .. } => event_shown(alloc, bytes, trace, *event),
-        Followed::Breaks { event, .. } => {
-            let place = event_shown(alloc, bytes, trace, *event)?;
-            format!(in alloc; ", at event {place}")
-        }
-        Followed::GaveUp { event } => {
-            format!(in alloc; "more than {states} states after event {event}")
-        }
-    }
-}
-
-/// How the line ends.
-fn end_of(followed: &Followed) -> &'static str
-    ensures { result.now ≡ followed_end followed.now }
-{
-    match followed {
-        Followed::Stops {
-            is_proved: false,
-            ..
-        } => " (as far as the search saw)\n",
-        _ => "\n",
-    }
-}
-
-/// How the line begins.
-fn head_of(
+/// The answer to the trace in a file.
+fn answer_at<F: Files>(
     alloc: Global,
     app: &App,
-    trace: &Trace,
-    followed: &Followed,
-) -> Result<String, AllocError>
-    ensures { IfOk result (λ head. string_bytes head ≡ followed_head app.now trace.now followed.now) }
-{
-    let total = trace.events.len();
-    match followed {
-        Followed::Whole { .. } => format!(in alloc; "followed: {total} events"),
-        Followed::UpToLost { event, .. } => {
-            format!(in alloc; "followed: {event} of {total} events")
-        }
-        Followed::Stops { .. } => String::from_str(alloc, "not followed: event "),
-        Followed::Breaks { rule, actor, .. } => {
-            let (number, rule) = (rule.number(), rule_text(*rule));
-            let actor = actor_name(app, *actor);
-            format!(in alloc; "breach: rule {number}: {rule}: {actor}")
-        }
-        Followed::GaveUp { .. } => String::from_str(alloc, "gave up: "),
-    }
-}
-
-/// The exit status.
-fn status_of(followed: &Followed) -> u8
-    ensures { result ≡ followed_status followed.now }
-{
-    match followed {
-        Followed::Whole { .. } => DONE,
-        Followed::UpToLost { .. }
-        | Followed::Stops { .. }
-        | Followed::Breaks { .. }
-        | Followed::GaveUp { .. } => NO,
-    }
-}
-
-/// What is answered of a trace.
-fn answer_of(
-    alloc: Global,
-    app: &App,
-    bytes: &[u8],
-    trace: &Trace,
-    states: u32,
-) -> Result<TraceAnswer, AllocError>
-    ensures { IfOk result (λ answer. (f : FollowedOf) × IsFollowed app.now trace.now f × (answer.status ≡ followed_status f)
-        × (rest : List ℕ) × (string_bytes answer.line ≡ followed_head app.now trace.now f ++ (rest ++ followed_end f))) }
-{
-    let followed = follow(alloc, app, trace, states as usize)?;
-    let head = head_of(alloc, app, trace, &followed)?;
-    let rest = rest_of(alloc, bytes, trace, &followed, states)?;
-    let end = end_of(&followed);
-    Ok(TraceAnswer {
-        line: format!(in alloc; "{head}{rest}{end}")?,
-        status: status_of(&followed),
-    })
-}
-
-/// What is answered of the text of a trace.
-fn answered(alloc: Global, app: &App, bytes: &[u8], states: u32) -> Result<TraceAnswer, Refusal>
-    ensures answer { IfOk result (λ answer. IsTraceAnswer app.now bytes.now answer.status (string_bytes answer.line)) }
-    ensures fault { IfErr result (λ refusal. 2 ≤ fault_status refusal.fault) }
-{
-    let names = names_of(alloc, app)?;
-    match read_trace(alloc, &names, bytes) {
-        Ok(trace) => Ok(answer_of(alloc, app, bytes, &trace, states)?),
-        Err(NoTrace::NotListed(unlisted)) => {
-            let text = unlisted_text(alloc, unlisted)?;
-            Ok(TraceAnswer {
-                line: format!(in alloc; "not listed: {text}")?,
-                status: NO,
-            })
-        }
-        Err(why) => Err(refused(alloc, why)),
-    }
-}
-
-/// Follows the trace in a file by runs of the application in another one, prints how far that goes, and gives the exit status.
-pub(crate) fn follow_trace<F: Files, O: Write>(
-    alloc: Global,
+    path: &str,
     asked: &FollowRequest,
     files: &F,
+) -> Result<TraceAnswer, Refusal>
+    ensures by { IfOk result (λ answer. IsAnswerAt (Reads (F.Gives files.now) F.Means) asked.now.any_times app.now
+        (record { path = path.now; status = answer.status; text = string_bytes answer.text })) }
+    ensures run { IfOk result (λ answer. IfSome answer.run (λ text.
+        IsRunAt (Reads (F.Gives files.now) F.Means) asked.now.any_times app.now (path.now ∷ []) (string_bytes text))) }
+    ensures most { IfOk result (λ answer. answer.status ≤ 1) }
+    ensures fault { IfErr result (λ refusal. 2 ≤ fault_status refusal.fault) }
+{
+    let bytes = input(alloc, files, path, MOST_TRACE_BYTES, asked.explains)?;
+    let ways = Asked {
+        states: asked.states,
+        any_times: asked.any_times,
+        explains: asked.explains,
+        writes: asked.run.is_some(),
+    };
+    match answered(alloc, app, &bytes, ways) {
+        Ok(answer) => Ok(answer),
+        Err(why) => Err(refused(alloc, why, asked.explains)),
+    }
+}
+
+/// The answer to the trace in a file, or why there is none, as a text that is printed after the path.
+fn answer_shown<F: Files>(
+    alloc: Global,
+    app: &App,
+    path: &str,
+    asked: &FollowRequest,
+    files: &F,
+) -> Result<TraceAnswer, AllocError>
+    ensures by { IfOk result (λ answer. IsAnswerAt (Reads (F.Gives files.now) F.Means) asked.now.any_times app.now
+        (record { path = path.now; status = answer.status; text = string_bytes answer.text })) }
+    ensures most { IfOk result (λ answer. answer.status ≤ 3) }
+{
+    match answer_at(alloc, app, path, asked, files) {
+        Ok(answer) => Ok(answer),
+        Err(refusal) => {
+            let what = What::Refused(refusal);
+            let text = if asked.explains {
+                what.text(alloc)?
+            } else {
+                format!(in alloc; "{}\n", what.line(alloc)?)?
+            };
+            Ok(TraceAnswer {
+                text,
+                status: what.status(),
+                followed: None,
+                run: None,
+            })
+        }
+    }
+}
+
+/// Answers the trace in the file and prints that, where it is the only one that is named; gives the exit status, and the lines of the run
+/// that was found, where they are asked for.
+fn follow_one<F: Files, O: Write>(
+    alloc: Global,
+    app: &App,
+    path: &str,
+    asked: &FollowRequest,
+    coverage: &mut Coverage,
+    files: &F,
     out: &mut O,
-) -> Result<u8, Refusal>
-    ensures answered { IfOk result (λ status. IsTraceAnswered (Reads (F.Gives files.now) F.Means)
-        asked.now.app.now asked.now.trace.now status (O.contents out.old) (O.contents out.new)) }
-    ensures most { IfOk result (λ status. status ≤ 1) }
+) -> Result<(u8, Option<String>), Refusal>
+    ensures answered { IfOk result (λ r. AreTracesAnswered (Reads (F.Gives files.now) F.Means) asked.now.any_times app.now false
+        (path.now ∷ []) r.0 (O.contents out.old) (O.contents out.new)) }
+    ensures run { IfOk result (λ r. IfSome r.1 (λ text.
+        IsRunAt (Reads (F.Gives files.now) F.Means) asked.now.any_times app.now (path.now ∷ []) (string_bytes text))) }
+    ensures most { IfOk result (λ r. r.0 ≤ 1) }
     ensures refused { IfErr result (λ refusal. fault_status refusal.fault ≡ 2 → out.new ≡ out.old) }
 {
-    let AppText { bytes: text, .. } = application(alloc, files, asked.app, asked.explains)?;
-    let app = match read_app(alloc, &text) {
-        Ok(app) => app,
-        Err(fault) => {
-            let places = asked.explains || is_unknown_word(&fault);
-            let fault = CheckFault::from(fault);
-            return Err(Refusal::of_texts(alloc, &text, None, fault, places));
+    let answer = answer_at(alloc, app, path, asked, files)?;
+    put(&answer.text, out)?;
+    coverage.add(alloc, app, &answer)?;
+    Ok((answer.status, answer.run))
+}
+
+/// Answers each trace and prints that when it is answered; gives the greatest exit status.
+fn follow_each<F: Files, O: Write>(
+    alloc: Global,
+    app: &App,
+    paths: &[&str],
+    asked: &FollowRequest,
+    coverage: &mut Coverage,
+    files: &F,
+    out: &mut O,
+) -> Result<u8, CheckFault>
+    ensures answered { IfOk result (λ status. AreTracesAnswered (Reads (F.Gives files.now) F.Means) asked.now.any_times app.now true
+        (map (λ s. s.now) paths.now) status (O.contents out.old) (O.contents out.new)) }
+    ensures most { IfOk result (λ status. status ≤ 3) }
+    ensures fault { IfErr result (λ fault. fault_status fault ≡ 3) }
+{
+    let mut greatest = 0u8;
+    for path in paths {
+        let answer = answer_shown(alloc, app, *path, asked, files)?;
+        let heading = heading(alloc, *path)?;
+        put(&format!(in alloc; "{heading}{}", answer.text)?, out)?;
+        coverage.add(alloc, app, &answer)?;
+        greatest = greatest.max(answer.status);
+    }
+    Ok(greatest)
+}
+
+/// The one trace that is named; None where there are several.
+fn one_named<'a>(traces: &'a [&'a str]) -> Option<&'a str>
+    ensures some { IfSome result (λ path. traces.now ≡ path ∷ []) }
+    ensures none { IfNone result (is_several (length traces.now) ≡ true) }
+{
+    if traces.len() == 1 {
+        traces.first().copied()
+    } else {
+        None
+    }
+}
+
+/// Answers the traces that are named, and prints the answers: the one alone, or each of several after its path; gives the greatest exit
+/// status, and for one trace the lines of the run that was found, where they are asked for.
+fn follow_named<F: Files, O: Write>(
+    alloc: Global,
+    app: &App,
+    asked: &FollowRequest,
+    coverage: &mut Coverage,
+    files: &F,
+    out: &mut O,
+) -> Result<(u8, Option<String>), Refusal>
+    ensures answered { IfOk result (λ r. AreTracesAnswered (Reads (F.Gives files.now) F.Means) asked.now.any_times app.now
+        (is_several (length asked.now.traces.now)) (map (λ s. s.now) asked.now.traces.now) r.0 (O.contents out.old) (O.contents out.new)) }
+    ensures run { IfOk result (λ r. IfSome r.1 (λ text.
+        IsRunAt (Reads (F.Gives files.now) F.Means) asked.now.any_times app.now (map (λ s. s.now) asked.now.traces.now) (string_bytes text))) }
+    ensures most { IfOk result (λ r. r.0 ≤ 3) }
+    ensures kept { IfOk result (λ r. 2 ≤ r.0 → length asked.now.traces.now ≡ 1 → out.new ≡ out.old) }
+    ensures refused { IfErr result (λ refusal. fault_status refusal.fault ≡ 2 → out.new ≡ out.old) }
+{
+    match one_named(asked.traces) {
+        Some(path) => follow_one(alloc, app, path, asked, coverage, files, out),
+        None => {
+            let status = follow_each(alloc, app, asked.traces, asked, coverage, files, out)?;
+            Ok((status, None))
         }
+    }
+}
+
+/// Prints what no run has shown, where that is asked for.
+fn cover<O: Write>(
+    alloc: Global,
+    app: &App,
+    asks: bool,
+    coverage: &Coverage,
+    out: &mut O,
+) -> Result<(), CheckFault>
+    ensures covered { IfOk result (λ _. AreCovered asks (O.contents out.old) (O.contents out.new)) }
+    ensures fault { IfErr result (λ fault. fault_status fault ≡ 3) }
+{
+    if !asks {
+        return Ok(());
+    }
+    put(&coverage.text(alloc, app)?, out)
+}
+
+/// Looks at the file for the run, where one is named: it is written for one trace alone.
+fn look_at_run<F: Files>(alloc: Global, asked: &FollowRequest, files: &F) -> Result<(), Refusal>
+    ensures may { IfOk result (λ _. (path : List ℕ) → option_copied asked.now.run ≡ Some path → F.May files.now path) }
+    ensures fault { IfErr result (λ refusal. 2 ≤ fault_status refusal.fault) }
+{
+    let trace = asked.traces.first().copied().unwrap_or("");
+    if asked.run.is_some() && asked.traces.len() > 1 {
+        let text = String::from_str(alloc, "refused: --run is for one trace")?;
+        return Err(Refusal::from(CheckFault::Source(text)));
+    }
+    let run = output_at(asked.run, Holds::Anything);
+    match files.check_outputs(&[asked.app, trace], &[run]) {
+        Ok(()) => Ok(()),
+        Err(fault) => Err(Refusal::of_outputs(alloc, &fault, asked.explains)),
+    }
+}
+
+/// Writes the lines of the run that was found to the file that is named, if one is.
+fn put_run<F: Files>(
+    alloc: Global,
+    asked: &FollowRequest,
+    run: &Option<String>,
+    files: &mut F,
+) -> Result<(), Refusal>
+    requires may { (path : List ℕ) → option_copied asked.now.run ≡ Some path → F.May files.old path }
+    ensures put { (files.new ≡ files.old) ⊎ ((path text : List ℕ) × (option_copied asked.now.run ≡ Some path)
+        × (option_map string_bytes run.now ≡ Some text) × F.Puts files.old path text files.new) }
+    ensures fault { IfErr result (λ refusal. fault_status refusal.fault ≡ 3) }
+{
+    let (Some(path), Some(text)) = (asked.run, run) else {
+        return Ok(());
     };
-    let bytes = input(alloc, files, asked.trace, MOST_TRACE_BYTES, asked.explains)?;
-    let answer = answered(alloc, &app, &bytes, asked.states)?;
-    put(&answer.line, out)?;
-    Ok(answer.status)
+    match files.replace(path, text.as_bytes()) {
+        Ok(()) => Ok(()),
+        Err(fault) => Err(Refusal::of_file(alloc, &fault, asked.explains)),
+    }
+}
+
+/// Follows the traces in files by runs of the application in another one, prints how far that goes, writes the run that was found to the
+/// file for it, if one is named, and gives the greatest exit status. That file is looked at before anything is read.
+pub(crate) fn follow_traces<F: Files, O: Write>(
+    alloc: Global,
+    asked: &FollowRequest,
+    files: &mut F,
+    out: &mut O,
+) -> Result<u8, Refusal>
+    ensures answered { IfOk result (λ status. IsTracesAnswered (Reads (F.Gives files.old) F.Means) asked.now status (O.contents out.old) (O.contents out.new)) }
+    ensures most { IfOk result (λ status. status ≤ 3) }
+    ensures kept { IfOk result (λ status. 2 ≤ status → length asked.now.traces.now ≡ 1 → out.new ≡ out.old) }
+    ensures refused { IfErr result (λ refusal. fault_status refusal.fault ≡ 2 → out.new ≡ out.old) }
+    ensures files { PutsRun (Reads (F.Gives files.old) F.Means) F.Puts asked.now files.old files.new }
+{
+    look_at_run(alloc, asked, files)?;
+    let app = app_asked(alloc, asked, files)?;
+    let mut coverage = Coverage::new(alloc, &app)?;
+    let (status, run) = follow_named(alloc, &app, asked, &mut coverage, files, out)?;
+    cover(alloc, &app, asked.covers, &coverage, out)?;
+    put_run(alloc, asked, &run, files)?;
+    Ok(status)
 }

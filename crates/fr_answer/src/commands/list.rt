@@ -17,8 +17,8 @@ ghost use Rattle.fr_answer.specs.Commands.{
   IsLineText,
   IsListAnswered,
   Shows,
-  heading,
 };
+ghost use Rattle.fr_answer.specs.Heading.{heading};
 ghost use Rattle.fr_answer.specs.Inputs.{Reads};
 
 use crate::answer::{Answer, Refusal, What};
@@ -118,7 +118,7 @@ fn answer_line<R: Threads + Wait + Sync, F: Files>(
 }
 
 /// How a path begins a line: as a text without control characters, and never as `::`, which build servers take for a command.
-fn heading(alloc: Global, path: &str) -> Result<String, AllocError>
+pub(super) fn heading(alloc: Global, path: &str) -> Result<String, AllocError>
     ensures { IfOk result (λ text. string_bytes text ≡ heading path.now) }
 {
     let is_command = path.as_bytes().starts_with(b"::");

@@ -2,7 +2,8 @@
 ghost use Rattle.fr_calls.specs.State.{IsWellFormed};
 
 use super::scene::subjects;
-use super::words::{content_in, fact, suspension_in};
+use super::words::{content_in, fact, put_stock, suspension_in};
+use crate::shown::object_name;
 use fr_calls::State;
 use fr_program::{ActorId, App, Kind, ObjId};
 use fr_witness::Subject;
@@ -63,4 +64,25 @@ pub fn state_told(alloc: Global, app: &App, state: &State) -> Result<Vec<String>
         }
     }
     Ok(told)
+}
+
+/// What the object has in the state, in words; no text where the application has no such object.
+///
+/// # Errors
+///
+/// Only where memory is refused. The words are this project's own.
+pub fn object_told(
+    alloc: Global,
+    app: &App,
+    state: &State,
+    object: ObjId,
+) -> Result<String, AllocError>
+    requires { IsWellFormed app.now state.now }
+{
+    let mut text = String::new(alloc);
+    if let Some(content) = content_in(app, state, object) {
+        write!(&mut text, "{} is ", object_name(app, object))?;
+        put_stock(&mut text, app, content.stock())?;
+    }
+    Ok(text)
 }

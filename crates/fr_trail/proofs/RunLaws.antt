@@ -1,0 +1,25 @@
+-- One item more of a run, and its line; the lines of a run that was found.
+use Rattle.std.proofs.Common.{◌≡◌, ◌++◌, ◌∙◌, ℕ, Bool, List, [], ◌∷◌, Option, Some, None, String, IfSome, ap, append-nil, append_assoc, refl, string_bytes, sym}
+use Rattle.std.specs.declared.alloc.Global.{Global}
+use Rattle.fr_program.specs.Program.{Program}
+use Rattle.fr_instr.specs.AppNames.{names_in}
+use Rattle.fr_trace.specs.Means.{TraceMeans, said_in}
+use Rattle.fr_trace.specs.declared.trace.Trace.{Trace}
+use Rattle.fr_follower.specs.Follows.{IsFollowed}
+use Rattle.fr_follower.specs.declared.following.Followed.{Followed}
+use Rattle.fr_follower.specs.declared.item.Item.{Item}
+use Rattle.fr_trail.specs.Answered.{IsAsked}
+use Rattle.fr_trail.specs.Runs.{IsItemLine, IsRunIn, IsRunOf, IsRunText}
+
+pub run-more : (P : Program) (items : List Item) (item : Item) (text line : List ℕ) → IsRunText P items text → IsItemLine P item line
+    → IsRunText P (items ++ item ∷ []) (text ++ line)
+run-more P [] item text line h own = (line, [], own, refl, ap (λ t. t ++ line) h ∙ sym (append-nil line))
+run-more P (i ∷ items) item text line h own =
+    (h.0, h.1 ++ line, h.2, run-more P items item h.1 line h.3 own, ap (λ t. t ++ line) h.4 ∙ append_assoc h.0 h.1 line)
+
+-- the lines of the run are those of one for the trace in this text
+pub run-of : (any : Bool) (P : Program) (bytes : List ℕ) (e u : Trace) → TraceMeans (names_in P) bytes (said_in e) → IsAsked any e u → (found : Option (String Global))
+    → IfSome found (λ text. (f : Followed) × IsFollowed P u f × (items : List Item) × IsRunIn f items × IsRunText P items (string_bytes text))
+    → IfSome found (λ text. IsRunOf any P bytes (string_bytes text))
+run-of any P bytes e u means asked (Some text) h = (e, means, u, asked, h.0, h.1, h.2, h.3, h.4)
+run-of any P bytes e u means asked None h = tt
