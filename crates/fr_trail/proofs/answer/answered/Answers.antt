@@ -24,8 +24,8 @@ returns-in-Ok-clause-answer c =
 pub returns-in-Ok-clause-run : goal.returns-in-Ok-clause-run
 returns-in-Ok-clause-run c =
     run-of c.args.asked.any_times c.args.app.now c.args.bytes.now c.in-Ok.trace c.in_ok-trace-in-Ok.trace
-        (subst (λ N. TraceMeans N c.args.bytes.now (said_in c.in-Ok.trace)) c.in_ok-names.ensures c.in-Ok.ensures.means) c.in_ok-trace-in-Ok.ensures
-        _ c.in_ok-answer_of-in-Ok.ensures.run
+    (subst (λ N. TraceMeans N c.args.bytes.now (said_in c.in-Ok.trace)) c.in_ok-names.ensures c.in-Ok.ensures.means) c.in_ok-trace-in-Ok.ensures
+    _ c.in_ok-answer_of-in-Ok.ensures.run
 
 pub returns-in-Err-NotListed-clause-answer : goal.returns-in-Err-NotListed-clause-answer
 returns-in-Err-NotListed-clause-answer c =
