@@ -1,0 +1,7 @@
+use Rattle.fr_trail.proofs.answer.answer_as_asked.Goals as goal
+
+pub returns-clause-answer : goal.returns-clause-answer
+returns-clause-answer c = (c.in_ok-followed.followed, c.in_ok-followed.ensures, c.in_ok-answer_of.ensures.answer)
+
+pub returns-clause-run : goal.returns-clause-run
+returns-clause-run c = (c.in_ok-followed.followed, c.in_ok-followed.ensures, c.in_ok-answer_of.ensures.run)
