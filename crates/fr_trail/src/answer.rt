@@ -1,9 +1,12 @@
 // The answer to a trace.
-ghost use Rattle.std.specs.Prelude.{◌≡◌, ◌≤◌, ◌++◌, ℕ, List, IfOk, IfSome, string_bytes};
+ghost use Rattle.std.specs.Prelude.{◌≡◌, ◌≤◌, ◌++◌, ℕ, List, None, IfErr, IfOk, IfSome, codes, string_bytes};
+ghost use Rattle.fr_instr.specs.AppNames.{names_in};
+ghost use Rattle.fr_trace.specs.Means.{IsPresent, TraceMeans, said_in};
+ghost use Rattle.fr_trace.specs.declared.trace.Trace.{Trace as TraceOf};
 ghost use Rattle.fr_follower.specs.Follows.{IsFollowed};
 ghost use Rattle.fr_follower.specs.declared.following.Followed.{Followed as FollowedOf};
 ghost use Rattle.fr_follower.specs.declared.item.Item.{Item as ItemOf};
-ghost use Rattle.fr_trail.specs.Answered.{IsTraceAnswer, followed_end, followed_head, followed_status};
+ghost use Rattle.fr_trail.specs.Answered.{IsAsked, IsTraceAnswer, followed_end, followed_head, followed_status};
 ghost use Rattle.fr_trail.specs.Runs.{IsRunIn, IsRunOf, IsRunText};
 
 use crate::run_text::run_text;
@@ -265,6 +268,56 @@ fn refused(alloc: Global, bytes: &[u8], why: NoTrace) -> Result<NoAnswer, AllocE
     Ok(NoAnswer::Refused { line, place })
 }
 
+/// The trace in these bytes.
+fn trace_in<'a>(alloc: Global, app: &App, bytes: &'a [u8]) -> Result<Trace, NoTrace<'a>>
+    ensures means { IfOk result (λ trace. TraceMeans (names_in app.now) bytes.now (said_in trace)) }
+    ensures fault { IfErr result (IsPresent (names_in app.now) bytes.now) }
+{
+    let names = names_of(alloc, app)?;
+    read_trace(alloc, &names, bytes)
+}
+
+/// What is answered of a trace, with any block times where those will do.
+fn answer_as_asked(
+    alloc: Global,
+    app: &App,
+    bytes: &[u8],
+    trace: Trace,
+    asked: Asked,
+) -> Result<TraceAnswer, AllocError>
+    ensures answer { IfOk result (λ answer. (u : TraceOf) × IsAsked asked.any_times trace u × (f : FollowedOf) × IsFollowed app.now u f
+        × (answer.status ≡ followed_status f)
+        × (rest why : List ℕ) × (string_bytes answer.text ≡ followed_head app.now u f ++ (rest ++ (followed_end f ++ why)))) }
+    ensures run { IfOk result (λ answer. (u : TraceOf) × IsAsked asked.any_times trace u
+        × IfSome answer.run (λ text. (f : FollowedOf) × IsFollowed app.now u f
+        × (items : List ItemOf) × IsRunIn f items × IsRunText app.now items (string_bytes text))) }
+    ensures most { IfOk result (λ answer. answer.status ≤ 1) }
+{
+    let followed = as_asked(alloc, trace, asked.any_times)?;
+    Ok(answer_of(alloc, app, bytes, &followed, asked)?)
+}
+
+/// What is answered of a trace that has something that the application doesn't list.
+fn unlisted_answer<'a>(
+    alloc: Global,
+    app: &App,
+    unlisted: NotListed<'a>,
+    explains: bool,
+) -> Result<TraceAnswer, AllocError>
+    ensures status { IfOk result (λ answer. answer.status ≡ 1) }
+    ensures text { IfOk result (λ answer. (rest : List ℕ) × (string_bytes answer.text ≡ codes "not listed: " ++ rest)) }
+    ensures run { IfOk result (λ answer. answer.run ≡ None) }
+{
+    let text = unlisted_text(alloc, unlisted)?;
+    let why = unlisted_why(alloc, app, unlisted, explains)?;
+    Ok(TraceAnswer {
+        text: format!(in alloc; "not listed: {text}{why}")?,
+        status: 1,
+        followed: None,
+        run: None,
+    })
+}
+
 /// What is answered of the text of a trace, which is followed by runs of the application: a line, and where that is asked for the lines
 /// below it that explain it.
 ///
@@ -281,21 +334,10 @@ pub fn answered(
     ensures run { IfOk result (λ answer. IfSome answer.run (λ text. IsRunOf asked.any_times app.now bytes.now (string_bytes text))) }
     ensures most { IfOk result (λ answer. answer.status ≤ 1) }
 {
-    let names = names_of(alloc, app)?;
-    match read_trace(alloc, &names, bytes) {
-        Ok(trace) => {
-            let trace = as_asked(alloc, trace, asked.any_times)?;
-            Ok(answer_of(alloc, app, bytes, &trace, asked)?)
-        }
+    match trace_in(alloc, app, bytes) {
+        Ok(trace) => Ok(answer_as_asked(alloc, app, bytes, trace, asked)?),
         Err(NoTrace::NotListed(unlisted)) => {
-            let text = unlisted_text(alloc, unlisted)?;
-            let why = unlisted_why(alloc, app, unlisted, asked.explains)?;
-            Ok(TraceAnswer {
-                text: format!(in alloc; "not listed: {text}{why}")?,
-                status: 1,
-                followed: None,
-                run: None,
-            })
+            Ok(unlisted_answer(alloc, app, unlisted, asked.explains)?)
         }
         Err(why) => Err(refused(alloc, bytes, why)?),
     }

@@ -1,5 +1,5 @@
 // Traces without block times.
-ghost use Rattle.std.specs.Prelude.{◌≡◌, IfOk};
+ghost use Rattle.std.specs.Prelude.{◌≡◌, IfOk, map};
 ghost use Rattle.fr_trail.specs.Answered.{IsAsked, untimed};
 
 use fr_trace::{Event, Happening, Recorded, SeenCall, Trace};
@@ -22,6 +22,17 @@ fn untimed(event: &Event) -> Event
     }
 }
 
+/// The events without their block times and ticks.
+fn untimed_events(alloc: Global, events: &[Event]) -> Result<Vec<Event>, AllocError>
+    ensures { IfOk result (λ found. found.items ≡ map untimed events.now) }
+{
+    let mut found = Vec::new(alloc);
+    for event in events {
+        found.push(untimed(event))?;
+    }
+    Ok(found)
+}
+
 /// The trace as it is followed: where any times will do, all block times and ticks are unknown.
 pub(crate) fn as_asked(alloc: Global, trace: Trace, any_times: bool) -> Result<Trace, AllocError>
     ensures { IfOk result (IsAsked any_times trace) }
@@ -29,9 +40,8 @@ pub(crate) fn as_asked(alloc: Global, trace: Trace, any_times: bool) -> Result<T
     if !any_times {
         return Ok(trace);
     }
-    let events = trace.events.iter().map(untimed).collect(alloc)?;
     Ok(Trace {
-        events,
+        events: untimed_events(alloc, &trace.events)?,
         unseen: trace.unseen,
         lost: trace.lost,
         ignored: trace.ignored,
