@@ -22,7 +22,7 @@ refused-least true = omega arith
 refused-least false = omega arith
 
 pub max-none : (n : ℕ) → max 0 n ≡ n
-max-none n = refl
+max-none n = omega arith
 
 module _ (reads : Reading → List ℕ → List ℕ → Type 0) (any : Bool) (P : Program) where
   -- the answers to no traces

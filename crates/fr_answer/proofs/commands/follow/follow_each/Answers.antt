@@ -1,5 +1,5 @@
 -- One trace more is answered and printed.
-use Rattle.std.proofs.Common.{◌≡◌, ◌≤◌, ◌∙◌, true, ap, arith, map, max, refl, string_bytes, take}
+use Rattle.std.proofs.Common.{◌≡◌, ◌≤◌, ◌∙◌, true, ap, arith, map, max, refl, rules, string_bytes, take}
 use Rattle.std.proofs.lemmas.List.{map-append, take_more}
 use Rattle.fr_answer.specs.Inputs.{Reads}
 use Rattle.fr_answer.proofs.Following.{answers-at, none-yet, one-more}
