@@ -193,7 +193,7 @@ fn follow_named<F: Files, O: Write>(
     ensures run { IfOk result (λ r. IfSome r.1 (λ text.
         IsRunAt (Reads (F.Gives files.now) F.Means) asked.now.any_times app.now (map (λ s. s.now) asked.now.traces.now) (string_bytes text))) }
     ensures most { IfOk result (λ r. r.0 ≤ 3) }
-    ensures kept { IfOk result (λ r. 2 ≤ r.0 → length asked.now.traces.now ≡ 1 → out.new ≡ out.old) }
+    ensures kept { IfOk result (λ r. length asked.now.traces.now ≡ 1 → r.0 ≤ 1) }
     ensures refused { IfErr result (λ refusal. fault_status refusal.fault ≡ 2 → out.new ≡ out.old) }
 {
     match one_named(asked.traces) {
