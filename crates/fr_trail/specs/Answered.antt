@@ -4,7 +4,7 @@
 -- |-----------------|------------------------------------------------------------------------------------|
 -- | untimed, IsUntimed | a call, an event, a trace without block times and ticks                         |
 -- | IsAsked         | the trace as it is followed: where that is asked, without block times              |
--- | followed_status | the exit status: 0 where a run explains the whole trace                            |
+-- | followed_status | the exit status: 0 where a run explains the trace, to its end or to what was lost  |
 -- | followed_head, followed_end | how the answer's line begins, and how it ends                          |
 -- | IsTraceAnswer   | the exit status, and what is shown, are those of a trace for an application        |
 use Rattle.std.specs.Prelude.{◌≡◌, ◌⊎◌, ◌++◌, ℕ, Bool, true, false, List, codes, decimal, length, map}
@@ -24,7 +24,7 @@ use Rattle.fr_trace.specs.declared.trace.Happening.TheVariants.{Enter}
 use Rattle.fr_trace.specs.declared.trace.Trace.{Trace}
 use Rattle.fr_follower.specs.Follows.{IsFollowed}
 use Rattle.fr_follower.specs.declared.following.Followed.{Followed}
-use Rattle.fr_follower.specs.declared.following.Followed.TheVariants.{Whole, UpToLost, Stops, Breaks, GaveUp}
+use Rattle.fr_follower.specs.declared.following.Followed.TheVariants.{Whole, UpToLost, Strays, Stops, Breaks, GaveUp}
 
 -- the same without block times
 abbrev pub untimed_call : SeenCall → SeenCall
@@ -49,10 +49,11 @@ abbrev pub IsAsked : Bool → Trace → Trace → Type 0
 IsAsked true e u = IsUntimed e u
 IsAsked false e u = u ≡ e
 
--- 0 where a run explains the whole trace, and else 1
+-- 0 where a run explains the whole trace, or up to the first events that were lost, which the line says then; and else 1
 abbrev pub followed_status : Followed → ℕ
 followed_status (Whole run) = 0
-followed_status (UpToLost event run) = 1
+followed_status (UpToLost event run) = 0
+followed_status (Strays event run) = 1
 followed_status (Stops event run proved) = 1
 followed_status (Breaks event rule actor run) = 1
 followed_status (GaveUp event) = 1
@@ -60,7 +61,8 @@ followed_status (GaveUp event) = 1
 -- how the answer's line begins
 abbrev pub followed_head : Program → Trace → Followed → List ℕ
 followed_head P e (Whole run) = codes "followed: " ++ (decimal (length e.events.items) ++ codes " events")
-followed_head P e (UpToLost event run) = codes "followed: " ++ (decimal event ++ (codes " of " ++ (decimal (length e.events.items) ++ codes " events")))
+followed_head P e (UpToLost event run) = codes "followed: " ++ (decimal (length e.events.items) ++ codes " events, each actor by itself")
+followed_head P e (Strays event run) = codes "not followed: event "
 followed_head P e (Stops event run proved) = codes "not followed: event "
 followed_head P e (Breaks event rule actor run) =
     codes "breach: rule " ++ (decimal (number_of rule) ++ (codes ": " ++ (rule_text rule ++ (codes ": " ++ (actor_at P actor.0).name))))

@@ -19,7 +19,7 @@ use Rattle.fr_follower.specs.Follows.{IsFollowed}
 use Rattle.fr_follower.specs.declared.item.Item.{Item}
 use Rattle.fr_follower.specs.declared.item.Item.TheVariants.{Step as StepItem, Event as EventItem}
 use Rattle.fr_follower.specs.declared.following.Followed.{Followed}
-use Rattle.fr_follower.specs.declared.following.Followed.TheVariants.{Whole, UpToLost, Stops, Breaks, GaveUp}
+use Rattle.fr_follower.specs.declared.following.Followed.TheVariants.{Whole, UpToLost, Strays, Stops, Breaks, GaveUp}
 use Rattle.fr_trail.specs.Answered.{IsAsked}
 
 -- the line of a step, as `run` prints it
@@ -40,6 +40,7 @@ IsRunText P (item ∷ items) text = (line : List ℕ) × (rest : List ℕ) × Is
 abbrev pub IsRunIn : Followed → List Item → Type 0
 IsRunIn (Whole run) items = items ≡ run.items
 IsRunIn (UpToLost event run) items = items ≡ run.items
+IsRunIn (Strays event run) items = items ≡ run.items
 IsRunIn (Stops event run proved) items = items ≡ run.items
 IsRunIn (Breaks event rule actor run) items = items ≡ run.items
 IsRunIn (GaveUp event) items = ⊥

@@ -39,7 +39,7 @@ pub struct Asked {
 pub struct TraceAnswer {
     /// The line, and the lines that explain it where that is asked for, each with its newline.
     pub text: String,
-    /// The exit status: 0 where a run explains the whole trace, and else 1.
+    /// The exit status: 0 where the whole trace is followed, by a run or, after events that were lost, each actor by itself; and else 1.
     pub status: u8,
     /// How far it was followed; None where it wasn't, as it has something that the application doesn't list.
     pub followed: Option<Followed>,
@@ -80,12 +80,12 @@ fn rest_of(
     states: u32,
 ) -> Result<String, AllocError> {
     match followed {
-        Followed::Whole { .. } if trace.ignored > 0 => {
+        Followed::Whole { .. } | Followed::UpToLost { .. } if trace.ignored > 0 => {
             let ignored = trace.ignored;
             format!(in alloc; ", {ignored} of others ignored")
         }
-        Followed::Whole { .. } => Ok(String::new(alloc)),
-        Followed::UpToLost { .. } => { String::from_str(alloc, ", up to the first that were lost") }
+        Followed::Whole { .. } | Followed::UpToLost { .. } => Ok(String::new(alloc)),
+        Followed::Strays { event, .. } => event_shown(alloc, bytes, trace, *event),
         Followed::Stops { event, .. } => event_shown(alloc, bytes, trace, *event),
         Followed::Breaks { event, .. } => {
             let place = event_shown(alloc, bytes, trace, *event)?;
@@ -102,7 +102,10 @@ fn end_of(followed: &Followed) -> &'static str
     ensures { result.now ≡ followed_end followed.now }
 {
     match followed {
-        Followed::Stops { is_proved: false, .. } => " (as far as the search saw)\n",
+        Followed::Stops {
+            is_proved: false,
+            ..
+        } => " (as far as the search saw)\n",
         _ => "\n",
     }
 }
@@ -119,9 +122,10 @@ fn head_of(
     let total = trace.events.len();
     match followed {
         Followed::Whole { .. } => format!(in alloc; "followed: {total} events"),
-        Followed::UpToLost { event, .. } => {
-            format!(in alloc; "followed: {event} of {total} events")
+        Followed::UpToLost { .. } => {
+            format!(in alloc; "followed: {total} events, each actor by itself")
         }
+        Followed::Strays { .. } => String::from_str(alloc, "not followed: event "),
         Followed::Stops { .. } => String::from_str(alloc, "not followed: event "),
         Followed::Breaks { rule, actor, .. } => {
             let (number, rule) = (rule.number(), rule_text(*rule));
@@ -138,8 +142,8 @@ fn status_of(followed: &Followed) -> u8
     ensures most { result ≤ 1 }
 {
     match followed {
-        Followed::Whole { .. } => 0,
-        Followed::UpToLost { .. }
+        Followed::Whole { .. } | Followed::UpToLost { .. } => 0,
+        Followed::Strays { .. }
         | Followed::Stops { .. }
         | Followed::Breaks { .. }
         | Followed::GaveUp { .. } => 1,
@@ -153,6 +157,7 @@ pub(crate) fn run_in(followed: &Followed) -> Option<&[Item]>
     match followed {
         Followed::Whole { run } => Some(run),
         Followed::UpToLost { run, .. } => Some(run),
+        Followed::Strays { run, .. } => Some(run),
         Followed::Stops { run, .. } => Some(run),
         Followed::Breaks { run, .. } => Some(run),
         Followed::GaveUp { .. } => None,

@@ -170,6 +170,25 @@ fn stopped(
     Ok(texts)
 }
 
+/// That the actor of the event with this number, from 0, has no way to it through its own code, and the last events before it.
+fn strayed(
+    alloc: Global,
+    app: &App,
+    bytes: &[u8],
+    trace: &Trace,
+    number: usize,
+) -> Result<Vec<String>, AllocError> {
+    let mut texts = Vec::new(alloc);
+    if let Some(event) = trace.events.get(number) {
+        let name = actor_name(app, event.actor);
+        texts.push(format!(in alloc;
+            "events were lost before, so {name} is followed by itself: from no line of its code on can it have this event"
+        )?)?;
+    }
+    texts.append(&mut events_before(alloc, bytes, trace, number)?)?;
+    Ok(texts)
+}
+
 /// What explains how far a trace was followed, a text for each line; none where a run explains all of it.
 pub(crate) fn why(
     alloc: Global,
@@ -181,6 +200,7 @@ pub(crate) fn why(
     match followed {
         Followed::Stops { event, run, .. } => stopped(alloc, app, bytes, trace, *event, run),
         Followed::Breaks { event, run, .. } => stopped(alloc, app, bytes, trace, *event, run),
+        Followed::Strays { event, .. } => strayed(alloc, app, bytes, trace, *event),
         Followed::GaveUp { event } => {
             let mut texts = events_before(alloc, bytes, trace, *event)?;
             let next = event_shown(alloc, bytes, trace, *event)?;
