@@ -192,8 +192,8 @@ static fr_word fr_object_keys[FR_TRACE_OBJECTS];    /* a handle; 0: none now */
 static struct fr_object fr_objects[FR_TRACE_OBJECTS];
 static struct fr_table fr_object_table = { .most = FR_TRACE_OBJECTS, .keys = fr_object_keys };
 
-/* How a record is written. %o is an object, %k its kind, Stream or Message, %e an item, %n a length, %w a block time or a
- * delay, %a an actor, %v a variable, %i what it was given. answer: what the call returns, '-' nothing, 'r' a result, 'i' a
+/* How a record is written. %o is an object, %k its kind, Stream or Message, %e an item, %n a length, %w a block time,
+ * %t a delay, %a an actor, %v a variable, %i what it was given. answer: what the call returns, '-' nothing, 'r' a result, 'i' a
  * result and an item, 'c' a create's handle; 'm' is no call. outer: the kernel never makes this call within another one that
  * is recorded. */
 struct fr_form {
@@ -230,7 +230,7 @@ static const struct fr_form fr_forms[FR_CALLS] = {
     [FR_DELETE_QUEUE] = { "vQueueDelete(%o)", '-', 0 },
     [FR_DELETE_SEMAPHORE] = { "vSemaphoreDelete(%o)", '-', 0 },
     [FR_DELETE_BUFFER] = { "v%kBufferDelete(%o)", '-', 1 },
-    [FR_DELAY] = { "vTaskDelay(%w)", '-', 1 },
+    [FR_DELAY] = { "vTaskDelay(%t)", '-', 1 },
     [FR_DELAY_UNTIL] = { "vTaskDelay(?)", '-', 1 },
     [FR_TASK_DELETE] = { "vTaskDelete(NULL)", '-', 0 },
     [FR_SUSPEND_ALL] = { "vTaskSuspendAll()", '-', 0 },
@@ -833,6 +833,14 @@ static void fr_add_part(struct fr_text *text, char part, const struct fr_event *
     case 'w':
         if (event->what == FR_FOREVER) {
             fr_add(text, "portMAX_DELAY");
+        } else {
+            fr_add_number(text, event->what, 10u);
+        }
+        break;
+    case 't':
+        /* An application has no delay of portMAX_DELAY. */
+        if (event->what == FR_FOREVER) {
+            fr_add_char(text, '?');
         } else {
             fr_add_number(text, event->what, 10u);
         }
