@@ -22,6 +22,27 @@ const TICKS: Range = Range {
     high: 2_147_483_647,
 };
 
+/// Whether a name looks like one of the kernel's.
+fn is_of_kernel(name: &str) -> bool {
+    let is_upper = matches!(name.as_bytes().get(1).copied(), Some(b'A'..=b'Z'));
+    is_upper && (name.starts_with("x") || name.starts_with("v")) || name.starts_with("ulTask")
+}
+
+/// What to write in place of a call that no source has, after the quote behind its name.
+fn instead_of(name: &str) -> &'static str {
+    match name {
+        "portYIELD_FROM_ISR" | "portEND_SWITCHING_ISR" => "': leave it out",
+        "assert" => "': write configASSERT",
+        "uxQueueMessagesWaiting"
+        | "uxQueueMessagesWaitingFromISR"
+        | "uxQueueSpacesAvailable"
+        | "uxSemaphoreGetCount"
+        | "xTaskGetTickCount" => "': write any(..), as in 'n = any(0, 4);'",
+        _ if is_of_kernel(name) => "'",
+        _ => "': leave it out if it makes no kernel call, and write any(..) for its answer",
+    }
+}
+
 impl<'a> Reader<'a> {
     /// Takes the arguments of the call with this name.
     pub(crate) fn kernel_call(&mut self, token: Token<'a>) -> Result<Call, Fault> {
@@ -75,7 +96,10 @@ impl<'a> Reader<'a> {
                 let meant = "'. Did you mean '";
                 wrong_about(self.alloc, token.spot, what, shown, meant, near, "'?")
             }
-            None => wrong(self.alloc, token.spot, &[what, shown, "'"]),
+            None => {
+                let instead = instead_of(token.text);
+                wrong_about(self.alloc, token.spot, what, shown, instead, "", "")
+            }
         }
     }
 
@@ -105,7 +129,11 @@ impl<'a> Reader<'a> {
     /// The fault that something is expected in a call.
     fn expected_in(&self, what: &str, kernel: &Kernel) -> Result<Fault, AllocError> {
         let shape = self.shape(kernel)?;
-        let after = "; data pointers and '&woken' are left out";
+        let after = if self.cursor.sees(",") {
+            "; data pointers and '&woken' are left out"
+        } else {
+            ""
+        };
         let text = joined(self.alloc, &[what, " in ", shape.as_str(), after])?;
         Ok(self.cursor.expected(text.as_str()))
     }
@@ -143,7 +171,10 @@ impl<'a> Reader<'a> {
                 Ok(Argument::Operand(Operand::Number(ticks)))
             }
             Place::Null if self.cursor.accepts("NULL") => Ok(Argument::Null),
-            Place::Null => Err(self.expected_in("'NULL'", kernel)?),
+            Place::Null => {
+                let text = "expected NULL: no line deletes another task";
+                Err(self.cursor.refused(self.cursor.spot(), text))
+            }
         }
     }
 

@@ -62,6 +62,24 @@ impl<'a> Cursor<'a> {
         }
     }
 
+    /// The number of commas before the bracket that closes the innermost open one.
+    pub(crate) fn commas(&self) -> usize {
+        let mut count = 0usize;
+        let mut depth = 1usize;
+        for token in self.tokens.iter().skip(self.next) {
+            match token.text {
+                "(" => depth = depth.saturating_add(1),
+                ")" => depth = depth.saturating_sub(1),
+                "," if depth == 1 => count = count.saturating_add(1),
+                _ => {}
+            }
+            if depth == 0 {
+                break;
+            }
+        }
+        count
+    }
+
     pub(crate) fn spot(&self) -> Spot {
         self.token().spot
     }
@@ -148,7 +166,12 @@ impl<'a> Cursor<'a> {
             );
         }
         let found = clipped(self.token().text);
-        wrong_about(self.alloc, spot, "expected ", what, ", found '", found, "'")
+        let end = if found == "[" {
+            "': there are no arrays"
+        } else {
+            "'"
+        };
+        wrong_about(self.alloc, spot, "expected ", what, ", found '", found, end)
     }
 
     /// The fault that something else was expected in place of the next token.

@@ -598,10 +598,14 @@ impl<'a> Reader<'a> {
         let term = self.arithmetic()?;
         match term.value {
             Value::Number(number) => Ok(number),
-            _ => Err(
-                self.cursor
-                    .refused(term.spot, "expected a number or a constant"),
-            ),
+            _ => {
+                let text = if self.call.is_some() {
+                    "expected a number or a constant: a time or a length is never a variable"
+                } else {
+                    "expected a number or a constant"
+                };
+                Err(self.cursor.refused(term.spot, text))
+            }
         }
     }
 

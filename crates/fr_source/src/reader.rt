@@ -142,6 +142,11 @@ impl<'a> Reader<'a> {
     pub(crate) fn meaning_of(&self, token: Token<'a>) -> Result<Meaning, Fault> {
         match self.scope.meaning(token.text) {
             Some(meaning) => Ok(meaning),
+            None if kernel_named(token.text).is_some() => {
+                let why =
+                    "' is a call: make it a statement of its own, as in 'f(..);' or 'x = f(..);'";
+                Err(wrong(self.alloc, token.spot, &["'", clipped(token.text), why]))
+            }
             None => {
                 let why = self.why_undeclared(token.text)?;
                 let texts = &["'", clipped(token.text), "' isn't declared", why.as_str()];
@@ -155,9 +160,13 @@ impl<'a> Reader<'a> {
         if is_among(name, &TYPES) {
             return String::from_str(self.alloc, ": there are no types, write 'var n in 0..9;'");
         }
+        if name == "portTICK_PERIOD_MS" {
+            let why = ": write pdMS_TO_TICKS(500) for 500 milliseconds";
+            return String::from_str(self.alloc, why);
+        }
         let near = self.scope.near(name);
         match self.call {
-            Some(kernel) if near.is_none() => {
+            Some(kernel) if near.is_none() && self.is_surplus(kernel) => {
                 let shape = self.shape(kernel)?;
                 joined(
                     self.alloc,
@@ -169,6 +178,12 @@ impl<'a> Reader<'a> {
                 None => Ok(String::new(self.alloc)),
             },
         }
+    }
+
+    /// Whether the next token is an argument that isn't the object, and with those after it there are too many.
+    fn is_surplus(&self, kernel: &Kernel) -> bool {
+        self.cursor.previous().text == ","
+            && self.cursor.commas().saturating_add(2) > kernel.places.len()
     }
 
     /// The fault that a name means something else than what is expected.

@@ -45,6 +45,10 @@ impl<'a> Reader<'a> {
         if self.cursor.accepts("--") {
             return self.changed_by_one(token.spot, Arithmetic::Minus);
         }
+        if token.text == "(" {
+            let text = "a statement doesn't begin with '(': leave out a cast like '(void)'";
+            return Err(self.cursor.refused(token.spot, text));
+        }
         let variable = self.variable_named("a statement")?;
         let operator = self.cursor.token();
         if self.cursor.accepts("=") {

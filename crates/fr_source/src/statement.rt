@@ -337,6 +337,11 @@ impl<'a> Reader<'a> {
                 let what = "variables are declared at the beginning of the ";
                 return Err(wrong(self.alloc, spot, &[what, self.home.text()]));
             }
+            "const" => {
+                let why = "constants are declared outside tasks, interrupts and functions";
+                return Err(self.cursor.refused(spot, why));
+            }
+            "else" => return Err(self.cursor.refused(spot, "'else' without an 'if' above it")),
             _ => {
                 let simple = self.simple()?;
                 self.write_simple(simple, spot)?;

@@ -1,6 +1,6 @@
 // The words, numbers and signs of a source, with their places.
 
-use crate::fault::{Fault, Spot, wrong};
+use crate::fault::{Fault, Spot, wrong, wrong_about};
 use crate::texts::numeral;
 use std::alloc::{AllocError, Global};
 
@@ -175,6 +175,8 @@ fn piece_of(text: &[u8], first: u8) -> (Piece, usize) {
         (Piece::Token(Kind::Number), number_length(text))
     } else if Class::Word.has(first) {
         (Piece::Token(Kind::Word), Class::Word.length(text))
+    } else if text.starts_with(b"<<") || text.starts_with(b">>") || text.starts_with(b"->") {
+        (Piece::Unknown, 2)
     } else {
         match sign_length(text, first) {
             0 => (Piece::Unknown, 1),
@@ -183,20 +185,29 @@ fn piece_of(text: &[u8], first: u8) -> (Piece, usize) {
     }
 }
 
+/// What to write in place of a sign that begins with this byte.
+fn in_place_of(byte: u8) -> &'static str {
+    match byte {
+        b'&' =>
+            ": leave out data pointers and '&woken', and write 'x' for '&x'; there are no bit operators",
+        b'|' | b'^' | b'~' | b'<' | b'>' =>
+            ": there are no bit operators, write any(..) or a variable for each bit",
+        b'?' => ": write if and else",
+        b'#' => ": write 'const N = 3;' for a #define, outside, and leave out each #include",
+        b'"' | b'\'' => ": there are no texts, write a number or leave this out",
+        b'-' => ": there are no fields, write a variable for each",
+        b'.' => ": there are no fractions, and no fields: write a variable for each field",
+        _ => "",
+    }
+}
+
 /// Why a byte that begins no token is refused.
 fn unknown_sign(alloc: Global, spot: Spot, text: &[u8], byte: u8) -> Fault {
-    let hint = if byte == b'&' {
-        ": data pointers and '&woken' are left out"
-    } else {
-        ""
-    };
+    let hint = in_place_of(byte);
     if byte.is_ascii_graphic() {
         let sign = std::str::from_utf8(text).unwrap_or("");
-        wrong(
-            alloc,
-            spot,
-            &["the sign '", sign, "' means nothing here", hint],
-        )
+        let why = "' means nothing here";
+        wrong_about(alloc, spot, "the sign '", sign, why, hint, "")
     } else {
         match numeral(alloc, i64::from(byte)) {
             Ok(code) => {
