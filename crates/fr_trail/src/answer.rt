@@ -18,7 +18,7 @@ use fr_instr::names_of;
 use fr_place::place_of_texts;
 use fr_program::App;
 use fr_report::{actor_name, rule_text, text_of};
-use fr_trace::{NoTrace, NotListed, Trace, read_trace};
+use fr_trace::{Happening, NoTrace, NotListed, Trace, read_trace};
 use std::alloc::{AllocError, Global};
 
 /// How a trace is followed.
@@ -45,6 +45,8 @@ pub struct TraceAnswer {
     pub followed: Option<Followed>,
     /// The lines of the run that was found, where they are asked for.
     pub run: Option<String>,
+    /// For each actor, in their order, the number of its last event in the run, where that begins a call: it may still be inside.
+    pub begun: Vec<Option<usize>>,
 }
 
 /// Why there is no answer.
@@ -218,6 +220,29 @@ fn unlisted_why<'a>(
     }
 }
 
+/// For each actor the number of its last event in the run that was found, where that begins a call.
+fn begun_in(
+    alloc: Global,
+    app: &App,
+    trace: &Trace,
+    followed: &Followed,
+) -> Result<Vec<Option<usize>>, AllocError> {
+    let mut begun = vec![in alloc; None; app.actors().len()]?;
+    let Some(run) = run_in(followed) else {
+        return Ok(begun);
+    };
+    let count = run
+        .iter()
+        .filter(|item| matches!(**item, Item::Event))
+        .count();
+    for (number, event) in trace.events.iter().take(count).enumerate() {
+        if let Some(last) = begun.get_mut(event.actor.0) {
+            *last = matches!(event.what, Happening::Enter(_)).then_some(number);
+        }
+    }
+    Ok(begun)
+}
+
 /// What is answered of a trace.
 fn answer_of(
     alloc: Global,
@@ -240,11 +265,13 @@ fn answer_of(
         why_text(alloc, app, bytes, trace, &followed, asked)?,
     );
     let run = lines_of(alloc, app, bytes, trace, &followed, asked.writes)?;
+    let begun = begun_in(alloc, app, trace, &followed)?;
     Ok(TraceAnswer {
         text: format!(in alloc; "{head}{rest}{end}{why}")?,
         status: status_of(&followed),
         followed: Some(followed),
         run,
+        begun,
     })
 }
 
@@ -320,6 +347,7 @@ fn unlisted_answer<'a>(
         status: 1,
         followed: None,
         run: None,
+        begun: Vec::new(alloc),
     })
 }
 

@@ -16,7 +16,7 @@ fn marks(trace: &Trace, actor: ActorId, x: VarId) -> bool {
 }
 
 /// Whether the actor records where its handler begins and ends.
-fn records_handler(trace: &Trace, actor: ActorId) -> bool {
+pub(crate) fn records_handler(trace: &Trace, actor: ActorId) -> bool {
     trace.events.iter().any(|event| {
         event.actor == actor && matches!(event.what, Happening::Begin | Happening::End)
     })

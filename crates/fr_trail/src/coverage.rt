@@ -1,9 +1,11 @@
 // Which lines of code the runs that were found took, and how their calls went.
+ghost use Rattle.fr_calls.specs.State.{IsWellFormed};
+
 use crate::answer::{TraceAnswer, run_in};
-use crate::replay::{Visit, effect_at, replay};
-use fr_calls::can_time_out;
+use crate::replay::{Replayed, Visit, effect_at, replay};
+use fr_calls::{Place, can_time_out};
 use fr_program::{Act, Actor, ActorId, App, Attempt, Call, Instr, Kind, Point, Side};
-use fr_report::{line_of_code, text_of};
+use fr_report::{actor_place, line_of_code, text_of};
 use std::alloc::{AllocError, Global};
 
 /// What the runs did at a line of code.
@@ -88,6 +90,33 @@ impl Coverage {
         })
     }
 
+    /// Adds that the actor has begun the call of the line at which it is at the end of the run, unless that has had its effect.
+    fn see_begun(&mut self, app: &App, replayed: &Replayed, actor: ActorId, begun: usize)
+        requires { IsWellFormed app.now replayed.now.state }
+    {
+        let last = replayed
+            .visits
+            .iter()
+            .rfind(|visit| visit.point.actor == actor);
+        if let Some(visit) = last
+            && visit.events > begun
+            && let Some(instr) = app.instr(visit.point)
+            && effect_at(visit.point, instr).is_some()
+        {
+            return;
+        }
+        if let Place::At { pc, .. } = actor_place(app, &replayed.state, actor)
+            && let Some(number) = app.number(Point {
+                actor,
+                pc,
+                side: Side::Before,
+            })
+            && let Some(line) = self.lines.get_mut(number)
+        {
+            line.is_reached = true;
+        }
+    }
+
     /// Adds a step.
     fn see(&mut self, app: &App, visit: Visit) {
         let point = Point {
@@ -123,10 +152,23 @@ impl Coverage {
         let Some(run) = run_in(followed) else {
             return Ok(());
         };
-        for visit in &replay(alloc, app, run)?.visits {
+        let replayed = replay(alloc, app, run)?;
+        for visit in &replayed.visits {
             self.see(app, *visit);
         }
+        self.add_begun(app, &replayed, &answer.begun);
         Ok(())
+    }
+
+    /// Adds the calls that actors have begun last, whose effect has not come.
+    fn add_begun(&mut self, app: &App, replayed: &Replayed, begun: &[Option<usize>])
+        requires { IsWellFormed app.now replayed.now.state }
+    {
+        for (number, event) in begun.iter().enumerate() {
+            if let Some(event) = *event {
+                self.see_begun(app, replayed, ActorId(number), event);
+            }
+        }
     }
 
     /// What the runs did at a line.

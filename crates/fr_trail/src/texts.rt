@@ -145,6 +145,11 @@ pub(crate) fn unlisted_text<'a>(
     }
 }
 
+/// What is listed, or that nothing is.
+fn or_nothing(names: &str) -> &str {
+    if names.is_empty() { "none" } else { names }
+}
+
 /// Appends a name to others.
 fn put_name(text: &mut String, name: &str) -> Result<(), AllocError> {
     if !text.is_empty() {
@@ -183,11 +188,11 @@ pub(crate) fn unlisted_texts<'a>(
     match unlisted.what {
         Unlisted::Actor { .. } => {
             let names = actors_shown(alloc, app)?;
-            texts.push(format!(in alloc; "the actors are: {names}")?)?;
+            texts.push(format!(in alloc; "the actors are: {}", or_nothing(&names))?)?;
         }
         Unlisted::Object { .. } => {
             let names = objects_shown(alloc, app)?;
-            texts.push(format!(in alloc; "the objects are: {names}")?)?;
+            texts.push(format!(in alloc; "the objects are: {}", or_nothing(&names))?)?;
         }
         Unlisted::Call => {}
     }

@@ -2,12 +2,12 @@
 ghost use Rattle.std.specs.Prelude.{IfOk};
 ghost use Rattle.fr_calls.specs.State.{IsWellFormed};
 
-use crate::awaited::awaited;
+use crate::awaited::{awaited, records_handler};
 use crate::replay::{Replayed, Visit, effect_at, replay};
 use crate::texts::{event_shown, events_before};
 use fr_calls::{Moves, Place, State};
 use fr_follower::{Followed, Item};
-use fr_program::{ActorId, App, Call, Instr, Point, Side};
+use fr_program::{ActorId, ActorKind, App, Call, Instr, Point, Side};
 use fr_refuter::{StepTaken, take_step};
 use fr_report::{actor_name, actor_place, line_of_code, object_told};
 use fr_trace::{Event, Happening, Trace};
@@ -127,6 +127,49 @@ fn effect_before(
     }
 }
 
+/// Whether the actor's handler runs before the event with this number: it has begun, and has not ended.
+fn is_in_handler(trace: &Trace, actor: ActorId, number: usize) -> bool {
+    let Some(before) = trace.events.get(..number) else {
+        return false;
+    };
+    match before.iter().rfind(|event| event.actor == actor) {
+        Some(event) => !matches!(event.what, Happening::End),
+        None => false,
+    }
+}
+
+/// Why the event with this number can't come where its actor records `begin` and `end`; None where these don't stand against it.
+fn handler_text(
+    alloc: Global,
+    app: &App,
+    trace: &Trace,
+    number: usize,
+    event: &Event,
+) -> Result<Option<String>, AllocError> {
+    if !records_handler(trace, event.actor) {
+        return Ok(None);
+    }
+    let name = actor_name(app, event.actor);
+    if let Some(actor) = app.actors().get(event.actor.0)
+        && matches!(actor.kind, ActorKind::Task)
+    {
+        let text = format!(in alloc;
+            "{name} is a task, and only an interrupt has `begin` and `end`"
+        )?;
+        return Ok(Some(text));
+    }
+    let is_begin = matches!(event.what, Happening::Begin);
+    match (is_begin, is_in_handler(trace, event.actor, number)) {
+        (true, true) => Ok(Some(format!(in alloc;
+            "{name} has begun its handler, and has not ended it"
+        )?)),
+        (false, false) => Ok(Some(format!(in alloc;
+            "{name} has not begun its handler: an interrupt that records `begin` or `end` records both each time"
+        )?)),
+        _ => Ok(None),
+    }
+}
+
 /// Where the actor of the event with this number, from 0, can be by this run, which explains the events before it: a text for each place.
 fn places(
     alloc: Global,
@@ -136,6 +179,9 @@ fn places(
     event: &Event,
     run: &[Item],
 ) -> Result<Vec<String>, AllocError> {
+    if let Some(text) = handler_text(alloc, app, trace, number, event)? {
+        return Ok(vec![in alloc; text]?);
+    }
     let Replayed { visits, mut state } = replay(alloc, app, run)?;
     let actor = event.actor;
     let Place::At { pc, side } = actor_place(app, &state, actor) else {

@@ -111,6 +111,7 @@ fn answer_shown<F: Files>(
                 status: what.status(),
                 followed: None,
                 run: None,
+                begun: Vec::new(alloc),
             })
         }
     }
