@@ -170,22 +170,18 @@ fn put_bar(
     page.markup("</i>")
 }
 
-/// The begin of an actor's box in a lane, up to the number of its line.
+/// The begin of an actor's box in a lane, up to the actor's name, which is shown only where many lanes are printed as a list.
 fn box_of(doing: Doing) -> &'static str {
     match doing {
-        Doing::Step => "<div class='does'><code><span>",
-        Doing::Breach => {
-            "<div class='does breaks'><strong>&#10007; breach</strong> <code><span>"
-        }
-        Doing::Wait => {
-            "<div class='does breaks'><strong>&#10007; deadlock</strong> <code><span>"
-        }
+        Doing::Step => "<div class='does'><b>",
+        Doing::Breach => { "<div class='does breaks'><strong>&#10007; breach</strong> <b>" }
+        Doing::Wait => { "<div class='does breaks'><strong>&#10007; deadlock</strong> <b>" }
     }
 }
 
-/// Writes what an actor does in a step.
-fn put_move(page: &mut Writer, moved: &Moved) -> Result<(), AllocError> {
-    page.markup(box_of(moved.doing))?;
+/// Writes what an actor with this name does in a step.
+fn put_move(page: &mut Writer, name: &str, moved: &Moved) -> Result<(), AllocError> {
+    page.between(box_of(moved.doing), name, "</b><code><span>")?;
     page.number(moved.line)?;
     page.between("</span> ", moved.code.as_str(), "</code>")?;
     page.between(" <small>", moved.choice.as_str(), "</small>")?;
@@ -208,7 +204,9 @@ fn put_cell(
         put_bar(page, steps, number, lane, *track)?;
     }
     match &step.moved {
-        Some(moved) if moved.actor == lane.number => put_move(page, moved)?,
+        Some(moved) if moved.actor == lane.number => {
+            put_move(page, lane.actor.name.as_str(), moved)?
+        }
         _ => {}
     }
     page.markup("</div></td>\n")

@@ -22,6 +22,7 @@ if (player) {
   const go = (number) => {
     show(number);
     (steps[at].querySelector('.does') || steps[at]).scrollIntoView({ block: 'center', inline: 'nearest' });
+    steps[at].closest('.scroll').scrollIntoView({ block: 'start' });
   };
   first.onclick = () => go(0);
   back.onclick = () => go(at - 1);

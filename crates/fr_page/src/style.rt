@@ -59,13 +59,12 @@ article .fails td { padding-top: .4rem; }
 .why p { padding-left: 1.2em; text-indent: -1.2em; }
 .why b { color: var(--soft); font-weight: 400; }
 .never, .never .where { color: var(--soft); }
-.never code { opacity: .7; }
 
-.scroll { isolation: isolate; max-height: 62vh; overflow: auto; scroll-padding: 4rem 1rem 1rem 7rem; border: 1px solid var(--rule); border-radius: 10px; background: var(--card); }
+.scroll { isolation: isolate; max-height: 62vh; scroll-margin-top: .6rem; overflow: auto; scroll-padding: 4rem 1rem 1rem 7rem; border: 1px solid var(--rule); border-radius: 10px; background: var(--card); }
 .lanes { min-width: 100%; }
 .lanes thead th { position: sticky; top: 0; z-index: 2; padding: .6rem .8rem; background: var(--card); box-shadow: inset 0 -1px var(--rule); vertical-align: bottom; }
-.lanes thead th:first-child { left: 0; z-index: 3; }
-.lanes tbody th { position: sticky; left: 0; z-index: 1; padding: .4rem .9rem; background: var(--card); white-space: nowrap; }
+.lanes thead th:first-child { left: 0; z-index: 3; box-shadow: inset -1px -1px var(--rule); }
+.lanes tbody th { position: sticky; left: 0; z-index: 1; padding: .4rem .9rem; background: var(--card); box-shadow: inset -1px 0 var(--rule); white-space: nowrap; }
 .lanes td, .lanes thead th + th { min-width: 15rem; border-left: 1px solid var(--rule); }
 .lanes td { height: 1px; vertical-align: top; }
 .lanes tbody tr:nth-child(even), .lanes tbody tr:nth-child(even) th { background: var(--fill); }
@@ -81,6 +80,7 @@ article .fails td { padding-top: .4rem; }
 .last { border-bottom-left-radius: 5px; border-bottom-right-radius: 5px; }
 .does { padding: .4rem .9rem .4rem .3rem; }
 .does:first-child { padding-left: 0; }
+.does > b { display: none; }
 .does code { display: block; padding-left: .8em; text-indent: -.8em; }
 .does span { color: var(--soft); }
 .breaks, .breaks:first-child { margin: .3rem .5rem .4rem .1rem; padding: .4rem .7rem; border: 1px solid var(--bad); border-radius: 6px; background: var(--bad-fill); }
@@ -94,7 +94,7 @@ article .fails td { padding-top: .4rem; }
 .wait .left p::after { content: '\\25C0'; left: -.3rem; }
 .wait .own p::after { content: '\\21BA'; right: -.3rem; }
 .current { outline: 2px solid var(--held); outline-offset: -2px; }
-.current th { box-shadow: inset 3px 0 var(--held); }
+.lanes .current th { box-shadow: inset 3px 0 var(--held), inset -1px 0 var(--rule); }
 .still { border: 1px solid var(--rule); border-top: 0; background: var(--card); }
 .still p { padding: 0 1rem .6rem; }
 .still span { margin-right: 1rem; }
@@ -108,11 +108,13 @@ dd code + span { margin-left: 1rem; }
 .player p { padding: .6rem 1rem .3rem; }
 button { padding: .15rem .8rem; border: 1px solid var(--rule); border-radius: 6px; background: var(--fill); color: inherit; font: inherit; cursor: pointer; }
 button:disabled { opacity: .45; cursor: default; }
-output { margin: 0 .8rem; font-weight: 600; }
+output { margin: 0 .8rem; font-weight: 600; white-space: nowrap; }
 
 @media (max-width: 40rem) {
   header, main { padding-left: 1rem; padding-right: 1rem; }
   header { padding-top: 1.2rem; }
+  dl { grid-template-columns: fit-content(7rem) 1fr; }
+  .player small { display: none; }
 }
 @page { size: landscape; margin: 12mm; }
 @media print {
@@ -136,7 +138,15 @@ output { margin: 0 .8rem; font-weight: 600; }
   .does code, .lanes p, .does small { font-size: 9px; }
   .lanes td, .lanes thead th + th { min-width: 0; }
   .current { outline: none; }
-  .current th { box-shadow: none; }
+  .lanes tbody th, .lanes thead th:first-child, .lanes .current th { box-shadow: none; }
+  .lanes:has(thead th:nth-child(8)) thead, .lanes:has(thead th:nth-child(8)) .lane > i { display: none; }
+  .lanes:has(thead th:nth-child(8)), .lanes:has(thead th:nth-child(8)) tbody { display: block; }
+  .lanes:has(thead th:nth-child(8)) tr { display: flex; align-items: baseline; }
+  .lanes:has(thead th:nth-child(8)) td { height: auto; border: 0; }
+  .lanes:has(thead th:nth-child(8)) td:not(:has(.does, p)) { display: none; }
+  .lanes:has(thead th:nth-child(8)) tbody th { flex: none; width: 5rem; }
+  .lanes:has(thead th:nth-child(8)) .lane { min-height: 0; }
+  .lanes:has(thead th:nth-child(8)) .does > b { display: block; }
   .actors { columns: 19rem 3; max-width: none; }
   article { break-inside: auto; }
   tr, article tbody, .why { break-inside: avoid; }
