@@ -12,7 +12,7 @@ use std::alloc::{AllocError, Global};
 const STATUSES: &str = "Exit status:
   0  A certificate was found and written
   1  None was found, and no file was written
-  2  The words or the application are refused, or the file for the certificate is the application's
+  2  The arguments or the application are refused, or the file for the certificate is the application's
   3  The machine failed: no memory, or a file that can't be read or written";
 
 /// The word `--rounds` with its number.

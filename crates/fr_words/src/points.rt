@@ -5,7 +5,7 @@ use std::alloc::{AllocError, Global};
 
 const STATUSES: &str = "Exit status:
   0  The points were printed
-  2  The words or the application are refused
+  2  The arguments or the application are refused
   3  The machine failed: no memory, or a file that can't be read or written";
 
 /// What `--explain` does.

@@ -15,12 +15,12 @@ use std::alloc::{AllocError, Global};
 const STATUSES: &str = "Exit status:
   0  The verdict is yes, or all states were seen and none breaches a rule
   1  A run into a breach was printed, or the verdict by the best certificate that was found
-  2  The words or the application are refused, or the file for the certificate has something else
+  2  The arguments or the application are refused, or the file for the certificate has something else
   3  The machine failed: no memory, no thread, or a file that can't be read or written";
 
-const EXPLAINS: &str = "Explain as without any option, where --brief is given";
+const EXPLAINS: &str = "With --brief: explain all the same";
 
-const WARNS: &str = "Warn as without any option, where --brief or --format is given";
+const WARNS: &str = "With --brief or --format: warn all the same";
 
 /// The word `--certificate` with its file.
 fn certificate_arg<'a>(alloc: Global) -> Arg<'a> {

@@ -15,7 +15,7 @@ use std::alloc::{AllocError, Global};
 const STATUSES: &str = "Exit status:
   0  No state of any run breaches a rule
   1  A run into a breach was printed, or none was found and more states are left
-  2  The words or the application are refused
+  2  The arguments or the application are refused
   3  The machine failed: no memory, or a file that can't be read or written";
 
 const EXPLAINS: &str =

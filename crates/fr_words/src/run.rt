@@ -15,7 +15,7 @@ use std::alloc::{AllocError, Global};
 const STATUSES: &str = "Exit status:
   0  The verdict is yes, and the lines of the run were printed
   1  The verdict is no, and the report was printed
-  2  The words, the application or the certificate are refused
+  2  The arguments, the application or the certificate are refused
   3  The machine failed: no memory, no thread, or a file that can't be read or written";
 
 /// The word `--polls` with its number, which has to be given.

@@ -14,7 +14,7 @@ pub const NAME: &str = "fr_check";
 pub const STATUSES: &str = "Exit status:
   0  The verdict is yes
   1  The verdict is no
-  2  The words, the application or the certificate are refused
+  2  The arguments, the application or the certificate are refused
   3  The machine failed: no memory, no thread, or a file that can't be read or written";
 
 /// A command with this name, what it does, its exit statuses and its words.

@@ -11,7 +11,7 @@ use std::alloc::{AllocError, Global};
 
 const STATUSES: &str = "Exit status:
   0  The application was written
-  2  The words or the source are refused, or the file for the application is the source's
+  2  The arguments or the source are refused, or the file for the application is the source's
   3  The machine failed: no memory, or a file that can't be read or written";
 
 /// The command `translate`: its words, its help and its exit statuses.
