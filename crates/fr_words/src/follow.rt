@@ -12,7 +12,7 @@ use fr_request::FollowRequest;
 use std::alloc::{AllocError, Global};
 
 const STATUSES: &str = "Exit status:
-  0  For each trace, a run of the application explains all its events
+  0  For each trace, a run explains its events, and after some that were lost each actor is followed by itself
   1  No such run was found, or a trace has something that the application doesn't list
   2  The arguments, the application or a trace are refused, or the file for the run is one of these files
   3  The machine failed: no memory, or a file that can't be read or written";
