@@ -35,7 +35,7 @@ puts-run reads puts asked P found old new read run (inl same) = inl same
 puts-run reads puts asked P (Some found) old new read run (inr p) =
     inr (p.0, p.1, p.2, P, read, subst (IsRunAt reads asked.any_times P (map (λ s. s.now) asked.traces.now)) (same_Some (string_bytes found) p.1 p.3) run, p.4)
 puts-run reads puts asked P None old new read run (inr p) =
-    let is : option_map string_bytes None ≡ Some p.1 = p.3 in
+    let is : option_map (λ (t : String Global). string_bytes t) None ≡ Some p.1 = p.3 in
     let no : ⊥ = cc in absurd no
 
 module _ (reads : Reading → List ℕ → List ℕ → Type 0) (any : Bool) (P : Program) where
