@@ -14,11 +14,19 @@ use std::sync::Wait;
 use std::thread::Threads;
 use usage::{explain, no_memory, refuse_words};
 
-/// Does what these words ask for, and gives the exit status.
-fn answer_to<R: Threads + Wait + Sync>(rt: &HostRuntime, threads: &R, words: &[String]) -> u8 {
-    let matches = match matched(rt.alloc(), words) {
+/// Does what the words ask for, and gives the exit status. The handle `threads` is the runtime's own, by which threads are started.
+fn answer<R: Threads + Wait + Sync>(rt: &HostRuntime, threads: &R) -> u8 {
+    let words = match env::args(rt) {
+        Ok(words) => words,
+        Err(error) if matches!(error.kind(), ErrorKind::OutOfMemory) => return no_memory(rt),
+        Err(_) => return refuse_words(rt),
+    };
+    let Ok(words) = words.collect::<Vec<String>>(rt.alloc()) else {
+        return no_memory(rt);
+    };
+    let matches = match matched(rt.alloc(), &words) {
         Ok(matches) => matches,
-        Err(error) => return explain(rt, words, &error),
+        Err(error) => return explain(rt, &words, &error),
     };
     match asked(&matches) {
         Some(request) => {
@@ -35,20 +43,6 @@ fn answer_to<R: Threads + Wait + Sync>(rt: &HostRuntime, threads: &R, words: &[S
         }
         None => refuse_words(rt),
     }
-}
-
-/// Does what the words of the command line ask for, and gives the exit status. The handle `threads` is the runtime's own, by which threads
-/// are started.
-fn answer<R: Threads + Wait + Sync>(rt: &HostRuntime, threads: &R) -> u8 {
-    let words = match env::args(rt) {
-        Ok(words) => words,
-        Err(error) if matches!(error.kind(), ErrorKind::OutOfMemory) => return no_memory(rt),
-        Err(_) => return refuse_words(rt),
-    };
-    let Ok(words) = words.collect::<Vec<String>>(rt.alloc()) else {
-        return no_memory(rt);
-    };
-    answer_to(rt, threads, &words)
 }
 
 fn main(rt: HostRuntime) -> ExitCode {

@@ -84,7 +84,7 @@ pub fn matched<'a>(alloc: Global, words: &'a [String]) -> Result<ArgMatches<'a>,
 }
 
 /// What the matched words of the command with this name ask for.
-fn asked_of<'a>(name: &str, words: &'a ArgMatches<'a>) -> Option<Request<'a>>
+fn asked_of<'m, 'a>(name: &str, words: &'m ArgMatches<'a>) -> Option<Request<'m>>
     ensures fields { IfSome result (IsAsked name.now (rows words.now)) }
     ensures whether { is_some result ≡ can_ask name.now (rows words.now) }
 {
@@ -105,7 +105,7 @@ fn asked_of<'a>(name: &str, words: &'a ArgMatches<'a>) -> Option<Request<'a>>
 }
 
 /// What the matched words ask for. Words that were matched always ask for something, so it is never None.
-pub fn asked<'a>(matches: &'a ArgMatches<'a>) -> Option<Request<'a>>
+pub fn asked<'m, 'a>(matches: &'m ArgMatches<'a>) -> Option<Request<'m>>
     ensures fields { IfSome result (Asks matches.now) }
     ensures whether { is_some result ≡ can_ask_any matches.now }
 {

@@ -53,7 +53,7 @@ pub fn follow_command<'a>(alloc: Global) -> Result<Command<'a>, AllocError> {
 }
 
 /// What the matched words ask to follow. Words that were matched always ask for something, so it is never None.
-pub fn asked_follow<'a>(words: &'a ArgMatches<'a>) -> Option<FollowRequest<'a>>
+pub fn asked_follow<'m, 'a>(words: &'m ArgMatches<'a>) -> Option<FollowRequest<'m>>
     ensures fields { IfSome result (IsFollow (rows words.now)) }
     ensures whether { is_some result ≡ can_follow (rows words.now) }
 {

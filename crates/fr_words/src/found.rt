@@ -12,7 +12,7 @@ pub fn text_at<'a>(words: &ArgMatches<'a>, id: &str) -> Option<&'a str>
 }
 
 /// The texts after the word, of all its uses; None where it isn't there.
-pub fn texts_at<'a>(words: &'a ArgMatches<'a>, id: &str) -> Option<&'a [&'a str]>
+pub fn texts_at<'m, 'a>(words: &'m ArgMatches<'a>, id: &str) -> Option<&'m [&'a str]>
     ensures { option_map (λ s. map (λ t. t.now) s.now) result ≡ texts_at (rows words.now) id.now }
 {
     words.get_strs(id)
