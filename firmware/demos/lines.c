@@ -126,6 +126,8 @@ static void other_calls(TaskHandle_t worker)
     fr_trace_return(1u);
     fr_trace_enter(FR_TAKE, &note, 0u, 9u);                        /* a way out without a hook */
     vTaskDelay(8u);
+    traceENTER_vTaskDelay(portMAX_DELAY);               /* recorded as ?: an application has no such delay */
+    traceRETURN_vTaskDelay();
 }
 
 int main(int argc, char **argv)
