@@ -29,8 +29,8 @@ pub all-lines : (text : List (List ℕ)) (n : ℕ) → n ≡ length (enumerate_f
 all-lines text n e = take_all n text (omega (arith, length-enumerate_from 0 text))
 
 -- the first lines, as many as these, are read, and no more are ignored than there are
-pub record IsKept (N : NamesOf) (text : List (List ℕ)) (n : ℕ) (s : Sofar) : Type 0 where
-  pub reads : ReadsLines N 0 (take n text) (start (length N.actors)) s
+pub record IsKept (N : NamesOf) (anywhere : Bool) (text : List (List ℕ)) (n : ℕ) (s : Sofar) : Type 0 where
+  pub reads : ReadsLines N 0 (take n text) (start anywhere (length N.actors)) s
   pub counted : s.ignored ≤ n
 
 reads-one-more : (N : NamesOf) (i : ℕ) (before : List (List ℕ)) (line : List ℕ) (s t u : Sofar) → ReadsLines N i before s t
@@ -39,19 +39,19 @@ reads-one-more N i [] line s t u h k = (u, subst (λ j. ReadsAt N j line s u) (o
 reads-one-more N i (b ∷ before) line s t u (v, r, more) k =
     (v, r, reads-one-more N (i + 1) before line v t u more (subst (λ j. ReadsAt N j line t u) (omega arith) k))
 
-module _ (N : NamesOf) (text : List (List ℕ)) (n index : ℕ) (line : List ℕ) (next : IsNext text n index line) where
-  pub kept-more : (m : ℕ) (s t : Sofar) → m ≡ n + 1 → IsKept N text n s → ReadsAt N index line s t → t.ignored ≤ index + 1 → IsKept N text m t
+module _ (N : NamesOf) (anywhere : Bool) (text : List (List ℕ)) (n index : ℕ) (line : List ℕ) (next : IsNext text n index line) where
+  pub kept-more : (m : ℕ) (s t : Sofar) → m ≡ n + 1 → IsKept N anywhere text n s → ReadsAt N index line s t → t.ignored ≤ index + 1 → IsKept N anywhere text m t
   kept-more m s t e kept r bound =
       let place : index ≡ 0 + length (take n text) = omega (arith, next.numbered, next.within, length-take n text) in
-      let more = reads-one-more N 0 (take n text) line (start (length N.actors)) s t kept.reads (subst (λ j. ReadsAt N j line s t) place r) in
+      let more = reads-one-more N 0 (take n text) line (start anywhere (length N.actors)) s t kept.reads (subst (λ j. ReadsAt N j line s t) place r) in
       let grown : take n text ++ line ∷ [] ≡ take m text =
       ap (λ l. take n text ++ l ∷ []) next.read ∙ sym (take_more text n line next.within) ∙ ap (λ k. take k text) (sym e) in
       record {
-        reads = subst (λ ls. ReadsLines N 0 ls (start (length N.actors)) t) grown more;
+        reads = subst (λ ls. ReadsLines N 0 ls (start anywhere (length N.actors)) t) grown more;
         counted = omega (arith, e, bound, next.numbered);
       }
 
-  abbrev comes : (k : ℕ) (s : Sofar) → k ≡ index + 1 → IsKept N text n s → ComesTo N text k line
+  abbrev comes : (k : ℕ) (s : Sofar) → k ≡ index + 1 → IsKept N anywhere text n s → ComesTo N anywhere text k line
   comes k s e kept = record {
     before = take n text;
     after_it = drop (suc n) text;
@@ -64,8 +64,8 @@ module _ (N : NamesOf) (text : List (List ℕ)) (n index : ℕ) (line : List ℕ
   stuck : (s : Sofar) → (((t : Sofar) × ReadsAt N index line s t) → ⊥) → ((t : Sofar) × ReadsAt N (length (take n text)) line s t) → ⊥
   stuck s none h = none (h.0, subst (λ j. ReadsAt N j line s h.0) (omega (arith, next.numbered, next.within, length-take n text)) h.1)
 
-  pub text-why : (s : Sofar) (b : Bool) (why : NoTrace) → eqb index 0 ≡ b → IsKept N text n s
-      → IsPlaceWhy N b (index + 1) line ((t : Sofar) × ReadsAt N index line s t) why → IsTextWhy N text why
+  pub text-why : (s : Sofar) (b : Bool) (why : NoTrace) → eqb index 0 ≡ b → IsKept N anywhere text n s
+      → IsPlaceWhy N b (index + 1) line ((t : Sofar) × ReadsAt N index line s t) why → IsTextWhy N anywhere text why
   text-why s true (Faulty k column fault) e kept w =
       (line, (comes k s w.0 kept, stuck s w.1), λ l. absurd (omega (arith, l, w.0, eqb-true index 0 e)))
   text-why s true Memory e kept w = absurd w
@@ -87,9 +87,9 @@ place-why N i line s why ne w =
     subst P (sym (ne_eqb i 0 ne)) w
 
 -- a text that isn't read is no trace
-pub present : (N : NamesOf) (bytes : List ℕ) (why : NoTrace) → IsText bytes → IsTextWhy N (lines bytes) why → IsPresent N bytes why
-present N bytes Memory t w = tt
-present N bytes TooLong t w = absurd w
-present N bytes NotText t w = absurd w
-present N bytes (Faulty k column fault) t w = (t, inr w)
-present N bytes (NotListed unlisted) t w = (t, w)
+pub present : (N : NamesOf) (anywhere : Bool) (bytes : List ℕ) (why : NoTrace) → IsText bytes → IsTextWhy N anywhere (lines bytes) why → IsPresent N anywhere bytes why
+present N anywhere bytes Memory t w = tt
+present N anywhere bytes TooLong t w = absurd w
+present N anywhere bytes NotText t w = absurd w
+present N anywhere bytes (Faulty k column fault) t w = (t, inr w)
+present N anywhere bytes (NotListed unlisted) t w = (t, w)

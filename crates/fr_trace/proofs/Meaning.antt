@@ -5,15 +5,15 @@ use Rattle.std.specs.Str.Lines.{lines}
 use Rattle.fr_program.specs.declared.ids.ActorId.{ActorId}
 use Rattle.fr_program.specs.declared.ids.VarId.{VarId}
 use Rattle.fr_instr.proofs.TokenLaws.{spells_once}
-use Rattle.fr_instr.specs.Calls.{Row, row_named}
+use Rattle.fr_instr.specs.Calls.{Row}
 use Rattle.fr_instr.specs.Names.{NamesOf, place_of}
 use Rattle.fr_instr.specs.Tokens.{Tok, Spells}
 use Rattle.fr_instr.specs.declared.call.Place.{Place}
 use Rattle.fr_instr.specs.declared.call.Verb.{Verb}
-use Rattle.fr_trace.specs.Args.{IsNumber, unseen_parts}
+use Rattle.fr_trace.specs.Args.{unseen_parts}
 use Rattle.fr_trace.specs.Means.{IsPresent, TraceMeans, TraceOf, trace_of}
-use Rattle.fr_trace.specs.Reads.{ActorDoes, AreCalls, Does, HasReturned, HasSet, Hides, IsEnter, IsEnterOf, LineReads, OwnDoes, ReadsAt, ReadsLines, Returned, SaidReads, Sofar, TokensRead, after, is_open, start}
-use Rattle.fr_trace.specs.Said.{Said, nothing, unseen, lost, enter, returns, sets, begins, ends, begins_comment, said_by}
+use Rattle.fr_trace.specs.Reads.{ActorDoes, Does, HasReturned, HasSet, Hides, IsEnter, IsEnterOf, LineReads, OwnDoes, ReadsAt, ReadsLines, Returned, SaidReads, Sofar, TokensRead, after, is_open, start}
+use Rattle.fr_trace.specs.Said.{Said, nothing, unseen, lost, enter, returns, sets, begins, ends, begins_comment}
 use Rattle.fr_trace.specs.declared.effect.Effect.{Effect}
 use Rattle.fr_trace.specs.declared.effect.Effect.TheVariants.{Add}
 use Rattle.fr_trace.specs.declared.no_trace.NoTrace.TheVariants.{Faulty}
@@ -124,9 +124,9 @@ lines-once N i (l ∷ ls) s t u (v, r, m) (w, q, p) =
     let one = at-by N i l s v w (i == 0) r q in
     lines-once N (i + 1) ls w t u (subst (λ x. ReadsLines N (i + 1) ls x t) one m) p
 
-pub means-once : (N : NamesOf) (bytes : List ℕ) (one other : TraceOf) → TraceMeans N bytes one → TraceMeans N bytes other → one ≡ other
-means-once N bytes one other h k =
-    h.is ∙ ap trace_of (lines-once N 0 (lines bytes) (start (length N.actors)) h.last k.last h.reads k.reads) ∙ sym k.is
+pub means-once : (N : NamesOf) (anywhere : Bool) (bytes : List ℕ) (one other : TraceOf) → TraceMeans N anywhere bytes one → TraceMeans N anywhere bytes other → one ≡ other
+means-once N anywhere bytes one other h k =
+    h.is ∙ ap trace_of (lines-once N 0 (lines bytes) (start anywhere (length N.actors)) h.last k.last h.reads k.reads) ∙ sym k.is
 
 -- lines that are read are read up to each of them
 lines-split : (N : NamesOf) (i : ℕ) (before : List (List ℕ)) (line : List ℕ) (rest : List (List ℕ)) (s w : Sofar) → ReadsLines N i (before ++ line ∷ rest) s w
@@ -136,11 +136,11 @@ lines-split N i (b ∷ before) line rest s w (v, r, m) =
     let more = lines-split N (i + 1) before line rest v w m in
     (more.0, more.1, (v, r, more.2), subst (λ j. ReadsAt N j line more.0 more.1) (omega arith) more.3)
 
-pub no-meaning : (N : NamesOf) (bytes : List ℕ) (k column : ℕ) (fault : TraceFault) (trace : TraceOf) → IsPresent N bytes (Faulty k column fault)
-    → TraceMeans N bytes trace → ⊥
-no-meaning N bytes k column fault trace (text, inl none) means = omega (arith, none, means.some)
-no-meaning N bytes k column fault trace (text, inr (line, (c, stuck), fine)) means =
-    let parts = lines-split N 0 c.before line c.after_it (start (length N.actors)) means.last
-    (subst (λ ls. ReadsLines N 0 ls (start (length N.actors)) means.last) c.parts means.reads) in
-    let same = lines-once N 0 c.before (start (length N.actors)) parts.0 c.so_far parts.2 c.reads in
+pub no-meaning : (N : NamesOf) (anywhere : Bool) (bytes : List ℕ) (k column : ℕ) (fault : TraceFault) (trace : TraceOf) → IsPresent N anywhere bytes (Faulty k column fault)
+    → TraceMeans N anywhere bytes trace → ⊥
+no-meaning N anywhere bytes k column fault trace (text, inl none) means = omega (arith, none, means.some)
+no-meaning N anywhere bytes k column fault trace (text, inr (line, (c, stuck), fine)) means =
+    let parts = lines-split N 0 c.before line c.after_it (start anywhere (length N.actors)) means.last
+    (subst (λ ls. ReadsLines N 0 ls (start anywhere (length N.actors)) means.last) c.parts means.reads) in
+    let same = lines-once N 0 c.before (start anywhere (length N.actors)) parts.0 c.so_far parts.2 c.reads in
     stuck (parts.1, subst (λ x. ReadsAt N (length c.before) line x parts.1) same (subst (λ j. ReadsAt N j line parts.0 parts.1) (omega arith) parts.3))

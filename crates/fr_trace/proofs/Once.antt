@@ -1,9 +1,9 @@
 -- Each line means one thing at most: what its tokens say in their places is one call.
-use Rattle.std.proofs.Common.{◌≡◌, ◌∙◌, ℕ, ℤ, List, [], ◌∷◌, Option, Some, None, ap, refl, subst, sym}
+use Rattle.std.proofs.Common.{◌≡◌, ◌∙◌, ℕ, ℤ, List, [], ◌∷◌, ap, refl, subst, sym}
 use Rattle.std.proofs.lemmas.Option.{same_Some}
 use Rattle.fr_program.specs.declared.ids.ObjId.{ObjId}
 use Rattle.fr_instr.proofs.NumberLaws.{only_number}
-use Rattle.fr_instr.specs.Names.{NamesOf, place_of}
+use Rattle.fr_instr.specs.Names.{NamesOf}
 use Rattle.fr_instr.specs.Numbers.{IsInteger}
 use Rattle.fr_instr.specs.Tokens.{Tok, word, number, sign}
 use Rattle.fr_instr.specs.declared.call.Place.{Place}

@@ -11,7 +11,7 @@
 -- | PutsFirst            | so it is of the first of some tokens, and these follow it                        |
 -- | PutsMore, PutsAll    | so it is of all further places, each after a comma, and of all places            |
 -- | unseen_parts         | a call of which nothing but its name is recorded                                 |
-use Rattle.std.specs.Prelude.{◌≡◌, ⊤, ℕ, ℤ, List, [], ◌∷◌, codes}
+use Rattle.std.specs.Prelude.{◌≡◌, ⊤, ℤ, List, [], ◌∷◌, codes}
 use Rattle.fr_program.specs.declared.ids.ObjId.{ObjId}
 use Rattle.fr_instr.specs.Lines.{IsObject}
 use Rattle.fr_instr.specs.Names.{NamesOf}

@@ -6,7 +6,7 @@
 -- | IsTime | so it is of a block time                                                         |
 -- | Agrees | the object and the numbers of a call are those that the trace shows               |
 -- | Fits   | the call has the same name, object and numbers, where they are recorded          |
-use Rattle.std.specs.Prelude.{◌≡◌, ⊤, ℤ, pos}
+use Rattle.std.specs.Prelude.{◌≡◌, ⊤, pos}
 use Rattle.fr_program.specs.declared.instr.BlockTime.{BlockTime}
 use Rattle.fr_program.specs.declared.instr.BlockTime.TheVariants as block_time
 use Rattle.fr_program.specs.declared.instr.Call.{Call}

@@ -8,7 +8,7 @@
 -- | marked, opened     | whether an actor is inside a call, from now on; the same by what it does                         |
 -- | after              | what is read with what a line adds                                                               |
 -- | IsEnterOf, IsEnter | the event at which the actor begins a call                                                       |
--- | Returned           | what a return adds: an event, or nothing where its enter is lost                                 |
+-- | Returned           | what a return adds: an event, or nothing where its enter is missing                               |
 -- | HasReturned        | the same, with the tokens of the line                                                            |
 -- | HasSet             | the event at which the actor has set a variable                                                  |
 -- | OwnDoes            | what a line of an actor that is listed adds                                                      |
@@ -20,7 +20,7 @@
 -- | ReadsLines         | what is read with lines, the first of which has this number, from 0                              |
 -- | is_strange_call    | a call that no line of the application can be: by its name, its object or whom it deletes        |
 -- | is_strange         | a line with something that the application doesn't list                                          |
-use Rattle.std.specs.Prelude.{◌≡◌, ◌+◌, ◌<◌, ◌==◌, ⊤, ℕ, ℤ, List, [], ◌∷◌, ◌++◌, length, map, Any, Bool, true, false, not, cond, Option, Some, None, option_map, codes, is_none, is_some, replicate, slice_index_or, slice_set}
+use Rattle.std.specs.Prelude.{◌≡◌, ◌+◌, ◌<◌, ◌==◌, ◌⊎◌, ⊤, ℕ, ℤ, List, [], ◌∷◌, ◌++◌, length, map, Any, Bool, true, false, IsTrue, not, cond, Option, Some, None, option_map, codes, is_none, is_some, replicate, slice_index_or, slice_set}
 use Rattle.std.specs.List.{list_any}
 use Rattle.std.specs.Str.{bytes_eq}
 use Rattle.fr_program.specs.declared.ids.ActorId.{ActorId}
@@ -47,9 +47,10 @@ use Rattle.fr_trace.specs.declared.trace.Event.{Event}
 use Rattle.fr_trace.specs.declared.trace.Happening.{Happening}
 use Rattle.fr_trace.specs.declared.trace.Happening.TheVariants.{Enter, Return, Set, Begin, End}
 
--- what is read so far: the events, the calls that aren't recorded, how many events are before each `lost`, how many were
--- ignored, and for each actor whether it is inside a call
+-- what is read so far: whether the trace may begin anywhere, the events, the calls that aren't recorded, how many events are before each
+-- `lost`, how many were ignored, and for each actor whether it is inside a call
 pub record Sofar : Type 0 where
+  pub anywhere : Bool
   pub events : List Event
   pub unseen : List Verb
   pub lost : List ℕ
@@ -61,8 +62,8 @@ abbrev pub is_open : Sofar → ActorId → Bool
 is_open s a = slice_index_or s.inside a.0 false
 
 -- nothing is read, and none of so many actors is inside a call
-abbrev pub start : ℕ → Sofar
-start actors = record { events = []; unseen = []; lost = []; ignored = 0; inside = replicate actors false }
+abbrev pub start : Bool → ℕ → Sofar
+start anywhere actors = record { anywhere = anywhere; events = []; unseen = []; lost = []; ignored = 0; inside = replicate actors false }
 
 -- whether this actor is inside a call is so from now on
 abbrev pub marked : ActorId → Bool → Sofar → Sofar
@@ -96,10 +97,14 @@ pub record IsEnterOf (N : NamesOf) (n : ℕ) (s : Sofar) (a : ActorId) (verb : V
 abbrev pub IsEnter : NamesOf → ℕ → Sofar → ActorId → List ℕ → List Tok → Event → Type 0
 IsEnter N n s a k ts event = (row : Row) × (row_named k ≡ Some row) × IsEnterOf N n s a row.verb row.places ts event
 
--- an actor that is inside a call ends it; for one that isn't, the enter must be lost, and the return adds nothing
+-- events may be missing before this: some were lost, or the trace may begin anywhere
+abbrev pub MayMiss : Sofar → Type 0
+MayMiss s = IsTrue s.anywhere ⊎ (0 < length s.lost)
+
+-- an actor that is inside a call ends it; for one that isn't, the enter must be missing, and the return adds nothing
 abbrev pub Returned : ℕ → Sofar → ActorId → Recorded ℤ → Recorded ℤ → Bool → Effect → Type 0
 Returned n s a result value true e = e ≡ Add (record { actor = a; line = n; what = Return result value })
-Returned n s a result value false e = (0 < length s.lost) × (e ≡ Nothing)
+Returned n s a result value false e = MayMiss s × (e ≡ Nothing)
 
 -- what a return of an actor adds, with these tokens as its result and its value
 abbrev pub HasReturned : ℕ → Sofar → ActorId → Tok → Tok → Effect → Type 0
@@ -235,17 +240,17 @@ ReadsLines N i [] s t = t ≡ s
 ReadsLines N i (line ∷ lines) s t = (u : Sofar) × ReadsAt N i line s u × ReadsLines N (i + 1) lines u t
 
 -- the lines before the one with this number, from 1, are read, from where no actor is inside a call
-pub record ComesTo (N : NamesOf) (text : List (List ℕ)) (k : ℕ) (line : List ℕ) : Type 0 where
+pub record ComesTo (N : NamesOf) (anywhere : Bool) (text : List (List ℕ)) (k : ℕ) (line : List ℕ) : Type 0 where
   pub before : List (List ℕ)
   pub after_it : List (List ℕ)
   pub so_far : Sofar
   pub parts : text ≡ before ++ line ∷ after_it
   pub numbered : k ≡ length before + 1
-  pub reads : ReadsLines N 0 before (start (length N.actors)) so_far
+  pub reads : ReadsLines N 0 before (start anywhere (length N.actors)) so_far
 
 -- the line with this number is the first that can't be read
-abbrev pub StopsAt : NamesOf → List (List ℕ) → ℕ → List ℕ → Type 0
-StopsAt N text k line = (c : ComesTo N text k line) × (¬ ((t : Sofar) × ReadsAt N (length c.before) line c.so_far t))
+abbrev pub StopsAt : NamesOf → Bool → List (List ℕ) → ℕ → List ℕ → Type 0
+StopsAt N anywhere text k line = (c : ComesTo N anywhere text k line) × (¬ ((t : Sofar) × ReadsAt N (length c.before) line c.so_far t))
 
 -- ---- for private clauses
 
@@ -282,9 +287,9 @@ IsPlaceWhy N true n line Reads why = ⊥
 IsPlaceWhy N false n line Reads why = IsLineWhy N n line Reads why
 
 -- why a text isn't read
-abbrev pub IsTextWhy : NamesOf → List (List ℕ) → NoTrace → Type 0
-IsTextWhy N text no_trace.Memory = ⊤
-IsTextWhy N text no_trace.TooLong = ⊥
-IsTextWhy N text no_trace.NotText = ⊥
-IsTextWhy N text (no_trace.Faulty k column fault) = (line : List ℕ) × StopsAt N text k line × (1 < k → ¬ (IsStrangeLine N line))
-IsTextWhy N text (no_trace.NotListed unlisted) = (line : List ℕ) × ComesTo N text unlisted.line line × IsStrangeLine N line
+abbrev pub IsTextWhy : NamesOf → Bool → List (List ℕ) → NoTrace → Type 0
+IsTextWhy N anywhere text no_trace.Memory = ⊤
+IsTextWhy N anywhere text no_trace.TooLong = ⊥
+IsTextWhy N anywhere text no_trace.NotText = ⊥
+IsTextWhy N anywhere text (no_trace.Faulty k column fault) = (line : List ℕ) × StopsAt N anywhere text k line × (1 < k → ¬ (IsStrangeLine N line))
+IsTextWhy N anywhere text (no_trace.NotListed unlisted) = (line : List ℕ) × ComesTo N anywhere text unlisted.line line × IsStrangeLine N line

@@ -11,7 +11,7 @@
 -- | said_after                    | what is said after the first word of a line                          |
 -- | said_by                       | what the tokens of a line say, if they say something                 |
 -- | begins_comment                | the first byte that isn't a space is `#`                             |
-use Rattle.std.specs.Prelude.{◌==◌, ℕ, List, [], ◌∷◌, Bool, true, false, if◌then◌else◌, Option, Some, None, option_and_then, codes}
+use Rattle.std.specs.Prelude.{◌==◌, ℕ, List, [], ◌∷◌, Bool, false, if◌then◌else◌, Option, Some, None, option_and_then, codes}
 use Rattle.std.specs.Str.{bytes_eq}
 use Rattle.fr_instr.specs.Tokens.{Tok, sign}
 use Rattle.fr_instr.specs.ShapeReading.{take_word, take_number, head_at}

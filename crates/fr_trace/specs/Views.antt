@@ -24,4 +24,4 @@ said_of (code.End a) = ends a.now
 
 -- what is read so far
 abbrev pub so_far : Progress → Sofar
-so_far p = record { events = p.events.items; unseen = p.unseen.items; lost = p.lost.items; ignored = p.ignored; inside = p.inside.items }
+so_far p = record { anywhere = p.from_anywhere; events = p.events.items; unseen = p.unseen.items; lost = p.lost.items; ignored = p.ignored; inside = p.inside.items }

@@ -21,7 +21,7 @@ use fr_program::ActorId;
 /// What a line other than a header adds to what is read before it.
 #[derive(Clone, Copy)]
 pub enum Effect {
-    /// Nothing: it is blank, or it is a return whose enter is lost.
+    /// Nothing: it is blank, or it is a return whose enter is missing.
     Nothing,
     /// This event.
     Add(Event),
@@ -141,10 +141,10 @@ fn returned(
             what: Happening::Return { result, value },
         }));
     }
-    if progress.lost.is_empty() {
-        Err((TraceFault::ReturnOutside, 1))
-    } else {
+    if progress.may_miss() {
         Ok(Effect::Nothing)
+    } else {
+        Err((TraceFault::ReturnOutside, 1))
     }
 }
 

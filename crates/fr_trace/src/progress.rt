@@ -1,6 +1,6 @@
 // What is read so far.
 ghost use Rattle.std.specs.Prelude.{◌≡◌, ◌+◌, ◌<◌, ◌≤◌, ◌↔◌, ◌^◌, Any, IfOk, IsTrue, OnOk};
-ghost use Rattle.fr_trace.specs.Reads.{after, is_open, marked, start};
+ghost use Rattle.fr_trace.specs.Reads.{MayMiss, after, is_open, marked, start};
 ghost use Rattle.fr_trace.specs.Views.{so_far};
 
 use crate::effect::Effect;
@@ -13,6 +13,8 @@ use std::alloc::{AllocError, Global};
 /// What is read so far: what a trace is made of, and for each actor whether it is inside a call.
 #[derive(Drop)]
 pub(crate) struct Progress {
+    /// Whether the trace may begin anywhere in a run.
+    pub from_anywhere: bool,
     pub events: Vec<Event>,
     pub unseen: Vec<Verb>,
     pub lost: Vec<usize>,
@@ -21,11 +23,12 @@ pub(crate) struct Progress {
 }
 
 impl Progress {
-    /// Nothing is read, and none of so many actors is inside a call.
-    pub fn start(alloc: Global, actors: usize) -> Result<Progress, AllocError>
-        ensures { IfOk result (λ p. so_far p ≡ start actors) }
+    /// Nothing is read of a trace that may begin anywhere or doesn't, and none of so many actors is inside a call.
+    pub fn start(alloc: Global, from_anywhere: bool, actors: usize) -> Result<Progress, AllocError>
+        ensures { IfOk result (λ p. so_far p ≡ start from_anywhere actors) }
     {
         Ok(Progress {
+            from_anywhere,
             events: Vec::new(alloc),
             unseen: Vec::new(alloc),
             lost: Vec::new(alloc),
@@ -42,6 +45,13 @@ impl Progress {
             Some(inside) => *inside,
             None => false,
         }
+    }
+
+    /// Whether events may be missing before this.
+    pub fn may_miss(&self) -> bool
+        ensures { IsTrue result ↔ MayMiss (so_far self.now) }
+    {
+        self.from_anywhere || !self.lost.is_empty()
     }
 
     /// Whether the header names this call.

@@ -1,8 +1,8 @@
 // Reading: the trace that bytes mean for an application.
-ghost use Rattle.std.specs.Prelude.{◌≡◌, ◌+◌, ◌<◌, ◌≤◌, ◌^◌, ◌==◌, ℕ, List, IfErr, IfOk, OnOk, false, length};
+ghost use Rattle.std.specs.Prelude.{◌≡◌, ◌+◌, ◌++◌, ◌<◌, ◌≤◌, ◌^◌, ◌==◌, ℕ, Bool, List, IfErr, IfOk, OnOk, false, length};
 ghost use Rattle.std.specs.Str.Lines.{lines};
 ghost use Rattle.fr_instr.specs.Views.{tok, toks};
-ghost use Rattle.fr_trace.specs.Means.{IsPresent, TraceMeans, TraceOf, said_in};
+ghost use Rattle.fr_trace.specs.Means.{IsPresent, TraceMeans, TraceOf, beginning, said_in};
 ghost use Rattle.fr_trace.specs.Reads.{AreCalls, Hides, IsLineWhy, IsNoTrace, IsPlaceWhy, IsSpellWhy, IsStop, IsStrangeTokens, IsTextWhy, IsWhy, LineReads, ReadsAt, ReadsLines, SaidReads, Sofar, TokensRead, call_named, is_strange, start};
 ghost use Rattle.fr_instr.specs.Names.{NamesOf};
 ghost use Rattle.fr_instr.specs.Tokens.{Spells};
@@ -18,7 +18,7 @@ use crate::said::{self, Said};
 use crate::stop::Stop;
 use crate::trace::Trace;
 use fr_instr::{LineFault, Names, Token, Verb, next_token, row_named, tokens};
-use std::alloc::Global;
+use std::alloc::{AllocError, Global};
 
 /// The most bytes of a trace, 64 MiB.
 pub const MOST_TRACE_BYTES: usize = 67_108_864;
@@ -288,11 +288,16 @@ fn read_at<'a>(
 }
 
 /// What the lines of a text mean, one after another.
-fn read_lines<'a>(alloc: Global, names: &Names, text: &'a str) -> Result<Progress, NoTrace<'a>>
-    ensures ok { IfOk result (λ p. ReadsLines names.now 0 (lines text.now) (start (length names.now.actors)) (so_far p)) }
-    ensures err { IfErr result (IsTextWhy names.now (lines text.now)) }
+fn read_lines<'a>(
+    alloc: Global,
+    names: &Names,
+    text: &'a str,
+    from_anywhere: bool,
+) -> Result<Progress, NoTrace<'a>>
+    ensures ok { IfOk result (λ p. ReadsLines names.now 0 (lines text.now) (start from_anywhere (length names.now.actors)) (so_far p)) }
+    ensures err { IfErr result (IsTextWhy names.now from_anywhere (lines text.now)) }
 {
-    let mut progress = Progress::start(alloc, names.actor_count())?;
+    let mut progress = Progress::start(alloc, from_anywhere, names.actor_count())?;
     for (index, line) in text.lines().enumerate() {
         match read_at(alloc, names, index, line, &mut progress) {
             Ok(()) => {}
@@ -300,6 +305,23 @@ fn read_lines<'a>(alloc: Global, names: &Names, text: &'a str) -> Result<Progres
         }
     }
     Ok(progress)
+}
+
+/// How many events are before each place at which some are missing: before the first one too, where the trace may begin anywhere.
+fn with_beginning(
+    alloc: Global,
+    lost: Vec<usize>,
+    from_anywhere: bool,
+) -> Result<Vec<usize>, AllocError>
+    ensures { IfOk result (λ found. found.items ≡ beginning from_anywhere ++ lost.items) }
+{
+    if !from_anywhere {
+        return Ok(lost);
+    }
+    let mut found = Vec::new(alloc);
+    found.push(0)?;
+    found.extend_from_slice(&lost)?;
+    Ok(found)
 }
 
 /// The trace that bytes mean for the application with these names.
@@ -318,14 +340,21 @@ fn read_lines<'a>(alloc: Global, names: &Names, text: &'a str) -> Result<Progres
 /// Spaces can be between tokens. The format is this project's own. A line of an actor that isn't listed is only counted
 /// where it names no listed object and sets no listed variable.
 ///
+/// Where the trace may begin anywhere in a run, it is read as if `lost` came before the first event, after the header.
+///
 /// # Errors
 ///
 /// `TooLong` where there are more than 67,108,864 bytes, and `NotText` where there aren't and they aren't UTF-8. `Faulty`
 /// and `NotListed` have the first line that can't be read: `NotListed` comes where that line has something that the
 /// application doesn't list, and `Faulty` where it hasn't. `Memory` comes only where an allocation was refused.
-pub fn read_trace<'a>(alloc: Global, names: &Names, bytes: &'a [u8]) -> Result<Trace, NoTrace<'a>>
-    ensures means { IfOk result (λ trace. TraceMeans names.now bytes.now (said_in trace)) }
-    ensures fault { IfErr result (IsPresent names.now bytes.now) }
+pub fn read_trace<'a>(
+    alloc: Global,
+    names: &Names,
+    bytes: &'a [u8],
+    from_anywhere: bool,
+) -> Result<Trace, NoTrace<'a>>
+    ensures means { IfOk result (λ trace. TraceMeans names.now from_anywhere bytes.now (said_in trace)) }
+    ensures fault { IfErr result (IsPresent names.now from_anywhere bytes.now) }
 {
     if bytes.len() > MOST_TRACE_BYTES {
         return Err(NoTrace::TooLong);
@@ -340,24 +369,27 @@ pub fn read_trace<'a>(alloc: Global, names: &Names, bytes: &'a [u8]) -> Result<T
             fault: TraceFault::Version,
         });
     }
-    match read_lines(alloc, names, text) {
-        Ok(progress) => Ok(Trace {
-            events: progress.events,
-            unseen: progress.unseen,
-            lost: progress.lost,
-            ignored: progress.ignored,
-        }),
-        Err(why) => Err(why),
-    }
+    let progress = match read_lines(alloc, names, text, from_anywhere) {
+        Ok(progress) => progress,
+        Err(why) => return Err(why),
+    };
+    let from_anywhere = progress.from_anywhere;
+    Ok(Trace {
+        events: progress.events,
+        unseen: progress.unseen,
+        lost: with_beginning(alloc, progress.lost, from_anywhere)?,
+        ignored: progress.ignored,
+    })
 }
 
 /// The bytes of a trace have one meaning at the most.
 pub fn one_meaning()
-    ensures { (N : NamesOf) (bytes : List ℕ) (one other : TraceOf) → TraceMeans N bytes one → TraceMeans N bytes other → one ≡ other }
+    ensures { (N : NamesOf) (anywhere : Bool) (bytes : List ℕ) (one other : TraceOf) →
+        TraceMeans N anywhere bytes one → TraceMeans N anywhere bytes other → one ≡ other }
 {}
 
 /// Bytes in which a fault is present mean no trace.
 pub fn no_meaning()
-    ensures { (N : NamesOf) (bytes : List ℕ) (line column : ℕ) (fault : TraceFault) (trace : TraceOf) →
-        IsPresent N bytes (Faulty line column fault) → TraceMeans N bytes trace → ⊥ }
+    ensures { (N : NamesOf) (anywhere : Bool) (bytes : List ℕ) (line column : ℕ) (fault : TraceFault) (trace : TraceOf) →
+        IsPresent N anywhere bytes (Faulty line column fault) → TraceMeans N anywhere bytes trace → ⊥ }
 {}

@@ -12,18 +12,18 @@ pub loop-index-preserved : goal.loop-index-preserved
 loop-index-preserved c =
     let road = YieldsList-from_enumerate (YieldsList-from_lines c.args.text.now cc) cc in
     let turn = YieldsList-turn road c.loop-index.yielded _ c.loop-index.yielded_by _ _ (c.in-Some.index, c.in-Some.line) c.in-Some.is c.next.ensures.steps in
-    kept-more c.args.names.now _ _ _ _ (next-line _ _ _ _ turn.0 turn.1) _ _ _ (length_push c.loop-index.yielded (c.in-Some.index, c.in-Some.line)) c.loop-index.invariant
+    kept-more c.args.names.now c.args.from_anywhere _ _ _ _ (next-line _ _ _ _ turn.0 turn.1) _ _ _ (length_push c.loop-index.yielded (c.in-Some.index, c.in-Some.line)) c.loop-index.invariant
     c.in-Ok.ensures.ok c.read_at.ensures.bound
 
 pub returns-in-Err-clause-err : goal.returns-in-Err-clause-err
 returns-in-Err-clause-err c =
     let road = YieldsList-from_enumerate (YieldsList-from_lines c.args.text.now cc) cc in
     let turn = YieldsList-turn road c.loop-index.yielded _ c.loop-index.yielded_by _ _ (c.in-Some.index, c.in-Some.line) c.in-Some.is c.next.ensures.steps in
-    text-why c.args.names.now _ _ _ _ (next-line _ _ _ _ turn.0 turn.1) _ _ _ refl c.loop-index.invariant c.in-Err.ensures.err
+    text-why c.args.names.now c.args.from_anywhere _ _ _ _ (next-line _ _ _ _ turn.0 turn.1) _ _ _ refl c.loop-index.invariant c.in-Err.ensures.err
 
 pub returns-clause-ok : goal.returns-clause-ok
 returns-clause-ok c =
     let road = YieldsList-from_enumerate (YieldsList-from_lines c.args.text.now cc) cc in
     let end = YieldsList-end road c.loop-index.yielded _ c.loop-index.yielded_by _ _ c.in-None.is c.next.ensures.steps in
-    subst (λ ls. ReadsLines c.args.names.now 0 ls (start (length c.args.names.now.actors)) (so_far c.loop-index.progress)) (all-lines (lines c.args.text.now) _ end.1)
+    subst (λ ls. ReadsLines c.args.names.now 0 ls (start c.args.from_anywhere (length c.args.names.now.actors)) (so_far c.loop-index.progress)) (all-lines (lines c.args.text.now) _ end.1)
     c.loop-index.invariant.reads

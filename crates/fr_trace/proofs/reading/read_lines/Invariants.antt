@@ -6,4 +6,4 @@ use Rattle.fr_trace.proofs.Lines.{IsKept}
 use Rattle.fr_trace.proofs.reading.read_lines.Given as goal
 
 abbrev pub invariant-loop-index : goal.invariant-loop-index
-invariant-loop-index l = IsKept l.names (lines l.text) (length l.yielded) (so_far l.progress)
+invariant-loop-index l = IsKept l.names l.from_anywhere (lines l.text) (length l.yielded) (so_far l.progress)

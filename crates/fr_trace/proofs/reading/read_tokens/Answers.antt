@@ -1,4 +1,4 @@
-use Rattle.fr_trace.proofs.Whys.{tokens-why, unsaid-why}
+use Rattle.fr_trace.proofs.Whys.{tokens-why}
 use Rattle.fr_trace.proofs.reading.read_tokens.Goals as goal
 
 pub returns-in-Err-clause-err : goal.returns-in-Err-clause-err
