@@ -12,7 +12,8 @@ use Rattle.fr_list.specs.Means.{Entry}
 use Rattle.fr_list.specs.Beside.{beside}
 use Rattle.fr_answer.specs.Inputs.{Reading}
 use Rattle.fr_answer.specs.Answers.{what_status}
-use Rattle.fr_answer.specs.Commands.{AreAnswered, AreLinesPrinted, Each, IsLineAnswer, IsLineText, LineAnswer, Shows, greater_status}
+use Rattle.fr_answer.specs.Commands.{AreAnswered, AreLinesPrinted, IsLineAnswer, IsLineText, LineAnswer, Shows, greater_status}
+use Rattle.fr_answer.specs.Each.{Each}
 
 -- two more
 pub each-more : {A B : Type 0} (Is : A → B → Type 0) (xs : List A) (ys : List B) (x : A) (y : B) → Each Is xs ys → Is x y → Each Is (xs ++ x ∷ []) (ys ++ y ∷ [])

@@ -3,7 +3,6 @@ use Rattle.std.proofs.Common.{◌≡◌, ◌≤◌, inl, inr, ℕ, List, [], ◌
 use Rattle.std.proofs.lemmas.List.Elements.{All-head, All-tail}
 use Rattle.std.specs.Prelude.{fold, true, false, IfSome, IsSome, IsTrue}
 use Rattle.fr_program.specs.Program.{Program}
-use Rattle.fr_program.specs.Fault.{IsFaultless}
 use Rattle.fr_calls.specs.Run.{IsSafe}
 use Rattle.fr_waits.specs.Waits.{HasNoDeadlock}
 use Rattle.fr_ends.specs.Certificate.{Certificate, AllHaveDistinctTurns}
@@ -28,7 +27,7 @@ use Rattle.fr_refuter.specs.declared.answer.Finding.{Finding}
 use Rattle.fr_refuter.specs.declared.answer.Finding.TheVariants.{Breach as FoundBreach, Deadlock as FoundDeadlock, Safe, Free, Unknown}
 use Rattle.fr_refuter.specs.Refutes.{IsFound, Suits}
 use Rattle.fr_formats.specs.declared.answer.AnswerKind.{AnswerKind}
-use Rattle.fr_formats.specs.declared.answer.AnswerKind.TheVariants.{Yes, No, MayDeadlock, Breach, Deadlock, NoBreach, StatesLeft, Refused as NoVerdict, Machine}
+use Rattle.fr_formats.specs.declared.answer.AnswerKind.TheVariants.{Yes, No, MayDeadlock, Breach, Deadlock, NoBreach, StatesLeft, Followed, FollowedApart, NotFollowed, NotListed, GaveUp, Refused as NoVerdict, Machine}
 use Rattle.fr_formats.specs.Answers.{status_of as kind_status}
 use Rattle.fr_list.specs.Means.{Entry}
 use Rattle.fr_list.specs.Beside.{beside}
@@ -128,6 +127,11 @@ status-most Breach = omega arith
 status-most Deadlock = omega arith
 status-most NoBreach = omega arith
 status-most StatesLeft = omega arith
+status-most Followed = omega arith
+status-most FollowedApart = omega arith
+status-most NotFollowed = omega arith
+status-most NotListed = omega arith
+status-most GaveUp = omega arith
 status-most NoVerdict = omega arith
 status-most Machine = omega arith
 

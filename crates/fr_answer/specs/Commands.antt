@@ -50,7 +50,8 @@ use Rattle.fr_answer.specs.Pages.{IsPageOf}
 use Rattle.fr_answer.specs.Found.{IsCertificateFor, IsFound, found_line, found_status}
 use Rattle.fr_answer.specs.Ran.{IsRunText}
 use Rattle.fr_answer.specs.Heading.{heading}
-use Rattle.fr_answer.specs.Traces.{IsTracesAnswered, PutsRun}
+use Rattle.fr_answer.specs.Each.{Each}
+use Rattle.fr_answer.specs.Traces.{IsTracesAnswered, PutsBoth}
 use Rattle.fr_answer.specs.Words.{AreWords}
 
 -- what is asked for, and where a machine reads the answer never less than what matters
@@ -110,13 +111,6 @@ greater_status status line = max status (what_status line.what)
 
 abbrev pub greatest_status : List LineAnswer → ℕ
 greatest_status lines = fold greater_status 0 lines
-
--- the two lists are as long, and this is so of each two that have the same place
-abbrev pub Each : {A B : Type 0} → (A → B → Type 0) → List A → List B → Type 0
-Each Is [] [] = Unit {0}
-Each Is [] (y ∷ ys) = ⊥
-Each Is (x ∷ xs) [] = ⊥
-Each Is (x ∷ xs) (y ∷ ys) = Is x y × Each Is xs ys
 
 -- what is printed of the answer to an application with this path: its first line, whether actors can deadlock, and the other lines where
 -- they are asked for
@@ -243,7 +237,7 @@ IsText (Find asked) = Unit {0}
 IsText (Points app explains) = Unit {0}
 IsText (Run asked) = Unit {0}
 IsText (Translate asked) = Unit {0}
-IsText (Follow asked) = length asked.traces.now ≡ 1
+IsText (Follow asked) = (asked.format ≡ None) × (length asked.traces.now ≡ 1)
 
 -- the files are as they were, but that the one for the page may have been given a page, which begins with the heading and the first
 -- line of an answer; where that is a verdict, this is so of it
@@ -302,5 +296,5 @@ IsWritten reads puts (Refute asked) old new = IsPaged puts (IsSearchAt reads ask
 IsWritten reads puts (Find asked) old new = (new ≡ old) ⊎ PutsFound reads puts asked.app.now asked.out.now old new
 IsWritten reads puts (Points app explains) old new = new ≡ old
 IsWritten reads puts (Run asked) old new = new ≡ old
-IsWritten reads puts (Follow asked) old new = PutsRun reads puts asked old new
+IsWritten reads puts (Follow asked) old new = PutsBoth reads puts asked old new
 IsWritten reads puts (Translate asked) old new = (new ≡ old) ⊎ PutsOutput reads puts asked.source.now (option_copied asked.out) old new

@@ -202,7 +202,7 @@ fn searched_lines(
 }
 
 /// The same lines.
-fn copied(alloc: Global, lines: &[String]) -> Result<Vec<String>, AllocError>
+pub(crate) fn copied(alloc: Global, lines: &[String]) -> Result<Vec<String>, AllocError>
     ensures { IfOk result (λ copied. lines_text copied.items ≡ lines_text lines.now) }
 {
     let mut copied = Vec::new(alloc);

@@ -7,6 +7,7 @@ mod actors;
 mod code;
 mod points;
 mod steps;
+mod trail;
 
 use crate::answer::{Answer, What};
 use actors::put_actors;
@@ -17,6 +18,7 @@ use fr_refuter::Finding;
 use points::put_judged;
 use std::alloc::{AllocError, Global};
 use steps::{put_deadlock, put_run};
+pub(crate) use trail::trail_page;
 
 /// The heading of a page for an answer of this kind.
 fn page_kind(kind: AnswerKind) -> Kind
@@ -30,6 +32,11 @@ fn page_kind(kind: AnswerKind) -> Kind
         AnswerKind::Deadlock => Kind::Deadlock,
         AnswerKind::NoBreach => Kind::Safe,
         AnswerKind::StatesLeft => Kind::Unknown,
+        AnswerKind::Followed => Kind::Followed,
+        AnswerKind::FollowedApart => Kind::FollowedApart,
+        AnswerKind::NotFollowed => Kind::NotFollowed,
+        AnswerKind::NotListed => Kind::NotListed,
+        AnswerKind::GaveUp => Kind::GaveUp,
         AnswerKind::Refused | AnswerKind::Machine => Kind::Refused,
     }
 }
@@ -42,6 +49,7 @@ fn command_text(alloc: Global, answer: &Answer) -> Result<String, AllocError> {
         (Command::Check, None) => format!(in alloc; "check {app}"),
         (Command::Prove, _) => format!(in alloc; "prove {app}"),
         (Command::Refute, _) => format!(in alloc; "refute {app}"),
+        (Command::Follow, _) => format!(in alloc; "follow {app}"),
     }
 }
 

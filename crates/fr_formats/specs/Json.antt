@@ -5,6 +5,8 @@
 -- | place_begins                      | a point with its line of code, and where that is in the application     |
 -- | source_tokens                     | the line in the source from which that was translated                   |
 -- | place_tokens, failure_tokens, step_tokens, lines_tokens, warnings_tokens | parts of an answer               |
+-- | asked_tokens, answered_tokens     | what was asked, and what was answered                                   |
+-- | trace_tokens                      | the trace that was followed, and the line of it that can't be           |
 -- | answer_begins, answer_tokens      | an answer: its kind in a word, its status, and what it says             |
 -- | report_begins                     | the report up to its answers                                            |
 -- | json_of                           | the whole report                                                        |
@@ -17,6 +19,7 @@ use Rattle.fr_formats.specs.declared.answer.Failure.{Failure}
 use Rattle.fr_formats.specs.declared.answer.PlaceShown.{PlaceShown}
 use Rattle.fr_formats.specs.declared.answer.SourceShown.{SourceShown}
 use Rattle.fr_formats.specs.declared.answer.StepShown.{StepShown}
+use Rattle.fr_formats.specs.declared.answer.TraceShown.{TraceShown}
 use Rattle.fr_formats.specs.declared.answer.WarningShown.{WarningShown}
 use Rattle.fr_formats.specs.Answers.{command_name, kind_name, side_name, status_of, greatest_status}
 use Rattle.fr_formats.specs.Tokens.{array, field, integer, number, maybe, listed, object, written}
@@ -53,12 +56,22 @@ lines_tokens lines = listed (codes "lines") (λ line. string (string_bytes line)
 unfoldable pub warnings_tokens : List WarningShown → List Token
 warnings_tokens warnings = listed (codes "warnings") (λ warning. string (string_bytes warning.text) ∷ []) warnings
 
-unfoldable pub answer_begins : AnswerShown → List Token
-answer_begins a =
+unfoldable pub asked_tokens : AnswerShown → List Token
+asked_tokens a =
     begin_object ∷ field (codes "command") (command_name a.command) ++ field (codes "application") (string_bytes a.application)
     ++ maybe (field (codes "certificate")) (option_map string_bytes a.certificate)
-    ++ field (codes "answer") (kind_name a.answer) ++ number (codes "status") (status_of a.answer)
+
+unfoldable pub trace_tokens : TraceShown → List Token
+trace_tokens t =
+    object (codes "trace") ++ field (codes "file") (string_bytes t.file) ++ maybe (number (codes "line")) t.line ++ end_object ∷ []
+
+unfoldable pub answered_tokens : AnswerShown → List Token
+answered_tokens a =
+    field (codes "answer") (kind_name a.answer) ++ number (codes "status") (status_of a.answer)
     ++ field (codes "report") (string_bytes a.report)
+
+unfoldable pub answer_begins : AnswerShown → List Token
+answer_begins a = asked_tokens a ++ maybe trace_tokens a.trace ++ answered_tokens a
 
 unfoldable pub answer_tokens : AnswerShown → List Token
 answer_tokens a =

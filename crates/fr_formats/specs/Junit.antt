@@ -11,12 +11,12 @@ use Rattle.std.specs.Prelude.{ℕ, Bool, true, false, List, [], ◌∷◌, ◌++
 use Rattle.std.specs.declared.string.String.{String}
 use Rattle.fr_escape.specs.Xml.{xml}
 use Rattle.fr_formats.specs.declared.answer.AnswerKind.{AnswerKind}
-use Rattle.fr_formats.specs.declared.answer.AnswerKind.TheVariants.{Yes, No, MayDeadlock, Breach, Deadlock, NoBreach, StatesLeft, Refused, Machine}
+use Rattle.fr_formats.specs.declared.answer.AnswerKind.TheVariants.{Yes, No, MayDeadlock, Breach, Deadlock, NoBreach, StatesLeft, Followed, FollowedApart, NotFollowed, NotListed, GaveUp, Refused, Machine}
 use Rattle.fr_formats.specs.declared.answer.AnswerShown.{AnswerShown}
 use Rattle.fr_formats.specs.declared.answer.WarningShown.{WarningShown}
 use Rattle.fr_formats.specs.declared.junit.Part.{Part}
 use Rattle.fr_formats.specs.declared.junit.Part.TheVariants.{Markup, Text, Number, Lines, Warnings}
-use Rattle.fr_formats.specs.Answers.{command_name, failed_rule}
+use Rattle.fr_formats.specs.Answers.{command_name, failed_rule, subject}
 
 unfoldable pub escaped : List ℕ → List ℕ
 escaped text = encode_utf8_all (xml text)
@@ -29,6 +29,11 @@ is_failed MayDeadlock = true
 is_failed Breach = true
 is_failed Deadlock = true
 is_failed StatesLeft = true
+is_failed Followed = false
+is_failed FollowedApart = false
+is_failed NotFollowed = true
+is_failed NotListed = true
+is_failed GaveUp = true
 is_failed Refused = false
 is_failed Machine = false
 
@@ -40,6 +45,11 @@ is_broken MayDeadlock = false
 is_broken Breach = false
 is_broken Deadlock = false
 is_broken StatesLeft = false
+is_broken Followed = false
+is_broken FollowedApart = false
+is_broken NotFollowed = false
+is_broken NotListed = false
+is_broken GaveUp = false
 is_broken Refused = true
 is_broken Machine = true
 
@@ -76,6 +86,11 @@ outcome_by MayDeadlock a = failed (codes "failure") a
 outcome_by Breach a = failed (codes "failure") a
 outcome_by Deadlock a = failed (codes "failure") a
 outcome_by StatesLeft a = failed (codes "failure") a
+outcome_by Followed a = []
+outcome_by FollowedApart a = []
+outcome_by NotFollowed a = failed (codes "failure") a
+outcome_by NotListed a = failed (codes "failure") a
+outcome_by GaveUp a = failed (codes "failure") a
 outcome_by Refused a = failed (codes "error") a
 outcome_by Machine a = failed (codes "error") a
 
@@ -92,7 +107,7 @@ warnings_of (w ∷ ws) = output_of (w ∷ ws)
 unfoldable pub case_begins : AnswerShown → List ℕ
 case_begins a =
     codes "    <testcase classname=\"fr_check." ++ (command_name a.command ++ (codes "\" name=\""
-    ++ (escaped (string_bytes a.application) ++ codes "\">\n")))
+    ++ (escaped (subject a) ++ codes "\">\n")))
 
 unfoldable pub case_of : AnswerShown → List ℕ
 case_of a = case_begins a ++ outcome_of a ++ warnings_of a.warnings.items ++ codes "    </testcase>\n"

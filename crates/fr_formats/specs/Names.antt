@@ -38,7 +38,7 @@ rule_names =
     ∷ codes "entry" ∷ codes "goes-to" ∷ codes "guard" ∷ codes "near" ∷ codes "spoiled-by" ∷ codes "refused"
     ∷ codes "states-left" ∷ codes "never-reached" ∷ codes "never-used" ∷ codes "no-actors" ∷ codes "deadlock" ∷ codes "may-deadlock"
     ∷ codes "held-while-waiting" ∷ codes "never-given" ∷ codes "lost-update" ∷ codes "used-one-way"
-    ∷ codes "buffer-in-critical-section" ∷ []
+    ∷ codes "buffer-in-critical-section" ∷ codes "not-followed" ∷ codes "not-listed" ∷ codes "gave-up" ∷ codes "breach" ∷ []
 
 -- the index of a name among all
 unfoldable pub rule_index : List ℕ → Option ℕ

@@ -3,16 +3,16 @@
 -- | word                              | meaning                                                                 |
 -- |-----------------------------------|-------------------------------------------------------------------------|
 -- | uri_of, point_words               | a path as a URI, and a point in words                                   |
--- | file_location                     | a whole file                                                            |
+-- | file_location                     | a whole file, or the line of it that is known                           |
 -- | file_of, region_of                | the file and the lines of a point: its source's, where that is known    |
 -- | point_location                    | a point with what is said of it                                         |
 -- | Stop                              | a place of a way through the code, with what is said of it              |
 -- | run_stops, note_stops             | the run into a breach, and a state that the notes allow with a step     |
 -- | flow                              | a way under a text; nothing where it has no place                       |
--- | plain_result, whole_result        | a result about the whole file; the same with all that an answer says    |
+-- | plain_result, whole_result        | a result about a file or a line of it; so, with all that an answer says |
 -- | failing                           | the result of what fails at a point                                     |
 -- | result_of, warning_results        | what is found by an answer: nothing by a yes; and by its warnings       |
--- | artifacts                         | the files of the applications, each once                                |
+-- | artifacts                         | the files that the answers are about, each once                         |
 -- | notifications, invocations        | what kept the machine from answers, and how the program ended           |
 -- | Rule, rules                       | what can fail: its name, and words about it                             |
 -- | log, IsSarif                      | the whole report                                                        |
@@ -23,7 +23,7 @@ use Rattle.json.specs.Token.{Token, begin_object, end_object, end_array, key}
 use Rattle.fr_escape.specs.Uri.{uri}
 use Rattle.fr_request.specs.declared.format.TheConstants.{VERSION}
 use Rattle.fr_formats.specs.declared.answer.AnswerKind.{AnswerKind}
-use Rattle.fr_formats.specs.declared.answer.AnswerKind.TheVariants.{Yes, No, MayDeadlock, Breach, Deadlock, NoBreach, StatesLeft, Refused, Machine}
+use Rattle.fr_formats.specs.declared.answer.AnswerKind.TheVariants.{Yes, No, MayDeadlock, Breach, Deadlock, NoBreach, StatesLeft, Followed, FollowedApart, NotFollowed, NotListed, GaveUp, Refused, Machine}
 use Rattle.fr_formats.specs.declared.answer.AnswerShown.{AnswerShown}
 use Rattle.fr_formats.specs.declared.answer.Failure.{Failure}
 use Rattle.fr_formats.specs.declared.answer.PlaceShown.{PlaceShown}
@@ -32,7 +32,7 @@ use Rattle.fr_formats.specs.declared.answer.StepShown.{StepShown}
 use Rattle.fr_formats.specs.declared.answer.WarningShown.{WarningShown}
 use Rattle.fr_formats.specs.declared.ident.Ident.{Ident}
 use Rattle.fr_formats.specs.declared.sarif.flow.Stop.{Stop as StopShown}
-use Rattle.fr_formats.specs.Answers.{kind_name, side_name, warning_rule, greatest_status}
+use Rattle.fr_formats.specs.Answers.{kind_name, side_name, warning_rule, greatest_status, subject, subject_line}
 use Rattle.fr_formats.specs.Names.{rule_index, rule_names}
 use Rattle.fr_formats.specs.Tokens.{array, field, flag, maybe, message, number, object, written}
 
@@ -53,7 +53,7 @@ abbrev pub region : Option ℕ → Option ℕ → Option ℕ → List Token
 region (Some line) (Some column) (Some length) = range line column (min (column + length) (2 ^ 64 - 1))
 region line column length = []
 
--- a line alone: of a source no columns are known
+-- a line alone: of a source or a trace no columns are known
 unfoldable pub whole_line : ℕ → List Token
 whole_line line = object (codes "region") ++ number (codes "startLine") line ++ end_object ∷ []
 
@@ -72,8 +72,8 @@ file_begins address =
     begin_object ∷ object (codes "physicalLocation") ++ object (codes "artifactLocation")
     ++ field (codes "uri") address ++ end_object ∷ []
 
-unfoldable pub file_location : List ℕ → List Token
-file_location path = file_begins (uri_of path) ++ end_object ∷ end_object ∷ []
+unfoldable pub file_location : List ℕ → Option ℕ → List Token
+file_location path line = file_begins (uri_of path) ++ maybe whole_line line ++ end_object ∷ end_object ∷ []
 
 unfoldable pub named : List ℕ → List ℕ → List Token
 named actor words =
@@ -91,7 +91,7 @@ point_location path p text =
     ++ said text ++ end_object ∷ []
 
 unfoldable pub location : List ℕ → Option PlaceShown → List Token
-location path None = file_location path
+location path None = file_location path None
 location path (Some p) = point_location path p []
 
 -- ---- ways through the code
@@ -199,11 +199,12 @@ result_begins rule level text =
     begin_object ∷ field (codes "ruleId") rule ++ maybe (number (codes "ruleIndex")) (rule_index rule)
     ++ field (codes "level") level ++ message (codes "message") text ++ array (codes "locations")
 
-unfoldable pub plain_result : List ℕ → List ℕ → List ℕ → List ℕ → List Token
-plain_result path rule level text = result_begins rule level text ++ file_location path ++ end_array ∷ end_object ∷ []
+unfoldable pub plain_result : List ℕ → Option ℕ → List ℕ → List ℕ → List ℕ → List Token
+plain_result path line rule level text =
+    result_begins rule level text ++ file_location path line ++ end_array ∷ end_object ∷ []
 
 unfoldable pub whole_result : List ℕ → AnswerShown → List Token
-whole_result level a = plain_result (string_bytes a.application) (kind_name a.answer) level (whole_text a)
+whole_result level a = plain_result (subject a) (subject_line a) (kind_name a.answer) level (whole_text a)
 
 abbrev pub related_at : List ℕ → Option PlaceShown → List ℕ → List Token
 related_at path None text = []
@@ -231,12 +232,17 @@ result_by Breach a = failing_by a.failure a
 result_by Deadlock a = failing_by a.failure a
 result_by Refused a = whole_result (codes "error") a
 result_by StatesLeft a = whole_result (codes "warning") a
+result_by Followed a = []
+result_by FollowedApart a = []
+result_by NotFollowed a = whole_result (codes "error") a
+result_by NotListed a = whole_result (codes "error") a
+result_by GaveUp a = whole_result (codes "warning") a
 
 unfoldable pub result_of : AnswerShown → List Token
 result_of a = result_by a.answer a
 
 abbrev pub warning_result : List ℕ → WarningShown → List Token
-warning_result path w = plain_result path (warning_rule w.kind) (codes "warning") (string_bytes w.text)
+warning_result path w = plain_result path None (warning_rule w.kind) (codes "warning") (string_bytes w.text)
 
 unfoldable pub warning_results : AnswerShown → List Token
 warning_results a = flat_map (warning_result (string_bytes a.application)) a.warnings.items
@@ -251,14 +257,14 @@ results answers = results_begin ++ flat_map (λ a. result_of a ++ warning_result
 -- ---- the run
 
 abbrev pub is_named : List AnswerShown → List ℕ → Bool
-is_named answers path = list_any (λ a. bytes_eq (string_bytes a.application) path) answers
+is_named answers path = list_any (λ a. bytes_eq (subject a) path) answers
 
 unfoldable pub artifact : List ℕ → List Token
 artifact address = begin_object ∷ object (codes "location") ++ field (codes "uri") address ++ end_object ∷ end_object ∷ []
 
--- the file of an answer's application, unless one of the answers before names it
+-- the file that an answer is about, unless one of the answers before is about it
 unfoldable pub added : List AnswerShown → AnswerShown → List Token
-added before a = if is_named before (string_bytes a.application) then [] else artifact (uri_of (string_bytes a.application))
+added before a = if is_named before (subject a) then [] else artifact (uri_of (subject a))
 
 abbrev pub artifacts : List AnswerShown → List AnswerShown → List Token
 artifacts before [] = []
@@ -270,7 +276,7 @@ error_begins text =
 
 unfoldable pub notification : AnswerShown → List Token
 notification a =
-    error_begins (whole_text a) ++ file_location (string_bytes a.application) ++ end_array ∷ end_object ∷ []
+    error_begins (whole_text a) ++ file_location (subject a) None ++ end_array ∷ end_object ∷ []
 
 abbrev pub notification_by : AnswerKind → AnswerShown → List Token
 notification_by Machine a = notification a

@@ -1,6 +1,6 @@
 // What a command answered for one application.
 ghost use Rattle.std.specs.Prelude.{◌≡◌, IfOk, string_bytes};
-ghost use Rattle.fr_formats.specs.Answers.{IsNew, command_name, failed_rule, greatest_status as greatest, kind_name, side_name, status_of, warning_rule};
+ghost use Rattle.fr_formats.specs.Answers.{IsNew, command_name, failed_rule, greatest_status as greatest, kind_name, side_name, status_of, subject, subject_line, warning_rule};
 
 use std::alloc::{AllocError, Global};
 
@@ -10,6 +10,7 @@ pub enum Command {
     Check,
     Prove,
     Refute,
+    Follow,
 }
 
 /// What is asked: the command, and the files as they were named.
@@ -37,6 +38,16 @@ pub enum AnswerKind {
     NoBreach,
     /// No state that was seen breaches a rule, nor is one deadlocked where that was asked, and more are left.
     StatesLeft,
+    /// A run has all events of the trace.
+    Followed,
+    /// A run has the events before the first that were lost, and after that each actor was followed by itself.
+    FollowedApart,
+    /// No run that was found has the events up to one of the trace.
+    NotFollowed,
+    /// The trace has something that the application doesn't list.
+    NotListed,
+    /// The search had more states than it may keep.
+    GaveUp,
     /// A file is refused.
     Refused,
     /// The machine failed.
@@ -133,7 +144,16 @@ pub struct WarningShown {
     pub text: String,
 }
 
-/// What a command answered for one application. Its exit status is that of its kind.
+/// The trace that was followed.
+#[derive(Drop)]
+pub struct TraceShown {
+    /// Its file, as it was named.
+    pub file: String,
+    /// The number of the line of the trace that can't be followed, from 1; None where there is none.
+    pub line: Option<usize>,
+}
+
+/// What a command answered for one application, or for one trace of it. Its exit status is that of its kind.
 #[derive(Drop)]
 pub struct AnswerShown {
     pub command: Command,
@@ -141,10 +161,12 @@ pub struct AnswerShown {
     pub application: String,
     /// The certificate's file, where one was named.
     pub certificate: Option<String>,
+    /// The trace that was followed, where one was.
+    pub trace: Option<TraceShown>,
     pub answer: AnswerKind,
     /// The first line that is printed.
     pub report: String,
-    /// The lines that follow: why it is no, or the steps of a run.
+    /// The lines that follow: why it is no or a trace isn't followed, or the steps of a run.
     pub lines: Vec<String>,
     pub warnings: Vec<WarningShown>,
     pub failure: Option<Failure>,
@@ -160,20 +182,24 @@ impl Command {
             Command::Check => "check",
             Command::Prove => "prove",
             Command::Refute => "refute",
+            Command::Follow => "follow",
         }
     }
 }
 
 impl AnswerKind {
-    /// The exit status of a command that answers so: 0 for a yes and for no breach, 1 for a no, for a breach, for a deadlock that is
-    /// there or may be, and where states are left, 2 where a file is refused, and 3 where the machine failed.
+    /// The exit status of a command that answers so: 0 for a yes, for no breach, and for a trace that was followed, 1 for a no, for a
+    /// breach, for a deadlock that is there or may be, where states are left, and for a trace that wasn't followed, 2 where a file is
+    /// refused, and 3 where the machine failed.
     pub fn status(self) -> u8
         ensures { result ≡ status_of self }
     {
         match self {
             AnswerKind::Yes | AnswerKind::NoBreach => 0,
+            AnswerKind::Followed | AnswerKind::FollowedApart => 0,
             AnswerKind::No | AnswerKind::MayDeadlock | AnswerKind::Breach => 1,
             AnswerKind::Deadlock | AnswerKind::StatesLeft => 1,
+            AnswerKind::NotFollowed | AnswerKind::NotListed | AnswerKind::GaveUp => 1,
             AnswerKind::Refused => 2,
             AnswerKind::Machine => 3,
         }
@@ -191,6 +217,11 @@ impl AnswerKind {
             AnswerKind::Deadlock => "deadlock",
             AnswerKind::NoBreach => "no-breach",
             AnswerKind::StatesLeft => "states-left",
+            AnswerKind::Followed => "followed",
+            AnswerKind::FollowedApart => "followed-apart",
+            AnswerKind::NotFollowed => "not-followed",
+            AnswerKind::NotListed => "not-listed",
+            AnswerKind::GaveUp => "gave-up",
             AnswerKind::Refused => "refused",
             AnswerKind::Machine => "machine",
         }
@@ -249,6 +280,7 @@ impl AnswerShown {
             command: source.command,
             application: String::from_str(alloc, source.application)?,
             certificate,
+            trace: None,
             answer: kind,
             report,
             lines: Vec::new(alloc),
@@ -256,6 +288,26 @@ impl AnswerShown {
             failure: None,
             steps: Vec::new(alloc),
         })
+    }
+
+    /// The file that the answer is about: that of the trace, where there is one, and else the application's.
+    pub(crate) fn subject(&self) -> &str
+        ensures { result.now ≡ subject self.now }
+    {
+        match &self.trace {
+            Some(trace) => trace.file.as_str(),
+            None => self.application.as_str(),
+        }
+    }
+
+    /// The line of that file that the answer is about, where it is about one: that of the trace which can't be followed.
+    pub(crate) fn subject_line(&self) -> Option<usize>
+        ensures { result ≡ subject_line self.now }
+    {
+        match &self.trace {
+            Some(trace) => trace.line,
+            None => None,
+        }
     }
 
     /// The rule or the part that fails, in a word; the name of the answer's kind where none does.

@@ -1,10 +1,11 @@
 // Answers as JSON.
 ghost use Rattle.std.specs.Prelude.{◌≡◌, ◌++◌, IfOk, OnOk, codes, string_bytes};
 ghost use Rattle.fr_formats.specs.Tokens.{listed, maybe};
-ghost use Rattle.fr_formats.specs.Json.{answer_begins, answer_tokens, failure_tokens, json_of, lines_tokens, member_place, place_begins, place_tokens, report_begins, source_tokens, step_tokens, warnings_tokens};
+ghost use Rattle.fr_formats.specs.Json.{answer_begins, answer_tokens, answered_tokens, asked_tokens, failure_tokens, json_of, lines_tokens, member_place, place_begins, place_tokens, report_begins, source_tokens, step_tokens, trace_tokens, warnings_tokens};
 
 use crate::answer::{
-    AnswerShown, Failure, PlaceShown, SourceShown, StepShown, WarningShown, greatest_status,
+    AnswerShown, Failure, PlaceShown, SourceShown, StepShown, TraceShown, WarningShown,
+    greatest_status,
 };
 use crate::piece::Piece::{
     Array, Field, Integer, Key, Marks, MaybeField, MaybeNumber, Number, Object, Text,
@@ -127,14 +128,43 @@ fn put_steps(out: &mut Out, steps: &[StepShown]) -> Result<(), AllocError>
     put!(out; Marks("]"))
 }
 
-/// Appends the begin of an answer: what was asked, and what was answered.
+/// Appends the begin of an answer: the command, the application and the certificate.
+#[tactic(auto, using(std::proofs::Common::append_assoc), unfolding(crate::specs::Json::asked_tokens))]
+fn put_asked(out: &mut Out, answer: &AnswerShown) -> Result<(), AllocError>
+    ensures { OnOk result (out.new.tokens ≡ out.old.tokens ++ asked_tokens answer.now) }
+{
+    put!(out; Marks("{"), Field("command", answer.command.name()), Field("application", &answer.application),
+        MaybeField("certificate", answer.certificate.as_deref()))
+}
+
+/// Appends the trace that was followed; nothing where none was.
+#[tactic(auto, using(std::proofs::Common::append_assoc), unfolding(crate::specs::Json::trace_tokens))]
+fn put_trace(out: &mut Out, trace: &Option<TraceShown>) -> Result<(), AllocError>
+    ensures { OnOk result (out.new.tokens ≡ out.old.tokens ++ maybe trace_tokens trace.now) }
+{
+    let Some(trace) = trace else {
+        return Ok(());
+    };
+    put!(out; Object("trace"), Field("file", &trace.file), MaybeNumber("line", trace.line), Marks("}"))
+}
+
+/// Appends what was answered: the kind, the status, and the first line that is printed.
+#[tactic(auto, using(std::proofs::Common::append_assoc), unfolding(crate::specs::Json::answered_tokens))]
+fn put_answered(out: &mut Out, answer: &AnswerShown) -> Result<(), AllocError>
+    ensures { OnOk result (out.new.tokens ≡ out.old.tokens ++ answered_tokens answer.now) }
+{
+    put!(out; Field("answer", answer.answer.name()),
+        Number("status", usize::from(answer.answer.status())), Field("report", &answer.report))
+}
+
+/// Appends the begin of an answer: what was asked, the trace that was followed, and what was answered.
 #[tactic(auto, using(std::proofs::Common::append_assoc), unfolding(crate::specs::Json::answer_begins))]
 fn begin_answer(out: &mut Out, answer: &AnswerShown) -> Result<(), AllocError>
     ensures { OnOk result (out.new.tokens ≡ out.old.tokens ++ answer_begins answer.now) }
 {
-    put!(out; Marks("{"), Field("command", answer.command.name()), Field("application", &answer.application),
-        MaybeField("certificate", answer.certificate.as_deref()), Field("answer", answer.answer.name()),
-        Number("status", usize::from(answer.answer.status())), Field("report", &answer.report))
+    put_asked(out, answer)?;
+    put_trace(out, &answer.trace)?;
+    put_answered(out, answer)
 }
 
 /// Appends an answer.

@@ -18,7 +18,7 @@ pub(crate) struct Ident {
 }
 
 /// All of them: the twelve rules, the other parts of a verdict, and what else a report can say.
-const IDENTS: [Ident; 29] = [
+const IDENTS: [Ident; 33] = [
     Ident {
         name: "rule-1",
         short: "Two actors at the writing end of a buffer",
@@ -163,6 +163,26 @@ const IDENTS: [Ident; 29] = [
         name: "buffer-in-critical-section",
         short: "A buffer is used in a critical section of a task",
         help: "A kernel with several cores calls vTaskSuspendAll in the call, which asserts that its task isn't in a critical section. Let a mutex guard the buffer.",
+    },
+    Ident {
+        name: "not-followed",
+        short: "No run of the application has this event of the trace",
+        help: "Run follow with --explain; then fix the application's file or the firmware, whichever is wrong.",
+    },
+    Ident {
+        name: "not-listed",
+        short: "The trace has something that the application does not list",
+        help: "The firmware has a task, an interrupt, an object or a call that isn't in the application's file. Add it there, or take it out of the firmware.",
+    },
+    Ident {
+        name: "gave-up",
+        short: "The search had more states than it may keep",
+        help: "There are too many ways to explain the events up to this line. Record more (values, marks, begin and end of handlers), or allow more states with --states.",
+    },
+    Ident {
+        name: "breach",
+        short: "The firmware was seen breaking a rule",
+        help: "A run of the application has the events up to this line, and breaks the rule there. The firmware did so: fix it, and then the application's file.",
     },
 ];
 

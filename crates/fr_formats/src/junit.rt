@@ -86,7 +86,9 @@ fn is_failed(kind: AnswerKind) -> bool
     match kind {
         AnswerKind::No | AnswerKind::MayDeadlock | AnswerKind::Breach => true,
         AnswerKind::Deadlock | AnswerKind::StatesLeft => true,
+        AnswerKind::NotFollowed | AnswerKind::NotListed | AnswerKind::GaveUp => true,
         AnswerKind::Yes | AnswerKind::NoBreach => false,
+        AnswerKind::Followed | AnswerKind::FollowedApart => false,
         AnswerKind::Refused | AnswerKind::Machine => false,
     }
 }
@@ -119,10 +121,14 @@ fn put_outcome(text: &mut String, answer: &AnswerShown) -> Result<(), AllocError
 {
     match answer.answer {
         AnswerKind::Yes | AnswerKind::NoBreach => Ok(()),
+        AnswerKind::Followed | AnswerKind::FollowedApart => Ok(()),
         AnswerKind::No | AnswerKind::MayDeadlock | AnswerKind::Breach => {
             put_failed(text, "failure", answer)
         }
         AnswerKind::Deadlock | AnswerKind::StatesLeft => put_failed(text, "failure", answer),
+        AnswerKind::NotFollowed | AnswerKind::NotListed | AnswerKind::GaveUp => {
+            put_failed(text, "failure", answer)
+        }
         AnswerKind::Refused | AnswerKind::Machine => put_failed(text, "error", answer),
     }
 }
@@ -145,15 +151,15 @@ fn put_warnings(text: &mut String, warnings: &[WarningShown]) -> Result<(), Allo
     put_output(text, warnings)
 }
 
-/// Appends the begin of the case of one application.
+/// Appends the begin of the case of one application or trace.
 fn begin_case(text: &mut String, answer: &AnswerShown) -> Result<(), AllocError>
     ensures { OnOk result (string_bytes text.new ≡ string_bytes text.old ++ case_begins answer.now) }
 {
     put!(text; Markup("    <testcase classname=\"fr_check."), Markup(answer.command.name()),
-        Markup("\" name=\""), Text(&answer.application), Markup("\">\n"))
+        Markup("\" name=\""), Text(answer.subject()), Markup("\">\n"))
 }
 
-/// Appends the case of one application.
+/// Appends the case of one application or trace.
 fn put_case(text: &mut String, answer: &AnswerShown) -> Result<(), AllocError>
     ensures { OnOk result (string_bytes text.new ≡ string_bytes text.old ++ case_of answer.now) }
 {
@@ -198,9 +204,9 @@ fn begin_suite(text: &mut String, answers: &[AnswerShown]) -> Result<(), AllocEr
     put_head(text, answers.len(), failures, errors)
 }
 
-/// The answers as a test suite in JUnit's XML, with a case for each application. It passes where the command's exit
-/// status is 0, fails where the answer is no, a breach or that more states are left, and is an error where a file is
-/// refused or the machine failed.
+/// The answers as a test suite in JUnit's XML, with a case for each application, or for each trace that was followed. It
+/// passes where the command's exit status is 0, fails where the answer is no, a breach, that more states are left or that
+/// a trace wasn't followed, and is an error where a file is refused or the machine failed.
 ///
 /// Its error is that an allocation was refused.
 pub(crate) fn junit_text(alloc: Global, answers: &[AnswerShown]) -> Result<String, AllocError>

@@ -15,7 +15,7 @@ mod sarif;
 
 pub use answer::{
     AnswerKind, AnswerShown, Command, Failure, PlaceShown, SideShown, Source, SourceShown,
-    StepShown, WarningKind, WarningShown, greatest_status,
+    StepShown, TraceShown, WarningKind, WarningShown, greatest_status,
 };
 pub use format::answers_text;
 pub use ident::{part_name, rule_name};

@@ -69,29 +69,31 @@ fn begin_result<'a>(
         Field("level", level), Message("message", text), Array("locations"))
 }
 
-/// Appends a result about the whole file.
+/// Appends a result about the file at this path, or about the line of it that is known.
 #[tactic(auto, using(std::proofs::Common::append_assoc), unfolding(crate::specs::Sarif::plain_result))]
 fn put_plain(
     out: &mut Out,
     path: &str,
+    line: Option<usize>,
     rule: &str,
     level: &str,
     text: &str,
 ) -> Result<(), AllocError>
-    ensures { OnOk result (out.new.tokens ≡ out.old.tokens ++ plain_result path.now rule.now level.now text.now) }
+    ensures { OnOk result (out.new.tokens ≡ out.old.tokens ++ plain_result path.now line rule.now level.now text.now) }
 {
     begin_result(out, rule, level, text)?;
-    put_file(out, path)?;
+    put_file(out, path, line)?;
     put!(out; Marks("]}"))
 }
 
-/// Appends the result of an answer about the whole file, which has all that the answer says.
+/// Appends the result of an answer about its file, or about a line of it, which has all that the answer says.
 #[tactic(auto, using(std::proofs::Common::append_assoc), unfolding(crate::specs::Sarif::whole_result))]
 fn put_whole(out: &mut Out, answer: &AnswerShown, level: &str) -> Result<(), AllocError>
     ensures { OnOk result (out.new.tokens ≡ out.old.tokens ++ whole_result level.now answer.now) }
 {
     let text = text_of(out.alloc, answer)?;
-    put_plain(out, &answer.application, answer.answer.name(), level, &text)
+    let (path, line) = (answer.subject(), answer.subject_line());
+    put_plain(out, path, line, answer.answer.name(), level, &text)
 }
 
 /// Appends the other point that a failure is about.
@@ -132,17 +134,19 @@ fn put_failed(out: &mut Out, answer: &AnswerShown) -> Result<(), AllocError>
     }
 }
 
-/// Appends what the answer says of the application: nothing for a yes.
+/// Appends what the answer says of the application or the trace: nothing for a yes, or where the trace was followed.
 #[tactic(auto, using(std::proofs::Common::append_assoc), unfolding(crate::specs::Sarif::result_of))]
 fn put_result(out: &mut Out, answer: &AnswerShown) -> Result<(), AllocError>
     ensures { OnOk result (out.new.tokens ≡ out.old.tokens ++ result_of answer.now) }
 {
     match answer.answer {
         AnswerKind::Yes | AnswerKind::NoBreach | AnswerKind::Machine => Ok(()),
+        AnswerKind::Followed | AnswerKind::FollowedApart => Ok(()),
         AnswerKind::No | AnswerKind::MayDeadlock => put_failed(out, answer),
         AnswerKind::Breach | AnswerKind::Deadlock => put_failed(out, answer),
         AnswerKind::Refused => put_whole(out, answer, "error"),
-        AnswerKind::StatesLeft => put_whole(out, answer, "warning"),
+        AnswerKind::NotFollowed | AnswerKind::NotListed => put_whole(out, answer, "error"),
+        AnswerKind::StatesLeft | AnswerKind::GaveUp => put_whole(out, answer, "warning"),
     }
 }
 
@@ -153,7 +157,7 @@ fn put_warnings(out: &mut Out, answer: &AnswerShown) -> Result<(), AllocError>
 {
     for warning in &answer.warnings {
         let (rule, text) = (warning.kind.rule(), warning.text.as_str());
-        put_plain(out, &answer.application, rule, "warning", text)?;
+        put_plain(out, &answer.application, None, rule, "warning", text)?;
     }
     Ok(())
 }
@@ -179,11 +183,11 @@ fn put_results(out: &mut Out, answers: &[AnswerShown]) -> Result<(), AllocError>
     put!(out; Marks("]"))
 }
 
-/// Whether one of the answers is on the application in this file.
+/// Whether one of the answers is about this file.
 fn is_answered(answers: &[AnswerShown], path: &str) -> bool
     ensures { result ≡ is_named answers.now path.now }
 {
-    answers.iter().any(|a| a.application.as_str() == path)
+    answers.iter().any(|a| a.subject() == path)
 }
 
 /// Appends the file with this URI.
@@ -194,19 +198,20 @@ fn put_artifact(out: &mut Out, uri: &str) -> Result<(), AllocError>
     put!(out; Marks("{"), Object("location"), Field("uri", uri), Marks("}}"))
 }
 
-/// Appends the file of an answer's application, unless one of the answers before names it.
+/// Appends the file that an answer is about, unless one of the answers before is about it.
 #[tactic(auto, using(std::proofs::Common::append_assoc), unfolding(crate::specs::Sarif::added))]
 fn put_new(out: &mut Out, before: &[AnswerShown], answer: &AnswerShown) -> Result<(), AllocError>
     ensures { OnOk result (out.new.tokens ≡ out.old.tokens ++ added before.now answer.now) }
 {
-    if is_answered(before, &answer.application) {
+    let path = answer.subject();
+    if is_answered(before, path) {
         return Ok(());
     }
-    let uri = file_uri(out.alloc, &answer.application)?;
+    let uri = file_uri(out.alloc, path)?;
     put_artifact(out, &uri)
 }
 
-/// Appends the files of the applications, each once.
+/// Appends the files that the answers are about, each once.
 fn put_files(out: &mut Out, answers: &[AnswerShown]) -> Result<(), AllocError>
     ensures { OnOk result (out.new.tokens ≡ out.old.tokens ++ files answers.now) }
 {
@@ -239,7 +244,7 @@ fn put_machine(out: &mut Out, answer: &AnswerShown) -> Result<(), AllocError>
 {
     let text = text_of(out.alloc, answer)?;
     begin_error(out, &text)?;
-    put_file(out, &answer.application)?;
+    put_file(out, answer.subject(), None)?;
     put!(out; Marks("]}"))
 }
 
@@ -312,8 +317,9 @@ fn put_log(out: &mut Out, idents: &[Ident], answers: &[AnswerShown]) -> Result<(
 }
 
 /// The answers as SARIF 2.1.0: a result for each application that fails or is refused, at the line of code in the
-/// application's file, with the steps that show it as a code flow; no result for a yes. Where the machine failed, the
-/// run says so.
+/// application's file, with the steps that show it as a code flow; a result for each trace that wasn't followed, at the
+/// line in the trace's file; no result for a yes, or where a trace was followed. Where the machine failed, the run says
+/// so.
 ///
 /// Its error is that an allocation was refused.
 pub(crate) fn sarif_text(alloc: Global, answers: &[AnswerShown]) -> Result<String, AllocError>

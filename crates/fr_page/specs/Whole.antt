@@ -10,7 +10,7 @@
 use Rattle.std.specs.Prelude.{ℕ, List, [], ◌∷◌, ◌++◌, codes, string_bytes}
 use Rattle.std.specs.declared.string.String.{String}
 use Rattle.fr_page.specs.declared.page.Kind.{Kind}
-use Rattle.fr_page.specs.declared.page.Kind.TheVariants.{Yes, No, MayDeadlock, Breach, Deadlock, Safe, Unknown, Refused}
+use Rattle.fr_page.specs.declared.page.Kind.TheVariants.{Yes, No, MayDeadlock, Breach, Deadlock, Safe, Unknown, Followed, FollowedApart, NotFollowed, NotListed, GaveUp, Refused}
 use Rattle.fr_page.specs.declared.page.Page.{Page}
 use Rattle.fr_page.specs.declared.whole.TheConstants.{HEAD}
 use Rattle.fr_page.specs.declared.style.TheConstants.{STYLE}
@@ -24,6 +24,11 @@ heading_of Breach = codes "<h1 class='bad'><span aria-hidden='true'>&#10007;</sp
 heading_of Deadlock = codes "<h1 class='bad'><span aria-hidden='true'>&#10007;</span> deadlock</h1>\n"
 heading_of Safe = codes "<h1 class='good'><span aria-hidden='true'>&#10003;</span> no breach</h1>\n"
 heading_of Unknown = codes "<h1 class='odd'><span aria-hidden='true'>?</span> no breach yet</h1>\n"
+heading_of Followed = codes "<h1 class='good'><span aria-hidden='true'>&#10003;</span> followed</h1>\n"
+heading_of FollowedApart = codes "<h1 class='good'><span aria-hidden='true'>&#10003;</span> followed, each actor by itself</h1>\n"
+heading_of NotFollowed = codes "<h1 class='bad'><span aria-hidden='true'>&#10007;</span> not followed</h1>\n"
+heading_of NotListed = codes "<h1 class='bad'><span aria-hidden='true'>&#10007;</span> not listed</h1>\n"
+heading_of GaveUp = codes "<h1 class='odd'><span aria-hidden='true'>?</span> gave up</h1>\n"
 heading_of Refused = codes "<h1 class='odd'><span aria-hidden='true'>!</span> refused</h1>\n"
 
 unfoldable pub meaning_of : Kind → List ℕ
@@ -34,6 +39,11 @@ meaning_of MayDeadlock = codes "<p>The application in the file breaks none of th
 meaning_of Breach = codes "<p>This run of the application breaks a rule.</p>\n"
 meaning_of Deadlock = codes "<p>After this run of the application these actors wait for one another's mutexes for ever.</p>\n"
 meaning_of Unknown = codes "<p>No run that was looked at breaks a rule. More states are left, so nothing is known of the others.</p>\n"
+meaning_of Followed = codes "<p>A run of the application, shown below, has all events of the trace.</p>\n"
+meaning_of FollowedApart = codes "<p>A run of the application has the events before the first that were lost, if there are any. After that no event was found that its actor's own code can't have.</p>\n"
+meaning_of NotFollowed = codes "<p>No run of the application was found that has the event in this line. A run that is shown below has the events before it, or those before the first that were lost.</p>\n"
+meaning_of NotListed = codes "<p>The trace has something that the application in the file doesn't list.</p>\n"
+meaning_of GaveUp = codes "<p>The search ended without an answer: there were more states than it may keep.</p>\n"
 meaning_of Refused = codes "<p>A file can't be understood, so there is no verdict.</p>\n"
 
 unfoldable pub start : Page → List ℕ

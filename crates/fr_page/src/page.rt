@@ -15,6 +15,16 @@ pub enum Kind {
     Safe,
     /// No breach was found, and not everything was looked at.
     Unknown,
+    /// A run has all events of the trace.
+    Followed,
+    /// A run has the events up to the first that were lost, and after that each actor was followed by itself.
+    FollowedApart,
+    /// No run was found that has the event that is named.
+    NotFollowed,
+    /// The trace has something that the application doesn't list.
+    NotListed,
+    /// The search was ended: it had more states than it may keep.
+    GaveUp,
     /// A file is refused.
     Refused,
 }
@@ -104,14 +114,14 @@ pub enum Standing {
     Never,
 }
 
-/// A step of a run, or its start, with the state behind it.
+/// A step of a run, its start, or an event of the trace, with the state behind it.
 #[derive(Drop)]
 pub struct StepShown {
     /// As `step 3`.
     pub name: String,
     /// How many steps the page leaves out before it.
     pub omitted: usize,
-    /// What is done; nothing at the start.
+    /// What is done, or which event the trace has; nothing at the start.
     pub moved: Option<Moved>,
     /// Where each actor is then, in their order.
     pub after: Vec<ActorAfter>,
@@ -128,15 +138,18 @@ pub enum Doing {
     Breach,
     /// The actor waits for ever.
     Wait,
+    /// The trace has an event of the actor.
+    Event,
 }
 
-/// What an actor does in a step, or what is so of it after the last one.
+/// What an actor does in a step, what is so of it after the last one, or an event that the trace has of it.
 #[derive(Drop)]
 pub struct Moved {
     /// The actor's number.
     pub actor: usize,
-    /// The line of code, by its number.
+    /// The line of code, by its number; of an event its number in the trace, from 1.
     pub line: usize,
+    /// The line's text, or the words of the event.
     pub code: String,
     /// As `choice 3`; no text where nothing is to be said of it.
     pub choice: String,

@@ -6,8 +6,9 @@ use std::alloc::{AllocError, Global};
 const RUN: &str = "<section>
 <h2>The run</h2>
 <p>Time goes down, and each actor with a step has a lane. A bar runs as long as its actor is in the critical section, has suspended
-the scheduler or holds a mutex; a number on it is the depth.</p>
-";
+the scheduler or holds a mutex; a number on it is the depth.";
+
+const EVENTS: &str = " A box with a dashed border is an event of the trace.";
 
 const PLAYER: &str = "<div class='player' hidden>
 <p><button type='button'>First</button> <button type='button'>Back</button> <button type='button'>Next</button>
@@ -176,10 +177,11 @@ fn box_of(doing: Doing) -> &'static str {
         Doing::Step => "<div class='does'><b>",
         Doing::Breach => { "<div class='does breaks'><strong>&#10007; breach</strong> <b>" }
         Doing::Wait => { "<div class='does breaks'><strong>&#10007; deadlock</strong> <b>" }
+        Doing::Event => "<div class='does event'><b>",
     }
 }
 
-/// Writes what an actor with this name does in a step.
+/// Writes what an actor with this name does in a step, or its event.
 fn put_move(page: &mut Writer, name: &str, moved: &Moved) -> Result<(), AllocError> {
     page.between(box_of(moved.doing), name, "</b><code><span>")?;
     page.number(moved.line)?;
@@ -354,10 +356,27 @@ fn put_lanes(
     page.markup("</tbody>\n</table>\n</div>\n")
 }
 
+/// Whether an event of the trace stands among the steps.
+fn has_event(steps: &[StepShown]) -> bool {
+    steps.iter().any(|step| match &step.moved {
+        Some(moved) => moved.doing == Doing::Event,
+        None => false,
+    })
+}
+
+/// Writes the run's heading, and below it what the lanes show.
+fn put_run_head(page: &mut Writer, steps: &[StepShown]) -> Result<(), AllocError> {
+    page.markup(RUN)?;
+    if has_event(steps) {
+        page.markup(EVENTS)?;
+    }
+    page.markup("</p>\n")
+}
+
 /// Writes the run of a page, and after it the state after each step.
 pub fn put_run(alloc: Global, page: &mut Writer, shown: &Page) -> Result<(), AllocError> {
     let lanes = lanes_of(alloc, &shown.actors, &shown.steps)?;
-    page.markup(RUN)?;
+    put_run_head(page, &shown.steps)?;
     put_lanes(page, &shown.steps, &lanes, &shown.waits)?;
     let still = shown.actors.len().saturating_sub(lanes.len());
     put_still(page, &shown.actors, &shown.steps, still)?;

@@ -85,6 +85,8 @@ article .fails td { padding-top: .4rem; }
 .does span { color: var(--soft); }
 .breaks, .breaks:first-child { margin: .3rem .5rem .4rem .1rem; padding: .4rem .7rem; border: 1px solid var(--bad); border-radius: 6px; background: var(--bad-fill); }
 .breaks strong { display: block; font-size: 13px; }
+.event, .event:first-child { margin: .3rem .5rem .4rem .1rem; padding: .3rem .7rem; border: 1px dashed var(--soft); border-radius: 6px; background: none; color: var(--soft); }
+.event code { font-size: 12px; }
 .gap td { padding: .4rem .9rem; }
 .wait td { height: auto; }
 .wait .right, .wait .left, .wait .own { padding: .3rem .8rem .5rem; color: var(--bad); }

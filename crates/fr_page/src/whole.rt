@@ -32,6 +32,15 @@ fn heading(kind: Kind) -> &'static str
             "<h1 class='bad'><span aria-hidden='true'>&#10007;</span> deadlock</h1>\n",
         Kind::Safe => "<h1 class='good'><span aria-hidden='true'>&#10003;</span> no breach</h1>\n",
         Kind::Unknown => "<h1 class='odd'><span aria-hidden='true'>?</span> no breach yet</h1>\n",
+        Kind::Followed =>
+            "<h1 class='good'><span aria-hidden='true'>&#10003;</span> followed</h1>\n",
+        Kind::FollowedApart =>
+            "<h1 class='good'><span aria-hidden='true'>&#10003;</span> followed, each actor by itself</h1>\n",
+        Kind::NotFollowed =>
+            "<h1 class='bad'><span aria-hidden='true'>&#10007;</span> not followed</h1>\n",
+        Kind::NotListed =>
+            "<h1 class='bad'><span aria-hidden='true'>&#10007;</span> not listed</h1>\n",
+        Kind::GaveUp => "<h1 class='odd'><span aria-hidden='true'>?</span> gave up</h1>\n",
         Kind::Refused => "<h1 class='odd'><span aria-hidden='true'>!</span> refused</h1>\n",
     }
 }
@@ -58,6 +67,16 @@ fn meaning(kind: Kind) -> &'static str
         Kind::Unknown => {
             "<p>No run that was looked at breaks a rule. More states are left, so nothing is known of the others.</p>\n"
         }
+        Kind::Followed =>
+            "<p>A run of the application, shown below, has all events of the trace.</p>\n",
+        Kind::FollowedApart =>
+            "<p>A run of the application has the events before the first that were lost, if there are any. After that no event was found that its actor's own code can't have.</p>\n",
+        Kind::NotFollowed =>
+            "<p>No run of the application was found that has the event in this line. A run that is shown below has the events before it, or those before the first that were lost.</p>\n",
+        Kind::NotListed =>
+            "<p>The trace has something that the application in the file doesn't list.</p>\n",
+        Kind::GaveUp =>
+            "<p>The search ended without an answer: there were more states than it may keep.</p>\n",
         Kind::Refused => "<p>A file can't be understood, so there is no verdict.</p>\n",
     }
 }
@@ -90,6 +109,11 @@ fn put_line(page: &mut Writer, kind: Kind, answer: &str) -> Result<(), AllocErro
         | Kind::Deadlock
         | Kind::Safe
         | Kind::Unknown
+        | Kind::Followed
+        | Kind::FollowedApart
+        | Kind::NotFollowed
+        | Kind::NotListed
+        | Kind::GaveUp
         | Kind::Refused => { page.between("<p class='answer'><code>", answer, "</code></p>\n") }
     }
 }

@@ -8,12 +8,12 @@
 -- | IsBelow          | a line that explains a step, and looks like none                                    |
 -- | IsStepTold       | the line of a step, as one of a run; if it is explained, other lines below it       |
 -- | AreStepLines     | the lines of steps, explained or not                                                |
--- | standing_text, IsHere, IsPlaced | where an actor is, with its line of code, and that line's place in a source where it is explained |
+-- | standing_text, IsHere, IsPlaced, IsLast | where an actor is, with its line of code, and that line's place in a source where it is explained |
 -- | standings_text, AreWaiting | where actors are, a line each; those of the actors of a cycle                 |
 -- | shorter_text     | the line that says that a shorter run may exist, where it may and this is asked for |
 -- | AreRunLines      | the lines of steps, where actors are then, and that line                            |
 -- | IsRunText        | those lines of a breach or a deadlock, and otherwise none                           |
-use Rattle.std.specs.Prelude.{◌≡◌, ◌++◌, ℕ, Bool, true, false, not, ◌&&◌, if◌then◌else◌, List, [], ◌∷◌, All, None, Some, codes, decimal, encode_utf8_all, flat_map, length, map, String, string_bytes}
+use Rattle.std.specs.Prelude.{◌≡◌, ◌++◌, ℕ, Bool, true, false, not, ◌&&◌, if◌then◌else◌, List, [], ◌∷◌, All, Option, None, Some, codes, decimal, encode_utf8_all, flat_map, length, map, String, string_bytes}
 use Rattle.std.specs.declared.alloc.Global.{Global}
 use Rattle.fr_escape.specs.Plain.{plain}
 use Rattle.fr_program.specs.declared.ids.ActorId.{ActorId}
@@ -97,6 +97,11 @@ IsHere P s = elim s.point [ None ↦ Unit {0} | Some p ↦ (p.actor ≡ s.actor)
 -- the same, of this actor
 abbrev pub IsPlaced : Program → ActorId → Standing → Type 0
 IsPlaced P actor s = (s.actor ≡ actor) × IsHere P s
+
+-- the same, of this actor alone, if one is named
+abbrev pub IsLast : Program → Option ActorId → List Standing → Type 0
+IsLast P None lasts = lasts ≡ []
+IsLast P (Some actor) lasts = (last : Standing) × (lasts ≡ last ∷ []) × IsPlaced P actor last
 
 -- the same, of each actor of a cycle of waits
 abbrev pub AreWaiting : Program → List Wait → List Standing → Type 0

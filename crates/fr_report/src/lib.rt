@@ -26,7 +26,9 @@ pub use reason::{
     Depth, ExplainedStep, actor_place, depth_in, depths_of, explain, note_told, object_told,
     state_told,
 };
-pub use refuting::{ExplainedRun, breach_text, explain_deadlock, explain_run, finding_line};
+pub use refuting::{
+    ExplainedRun, breach_text, explain_deadlock, explain_run, explain_steps, finding_line,
+};
 pub use shown::{actor_name, object_name, rule_text, side_name};
 pub use sources::Sources;
 pub use text::{part_text, report, verdict_line};

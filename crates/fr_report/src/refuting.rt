@@ -11,6 +11,7 @@ ghost use Rattle.fr_report.specs.Refuted.{
   AreRunLines,
   AreWaiting,
   IsBelow,
+  IsLast,
   IsPlaced,
   IsStepTold,
 };
@@ -23,7 +24,7 @@ use crate::trace::put_entry;
 use crate::waits::deadlock_text;
 use fr_calls::{State, the_start_is_well_formed};
 use fr_escape::push_plain;
-use fr_program::App;
+use fr_program::{ActorId, App};
 use fr_refuter::{Deadlocked, Finding, Refutation, StepTaken, take_step};
 use fr_runner::Entry;
 use fr_waits::Wait;
@@ -100,6 +101,52 @@ pub fn explain_run(
         steps,
         lasts,
         is_shortest: found.is_shortest,
+    })
+}
+
+/// Where this actor is in the state, if one is named.
+fn lasts_in(
+    alloc: Global,
+    app: &App,
+    sources: &Sources,
+    last: Option<ActorId>,
+    state: &State,
+) -> Result<Vec<Standing>, AllocError>
+    requires { IsWellFormed app.now state.now }
+    ensures { IfOk result (λ lasts. IsLast app.now last lasts.items) }
+{
+    let mut lasts = Vec::new(alloc);
+    match last {
+        Some(actor) => {
+            lasts.push(standing_in(alloc, app, sources, actor, state)?)?;
+            Ok(lasts)
+        }
+        None => Ok(lasts),
+    }
+}
+
+/// A run of the application: each of these steps with where its actor was and what it changed, and where this actor then is, if one is
+/// named. `sources` says where the application's lines are in a source.
+///
+/// # Errors
+///
+/// Only where memory is refused.
+pub fn explain_steps(
+    alloc: Global,
+    app: &App,
+    sources: &Sources,
+    taken: &[StepTaken],
+    last: Option<ActorId>,
+) -> Result<ExplainedRun, AllocError>
+    ensures steps { IfOk result (λ run. steps_in run.steps.items ≡ taken.now) }
+    ensures last { IfOk result (λ run. IsLast app.now last run.lasts.items) }
+{
+    let (steps, state) = explained(alloc, app, sources, taken)?;
+    let lasts = lasts_in(alloc, app, sources, last, &state)?;
+    Ok(ExplainedRun {
+        steps,
+        lasts,
+        is_shortest: false,
     })
 }
 

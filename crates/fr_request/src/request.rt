@@ -136,8 +136,14 @@ pub struct FollowRequest<'a> {
     pub covers: bool,
     /// Whether any block time in a trace will do.
     pub any_times: bool,
+    /// Whether a trace may begin anywhere in a run: each actor is then followed by itself from wherever it was.
+    pub from_anywhere: bool,
     /// The file for the run that is found, where one is wanted.
     pub run: Option<&'a str>,
+    /// The form of the answer; None where it is a text for a person.
+    pub format: Option<Format>,
+    /// The file for the page, where one is wanted.
+    pub html: Option<&'a str>,
 }
 
 /// A translation that the command line asks for.

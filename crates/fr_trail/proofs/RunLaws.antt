@@ -18,8 +18,8 @@ run-more P (i ∷ items) item text line h own =
     (h.0, h.1 ++ line, h.2, run-more P items item h.1 line h.3 own, ap (λ t. t ++ line) h.4 ∙ append_assoc h.0 h.1 line)
 
 -- the lines of the run are those of one for the trace in this text
-pub run-of : (any : Bool) (P : Program) (bytes : List ℕ) (e u : Trace) → TraceMeans (names_in P) bytes (said_in e) → IsAsked any e u → (found : Option (String Global))
+pub run-of : (any anywhere : Bool) (P : Program) (bytes : List ℕ) (e u : Trace) → TraceMeans (names_in P) anywhere bytes (said_in e) → IsAsked any e u → (found : Option (String Global))
     → IfSome found (λ text. (f : Followed) × IsFollowed P u f × (items : List Item) × IsRunIn f items × IsRunText P items (string_bytes text))
-    → IfSome found (λ text. IsRunOf any P bytes (string_bytes text))
-run-of any P bytes e u means asked (Some text) h = (e, means, u, asked, h.0, h.1, h.2, h.3, h.4)
-run-of any P bytes e u means asked None h = tt
+    → IfSome found (λ text. IsRunOf any anywhere P bytes (string_bytes text))
+run-of any anywhere P bytes e u means asked (Some text) h = (e, means, u, asked, h.0, h.1, h.2, h.3, h.4)
+run-of any anywhere P bytes e u means asked None h = tt

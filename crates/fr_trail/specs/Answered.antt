@@ -4,10 +4,10 @@
 -- |-----------------|------------------------------------------------------------------------------------|
 -- | untimed, IsUntimed | a call, an event, a trace without block times and ticks                         |
 -- | IsAsked         | the trace as it is followed: where that is asked, without block times              |
--- | followed_status | the exit status: 0 where a run explains the trace, to its end or to what was lost  |
+-- | followed_kind   | the kind of the answer: followed where a run explains the trace, to its end or to what was lost |
 -- | followed_head, followed_end | how the answer's line begins, and how it ends                          |
--- | IsTraceAnswer   | the exit status, and what is shown, are those of a trace for an application        |
-use Rattle.std.specs.Prelude.{◌≡◌, ◌⊎◌, ◌++◌, ℕ, Bool, true, false, List, codes, decimal, length, map}
+-- | IsTraceAnswer   | the kind, and the line, are those of a trace for an application                    |
+use Rattle.std.specs.Prelude.{◌≡◌, ◌⊎◌, ◌++◌, ℕ, Bool, true, false, List, [], codes, decimal, length, map}
 use Rattle.fr_program.specs.Program.{Program}
 use Rattle.fr_program.specs.Lookup.{actor_at}
 use Rattle.fr_calls.specs.Rule.{number_of}
@@ -22,6 +22,8 @@ use Rattle.fr_trace.specs.declared.trace.Event.{Event}
 use Rattle.fr_trace.specs.declared.trace.Happening.{Happening}
 use Rattle.fr_trace.specs.declared.trace.Happening.TheVariants.{Enter}
 use Rattle.fr_trace.specs.declared.trace.Trace.{Trace}
+use Rattle.fr_formats.specs.declared.answer.AnswerKind.{AnswerKind}
+use Rattle.fr_formats.specs.declared.answer.AnswerKind.TheVariants.{Followed as FollowedKind, FollowedApart, NotFollowed, Breach, GaveUp as GaveUpKind, NotListed as NotListedKind}
 use Rattle.fr_follower.specs.Follows.{IsFollowed}
 use Rattle.fr_follower.specs.declared.following.Followed.{Followed}
 use Rattle.fr_follower.specs.declared.following.Followed.TheVariants.{Whole, UpToLost, Strays, Stops, Breaks, GaveUp}
@@ -49,14 +51,14 @@ abbrev pub IsAsked : Bool → Trace → Trace → Type 0
 IsAsked true e u = IsUntimed e u
 IsAsked false e u = u ≡ e
 
--- 0 where a run explains the whole trace, or up to the first events that were lost, which the line says then; and else 1
-abbrev pub followed_status : Followed → ℕ
-followed_status (Whole run) = 0
-followed_status (UpToLost event run) = 0
-followed_status (Strays event run) = 1
-followed_status (Stops event run proved) = 1
-followed_status (Breaks event rule actor run) = 1
-followed_status (GaveUp event) = 1
+-- followed where a run explains the whole trace; or, where that is the kind, up to the first events that were lost
+abbrev pub followed_kind : Followed → AnswerKind
+followed_kind (Whole run) = FollowedKind
+followed_kind (UpToLost event run) = FollowedApart
+followed_kind (Strays event run) = NotFollowed
+followed_kind (Stops event run proved) = NotFollowed
+followed_kind (Breaks event rule actor run) = Breach
+followed_kind (GaveUp event) = GaveUpKind
 
 -- how the answer's line begins
 abbrev pub followed_head : Program → Trace → Followed → List ℕ
@@ -70,13 +72,13 @@ followed_head P e (GaveUp event) = codes "gave up: "
 
 -- how it ends: without these words no run explains the event that is named
 abbrev pub followed_end : Followed → List ℕ
-followed_end (Stops event run false) = codes " (as far as the search saw)\n"
-followed_end f = codes "\n"
+followed_end (Stops event run false) = codes " (as far as the search saw)"
+followed_end f = []
 
--- the text means a trace, of which this is so, whatever is below the line; or it has something that the application doesn't list, which the line says
-abbrev pub IsTraceAnswer : Bool → Program → List ℕ → ℕ → List ℕ → Type 0
-IsTraceAnswer any P text status shown =
-    ((e : Trace) × TraceMeans (names_in P) text (said_in e) × (u : Trace) × IsAsked any e u × (f : Followed) × IsFollowed P u f
-    × (status ≡ followed_status f) × (rest why : List ℕ) × (shown ≡ followed_head P u f ++ (rest ++ (followed_end f ++ why))))
-    ⊎ ((unlisted : NotListed) × IsPresent (names_in P) text (IsNotListed unlisted)
-    × (status ≡ 1) × (rest : List ℕ) × (shown ≡ codes "not listed: " ++ rest))
+-- the text means a trace, which may begin anywhere where that is asked, and of which this is so; or it has something that the application doesn't list, which the line says
+abbrev pub IsTraceAnswer : Bool → Bool → Program → List ℕ → AnswerKind → List ℕ → Type 0
+IsTraceAnswer any anywhere P text kind line =
+    ((e : Trace) × TraceMeans (names_in P) anywhere text (said_in e) × (u : Trace) × IsAsked any e u × (f : Followed) × IsFollowed P u f
+    × (kind ≡ followed_kind f) × (rest : List ℕ) × (line ≡ followed_head P u f ++ (rest ++ followed_end f)))
+    ⊎ ((unlisted : NotListed) × IsPresent (names_in P) anywhere text (IsNotListed unlisted)
+    × (kind ≡ NotListedKind) × (rest : List ℕ) × (line ≡ codes "not listed: " ++ rest))

@@ -46,7 +46,7 @@ IsRunIn (Breaks event rule actor run) items = items ≡ run.items
 IsRunIn (GaveUp event) items = ⊥
 
 -- the lines of a run that explains the trace in this text, as far as its answer says
-abbrev pub IsRunOf : Bool → Program → List ℕ → List ℕ → Type 0
-IsRunOf any P bytes text =
-    (e : Trace) × TraceMeans (names_in P) bytes (said_in e) × (u : Trace) × IsAsked any e u × (f : Followed) × IsFollowed P u f
+abbrev pub IsRunOf : Bool → Bool → Program → List ℕ → List ℕ → Type 0
+IsRunOf any anywhere P bytes text =
+    (e : Trace) × TraceMeans (names_in P) anywhere bytes (said_in e) × (u : Trace) × IsAsked any e u × (f : Followed) × IsFollowed P u f
     × (items : List Item) × IsRunIn f items × IsRunText P items text

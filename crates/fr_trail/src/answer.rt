@@ -1,23 +1,27 @@
 // The answer to a trace.
 ghost use Rattle.std.specs.Prelude.{◌≡◌, ◌≤◌, ◌++◌, ℕ, List, None, IfErr, IfOk, IfSome, codes, string_bytes};
+ghost use Rattle.fr_formats.specs.Answers.{status_of};
+ghost use Rattle.fr_formats.specs.declared.answer.AnswerKind.TheVariants.{NotListed as NotListedKind};
 ghost use Rattle.fr_instr.specs.AppNames.{names_in};
 ghost use Rattle.fr_trace.specs.Means.{IsPresent, TraceMeans, said_in};
 ghost use Rattle.fr_trace.specs.declared.trace.Trace.{Trace as TraceOf};
 ghost use Rattle.fr_follower.specs.Follows.{IsFollowed};
 ghost use Rattle.fr_follower.specs.declared.following.Followed.{Followed as FollowedOf};
 ghost use Rattle.fr_follower.specs.declared.item.Item.{Item as ItemOf};
-ghost use Rattle.fr_trail.specs.Answered.{IsAsked, IsTraceAnswer, followed_end, followed_head, followed_status};
+ghost use Rattle.fr_trail.specs.Answered.{IsAsked, IsTraceAnswer, followed_end, followed_head, followed_kind};
 ghost use Rattle.fr_trail.specs.Runs.{IsRunIn, IsRunOf, IsRunText};
 
+use crate::rows::{TrailRow, rows_of};
 use crate::run_text::run_text;
-use crate::texts::{event_shown, fault_text, marked, unlisted_text, unlisted_texts};
+use crate::texts::{event_shown, fault_text, line_of, marked, unlisted_text, unlisted_texts};
 use crate::times::as_asked;
 use crate::why::why;
 use fr_follower::{Followed, Item, follow};
+use fr_formats::AnswerKind;
 use fr_instr::names_of;
 use fr_place::place_of_texts;
 use fr_program::App;
-use fr_report::{actor_name, rule_text, text_of};
+use fr_report::{actor_name, rule_text};
 use fr_trace::{Happening, NoTrace, NotListed, Trace, read_trace};
 use std::alloc::{AllocError, Global};
 
@@ -28,23 +32,34 @@ pub struct Asked {
     pub states: u32,
     /// Whether any block time in the trace will do.
     pub any_times: bool,
-    /// Whether it is printed why the trace isn't followed further.
+    /// Whether the trace may begin anywhere in a run: then each actor is followed by itself.
+    pub from_anywhere: bool,
+    /// Whether it is explained why the trace isn't followed further.
     pub explains: bool,
     /// Whether the lines of the run that is found are wanted.
     pub writes: bool,
+    /// Whether its rows are wanted, for a page.
+    pub shows: bool,
 }
 
 /// What is answered of a trace.
 #[derive(Drop)]
 pub struct TraceAnswer {
-    /// The line, and the lines that explain it where that is asked for, each with its newline.
-    pub text: String,
-    /// The exit status: 0 where the whole trace is followed, by a run or, after events that were lost, each actor by itself; and else 1.
-    pub status: u8,
+    /// Its kind, by which the exit status is 0 where the whole trace is followed, by a run or, after events that were lost, each actor by
+    /// itself; and else 1.
+    pub kind: AnswerKind,
+    /// The line that says so, without a newline.
+    pub line: String,
+    /// The lines that explain it, where that is asked for.
+    pub why: Vec<String>,
+    /// The number of the trace's line that can't be followed, from 1; None where there is none.
+    pub stop: Option<usize>,
     /// How far it was followed; None where it wasn't, as it has something that the application doesn't list.
     pub followed: Option<Followed>,
     /// The lines of the run that was found, where they are asked for.
     pub run: Option<String>,
+    /// Its rows, where they are asked for.
+    pub rows: Vec<TrailRow>,
     /// For each actor, in their order, the number of its last event in the run, where that begins a call: it may still be inside.
     pub begun: Vec<Option<usize>>,
 }
@@ -107,8 +122,8 @@ fn end_of(followed: &Followed) -> &'static str
         Followed::Stops {
             is_proved: false,
             ..
-        } => " (as far as the search saw)\n",
-        _ => "\n",
+        } => " (as far as the search saw)",
+        _ => "",
     }
 }
 
@@ -138,17 +153,28 @@ fn head_of(
     }
 }
 
-/// The exit status.
-fn status_of(followed: &Followed) -> u8
-    ensures status { result ≡ followed_status followed.now }
-    ensures most { result ≤ 1 }
+/// The kind of the answer.
+fn kind_of(followed: &Followed) -> AnswerKind
+    ensures kind { result ≡ followed_kind followed.now }
+    ensures most { status_of result ≤ 1 }
 {
     match followed {
-        Followed::Whole { .. } | Followed::UpToLost { .. } => 0,
-        Followed::Strays { .. }
-        | Followed::Stops { .. }
-        | Followed::Breaks { .. }
-        | Followed::GaveUp { .. } => 1,
+        Followed::Whole { .. } => AnswerKind::Followed,
+        Followed::UpToLost { .. } => AnswerKind::FollowedApart,
+        Followed::Strays { .. } | Followed::Stops { .. } => AnswerKind::NotFollowed,
+        Followed::Breaks { .. } => AnswerKind::Breach,
+        Followed::GaveUp { .. } => AnswerKind::GaveUp,
+    }
+}
+
+/// The number of the event, from 0, at which the trace isn't followed further; None where it is followed to its end.
+pub(crate) fn stop_in(followed: &Followed) -> Option<usize> {
+    match followed {
+        Followed::Whole { .. } | Followed::UpToLost { .. } => None,
+        Followed::Strays { event, .. } => Some(*event),
+        Followed::Stops { event, .. } => Some(*event),
+        Followed::Breaks { event, .. } => Some(*event),
+        Followed::GaveUp { event } => Some(*event),
     }
 }
 
@@ -185,24 +211,43 @@ fn lines_of(
 }
 
 /// These texts as lines below an answer: each begins with two blanks, and nothing in one steers a terminal.
-fn below(alloc: Global, texts: &[String]) -> Result<String, AllocError> {
+fn below(alloc: Global, texts: &[String]) -> Result<Vec<String>, AllocError> {
     let place = place_of_texts(alloc, texts)?;
-    text_of(alloc, place.lines())
+    let mut lines = Vec::new(alloc);
+    for line in place.lines() {
+        lines.push(line.clone()?)?;
+    }
+    Ok(lines)
 }
 
 /// The lines that explain how far a trace was followed, where that is asked for.
-fn why_text(
+fn why_lines(
     alloc: Global,
     app: &App,
     bytes: &[u8],
     trace: &Trace,
     followed: &Followed,
     asked: Asked,
-) -> Result<String, AllocError> {
+) -> Result<Vec<String>, AllocError> {
     if asked.explains {
         below(alloc, &why(alloc, app, bytes, trace, followed)?)
     } else {
-        Ok(String::new(alloc))
+        Ok(Vec::new(alloc))
+    }
+}
+
+/// The rows of the run that was found, where they are asked for.
+fn rows_asked(
+    alloc: Global,
+    bytes: &[u8],
+    trace: &Trace,
+    followed: &Followed,
+    asked: Asked,
+) -> Result<Vec<TrailRow>, AllocError> {
+    if asked.shows {
+        rows_of(alloc, bytes, trace, followed)
+    } else {
+        Ok(Vec::new(alloc))
     }
 }
 
@@ -212,11 +257,11 @@ fn unlisted_why<'a>(
     app: &App,
     unlisted: NotListed<'a>,
     explains: bool,
-) -> Result<String, AllocError> {
+) -> Result<Vec<String>, AllocError> {
     if explains {
         below(alloc, &unlisted_texts(alloc, app, unlisted)?)
     } else {
-        Ok(String::new(alloc))
+        Ok(Vec::new(alloc))
     }
 }
 
@@ -251,26 +296,30 @@ fn answer_of(
     trace: &Trace,
     asked: Asked,
 ) -> Result<TraceAnswer, AllocError>
-    ensures answer { IfOk result (λ answer. (f : FollowedOf) × IsFollowed app.now trace.now f × (answer.status ≡ followed_status f)
-        × (rest why : List ℕ) × (string_bytes answer.text ≡ followed_head app.now trace.now f ++ (rest ++ (followed_end f ++ why)))) }
+    ensures answer { IfOk result (λ answer. (f : FollowedOf) × IsFollowed app.now trace.now f × (answer.kind ≡ followed_kind f)
+        × (rest : List ℕ) × (string_bytes answer.line ≡ followed_head app.now trace.now f ++ (rest ++ followed_end f))) }
     ensures run { IfOk result (λ answer. IfSome answer.run (λ text. (f : FollowedOf) × IsFollowed app.now trace.now f
         × (items : List ItemOf) × IsRunIn f items × IsRunText app.now items (string_bytes text))) }
-    ensures most { IfOk result (λ answer. answer.status ≤ 1) }
+    ensures most { IfOk result (λ answer. status_of answer.kind ≤ 1) }
 {
     let followed = follow(alloc, app, trace, asked.states as usize)?;
     let head = head_of(alloc, app, trace, &followed)?;
-    let rest = rest_of(alloc, bytes, trace, &followed, asked.states)?;
-    let (end, why) = (
+    let (rest, end) = (
+        rest_of(alloc, bytes, trace, &followed, asked.states)?,
         end_of(&followed),
-        why_text(alloc, app, bytes, trace, &followed, asked)?,
     );
+    let why = why_lines(alloc, app, bytes, trace, &followed, asked)?;
     let run = lines_of(alloc, app, bytes, trace, &followed, asked.writes)?;
+    let rows = rows_asked(alloc, bytes, trace, &followed, asked)?;
     let begun = begun_in(alloc, app, trace, &followed)?;
     Ok(TraceAnswer {
-        text: format!(in alloc; "{head}{rest}{end}{why}")?,
-        status: status_of(&followed),
+        kind: kind_of(&followed),
+        line: format!(in alloc; "{head}{rest}{end}")?,
+        why,
+        stop: stop_in(&followed).map(|event| line_of(trace, event)),
         followed: Some(followed),
         run,
+        rows,
         begun,
     })
 }
@@ -300,13 +349,18 @@ fn refused(alloc: Global, bytes: &[u8], why: NoTrace) -> Result<NoAnswer, AllocE
     Ok(NoAnswer::Refused { line, place })
 }
 
-/// The trace in these bytes.
-fn trace_in<'a>(alloc: Global, app: &App, bytes: &'a [u8]) -> Result<Trace, NoTrace<'a>>
-    ensures means { IfOk result (λ trace. TraceMeans (names_in app.now) bytes.now (said_in trace)) }
-    ensures fault { IfErr result (IsPresent (names_in app.now) bytes.now) }
+/// The trace in these bytes, which may begin anywhere in a run or doesn't.
+fn trace_in<'a>(
+    alloc: Global,
+    app: &App,
+    bytes: &'a [u8],
+    from_anywhere: bool,
+) -> Result<Trace, NoTrace<'a>>
+    ensures means { IfOk result (λ trace. TraceMeans (names_in app.now) from_anywhere bytes.now (said_in trace)) }
+    ensures fault { IfErr result (IsPresent (names_in app.now) from_anywhere bytes.now) }
 {
     let names = names_of(alloc, app)?;
-    read_trace(alloc, &names, bytes)
+    read_trace(alloc, &names, bytes, from_anywhere)
 }
 
 /// What is answered of a trace, with any block times where those will do.
@@ -317,13 +371,13 @@ fn answer_as_asked(
     trace: Trace,
     asked: Asked,
 ) -> Result<TraceAnswer, AllocError>
-    ensures answer { IfOk result (λ answer. (u : TraceOf) × IsAsked asked.any_times trace u × (f : FollowedOf) × IsFollowed app.now u f
-        × (answer.status ≡ followed_status f)
-        × (rest why : List ℕ) × (string_bytes answer.text ≡ followed_head app.now u f ++ (rest ++ (followed_end f ++ why)))) }
+    ensures answer { IfOk result (λ answer. (u : TraceOf) × IsAsked asked.any_times trace u
+        × (f : FollowedOf) × IsFollowed app.now u f × (answer.kind ≡ followed_kind f)
+        × (rest : List ℕ) × (string_bytes answer.line ≡ followed_head app.now u f ++ (rest ++ followed_end f))) }
     ensures run { IfOk result (λ answer. (u : TraceOf) × IsAsked asked.any_times trace u
         × IfSome answer.run (λ text. (f : FollowedOf) × IsFollowed app.now u f
         × (items : List ItemOf) × IsRunIn f items × IsRunText app.now items (string_bytes text))) }
-    ensures most { IfOk result (λ answer. answer.status ≤ 1) }
+    ensures most { IfOk result (λ answer. status_of answer.kind ≤ 1) }
 {
     let followed = as_asked(alloc, trace, asked.any_times)?;
     Ok(answer_of(alloc, app, bytes, &followed, asked)?)
@@ -336,23 +390,26 @@ fn unlisted_answer<'a>(
     unlisted: NotListed<'a>,
     explains: bool,
 ) -> Result<TraceAnswer, AllocError>
-    ensures status { IfOk result (λ answer. answer.status ≡ 1) }
-    ensures text { IfOk result (λ answer. (rest : List ℕ) × (string_bytes answer.text ≡ codes "not listed: " ++ rest)) }
+    ensures kind { IfOk result (λ answer. answer.kind ≡ NotListedKind) }
+    ensures line { IfOk result (λ answer. (rest : List ℕ) × (string_bytes answer.line ≡ codes "not listed: " ++ rest)) }
     ensures run { IfOk result (λ answer. answer.run ≡ None) }
 {
     let text = unlisted_text(alloc, unlisted)?;
     let why = unlisted_why(alloc, app, unlisted, explains)?;
     Ok(TraceAnswer {
-        text: format!(in alloc; "not listed: {text}{why}")?,
-        status: 1,
+        kind: AnswerKind::NotListed,
+        line: format!(in alloc; "not listed: {text}")?,
+        why,
+        stop: Some(unlisted.line),
         followed: None,
         run: None,
+        rows: Vec::new(alloc),
         begun: Vec::new(alloc),
     })
 }
 
-/// What is answered of the text of a trace, which is followed by runs of the application: a line, and where that is asked for the lines
-/// below it that explain it.
+/// What is answered of the text of a trace, which is followed by runs of the application: its kind, a line, and where that is asked for the
+/// lines that explain it, and those of the run that was found.
 ///
 /// # Errors
 ///
@@ -363,11 +420,13 @@ pub fn answered(
     bytes: &[u8],
     asked: Asked,
 ) -> Result<TraceAnswer, NoAnswer>
-    ensures answer { IfOk result (λ answer. IsTraceAnswer asked.any_times app.now bytes.now answer.status (string_bytes answer.text)) }
-    ensures run { IfOk result (λ answer. IfSome answer.run (λ text. IsRunOf asked.any_times app.now bytes.now (string_bytes text))) }
-    ensures most { IfOk result (λ answer. answer.status ≤ 1) }
+    ensures answer { IfOk result (λ answer.
+        IsTraceAnswer asked.any_times asked.from_anywhere app.now bytes.now answer.kind (string_bytes answer.line)) }
+    ensures run { IfOk result (λ answer. IfSome answer.run (λ text.
+        IsRunOf asked.any_times asked.from_anywhere app.now bytes.now (string_bytes text))) }
+    ensures most { IfOk result (λ answer. status_of answer.kind ≤ 1) }
 {
-    match trace_in(alloc, app, bytes) {
+    match trace_in(alloc, app, bytes, asked.from_anywhere) {
         Ok(trace) => Ok(answer_as_asked(alloc, app, bytes, trace, asked)?),
         Err(NoTrace::NotListed(unlisted)) => {
             Ok(unlisted_answer(alloc, app, unlisted, asked.explains)?)

@@ -28,7 +28,11 @@ fn put_item(text: &mut String, app: &App, item: Item, line: &str) -> Result<(), 
 }
 
 /// The line of the next event, after so many lines of the trace.
-fn next_line<'a>(lines: &mut Lines<'a>, passed: &mut usize, event: Option<&Event>) -> &'a str {
+pub(crate) fn next_line<'a>(
+    lines: &mut Lines<'a>,
+    passed: &mut usize,
+    event: Option<&Event>,
+) -> &'a str {
     let Some(event) = event else {
         return "";
     };

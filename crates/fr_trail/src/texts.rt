@@ -29,7 +29,7 @@ fn line_in(trace: &[u8], number: usize) -> &str {
 }
 
 /// The line of a trace with this number, from 1, as it is printed.
-fn line_shown(alloc: Global, trace: &[u8], number: usize) -> Result<String, AllocError> {
+pub(crate) fn line_shown(alloc: Global, trace: &[u8], number: usize) -> Result<String, AllocError> {
     let mut text = String::new(alloc);
     push_plain(&mut text, line_in(trace, number).trim())?;
     Ok(text)
@@ -57,7 +57,7 @@ pub(crate) fn marked(
 }
 
 /// The number of the line of the event with this number, from 0; 0 where there is no such event.
-fn line_of(trace: &Trace, event: usize) -> usize {
+pub(crate) fn line_of(trace: &Trace, event: usize) -> usize {
     match trace.events.get(event) {
         Some(event) => event.line,
         None => 0,
@@ -128,18 +128,18 @@ pub(crate) fn unlisted_text<'a>(
         Unlisted::Actor { touches } => {
             let touched = shown(alloc, touches)?;
             format!(in alloc;
-                "line {number}: {actor} touches {touched} in {call}, but no actor is named {actor}\n"
+                "line {number}: {actor} touches {touched} in {call}, but no actor is named {actor}"
             )
         }
         Unlisted::Object { object } => {
             let object = shown(alloc, object)?;
             format!(in alloc;
-                "line {number}: {actor} calls {name} on {object}, but no object is named {object}\n"
+                "line {number}: {actor} calls {name} on {object}, but no object is named {object}"
             )
         }
         Unlisted::Call => {
             format!(in alloc;
-                "line {number}: {actor} calls {name}, for which the application has no line\n"
+                "line {number}: {actor} calls {name}, for which the application has no line"
             )
         }
     }

@@ -143,7 +143,10 @@ pub record IsFollow (rs : Rows) (asked : FollowRequest) : Type 0 where
   pub explains : asked.explains ≡ is_given rs (codes "explain")
   pub covers : asked.covers ≡ is_given rs (codes "coverage")
   pub any_times : asked.any_times ≡ is_given rs (codes "any-times")
+  pub from_anywhere : asked.from_anywhere ≡ is_given rs (codes "from-anywhere")
   pub run : option_map (λ s. s.now) asked.run ≡ text_at rs (codes "run")
+  pub format : asked.format ≡ format_at rs
+  pub html : option_map (λ s. s.now) asked.html ≡ text_at rs (codes "html")
 
 abbrev pub can_follow : Rows → Bool
 can_follow rs = has_text rs (codes "APP") && has_texts rs (codes "TRACE") && has_number 32 rs (codes "states")

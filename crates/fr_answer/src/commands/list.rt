@@ -11,13 +11,13 @@ ghost use Rattle.fr_answer.specs.Commands.{
   AreAnswered,
   AreLinesPrinted,
   AreMore,
-  Each,
   IsAnswerBy,
   IsLineAnswer,
   IsLineText,
   IsListAnswered,
   Shows,
 };
+ghost use Rattle.fr_answer.specs.Each.{Each};
 ghost use Rattle.fr_answer.specs.Heading.{heading};
 ghost use Rattle.fr_answer.specs.Inputs.{Reads};
 

@@ -53,7 +53,7 @@ fn track_of(alloc: Global, app: &App, depth: Depth) -> Result<Track, AllocError>
 }
 
 /// Adds to each actor of the page what its bars can be about.
-fn put_tracks(
+pub(super) fn put_tracks(
     alloc: Global,
     body: &mut Body,
     app: &App,
@@ -108,7 +108,7 @@ fn actor_after(
 }
 
 /// A row of the run with the state after it, in which an actor did something.
-fn row_of(
+pub(super) fn row_of(
     alloc: Global,
     app: &App,
     code: &Code,
@@ -153,13 +153,23 @@ fn move_of(
     })
 }
 
-/// Whether the page shows the step with this number of so many: the first 100 and the last 400.
-fn is_shown(number: usize, count: usize) -> bool {
+/// Where a row of a run is.
+#[derive(Clone, Copy)]
+pub(super) struct Spot {
+    /// The number of the row, from 0, and how many there are.
+    pub row: usize,
+    pub rows: usize,
+    /// The number of the step in it, from 0.
+    pub step: usize,
+}
+
+/// Whether the page shows the row with this number of so many: the first 100 and the last 400.
+pub(super) fn is_shown(number: usize, count: usize) -> bool {
     number < FIRST_STEPS || number >= count.saturating_sub(LAST_STEPS)
 }
 
-/// How many steps the page leaves out right before the one with this number of so many.
-fn omitted_before(number: usize, count: usize) -> usize {
+/// How many rows the page leaves out right before the one with this number of so many.
+pub(super) fn omitted_before(number: usize, count: usize) -> usize {
     let last = count.saturating_sub(LAST_STEPS);
     if number == last {
         last.saturating_sub(FIRST_STEPS)
@@ -168,29 +178,27 @@ fn omitted_before(number: usize, count: usize) -> usize {
     }
 }
 
-/// Takes the step with this number of so many, and adds its row where the page shows it. Nothing changes where the
-/// actor has no such step.
-fn put_step(
+/// Takes the step, and adds its row where the page shows it. Nothing changes where the actor has no such step.
+pub(super) fn put_step(
     alloc: Global,
     body: &mut Body,
     app: &App,
     code: &Code,
     depths: &[Depth],
-    place: (usize, usize),
+    spot: Spot,
     step: &ExplainedStep,
     state: &mut State,
 ) -> Result<(), AllocError>
     requires { IsWellFormed app.now state.old }
     ensures { IfOk result (λ _. IsWellFormed app.now state.new) }
 {
-    let (number, count) = place;
-    if !take_step(app, state, step.taken)? || !is_shown(number, count) {
+    if !take_step(app, state, step.taken)? || !is_shown(spot.row, spot.rows) {
         return Ok(());
     }
     let moved = move_of(alloc, app, code, step)?;
-    let name = format!(in alloc; "step {}", number.saturating_add(1))?;
+    let name = format!(in alloc; "step {}", spot.step.saturating_add(1))?;
     let mut row = row_of(alloc, app, code, depths, name, Some(moved), state)?;
-    row.omitted = omitted_before(number, count);
+    row.omitted = omitted_before(spot.row, spot.rows);
     Ok(body.steps.push(row)?)
 }
 
@@ -212,14 +220,18 @@ fn put_steps(
     body.steps
         .push(row_of(alloc, app, code, depths, name, None, &state)?)?;
     for (number, step) in steps.iter().enumerate() {
-        let place = (number, steps.len());
-        put_step(alloc, body, app, code, depths, place, step, &mut state)?;
+        let spot = Spot {
+            row: number,
+            rows: steps.len(),
+            step: number,
+        };
+        put_step(alloc, body, app, code, depths, spot, step, &mut state)?;
     }
     Ok(state)
 }
 
 /// What a report says of a breach of this rule.
-fn rule_told(alloc: Global, rule: Rule) -> Result<String, AllocError> {
+pub(super) fn rule_told(alloc: Global, rule: Rule) -> Result<String, AllocError> {
     let (number, text) = (rule.number(), rule_text(rule));
     format!(in alloc; "rule {number}: {text}")
 }
@@ -228,13 +240,14 @@ fn rule_told(alloc: Global, rule: Rule) -> Result<String, AllocError> {
 fn end_name(doing: Doing) -> &'static str {
     match doing {
         Doing::Step => "step",
+        Doing::Event => "event",
         Doing::Breach => "breach",
         Doing::Wait => "deadlock",
     }
 }
 
 /// Adds where an actor is after the run, with what is so there: to the run, and to the actor's line of code.
-fn put_end(
+pub(super) fn put_end(
     alloc: Global,
     body: &mut Body,
     app: &App,

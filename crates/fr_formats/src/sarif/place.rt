@@ -1,5 +1,6 @@
 // Places in files, and in words.
 ghost use Rattle.std.specs.Prelude.{◌≡◌, ◌++◌, IfOk, OnOk, string_bytes};
+ghost use Rattle.fr_formats.specs.Tokens.{maybe};
 ghost use Rattle.fr_formats.specs.Sarif.{file_begins, file_location, file_of, location, named, point_location, point_words, range, region, region_of, said, uri_of, whole_line};
 
 use crate::answer::PlaceShown;
@@ -36,12 +37,13 @@ fn begin_place(out: &mut Out, path: &str) -> Result<(), AllocError>
     put_uri(out, &uri)
 }
 
-/// Appends the whole file at this path.
+/// Appends the whole file at this path, or the line of it that is known.
 #[tactic(auto, using(std::proofs::Common::append_assoc), unfolding(crate::specs::Sarif::file_location))]
-pub(super) fn put_file(out: &mut Out, path: &str) -> Result<(), AllocError>
-    ensures { OnOk result (out.new.tokens ≡ out.old.tokens ++ file_location path.now) }
+pub(super) fn put_file(out: &mut Out, path: &str, line: Option<usize>) -> Result<(), AllocError>
+    ensures { OnOk result (out.new.tokens ≡ out.old.tokens ++ file_location path.now line) }
 {
     begin_place(out, path)?;
+    put_known(out, line)?;
     put!(out; Marks("}}"))
 }
 
@@ -60,6 +62,16 @@ fn put_line(out: &mut Out, line: usize) -> Result<(), AllocError>
     ensures { OnOk result (out.new.tokens ≡ out.old.tokens ++ whole_line line) }
 {
     put!(out; Object("region"), Number("startLine", line), Marks("}"))
+}
+
+/// Appends a whole line of the file, if one is known.
+fn put_known(out: &mut Out, line: Option<usize>) -> Result<(), AllocError>
+    ensures { OnOk result (out.new.tokens ≡ out.old.tokens ++ maybe whole_line line) }
+{
+    match line {
+        Some(line) => put_line(out, line),
+        None => Ok(()),
+    }
 }
 
 /// Appends where the line of code is in the application's file, if that is known.
@@ -162,6 +174,6 @@ pub(super) fn put_location(
 {
     match place {
         Some(place) => put_point(out, path, place, ""),
-        None => put_file(out, path),
+        None => put_file(out, path, None),
     }
 }

@@ -1,4 +1,4 @@
 use Rattle.fr_trail.proofs.answer.unlisted_answer.Goals as goal
 
-pub returns-clause-text : goal.returns-clause-text
-returns-clause-text c = (_, c.in_ok-format.ensures.ok)
+pub returns-clause-line : goal.returns-clause-line
+returns-clause-line c = (_, c.in_ok-format.ensures.ok)

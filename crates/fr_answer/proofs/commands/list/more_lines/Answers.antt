@@ -1,5 +1,5 @@
 -- The lines are all, or those that are always printed.
-use Rattle.std.proofs.Common.{Bool, true, false, ◌≡◌, IfOk, Result, Ok, Err, String, Vec}
+use Rattle.std.proofs.Common.{Bool, true, false, ◌≡◌, IfOk, Result, String, Vec}
 use Rattle.std.specs.declared.alloc.Global.{Global}
 use Rattle.fr_report.specs.Lines.{lines_text}
 use Rattle.fr_answer.specs.declared.answer.What.{What}

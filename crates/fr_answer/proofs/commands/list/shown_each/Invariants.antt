@@ -1,7 +1,8 @@
 use Rattle.std.proofs.Common.{◌≤◌, map, take}
 use Rattle.fr_list.specs.Means.{shown}
 use Rattle.fr_answer.specs.Inputs.{Reads}
-use Rattle.fr_answer.specs.Commands.{AreAnswered, Each, Shows}
+use Rattle.fr_answer.specs.Commands.{AreAnswered, Shows}
+use Rattle.fr_answer.specs.Each.{Each}
 use Rattle.fr_answer.proofs.commands.list.shown_each.Given as goal
 
 -- the lines so far are answered, and each answer is shown

@@ -1,0 +1,9 @@
+-- Two lists, place by place.
+use Rattle.std.specs.Prelude.{List, [], ◌∷◌}
+
+-- the two lists are as long, and this is so of each two that have the same place
+abbrev pub Each : {A B : Type 0} → (A → B → Type 0) → List A → List B → Type 0
+Each Is [] [] = Unit {0}
+Each Is [] (y ∷ ys) = ⊥
+Each Is (x ∷ xs) [] = ⊥
+Each Is (x ∷ xs) (y ∷ ys) = Is x y × Each Is xs ys

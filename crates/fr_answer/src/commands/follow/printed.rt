@@ -1,0 +1,178 @@
+// The answers to traces as they are printed.
+ghost use Rattle.std.specs.Prelude.{◌≡◌, ◌≤◌, ◌++◌, ◌∷◌, [], IfErr, IfOk, None, Some, codes, false, map, string_bytes, true};
+ghost use Rattle.std.specs.Io.KnownBytes.{Appends};
+ghost use Rattle.fr_report.specs.Lines.{lines_text};
+ghost use Rattle.fr_answer.specs.Checked.{fault_status};
+ghost use Rattle.fr_answer.specs.Each.{Each};
+ghost use Rattle.fr_answer.specs.Inputs.{Reads};
+ghost use Rattle.fr_answer.specs.Traces.{AreTraces, AreTracesPrinted, ShowsTrace, text_of as text_of_answer};
+
+use super::answers::answer_shown;
+use crate::answer::copied;
+use crate::commands::list::heading;
+use crate::fault::CheckFault;
+use crate::files::Files;
+use crate::printing::put;
+use fr_formats::{AnswerShown, Command, Source, TraceShown, answers_text};
+use fr_program::App;
+use fr_report::text_of;
+use fr_request::{FollowRequest, Format};
+use fr_trail::{Coverage, TraceAnswer};
+use std::alloc::{AllocError, Global};
+use std::io::Write;
+use std::slice;
+
+/// The text of an answer: its line, and those that explain it.
+fn answer_text(alloc: Global, answer: &TraceAnswer) -> Result<String, AllocError>
+    ensures { IfOk result (λ text. string_bytes text ≡ string_bytes answer.now.line ++ (codes "\n" ++ lines_text answer.now.why.items)) }
+{
+    let (line, more) = (&answer.line, text_of(alloc, &answer.why)?);
+    format!(in alloc; "{line}\n{more}")
+}
+
+/// The answer to the trace in this file as reports show it.
+fn trace_shown(
+    alloc: Global,
+    path: &str,
+    answer: &TraceAnswer,
+    asked: &FollowRequest,
+) -> Result<AnswerShown, AllocError>
+    ensures kind { IfOk result (λ shown. shown.answer ≡ answer.now.kind) }
+    ensures line { IfOk result (λ shown. string_bytes shown.report ≡ string_bytes answer.now.line) }
+{
+    let source = Source {
+        command: Command::Follow,
+        application: asked.app,
+        certificate: None,
+    };
+    let mut shown = AnswerShown::new(alloc, source, answer.kind, answer.line.clone()?)?;
+    shown.trace = Some(TraceShown {
+        file: String::from_str(alloc, path)?,
+        line: answer.stop,
+    });
+    shown.lines = copied(alloc, &answer.why)?;
+    Ok(shown)
+}
+
+/// Prints a report of the answer to the trace in this file.
+fn report_one<O: Write>(
+    alloc: Global,
+    path: &str,
+    answer: &TraceAnswer,
+    format: Format,
+    asked: &FollowRequest,
+    out: &mut O,
+) -> Result<(), CheckFault>
+    ensures printed { IfOk result (λ _. AreTracesPrinted (Some format) false (O.contents out.old) (O.contents out.new)
+        (record { path = path.now; kind = answer.now.kind; line = string_bytes answer.now.line; more = lines_text answer.now.why.items } ∷ [])) }
+    ensures fault { IfErr result (λ fault. fault_status fault ≡ 3) }
+{
+    let shown = trace_shown(alloc, path, answer, asked)?;
+    put(&answers_text(alloc, format, slice::from_ref(&shown))?, out)
+}
+
+/// Prints the answer to the trace in this file: its text, or a report of it.
+pub(super) fn print_one<O: Write>(
+    alloc: Global,
+    path: &str,
+    answer: &TraceAnswer,
+    asked: &FollowRequest,
+    out: &mut O,
+) -> Result<(), CheckFault>
+    ensures printed { IfOk result (λ _. AreTracesPrinted asked.now.format false (O.contents out.old) (O.contents out.new)
+        (record { path = path.now; kind = answer.now.kind; line = string_bytes answer.now.line; more = lines_text answer.now.why.items } ∷ [])) }
+    ensures fault { IfErr result (λ fault. fault_status fault ≡ 3) }
+{
+    match asked.format {
+        None => put(&answer_text(alloc, answer)?, out),
+        Some(format) => report_one(alloc, path, answer, format, asked, out),
+    }
+}
+
+/// Answers each trace and prints that when it is answered; gives the greatest exit status.
+fn print_each<F: Files, O: Write>(
+    alloc: Global,
+    app: &App,
+    paths: &[&str],
+    asked: &FollowRequest,
+    coverage: &mut Coverage,
+    files: &F,
+    out: &mut O,
+) -> Result<u8, CheckFault>
+    ensures answered { IfOk result (λ status. AreTraces (Reads (F.Gives files.now) F.Means) asked.now app.now (map (λ s. s.now) paths.now) status
+        (AreTracesPrinted None true (O.contents out.old) (O.contents out.new))) }
+    ensures most { IfOk result (λ status. status ≤ 3) }
+    ensures fault { IfErr result (λ fault. fault_status fault ≡ 3) }
+{
+    let mut greatest = 0u8;
+    for path in paths {
+        let answer = answer_shown(alloc, app, *path, asked, files)?;
+        let (heading, text) = (heading(alloc, *path)?, answer_text(alloc, &answer)?);
+        put(&format!(in alloc; "{heading}{text}")?, out)?;
+        coverage.add(alloc, app, &answer)?;
+        greatest = greatest.max(answer.kind.status());
+    }
+    Ok(greatest)
+}
+
+/// The answers to all traces as reports show them, and the greatest exit status.
+fn shown_each<F: Files>(
+    alloc: Global,
+    app: &App,
+    paths: &[&str],
+    asked: &FollowRequest,
+    files: &F,
+) -> Result<(Vec<AnswerShown>, u8), AllocError>
+    ensures answered { IfOk result (λ r. AreTraces (Reads (F.Gives files.now) F.Means) asked.now app.now (map (λ s. s.now) paths.now) r.1
+        (λ answers. Each ShowsTrace answers r.0.items)) }
+    ensures most { IfOk result (λ r. r.1 ≤ 3) }
+{
+    let (mut answers, mut greatest) = (Vec::new(alloc), 0u8);
+    for path in paths {
+        let answer = answer_shown(alloc, app, *path, asked, files)?;
+        answers.push(trace_shown(alloc, *path, &answer, asked)?)?;
+        greatest = greatest.max(answer.kind.status());
+    }
+    Ok((answers, greatest))
+}
+
+/// Answers each trace, and prints a report of all answers in this form; gives the greatest exit status.
+fn report_each<F: Files, O: Write>(
+    alloc: Global,
+    app: &App,
+    paths: &[&str],
+    format: Format,
+    asked: &FollowRequest,
+    files: &F,
+    out: &mut O,
+) -> Result<u8, CheckFault>
+    ensures answered { IfOk result (λ status. AreTraces (Reads (F.Gives files.now) F.Means) asked.now app.now (map (λ s. s.now) paths.now) status
+        (AreTracesPrinted (Some format) true (O.contents out.old) (O.contents out.new))) }
+    ensures most { IfOk result (λ status. status ≤ 3) }
+    ensures fault { IfErr result (λ fault. fault_status fault ≡ 3) }
+{
+    let (answers, status) = shown_each(alloc, app, paths, asked, files)?;
+    put(&answers_text(alloc, format, &answers)?, out)?;
+    Ok(status)
+}
+
+/// Answers several traces and prints the answers, each after its path, or a report of all; gives the greatest exit status.
+pub(super) fn print_several<F: Files, O: Write>(
+    alloc: Global,
+    app: &App,
+    paths: &[&str],
+    asked: &FollowRequest,
+    coverage: &mut Coverage,
+    files: &F,
+    out: &mut O,
+) -> Result<u8, CheckFault>
+    ensures answered { IfOk result (λ status. AreTraces (Reads (F.Gives files.now) F.Means) asked.now app.now (map (λ s. s.now) paths.now) status
+        (AreTracesPrinted asked.now.format true (O.contents out.old) (O.contents out.new))) }
+    ensures most { IfOk result (λ status. status ≤ 3) }
+    ensures fault { IfErr result (λ fault. fault_status fault ≡ 3) }
+{
+    match asked.format {
+        None => print_each(alloc, app, paths, asked, coverage, files, out),
+        Some(format) => report_each(alloc, app, paths, format, asked, files, out),
+    }
+}

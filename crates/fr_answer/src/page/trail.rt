@@ -1,0 +1,205 @@
+// A run that was found for a trace, with the events of the trace beside it.
+ghost use Rattle.std.specs.Prelude.{◌≡◌, IfOk, string_bytes};
+ghost use Rattle.fr_calls.specs.State.{IsWellFormed};
+ghost use Rattle.fr_answer.specs.Pages.{IsTrailPage, page_kind};
+
+use super::actors::{count_text, put_actors};
+use super::code::Code;
+use super::steps::{
+    Spot, is_shown, omitted_before, put_end, put_step, put_tracks, row_of, rule_told,
+};
+use super::{Body, empty_body, page_kind};
+use fr_calls::{Rule, State, the_start_is_well_formed};
+use fr_follower::Followed;
+use fr_page::{Doing, Moved, Page, page_text};
+use fr_program::{ActorId, App};
+use fr_refuter::StepTaken;
+use fr_report::{Depth, ExplainedRun, depths_of, explain_steps};
+use fr_trail::{TraceAnswer, TrailRow};
+use std::alloc::{AllocError, Global};
+
+/// What a row shows of an event of the trace.
+fn event_of(alloc: Global, row: &TrailRow) -> Result<Option<Moved>, AllocError> {
+    let TrailRow::Event {
+        actor,
+        number,
+        words,
+        said,
+    } = row
+    else {
+        return Ok(None);
+    };
+    Ok(Some(Moved {
+        actor: actor.0,
+        line: *number,
+        code: words.clone()?,
+        choice: String::new(alloc),
+        change: String::from_str(alloc, said)?,
+        doing: Doing::Event,
+    }))
+}
+
+/// Adds the row of an event, where the page shows it.
+fn put_event(
+    alloc: Global,
+    body: &mut Body,
+    app: &App,
+    code: &Code,
+    depths: &[Depth],
+    spot: Spot,
+    event: &TrailRow,
+    state: &State,
+) -> Result<(), AllocError>
+    requires { IsWellFormed app.now state.now }
+{
+    let TrailRow::Event { number, .. } = event else {
+        return Ok(());
+    };
+    if !is_shown(spot.row, spot.rows) {
+        return Ok(());
+    }
+    let moved = event_of(alloc, event)?;
+    let name = format!(in alloc; "event {number}")?;
+    let mut row = row_of(alloc, app, code, depths, name, moved, state)?;
+    row.omitted = omitted_before(spot.row, spot.rows);
+    Ok(body.steps.push(row)?)
+}
+
+/// Adds the rows from the start on, and gives the state after them.
+fn put_rows(
+    alloc: Global,
+    body: &mut Body,
+    app: &App,
+    code: &Code,
+    depths: &[Depth],
+    rows: &[TrailRow],
+    run: &ExplainedRun,
+) -> Result<State, AllocError>
+    ensures { IfOk result (λ state. IsWellFormed app.now state) }
+{
+    app.recall_faultless();
+    the_start_is_well_formed();
+    let mut state = State::start(alloc, app)?;
+    let name = String::from_str(alloc, "start")?;
+    body.steps
+        .push(row_of(alloc, app, code, depths, name, None, &state)?)?;
+    let mut taken = 0usize;
+    for (number, row) in rows.iter().enumerate() {
+        let spot = Spot {
+            row: number,
+            rows: rows.len(),
+            step: taken,
+        };
+        if let TrailRow::Event { .. } = row {
+            put_event(alloc, body, app, code, depths, spot, row, &state)?;
+        } else if let Some(step) = run.steps.get(taken) {
+            put_step(alloc, body, app, code, depths, spot, step, &mut state)?;
+            taken = taken.saturating_add(1);
+        }
+    }
+    Ok(state)
+}
+
+/// The steps among the rows.
+fn steps_in(alloc: Global, rows: &[TrailRow]) -> Result<Vec<StepTaken>, AllocError> {
+    let mut steps = Vec::new(alloc);
+    for row in rows {
+        if let TrailRow::Step(step) = row {
+            steps.push(*step)?;
+        }
+    }
+    Ok(steps)
+}
+
+/// The rule that the firmware was seen breaking, and whose call broke it.
+fn broken(followed: &Option<Followed>) -> Option<(Rule, ActorId)> {
+    match followed {
+        Some(Followed::Breaks { rule, actor, .. }) => Some((*rule, *actor)),
+        _ => None,
+    }
+}
+
+/// Adds the run that was found for a trace to the body, with the events of the trace; nothing where none was found.
+fn put_trail(
+    alloc: Global,
+    body: &mut Body,
+    app: &App,
+    code: &Code,
+    answer: &TraceAnswer,
+) -> Result<(), AllocError> {
+    if answer.rows.is_empty() {
+        return Ok(());
+    }
+    let (steps, breach) = (steps_in(alloc, &answer.rows)?, broken(&answer.followed));
+    let last = breach.map(|breach| breach.1);
+    let (depths, run) = (
+        depths_of(alloc, app)?,
+        explain_steps(alloc, app, &code.sources, &steps, last)?,
+    );
+    put_tracks(alloc, body, app, &depths)?;
+    let events = answer.rows.len().saturating_sub(steps.len());
+    body.counts
+        .push(count_text(alloc, steps.len(), "step", "steps")?)?;
+    body.counts
+        .push(count_text(alloc, events, "event", "events")?)?;
+    let state = put_rows(alloc, body, app, code, &depths, &answer.rows, &run)?;
+    match (run.lasts.first(), breach) {
+        (Some(at), Some((rule, _))) => {
+            let said = rule_told(alloc, rule)?;
+            let end = (Doing::Breach, said.as_str());
+            put_end(alloc, body, app, code, &depths, at, end, &state)
+        }
+        _ => Ok(()),
+    }
+}
+
+/// What the page shows below the answer to a trace: what explains it, the actors, and the run that was found.
+fn trail_body(
+    alloc: Global,
+    app: &App,
+    text: &[u8],
+    answer: &TraceAnswer,
+) -> Result<Body, AllocError> {
+    let mut body = empty_body(alloc);
+    for line in &answer.why {
+        body.details.push(line.clone()?)?;
+    }
+    let code = Code::of(alloc, text)?;
+    put_actors(alloc, &mut body, app, &code)?;
+    put_trail(alloc, &mut body, app, &code, answer)?;
+    Ok(body)
+}
+
+/// The page with this below the heading of the answer's kind and its line.
+fn headed(command: String, answer: &TraceAnswer, body: Body) -> Result<Page, AllocError>
+    ensures kind { IfOk result (λ page. page.kind ≡ page_kind answer.now.kind) }
+    ensures line { IfOk result (λ page. string_bytes page.answer ≡ string_bytes answer.now.line) }
+{
+    Ok(Page {
+        kind: page_kind(answer.kind),
+        command,
+        answer: answer.line.clone()?,
+        details: body.details,
+        counts: body.counts,
+        omissions: body.omissions,
+        actors: body.actors,
+        steps: body.steps,
+        waits: body.waits,
+    })
+}
+
+/// The page of the answer to a trace, as one HTML file, where the application has this text and the command was spelled so. Its heading is
+/// that of the answer's kind, and the line below it is the answer's. Its error is that an allocation was refused.
+pub(crate) fn trail_page(
+    alloc: Global,
+    app: &App,
+    text: &[u8],
+    command: String,
+    answer: &TraceAnswer,
+) -> Result<String, AllocError>
+    ensures { IfOk result (λ page. IsTrailPage answer.now.kind (string_bytes answer.now.line) (string_bytes page)) }
+{
+    let body = trail_body(alloc, app, text, answer)?;
+    let page = headed(command, answer, body)?;
+    page_text(alloc, &page)
+}
