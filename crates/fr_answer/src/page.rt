@@ -90,7 +90,8 @@ fn body_of(alloc: Global, answer: &Answer) -> Result<Body, AllocError> {
     match what {
         What::Judged(judged) => {
             put_actors(alloc, &mut body, judged.app(), &code)?;
-            put_judged(alloc, &mut body, judged, &code)?;
+            let blames = matches!(answer.command, Command::Prove);
+            put_judged(alloc, &mut body, judged, &code, blames)?;
             if matches!(what.kind(), AnswerKind::Yes) {
                 body.details = what.second_lines(alloc)?;
             }

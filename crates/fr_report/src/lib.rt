@@ -23,8 +23,8 @@ mod warning;
 pub use lines::text_of;
 pub use listing::{line_of_code, points_text};
 pub use reason::{
-    Depth, ExplainedStep, actor_place, depth_in, depths_of, explain, note_told, object_told,
-    state_told,
+    Depth, ExplainedStep, actor_place, depth_in, depths_of, explain, never_deleted, note_told,
+    object_told, state_told,
 };
 pub use refuting::{
     ExplainedRun, breach_text, explain_deadlock, explain_run, explain_steps, finding_line,

@@ -29,7 +29,7 @@ use fr_program::{App, Point};
 use fr_request::Detail;
 use fr_witness::{Taken, Witness, witness};
 use guards::{guarded_by, put_guard, put_unguarded};
-pub use notes::note_told;
+pub use notes::{never_deleted, note_told};
 use notes::{add_broken, claims_of, rival_of, site_of};
 pub use places::actor_place;
 use places::add_actors;
@@ -110,7 +110,7 @@ fn note_of(scene: &Scene, site: Site) -> Result<Explained, AllocError> {
     Ok(Explained::Says {
         of: ShownState::OneNote,
         actor: site.point.actor,
-        claims: claims_of(scene.alloc, scene.app, site)?,
+        claims: claims_of(scene.alloc, scene.app, site, &[])?,
     })
 }
 

@@ -59,7 +59,10 @@ impl Code {
 
     /// Puts the line as it stands in the text into what explains a verdict.
     pub(super) fn put_into(&self, alloc: Global, item: &mut Explained) -> Result<(), AllocError> {
-        if let Explained::Place(at) | Explained::Then(at) | Explained::Beside(at) = item
+        if let Explained::Place(at)
+        | Explained::Then(at)
+        | Explained::Beside(at)
+        | Explained::Named { at, .. } = item
             && let Some(point) = at.point
             && let Some(line) = self.at(point)
         {

@@ -10,13 +10,23 @@ use crate::judged::Judged;
 use fr_ends::Certificate;
 use fr_judge::{Judging, Lists, Part, Verdict};
 use fr_page::{PointShown, Reason, Standing};
-use fr_program::{App, Point};
-use fr_report::{Line, explain, note_told, part_text, side_name};
+use fr_program::{App, ObjId, Point};
+use fr_report::{Line, explain, never_deleted, note_told, object_name, part_text, side_name};
 use fr_request::Detail;
 use std::alloc::{AllocError, Global};
 
 /// The most points that a page shows.
 const MOST_POINTS: usize = 2000;
+
+/// How the points of a page are shown.
+#[derive(Clone, Copy)]
+struct Look<'a> {
+    code: &'a Code,
+    /// The objects that are always live: the page says so once.
+    live: &'a [ObjId],
+    /// Whether lines are named that a person would change.
+    blames: bool,
+}
 
 /// How many of the points that are shown fail, and how many are never reached.
 #[derive(Clone, Copy)]
@@ -47,7 +57,7 @@ fn reasons(
     alloc: Global,
     app: &App,
     certificate: &Certificate,
-    code: &Code,
+    look: Look,
     point: Point,
     part: Part,
 ) -> Result<Vec<Reason>, AllocError>
@@ -56,8 +66,9 @@ fn reasons(
     let mut reasons = Vec::new(alloc);
     let verdict = Verdict::No { point, part };
     let detail = Detail::Told;
+    let Look { code, blames, .. } = look;
     let sources = &code.sources;
-    if let Some(mut found) = explain(alloc, app, certificate, sources, verdict, detail, false)? {
+    if let Some(mut found) = explain(alloc, app, certificate, sources, verdict, detail, blames)? {
         for item in &mut found.items {
             code.put_into(alloc, item)?;
             let Line { of, said } = item.line(alloc, app)?;
@@ -73,7 +84,7 @@ fn point_shown(
     alloc: Global,
     app: &App,
     certificate: &Certificate,
-    code: &Code,
+    look: Look,
     judging: &Judging,
     number: usize,
     explains: bool,
@@ -84,13 +95,13 @@ fn point_shown(
 {
     app.recall_numbered();
     let point = app.point(number);
-    let notes = note_told(alloc, app, certificate, point)?;
+    let notes = note_told(alloc, app, certificate, point, look.live)?;
     let (mut standing, mut explanation) = (Standing::Holds, Vec::new(alloc));
     match judging.part_at(number) {
         Some(part) => {
             standing = Standing::Fails(part_text(alloc, app, part)?);
             if explains {
-                explanation = reasons(alloc, app, certificate, code, point, part)?;
+                explanation = reasons(alloc, app, certificate, look, point, part)?;
             }
         }
         None if notes.is_empty() => standing = Standing::Never,
@@ -112,7 +123,7 @@ fn put_points(
     body: &mut Body,
     app: &App,
     certificate: &Certificate,
-    code: &Code,
+    look: Look,
     judging: &Judging,
 ) -> Result<Tally, AllocError>
     requires fits { CertificateFits app.now certificate.now }
@@ -127,7 +138,7 @@ fn put_points(
             break;
         }
         let explains = tally.failing == 0;
-        let shown = point_shown(alloc, app, certificate, code, judging, number, explains)?;
+        let shown = point_shown(alloc, app, certificate, look, judging, number, explains)?;
         if number < MOST_POINTS || matches!(&shown.standing, Standing::Fails(_)) {
             tally = tally.with(&shown.standing);
             put_point(body, app.point(number), shown)?;
@@ -158,17 +169,40 @@ fn put_counts(
     Ok(())
 }
 
-/// Adds to the page what the certificate says of each point, and whether it is so.
+/// Adds which objects are always live, where there are such.
+fn put_live(alloc: Global, body: &mut Body, app: &App, live: &[ObjId]) -> Result<(), AllocError> {
+    let Some((first, others)) = live.split_first() else {
+        return Ok(());
+    };
+    let mut text = String::from_str(alloc, "Live at every point, never deleted: ")?;
+    text.push_str(object_name(app, *first))?;
+    for object in others {
+        write!(text, ", {}", object_name(app, *object))?;
+    }
+    text.push_str(". The notes leave that out.")?;
+    Ok(body.omissions.push(text)?)
+}
+
+/// Adds to the page what the certificate says of each point, and whether it is so. Where `blames` asks for it, lines are named that a person
+/// would change.
 pub(super) fn put_judged(
     alloc: Global,
     body: &mut Body,
     judged: &Judged,
     code: &Code,
+    blames: bool,
 ) -> Result<(), AllocError> {
     judged.recall_verdict();
     let (app, certificate) = (judged.app(), judged.certificate());
     let lists = Lists::build(alloc, app, certificate)?;
     let judging = Judging::with(app, certificate, &lists);
-    let tally = put_points(alloc, body, app, certificate, code, &judging)?;
+    let live = never_deleted(alloc, app)?;
+    put_live(alloc, body, app, &live)?;
+    let look = Look {
+        code,
+        live: &live,
+        blames,
+    };
+    let tally = put_points(alloc, body, app, certificate, look, &judging)?;
     put_counts(alloc, body, app.points(), tally)
 }

@@ -202,6 +202,25 @@ pub(super) fn put_step(
     Ok(body.steps.push(row)?)
 }
 
+/// Adds the row of the start, and gives the start.
+pub(super) fn put_start(
+    alloc: Global,
+    body: &mut Body,
+    app: &App,
+    code: &Code,
+    depths: &[Depth],
+) -> Result<State, AllocError>
+    ensures { IfOk result (λ state. IsWellFormed app.now state) }
+{
+    app.recall_faultless();
+    the_start_is_well_formed();
+    let state = State::start(alloc, app)?;
+    let name = String::from_str(alloc, "start")?;
+    body.steps
+        .push(row_of(alloc, app, code, depths, name, None, &state)?)?;
+    Ok(state)
+}
+
 /// Adds the rows of the steps from the start on, and gives the state after them.
 fn put_steps(
     alloc: Global,
@@ -213,12 +232,7 @@ fn put_steps(
 ) -> Result<State, AllocError>
     ensures { IfOk result (λ state. IsWellFormed app.now state) }
 {
-    app.recall_faultless();
-    the_start_is_well_formed();
-    let mut state = State::start(alloc, app)?;
-    let name = String::from_str(alloc, "start")?;
-    body.steps
-        .push(row_of(alloc, app, code, depths, name, None, &state)?)?;
+    let mut state = put_start(alloc, body, app, code, depths)?;
     for (number, step) in steps.iter().enumerate() {
         let spot = Spot {
             row: number,

@@ -6,10 +6,10 @@ ghost use Rattle.fr_answer.specs.Pages.{IsTrailPage, page_kind};
 use super::actors::{count_text, put_actors};
 use super::code::Code;
 use super::steps::{
-    Spot, is_shown, omitted_before, put_end, put_step, put_tracks, row_of, rule_told,
+    Spot, is_shown, omitted_before, put_end, put_start, put_step, put_tracks, row_of, rule_told,
 };
 use super::{Body, empty_body, page_kind};
-use fr_calls::{Rule, State, the_start_is_well_formed};
+use fr_calls::{Rule, State};
 use fr_follower::Followed;
 use fr_page::{Doing, Moved, Page, page_text};
 use fr_program::{ActorId, App};
@@ -77,12 +77,7 @@ fn put_rows(
 ) -> Result<State, AllocError>
     ensures { IfOk result (λ state. IsWellFormed app.now state) }
 {
-    app.recall_faultless();
-    the_start_is_well_formed();
-    let mut state = State::start(alloc, app)?;
-    let name = String::from_str(alloc, "start")?;
-    body.steps
-        .push(row_of(alloc, app, code, depths, name, None, &state)?)?;
+    let mut state = put_start(alloc, body, app, code, depths)?;
     let mut taken = 0usize;
     for (number, row) in rows.iter().enumerate() {
         let spot = Spot {

@@ -6,14 +6,14 @@ ghost use Rattle.fr_ends.specs.Fits.{CertificateFits};
 ghost use Rattle.fr_report.specs.Told.{IsSite};
 
 use super::scene::{Scene, Site, says_of, subjects};
-use super::words::{put_otherwise, put_said};
+use super::words::{put_otherwise, put_said, put_unheld};
 use crate::lines::put_listed;
 use crate::told::{Explained, ShownState};
 use fr_calls::{State, is_at_end};
 use fr_ends::{Certificate, EndName};
-use fr_notes::Alternative;
-use fr_program::{ActorId, App, Call, Instr, Point, Side};
-use fr_witness::claim_broken;
+use fr_notes::{Alternative, Claim};
+use fr_program::{ActorId, App, Call, Instr, ObjId, Point, Side};
+use fr_witness::{Subject, claim_broken};
 use std::alloc::{AllocError, Global};
 
 /// The site of a point; None where the application has no such point.
@@ -83,18 +83,38 @@ pub(super) fn add_broken(
     Ok(())
 }
 
-/// What an alternative says, beside what is so of every state.
+/// The subject, where it is one of these objects and the alternative says of it that it is live.
+fn live_among(says: &Alternative, subject: Subject, live: &[ObjId]) -> Option<ObjId> {
+    let Subject::Object(object) = subject else {
+        return None;
+    };
+    let is_there = live.iter().any(|other| other.0 == object.0);
+    if is_there && says.claim(object) == Claim::Alive {
+        Some(object)
+    } else {
+        None
+    }
+}
+
+/// What an alternative says, beside what is so of every state, and that these objects are live.
 fn alternative_text(
     alloc: Global,
     app: &App,
     actor: ActorId,
     says: &Alternative,
+    live: &[ObjId],
 ) -> Result<String, AllocError> {
     let (mut text, mut claims) = (String::new(alloc), Vec::new(alloc));
     for subject in &subjects(alloc, app)? {
-        if says_of(app, says, *subject) {
-            let mut claim = String::new(alloc);
-            put_said(&mut claim, app, actor, says, *subject)?;
+        if !says_of(app, says, *subject) {
+            continue;
+        }
+        let mut claim = String::new(alloc);
+        match live_among(says, *subject, live) {
+            Some(object) => put_unheld(&mut claim, app, actor, object)?,
+            None => put_said(&mut claim, app, actor, says, *subject)?,
+        }
+        if !claim.is_empty() {
             claims.push(claim)?;
         }
     }
@@ -102,17 +122,22 @@ fn alternative_text(
     Ok(text)
 }
 
-/// What the note of a site says, an item for each alternative.
-pub(super) fn claims_of(alloc: Global, app: &App, site: Site) -> Result<Vec<String>, AllocError> {
+/// What the note of a site says, an item for each alternative, beside that these objects are live.
+pub(super) fn claims_of(
+    alloc: Global,
+    app: &App,
+    site: Site,
+    live: &[ObjId],
+) -> Result<Vec<String>, AllocError> {
     let mut claims = Vec::new(alloc);
     for says in site.note.alternatives() {
-        claims.push(alternative_text(alloc, app, site.point.actor, says)?)?;
+        claims.push(alternative_text(alloc, app, site.point.actor, says, live)?)?;
     }
     Ok(claims)
 }
 
-/// What the note of a point says in words, an item for each alternative; no item where the actor is never
-/// there, or where the application has no such point. The certificate fits the application.
+/// What the note of a point says in words, an item for each alternative, beside that the objects in `live` are live; no item where the
+/// actor is never there, or where the application has no such point. The certificate fits the application.
 ///
 /// # Errors
 ///
@@ -122,13 +147,48 @@ pub fn note_told(
     app: &App,
     certificate: &Certificate,
     point: Point,
+    live: &[ObjId],
 ) -> Result<Vec<String>, AllocError>
     requires { CertificateFits app.now certificate.now }
 {
     match site_of(app, certificate, point) {
-        Some(site) => claims_of(alloc, app, site),
+        Some(site) => claims_of(alloc, app, site, live),
         None => Ok(Vec::new(alloc)),
     }
+}
+
+/// Whether some line deletes the object.
+fn is_deleted(app: &App, object: ObjId) -> bool {
+    for actor in app.actors() {
+        let deletes = actor.code.iter().any(|instr| deletes(instr, object));
+        if deletes {
+            return true;
+        }
+    }
+    false
+}
+
+/// Whether the line deletes the object.
+fn deletes(instr: &Instr, object: ObjId) -> bool {
+    match instr {
+        Instr::Call(Call::Delete { object: other, .. }) => other.0 == object.0,
+        _ => false,
+    }
+}
+
+/// The objects that are live from the start on and deleted by no line, so that a page says once that they are live.
+///
+/// # Errors
+///
+/// Only where memory is refused.
+pub fn never_deleted(alloc: Global, app: &App) -> Result<Vec<ObjId>, AllocError> {
+    let mut live = Vec::new(alloc);
+    for (number, object) in app.objects().iter().enumerate() {
+        if object.live && !is_deleted(app, ObjId(number)) {
+            live.push(ObjId(number))?;
+        }
+    }
+    Ok(live)
 }
 
 /// Whether an actor at this site is inside a call at the end of a buffer, and its note doesn't say that it is never there.

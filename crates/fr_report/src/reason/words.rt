@@ -109,6 +109,20 @@ fn can_hold(app: &App, actor: ActorId, object: ObjId) -> bool {
     is_mutex && is_task
 }
 
+/// Appends that the actor doesn't hold the object, if it is one that the actor could hold.
+pub(super) fn put_unheld(
+    text: &mut String,
+    app: &App,
+    actor: ActorId,
+    object: ObjId,
+) -> Result<(), AllocError> {
+    if can_hold(app, actor, object) {
+        put_held(text, actor_name(app, actor), object_name(app, object), 0)
+    } else {
+        Ok(())
+    }
+}
+
 /// Appends a claim of an object.
 fn put_claim(
     text: &mut String,
