@@ -69,6 +69,29 @@ pub(crate) fn program_in<'a>(
     Ok(mem::replace(&mut reader.program, Program::new(alloc)))
 }
 
+/// What to write in place of a declaration of C that begins with this word.
+fn in_place_of(word: &str) -> &'static str {
+    match word {
+        "volatile"
+        | "static"
+        | "unsigned"
+        | "int"
+        | "bool"
+        | "uint8_t"
+        | "uint16_t"
+        | "uint32_t"
+        | "BaseType_t"
+        | "UBaseType_t" => ": write 'shared n in 0..8;' for what several use",
+        "StreamBufferHandle_t" => ": write 'stream s[64];'",
+        "MessageBufferHandle_t" => ": write 'message m[64];'",
+        "QueueHandle_t" => ": write 'queue q[8] of 0..9;'",
+        "SemaphoreHandle_t" => ": write 'mutex m;', 'binary b;' or 'counting c[8] first 0;'",
+        "TaskHandle_t" => ": leave it out",
+        "void" => ": write 'task t {', 'interrupt i {' or 'function f() {'",
+        _ => "",
+    }
+}
+
 impl<'a> Reader<'a> {
     /// Reads a declaration.
     fn declaration(&mut self) -> Result<(), Fault> {
@@ -104,7 +127,10 @@ impl<'a> Reader<'a> {
                 let meant = "'. Did you mean '";
                 wrong_about(self.alloc, spot, what, shown, meant, near, "'?")
             }
-            None => wrong(self.alloc, spot, &[what, shown, "'"]),
+            None => {
+                let instead = in_place_of(word.text);
+                wrong_about(self.alloc, spot, what, shown, "'", instead, "")
+            }
         }
     }
 
@@ -186,7 +212,7 @@ impl<'a> Reader<'a> {
             if range.holds(0) {
                 return Ok(0);
             }
-            return Err(self.not_in("expected '=' and the first value: ", 0, range, spot)?);
+            return Err(self.no_first(range, may_begin, spot)?);
         }
         let first = self.constant()?;
         if !may_begin {
@@ -199,6 +225,16 @@ impl<'a> Reader<'a> {
             return Err(self.not_in("", first, range, spot)?);
         }
         Ok(first)
+    }
+
+    /// The fault that a variable without a first value begins at 0, which isn't in its range.
+    fn no_first(&self, range: Range, may_begin: bool, spot: Spot) -> Result<Fault, AllocError> {
+        let before = if may_begin {
+            "expected '=' and the first value: "
+        } else {
+            "this variable begins at 0: let its range include 0, or write 'static var' with '=' and a first value: "
+        };
+        self.not_in(before, 0, range, spot)
     }
 
     /// The fault that a number isn't in a range.

@@ -600,7 +600,7 @@ impl<'a> Reader<'a> {
             Value::Number(number) => Ok(number),
             _ => {
                 let text = if self.call.is_some() {
-                    "expected a number or a constant: a time or a length is never a variable"
+                    "expected a number or a constant: a time or a length is never a variable, so write a call for each value"
                 } else {
                     "expected a number or a constant"
                 };

@@ -189,7 +189,7 @@ fn piece_of(text: &[u8], first: u8) -> (Piece, usize) {
 fn in_place_of(byte: u8) -> &'static str {
     match byte {
         b'&' =>
-            ": leave out data pointers and '&woken', and write 'x' for '&x'; there are no bit operators",
+            ": leave out data pointers and '&woken', and write 'x' for '&x'; there are no bit operators, so write any(..) for a result",
         b'|' | b'^' | b'~' | b'<' | b'>' =>
             ": there are no bit operators, write any(..) or a variable for each bit",
         b'?' => ": write if and else",
