@@ -36,29 +36,29 @@ pub max-none : (n : ℕ) → max 0 n ≡ n
 max-none n = omega arith
 
 -- one answer more is printed
-pub printed-more : (several : Bool) (old mid new : Option (List ℕ)) (t : TraceAnswerAt) (answers : List TraceAnswerAt) → AreTracesPrinted None several old mid answers
-    → Appends mid new (text_at several t) → AreTracesPrinted None several old new (answers ++ t ∷ [])
-printed-more several old mid new t answers h now =
+pub printed-more : (app : List ℕ) (several : Bool) (old mid new : Option (List ℕ)) (t : TraceAnswerAt) (answers : List TraceAnswerAt) → AreTracesPrinted None app several old mid answers
+    → Appends mid new (text_at several t) → AreTracesPrinted None app several old new (answers ++ t ∷ [])
+printed-more app several old mid new t answers h now =
     let before = concat (map (text_at several) answers) in
     let whole : concat (map (text_at several) (answers ++ t ∷ [])) ≡ before ++ text_at several t =
     ap concat (map-append (text_at several) answers (t ∷ [])) ∙ concat-append (map (text_at several) answers) (text_at several t ∷ []) ∙ ap (λ x. before ++ x) (append-nil (text_at several t)) in
     subst (Appends old new) (sym whole) (Appends-trans old mid new before (text_at several t) h now)
 
 -- the one answer is printed
-pub printed-one : (old new : Option (List ℕ)) (t : TraceAnswerAt) (text : List ℕ) → text ≡ text_at false t → Appends old new text → AreTracesPrinted None false old new (t ∷ [])
-printed-one old new t text same h = subst (Appends old new) (same ∙ sym (append-nil (text_at false t))) h
+pub printed-one : (app : List ℕ) (old new : Option (List ℕ)) (t : TraceAnswerAt) (text : List ℕ) → text ≡ text_at false t → Appends old new text → AreTracesPrinted None app false old new (t ∷ [])
+printed-one app old new t text same h = subst (Appends old new) (same ∙ sym (append-nil (text_at false t))) h
 
 -- so it is where it was written
-pub printed-of : {X Y : Type 0} (old new : Option (List ℕ)) (t : TraceAnswerAt) (text same : List ℕ) (r : Result X Y) → same ≡ text → text ≡ text_at false t
-    → IfOk r (λ _. Appends old new same) → IfOk r (λ _. AreTracesPrinted None false old new (t ∷ []))
-printed-of old new t text same (Ok x) is told h = printed-one old new t same (is ∙ told) h
-printed-of old new t text same (Err y) is told h = tt
+pub printed-of : {X Y : Type 0} (app : List ℕ) (old new : Option (List ℕ)) (t : TraceAnswerAt) (text same : List ℕ) (r : Result X Y) → same ≡ text → text ≡ text_at false t
+    → IfOk r (λ _. Appends old new same) → IfOk r (λ _. AreTracesPrinted None app false old new (t ∷ []))
+printed-of app old new t text same (Ok x) is told h = printed-one app old new t same (is ∙ told) h
+printed-of app old new t text same (Err y) is told h = tt
 
 -- the one answer is shown by a report
-pub reported-of : {X Y : Type 0} (format : Format) (old new : Option (List ℕ)) (t : TraceAnswerAt) (shown : AnswerShown) (text same : List ℕ) (r : Result X Y) → same ≡ text → ShowsTrace t shown
-    → IsReport format (shown ∷ []) text → IfOk r (λ _. Appends old new same) → IfOk r (λ _. AreTracesPrinted (Some format) false old new (t ∷ []))
-reported-of format old new t shown text same (Ok x) is shows report h = (shown ∷ [], text, (shows, tt), report, subst (Appends old new) is h)
-reported-of format old new t shown text same (Err y) is shows report h = tt
+pub reported-of : {X Y : Type 0} (format : Format) (app : List ℕ) (old new : Option (List ℕ)) (t : TraceAnswerAt) (shown : AnswerShown) (text same : List ℕ) (r : Result X Y) → same ≡ text → ShowsTrace app t shown
+    → IsReport format (shown ∷ []) text → IfOk r (λ _. Appends old new same) → IfOk r (λ _. AreTracesPrinted (Some format) app false old new (t ∷ []))
+reported-of format app old new t shown text same (Ok x) is shows report h = (shown ∷ [], text, (shows, tt), report, subst (Appends old new) is h)
+reported-of format app old new t shown text same (Err y) is shows report h = tt
 
 module _ (reads : Reading → List ℕ → List ℕ → Type 0) (asked : FollowRequest) (P : Program) where
   -- nothing is promised of a refusal
@@ -88,19 +88,19 @@ module _ (reads : Reading → List ℕ → List ℕ → Type 0) (asked : FollowR
 
   -- one trace more whose answer is printed
   pub printed-trace : (several : Bool) (paths : List (List ℕ)) (status : ℕ) (t : TraceAnswerAt) (old mid new : Option (List ℕ))
-      → AreTraces reads asked P paths status (AreTracesPrinted None several old mid) → IsAnswerAt reads asked P t → Appends mid new (text_at several t)
-      → AreTraces reads asked P (paths ++ t.path ∷ []) (max status (kind_status t.kind)) (AreTracesPrinted None several old new)
+      → AreTraces reads asked P paths status (AreTracesPrinted None asked.app.now several old mid) → IsAnswerAt reads asked P t → Appends mid new (text_at several t)
+      → AreTraces reads asked P (paths ++ t.path ∷ []) (max status (kind_status t.kind)) (AreTracesPrinted None asked.app.now several old new)
   printed-trace several paths status t old mid new h own now =
-      one-more paths status t (AreTracesPrinted None several old mid) (AreTracesPrinted None several old new) h own
-      (λ answers was. printed-more several old mid new t answers was now)
+      one-more paths status t (AreTracesPrinted None asked.app.now several old mid) (AreTracesPrinted None asked.app.now several old new) h own
+      (λ answers was. printed-more asked.app.now several old mid new t answers was now)
 
   -- one trace more whose answer a report shows
   pub shown-trace : (paths : List (List ℕ)) (status : ℕ) (t : TraceAnswerAt) (shown new : List AnswerShown) (s : AnswerShown) → new ≡ shown ++ s ∷ []
-      → AreTraces reads asked P paths status (λ answers. Each ShowsTrace answers shown) → IsAnswerAt reads asked P t → ShowsTrace t s
-      → AreTraces reads asked P (paths ++ t.path ∷ []) (max status (kind_status t.kind)) (λ answers. Each ShowsTrace answers new)
+      → AreTraces reads asked P paths status (λ answers. Each (ShowsTrace asked.app.now) answers shown) → IsAnswerAt reads asked P t → ShowsTrace asked.app.now t s
+      → AreTraces reads asked P (paths ++ t.path ∷ []) (max status (kind_status t.kind)) (λ answers. Each (ShowsTrace asked.app.now) answers new)
   shown-trace paths status t shown new s pushed h own shows =
-      one-more paths status t (λ answers. Each ShowsTrace answers shown) (λ answers. Each ShowsTrace answers new) h own
-      (λ answers was. subst (Each ShowsTrace (answers ++ t ∷ [])) (sym pushed) (each-more ShowsTrace answers shown t s was shows))
+      one-more paths status t (λ answers. Each (ShowsTrace asked.app.now) answers shown) (λ answers. Each (ShowsTrace asked.app.now) answers new) h own
+      (λ answers was. subst (Each (ShowsTrace asked.app.now) (answers ++ t ∷ [])) (sym pushed) (each-more (ShowsTrace asked.app.now) answers shown t s was shows))
 
   -- the same answers, of other traces and with another status that are the same
   pub answers-at : (one other : List (List ℕ)) (s t : ℕ) (Is : List TraceAnswerAt → Type 0) → other ≡ one → t ≡ s → AreTraces reads asked P one s Is

@@ -56,11 +56,11 @@ module _ (reads : Reading → List ℕ → List ℕ → Type 0) (asks : Bool) wh
 
   -- both of one line more whose answer a report shows
   pub shown-line : (list : List ℕ) (entries : List Entry) (status : ℕ) (line : LineAnswer) (shown new : List AnswerShown) (s : AnswerShown) → new ≡ shown ++ s ∷ []
-      → AreAnswered reads asks list entries status (λ lines. Each (λ l a. Shows l.what a) lines shown) → IsLineAnswer reads asks list line → Shows line.what s
-      → AreAnswered reads asks list (entries ++ line.entry ∷ []) (max status (what_status line.what)) (λ lines. Each (λ l a. Shows l.what a) lines new)
+      → AreAnswered reads asks list entries status (λ lines. Each (λ l a. Shows (beside list l.entry.application) l.what a) lines shown) → IsLineAnswer reads asks list line → Shows (beside list line.entry.application) line.what s
+      → AreAnswered reads asks list (entries ++ line.entry ∷ []) (max status (what_status line.what)) (λ lines. Each (λ l a. Shows (beside list l.entry.application) l.what a) lines new)
   shown-line list entries status line shown new s pushed h own shows =
-      answered-more list entries status line (λ lines. Each (λ l a. Shows l.what a) lines shown) (λ lines. Each (λ l a. Shows l.what a) lines new) h own
-      (λ lines was. subst (λ answers. Each (λ l a. Shows l.what a) (lines ++ line ∷ []) answers) (sym pushed) (each-more (λ l a. Shows l.what a) lines shown line s was shows))
+      answered-more list entries status line (λ lines. Each (λ l a. Shows (beside list l.entry.application) l.what a) lines shown) (λ lines. Each (λ l a. Shows (beside list l.entry.application) l.what a) lines new) h own
+      (λ lines was. subst (λ answers. Each (λ l a. Shows (beside list l.entry.application) l.what a) (lines ++ line ∷ []) answers) (sym pushed) (each-more (λ l a. Shows (beside list l.entry.application) l.what a) lines shown line s was shows))
 
   -- the answers, of other lines and with another status that are the same
   pub answered-at : (list : List ℕ) (one other : List Entry) (s t : ℕ) (Is : List LineAnswer → Type 0) → other ≡ one → t ≡ s → AreAnswered reads asks list one s Is → AreAnswered reads asks list other t Is

@@ -186,14 +186,14 @@ module _ (reads : Reading → List ℕ → List ℕ → Type 0) (asks : Bool) wh
   named-safe (Listed list) format explains s old new e h =
       (h.0, h.1, h.2, h.3, answered-safe list.now h.2 s (λ lines. AreLinesPrinted format explains list.now lines old new) e h.4)
 
-  pub proof-shown-safe : (app : List ℕ) (searches : Bool) (format : Option Format) (s : ℕ) (old new : Option (List ℕ)) → s ≡ 0
-      → IsShown (λ what. (certificate : List ℕ) × IsProofAt reads asks app searches certificate what) format s old new → IsSafeAt reads asks app
-  proof-shown-safe app searches format s old new e h =
+  pub proof-shown-safe : (app : List ℕ) (searches : Bool) (format : Option Format) (path : List ℕ) (s : ℕ) (old new : Option (List ℕ)) → s ≡ 0
+      → IsShown (λ what. (certificate : List ℕ) × IsProofAt reads asks app searches certificate what) format path s old new → IsSafeAt reads asks app
+  proof-shown-safe app searches format path s old new e h =
       let zero = sym h.2 ∙ e in
       let proof = h.1 (omega (arith, zero)) in
       proof-at-safe app searches proof.0 h.0 proof.1 zero
 
-  pub search-shown-safe : (app : List ℕ) (format : Option Format) (s : ℕ) (old new : Option (List ℕ)) → s ≡ 0 → IsShown (IsSearchAt reads asks app) format s old new → IsSafeAt reads asks app
-  search-shown-safe app format s old new e h =
+  pub search-shown-safe : (app : List ℕ) (format : Option Format) (path : List ℕ) (s : ℕ) (old new : Option (List ℕ)) → s ≡ 0 → IsShown (IsSearchAt reads asks app) format path s old new → IsSafeAt reads asks app
+  search-shown-safe app format path s old new e h =
       let zero = sym h.2 ∙ e in
       search-at-safe app h.0 (h.1 (omega (arith, zero))) zero

@@ -25,16 +25,17 @@ from-found Is (Ok r) what h is = subst Is (sym is) h
 from-found Is (Err e) what h is = absurd is
 
 -- so it does of what is shown
-pub shown-of : {X E Y : Type 0} (Is : What → Type 0) (found : Result (X × What) E) (format : Option Format) (old new : Option (List ℕ)) (r : Result ℕ Y) → IfOk found (λ x. Is x.1)
-    → IfOk r (λ status. IsShown (HasFound found) format status old new) → IfOk r (λ status. IsShown Is format status old new)
-shown-of Is found format old new (Ok status) h s = (s.0, (λ le. from-found Is found s.0 h (s.1 le)), s.2, s.3)
-shown-of Is found format old new (Err e) h s = tt
+pub shown-of : {X E Y : Type 0} (Is : What → Type 0) (found : Result (X × What) E) (format : Option Format) (named path : List ℕ) (old new : Option (List ℕ)) (r : Result ℕ Y) → named ≡ path → IfOk found (λ x. Is x.1)
+    → IfOk r (λ status. IsShown (HasFound found) format named status old new) → IfOk r (λ status. IsShown Is format path status old new)
+shown-of Is found format named path old new (Ok status) same h s = (s.0, (λ le. from-found Is found s.0 h (s.1 le)), s.2, subst (λ p. IsPrinted format p s.0 old new) same s.3)
+shown-of Is found format named path old new (Err e) same h s = tt
 
 -- so it does of an answer that is refused
-pub shown-none : {Y : Type 0} (Is : What → Type 0) (shown format : Option Format) (old new : Option (List ℕ)) (r : Result ℕ Y) → shown ≡ format
-    → IfOk r (λ status. IsShown (λ _. ⊥) shown status old new) → IfOk r (λ status. IsShown Is format status old new)
-shown-none Is shown format old new (Ok status) same s = (s.0, (λ le. absurd (s.1 le)), s.2, subst (λ f. IsPrinted f s.0 old new) same s.3)
-shown-none Is shown format old new (Err e) same s = tt
+pub shown-none : {Y : Type 0} (Is : What → Type 0) (shown format : Option Format) (named path : List ℕ) (old new : Option (List ℕ)) (r : Result ℕ Y) → named ≡ path → shown ≡ format
+    → IfOk r (λ status. IsShown (λ _. ⊥) shown named status old new) → IfOk r (λ status. IsShown Is format path status old new)
+shown-none Is shown format named path old new (Ok status) is same s =
+    (s.0, (λ le. absurd (s.1 le)), s.2, subst (λ f. IsPrinted f path s.0 old new) same (subst (λ p. IsPrinted shown p s.0 old new) is s.3))
+shown-none Is shown format named path old new (Err e) is same s = tt
 
 -- an output that is looked at is the one that is asked for
 pub may-of : (May : List ℕ → Type 0) (output : Option Output) (path : Option (List ℕ)) → option_map (λ o. o.path.now) output ≡ path → ((o : Output) → output ≡ Some o → May o.path.now)
@@ -49,10 +50,10 @@ line-found Is found (Ok a) has h = λ le. from-found Is found a.what h (has le)
 line-found Is found (Err e) has h = tt
 
 -- an answer that is shown: its exit status, what is printed, and that nothing is where there is no verdict
-pub shown-found : {Y : Type 0} (Has : What → Type 0) (format : Option Format) (old new : Option (List ℕ)) (r : Result ℕ Y) (what : What) → (what_status what ≤ 1 → Has what)
-    → IfOk r (λ s. s ≡ what_status what) → IfOk r (λ s. IsPrinted format what old new) → IfOk r (λ s. IsShown Has format s old new)
-shown-found Has format old new (Ok s) what has status text = (what, has, status, text)
-shown-found Has format old new (Err e) what has status text = tt
+pub shown-found : {Y : Type 0} (Has : What → Type 0) (format : Option Format) (named path : List ℕ) (old new : Option (List ℕ)) (r : Result ℕ Y) (what : What) → named ≡ path
+    → (what_status what ≤ 1 → Has what) → IfOk r (λ s. s ≡ what_status what) → IfOk r (λ s. IsPrinted format named what old new) → IfOk r (λ s. IsShown Has format path s old new)
+shown-found Has format named path old new (Ok s) what same has status text = (what, has, status, subst (λ p. IsPrinted format p what old new) same text)
+shown-found Has format named path old new (Err e) what same has status text = tt
 
 -- of an answer that isn't there nothing is promised
 pub no-answer : {X E T Y : Type 0} (found : Result X E) (r : Result T Y) (P : T → Type 0) (y : Y) → r ≡ Err y → IfErr found (λ _. IfOk r P)

@@ -6,7 +6,8 @@
 -- | IsCheckOf                         | the verdict on the application and the certificate in two files                |
 -- | IsProofAt                         | the verdict on the application in a file by a certificate, or a run instead    |
 -- | IsSearchAt                        | what a search found in the application in a file                               |
--- | Shows                             | a report shows an answer: its kind and its first line                          |
+-- | Shows                             | a report shows an answer: the application's file, its kind and its first line  |
+-- | IsTextPrinted                     | an answer's text was written                                                   |
 -- | IsPrinted                         | an answer was written: its text, or a report that shows it                     |
 -- | IsShown                           | such an answer has this exit status, and was printed                           |
 -- | IsAnswerBy, LineAnswer, IsLineAnswer | the answer to a line of a list                                              |
@@ -74,21 +75,26 @@ IsProofAt reads asks app searches certificate what = (a : List ℕ) × reads AsA
 abbrev pub IsSearchAt : (Reading → List ℕ → List ℕ → Type 0) → Bool → List ℕ → What → Type 0
 IsSearchAt reads asks app what = (a : List ℕ) × reads AsApp app a × IsSearchOf asks a what
 
--- what a report shows of an answer: its kind and its first line, or in place of a yes that a deadlock isn't excluded
-pub record Shows (what : What) (shown : AnswerShown) : Type 0 where
+-- what a report shows of an answer for the application in this file: the file, the kind of the answer, and its first line, or in place of
+-- a yes that a deadlock isn't excluded
+pub record Shows (path : List ℕ) (what : What) (shown : AnswerShown) : Type 0 where
+  pub application : string_bytes shown.application ≡ path
   pub kind : shown.answer ≡ kind_of what
   pub first : string_bytes shown.report ≡ shown_line what
 
--- the answer's text was written after what the writer had, and nothing else, where it isn't refused; in a form that machines read a
--- report that shows the answer was
-abbrev pub IsPrinted : Option Format → What → Option (List ℕ) → Option (List ℕ) → Type 0
-IsPrinted None what old new = what_status what ≤ 1 → (text : List ℕ) × IsTextOf what text × Appends old new text
-IsPrinted (Some format) what old new =
-    (shown : AnswerShown) × (text : List ℕ) × Shows what shown × IsReport format (shown ∷ []) text × Appends old new text
+-- the answer's text was written after what the writer had, and nothing else, where it isn't refused
+abbrev pub IsTextPrinted : What → Option (List ℕ) → Option (List ℕ) → Type 0
+IsTextPrinted what old new = what_status what ≤ 1 → (text : List ℕ) × IsTextOf what text × Appends old new text
+
+-- so it was; in a form that machines read a report that shows the answer for the application in this file was
+abbrev pub IsPrinted : Option Format → List ℕ → What → Option (List ℕ) → Option (List ℕ) → Type 0
+IsPrinted None path what old new = IsTextPrinted what old new
+IsPrinted (Some format) path what old new =
+    (shown : AnswerShown) × (text : List ℕ) × Shows path what shown × IsReport format (shown ∷ []) text × Appends old new text
 
 -- there is an answer with this exit status, and it was printed; where it isn't refused, it is such a one
-abbrev pub IsShown : (What → Type 0) → Option Format → ℕ → Option (List ℕ) → Option (List ℕ) → Type 0
-IsShown Is format status old new = (what : What) × (what_status what ≤ 1 → Is what) × (status ≡ what_status what) × IsPrinted format what old new
+abbrev pub IsShown : (What → Type 0) → Option Format → List ℕ → ℕ → Option (List ℕ) → Option (List ℕ) → Type 0
+IsShown Is format path status old new = (what : What) × (what_status what ≤ 1 → Is what) × (status ≡ what_status what) × IsPrinted format path what old new
 
 -- the verdict on the application in a file, by the certificate in another one that the list names, or by one that was worked out; or
 -- what a search found instead
@@ -128,7 +134,8 @@ AreLinesPrinted None explains list lines old new =
     (texts : List (List ℕ)) × Each (λ line text. IsLineText explains (beside list line.entry.application) line.what text) lines texts
     × Appends old new (concat texts)
 AreLinesPrinted (Some format) explains list lines old new =
-    (shown : List AnswerShown) × (text : List ℕ) × Each (λ line s. Shows line.what s) lines shown × IsReport format shown text × Appends old new text
+    (shown : List AnswerShown) × (text : List ℕ) × Each (λ line s. Shows (beside list line.entry.application) line.what s) lines shown
+    × IsReport format shown text × Appends old new text
 
 -- these lines are answered, this is the greatest exit status, and this is so of the answers
 abbrev pub AreAnswered : (Reading → List ℕ → List ℕ → Type 0) → Bool → List ℕ → List Entry → ℕ → (List LineAnswer → Type 0) → Type 0
@@ -148,7 +155,7 @@ AreRunWords (Some text) words = AreWords text words
 
 -- the verdict on two files, or on each line of a list
 abbrev pub IsCheckAnswered : (Reading → List ℕ → List ℕ → Type 0) → Bool → Named → Option Format → Bool → ℕ → Option (List ℕ) → Option (List ℕ) → Type 0
-IsCheckAnswered reads asks (One app certificate) format explains status old new = IsShown (IsCheckOf reads asks app.now certificate.now) format status old new
+IsCheckAnswered reads asks (One app certificate) format explains status old new = IsShown (IsCheckOf reads asks app.now certificate.now) format app.now status old new
 IsCheckAnswered reads asks (Listed list) format explains status old new = IsListAnswered reads asks list.now format explains status old new
 
 -- places in a source are shown only where that is asked for
@@ -178,8 +185,8 @@ IsTranslated reads source (Some path) old new = (text : List ℕ) × reads AsSou
 abbrev pub IsAnswered : (Reading → List ℕ → List ℕ → Type 0) → Request → ℕ → Option (List ℕ) → Option (List ℕ) → Type 0
 IsAnswered reads (Check asked) status old new = IsCheckAnswered reads asked.deadlock asked.files asked.format (is_some asked.detail) status old new
 IsAnswered reads (Prove asked) status old new =
-    IsShown (λ what. (certificate : List ℕ) × IsProofAt reads asked.deadlock asked.app.now asked.searches certificate what) asked.format status old new
-IsAnswered reads (Refute asked) status old new = IsShown (IsSearchAt reads asked.deadlock asked.app.now) asked.format status old new
+    IsShown (λ what. (certificate : List ℕ) × IsProofAt reads asked.deadlock asked.app.now asked.searches certificate what) asked.format asked.app.now status old new
+IsAnswered reads (Refute asked) status old new = IsShown (IsSearchAt reads asked.deadlock asked.app.now) asked.format asked.app.now status old new
 IsAnswered reads (Find asked) status old new =
     (a : List ℕ) × reads AsApp asked.app.now a × (found : Found) × IsFound a found × (status ≡ found_status found)
     × Appends old new (found_line found)

@@ -3,11 +3,12 @@
 -- | word               | meaning                                                                         |
 -- |--------------------|---------------------------------------------------------------------------------|
 -- | IsReadAs           | the application that the file is read as                                        |
--- | TraceAnswerAt, IsAnswerAt | a trace's file with its answer: where it isn't refused, it is that of the trace in the file |
+-- | TraceAnswerAt, answered_at | a trace's file with what is answered of it                                 |
+-- | IsAnswerAt         | where it isn't refused, it is the answer to the trace in the file               |
 -- | greatest_of        | the greatest of their exit statuses, 0 where there is none                      |
 -- | is_several, text_at | what is printed of an answer: where several traces are named, after the path   |
 -- | AreTraces          | these traces are answered, and this is so of the answers                        |
--- | ShowsTrace         | a report shows the answer to a trace: its kind and its line                     |
+-- | ShowsTrace         | a report shows the answer to a trace: both files, its kind and its line         |
 -- | AreTracesPrinted   | the answers were written, in their order, or a report that shows them           |
 -- | AreCovered         | what no run has shown was written, where that is asked                          |
 -- | IsTracesAnswered   | all of that, for the application that is named                                  |
@@ -26,6 +27,7 @@ use Rattle.fr_formats.specs.declared.answer.AnswerKind.{AnswerKind}
 use Rattle.fr_formats.specs.declared.answer.AnswerShown.{AnswerShown}
 use Rattle.fr_formats.specs.Answers.{status_of as kind_status}
 use Rattle.fr_formats.specs.Reports.{IsReport}
+use Rattle.fr_report.specs.Lines.{lines_text}
 use Rattle.fr_trail.specs.Answered.{IsTraceAnswer}
 use Rattle.fr_trail.specs.Runs.{IsRunOf}
 use Rattle.fr_trail.specs.declared.answer.TraceAnswer.{TraceAnswer}
@@ -44,6 +46,10 @@ pub record TraceAnswerAt : Type 0 where
   pub kind : AnswerKind
   pub line : List ℕ
   pub more : List ℕ
+
+-- the answer to the trace in this file
+abbrev pub answered_at : List ℕ → TraceAnswer → TraceAnswerAt
+answered_at path answer = record { path = path; kind = answer.kind; line = string_bytes answer.line; more = lines_text answer.why.items }
 
 -- where it isn't refused, it is the answer to the trace in the file
 pub record IsAnswerAt (reads : Reading → List ℕ → List ℕ → Type 0) (asked : FollowRequest) (P : Program) (t : TraceAnswerAt) : Type 0 where
@@ -74,16 +80,18 @@ AreTraces reads asked P paths status Is =
     (answers : List TraceAnswerAt) × (map (λ t. t.path) answers ≡ paths) × All (IsAnswerAt reads asked P) answers
     × (status ≡ greatest_of answers) × Is answers
 
--- what a report shows of an answer: its kind and its line
-pub record ShowsTrace (t : TraceAnswerAt) (shown : AnswerShown) : Type 0 where
+-- what a report shows of an answer for the application in this file: both files, the kind of the answer and its line
+pub record ShowsTrace (app : List ℕ) (t : TraceAnswerAt) (shown : AnswerShown) : Type 0 where
+  pub application : string_bytes shown.application ≡ app
+  pub trace : option_map (λ trace. string_bytes trace.file) shown.trace ≡ Some t.path
   pub kind : shown.answer ≡ t.kind
   pub line : string_bytes shown.report ≡ t.line
 
 -- the answers were written after what the writer had, and nothing else; or a report that shows them was
-abbrev pub AreTracesPrinted : Option Format → Bool → Option (List ℕ) → Option (List ℕ) → List TraceAnswerAt → Type 0
-AreTracesPrinted None several old new answers = Appends old new (concat (map (text_at several) answers))
-AreTracesPrinted (Some format) several old new answers =
-    (shown : List AnswerShown) × (text : List ℕ) × Each ShowsTrace answers shown × IsReport format shown text × Appends old new text
+abbrev pub AreTracesPrinted : Option Format → List ℕ → Bool → Option (List ℕ) → Option (List ℕ) → List TraceAnswerAt → Type 0
+AreTracesPrinted None app several old new answers = Appends old new (concat (map (text_at several) answers))
+AreTracesPrinted (Some format) app several old new answers =
+    (shown : List AnswerShown) × (text : List ℕ) × Each (ShowsTrace app) answers shown × IsReport format shown text × Appends old new text
 
 -- what no run has shown was written, where that is asked and no report is, and else nothing
 abbrev pub AreCovered : Bool → Option Format → Option (List ℕ) → Option (List ℕ) → Type 0
@@ -96,7 +104,7 @@ abbrev pub IsTracesAnswered : (Reading → List ℕ → List ℕ → Type 0) →
 IsTracesAnswered reads asked status old new =
     (P : Program) × IsReadAs reads asked.app.now P × (mid : Option (List ℕ))
     × AreTraces reads asked P (map (λ s. s.now) asked.traces.now) status
-    (AreTracesPrinted asked.format (is_several (length asked.traces.now)) old mid)
+    (AreTracesPrinted asked.format asked.app.now (is_several (length asked.traces.now)) old mid)
     × AreCovered asked.covers asked.format mid new
 
 -- the lines of a run that was found for the one of these traces

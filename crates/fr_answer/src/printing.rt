@@ -1,9 +1,9 @@
 // How an answer is printed, and shown as a page.
-ghost use Rattle.std.specs.Prelude.{◌≡◌, ◌≤◌, ℕ, List, IfOk, IfErr, None, Some, option_copied};
+ghost use Rattle.std.specs.Prelude.{◌≡◌, ◌≤◌, ℕ, List, IfOk, IfErr, None, Some, option_copied, string_bytes};
 ghost use Rattle.std.specs.Io.KnownBytes.{Appends};
 ghost use Rattle.fr_answer.specs.Answers.{HasFound, IsTextOf, what_status};
 ghost use Rattle.fr_answer.specs.Checked.{fault_status};
-ghost use Rattle.fr_answer.specs.Commands.{IsPaged, IsPrinted, IsShown};
+ghost use Rattle.fr_answer.specs.Commands.{IsPaged, IsPrinted, IsShown, IsTextPrinted};
 
 use crate::answer::{Answer, Refusal, What};
 use crate::exit::{MACHINE, NO, REFUSED};
@@ -80,7 +80,7 @@ fn print_text<O: Write, E: Write>(
     out: &mut O,
     err: &mut E,
 ) -> Result<(), CheckFault>
-    ensures text { IfOk result (λ _. IsPrinted None what.now (O.contents out.old) (O.contents out.new)) }
+    ensures text { IfOk result (λ _. IsTextPrinted what.now (O.contents out.old) (O.contents out.new)) }
     ensures kept { 2 ≤ what_status what.now → out.new ≡ out.old }
     ensures fault { IfErr result (λ fault. fault_status fault ≡ 3) }
 {
@@ -99,7 +99,7 @@ fn print_formed<O: Write>(
     out: &mut O,
 ) -> Result<(), CheckFault>
     ensures text { IfOk result
-        (λ _. IsPrinted (Some format) answer.now.what (O.contents out.old) (O.contents out.new)) }
+        (λ _. IsPrinted (Some format) (string_bytes answer.now.application) answer.now.what (O.contents out.old) (O.contents out.new)) }
     ensures fault { IfErr result (λ fault. fault_status fault ≡ 3) }
 {
     let shown = shown_of(alloc, answer)?;
@@ -115,7 +115,7 @@ fn print<O: Write, E: Write>(
     err: &mut E,
 ) -> Result<(), CheckFault>
     ensures text { IfOk result
-        (λ _. IsPrinted asked.entry.format answer.now.what (O.contents out.old) (O.contents out.new)) }
+        (λ _. IsPrinted asked.entry.format (string_bytes answer.now.application) answer.now.what (O.contents out.old) (O.contents out.new)) }
     ensures kept { asked.entry.format ≡ None → 2 ≤ what_status answer.now.what → out.new ≡ out.old }
     ensures fault { IfErr result (λ fault. fault_status fault ≡ 3) }
 {
@@ -177,7 +177,7 @@ pub(crate) fn show<F: Files, O: Write, E: Write>(
     requires may { (path : List ℕ) → option_copied asked.html ≡ Some path → F.May files.old path }
     ensures status { IfOk result (λ status. status ≡ what_status answer.now.what) }
     ensures text { IfOk result
-        (λ status. IsPrinted asked.entry.format answer.now.what (O.contents out.old) (O.contents out.new)) }
+        (λ status. IsPrinted asked.entry.format (string_bytes answer.now.application) answer.now.what (O.contents out.old) (O.contents out.new)) }
     ensures kept { asked.entry.format ≡ None → 2 ≤ what_status answer.now.what → out.new ≡ out.old }
     ensures paged { IsPaged F.Puts (λ what. what ≡ answer.now.what) (option_copied asked.entry.html) files.old files.new }
     ensures fault { IfErr result (λ refusal. fault_status refusal.fault ≡ 3) }
@@ -204,7 +204,7 @@ pub(crate) fn show_found<F: Files, O: Write, E: Write>(
 ) -> Result<u8, Refusal>
     requires may { (path : List ℕ) → option_copied asked.html ≡ Some path → F.May files.old path }
     ensures answered { IfOk result
-        (λ status. IsShown (HasFound found) asked.entry.format status (O.contents out.old) (O.contents out.new)) }
+        (λ status. IsShown (HasFound found) asked.entry.format source.entry.application.now status (O.contents out.old) (O.contents out.new)) }
     ensures refused { IfErr found (λ _. IfOk result (λ status. 2 ≤ status)) }
     ensures kept { IfOk result
         (λ status. 2 ≤ status → asked.entry.format ≡ None → out.new ≡ out.old) }
@@ -227,7 +227,7 @@ pub(crate) fn show_outputs_refused<F: Files, O: Write, E: Write>(
     err: &mut E,
 ) -> Result<u8, Refusal>
     ensures answered { IfOk result
-        (λ status. IsShown (λ _. ⊥) asked.entry.format status (O.contents out.old) (O.contents out.new)) }
+        (λ status. IsShown (λ _. ⊥) asked.entry.format source.entry.application.now status (O.contents out.old) (O.contents out.new)) }
     ensures refused { IfOk result (λ status. 2 ≤ status) }
     ensures kept { IfOk result (λ status. asked.entry.format ≡ None → out.new ≡ out.old) }
     ensures most { IfOk result (λ status. status ≤ 3) }

@@ -59,6 +59,7 @@ fn warnings_shown(
 
 /// The answer as JSON, SARIF and JUnit show it. Its error is that an allocation was refused.
 pub fn shown_of(alloc: Global, answer: &Answer) -> Result<AnswerShown, AllocError>
+    ensures application { IfOk result (λ shown. string_bytes shown.application ≡ string_bytes answer.now.application) }
     ensures kind { IfOk result (λ shown. shown.answer ≡ kind_of answer.now.what) }
     ensures report { IfOk result (λ shown. string_bytes shown.report ≡ shown_line answer.now.what) }
 {

@@ -74,7 +74,7 @@ fn check_looked<R: Threads + Wait + Sync, F: Files, O: Write, E: Write>(
 ) -> Result<u8, Refusal>
     requires may { (path : List ℕ) → option_copied asked.now.html ≡ Some path → F.May files.old path }
     ensures answered { IfOk result (λ status. IsShown
-        (IsCheckOf (Reads (F.Gives files.old) F.Means) asked.now.deadlock app.now certificate.now) asked.now.format status (O.contents out.old) (O.contents out.new)) }
+        (IsCheckOf (Reads (F.Gives files.old) F.Means) asked.now.deadlock app.now certificate.now) asked.now.format app.now status (O.contents out.old) (O.contents out.new)) }
     ensures kept { IfOk result
         (λ status. 2 ≤ status → asked.now.format ≡ None → out.new ≡ out.old) }
     ensures most { IfOk result (λ status. status ≤ 3) }
@@ -111,7 +111,7 @@ fn check_one<R: Threads + Wait + Sync, F: Files, O: Write, E: Write>(
     err: &mut E,
 ) -> Result<u8, Refusal>
     ensures answered { IfOk result (λ status. IsShown
-        (IsCheckOf (Reads (F.Gives files.old) F.Means) asked.now.deadlock app.now certificate.now) asked.now.format status (O.contents out.old) (O.contents out.new)) }
+        (IsCheckOf (Reads (F.Gives files.old) F.Means) asked.now.deadlock app.now certificate.now) asked.now.format app.now status (O.contents out.old) (O.contents out.new)) }
     ensures kept { IfOk result
         (λ status. 2 ≤ status → asked.now.format ≡ None → out.new ≡ out.old) }
     ensures most { IfOk result (λ status. status ≤ 3) }

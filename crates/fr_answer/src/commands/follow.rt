@@ -4,7 +4,7 @@ ghost use Rattle.fr_formats.specs.Answers.{status_of as kind_status};
 ghost use Rattle.fr_report.specs.Lines.{lines_text};
 ghost use Rattle.fr_answer.specs.Checked.{fault_status};
 ghost use Rattle.fr_answer.specs.Inputs.{Reads};
-ghost use Rattle.fr_answer.specs.Traces.{AreCovered, AreTraces, AreTracesPrinted, IsAnswerAt, IsReadAs, IsRunAt, IsTracesAnswered, PutsBoth, is_several};
+ghost use Rattle.fr_answer.specs.Traces.{AreCovered, AreTraces, AreTracesPrinted, IsAnswerAt, IsReadAs, IsRunAt, IsTracesAnswered, PutsBoth, answered_at, is_several};
 
 mod answers;
 mod outputs;
@@ -69,9 +69,9 @@ fn follow_one<F: Files, O: Write>(
     out: &mut O,
 ) -> Result<TraceAnswer, Refusal>
     ensures answered { IfOk result (λ answer. AreTraces (Reads (F.Gives files.now) F.Means) asked.now app.now (path.now ∷ []) (kind_status answer.kind)
-        (AreTracesPrinted asked.now.format false (O.contents out.old) (O.contents out.new))) }
+        (AreTracesPrinted asked.now.format asked.now.app.now false (O.contents out.old) (O.contents out.new))) }
     ensures by { IfOk result (λ answer. IsAnswerAt (Reads (F.Gives files.now) F.Means) asked.now app.now
-        (record { path = path.now; kind = answer.kind; line = string_bytes answer.line; more = lines_text answer.why.items })) }
+        (answered_at path.now answer)) }
     ensures run { IfOk result (λ answer. IfSome answer.run (λ text.
         IsRunAt (Reads (F.Gives files.now) F.Means) asked.now app.now (path.now ∷ []) (string_bytes text))) }
     ensures kept { IfOk result (λ answer. asked.now.format ≡ None → kind_status answer.kind ≤ 1) }
@@ -94,10 +94,10 @@ fn follow_named<F: Files, O: Write>(
     out: &mut O,
 ) -> Result<(u8, Option<TraceAnswer>), Refusal>
     ensures answered { IfOk result (λ r. AreTraces (Reads (F.Gives files.now) F.Means) asked.now app.now (map (λ s. s.now) asked.now.traces.now) r.0
-        (AreTracesPrinted asked.now.format (is_several (length asked.now.traces.now)) (O.contents out.old) (O.contents out.new))) }
+        (AreTracesPrinted asked.now.format asked.now.app.now (is_several (length asked.now.traces.now)) (O.contents out.old) (O.contents out.new))) }
     ensures by { IfOk result (λ r. IfSome r.1 (λ answer. (path : List ℕ) × (map (λ s. s.now) asked.now.traces.now ≡ path ∷ [])
         × IsAnswerAt (Reads (F.Gives files.now) F.Means) asked.now app.now
-        (record { path = path; kind = answer.kind; line = string_bytes answer.line; more = lines_text answer.why.items }))) }
+        (answered_at path answer))) }
     ensures run { IfOk result (λ r. IfSome r.1 (λ answer. IfSome answer.run (λ text.
         IsRunAt (Reads (F.Gives files.now) F.Means) asked.now app.now (map (λ s. s.now) asked.now.traces.now) (string_bytes text)))) }
     ensures most { IfOk result (λ r. r.0 ≤ 3) }

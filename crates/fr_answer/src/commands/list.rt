@@ -208,7 +208,7 @@ fn shown_each<R: Threads + Wait + Sync, F: Files>(
     files: &F,
 ) -> Result<(Vec<AnswerShown>, u8), AllocError>
     ensures answered { IfOk result (λ r. AreAnswered (Reads (F.Gives files.now) F.Means) ways.deadlock list.now (map entry_of entries.now) r.1
-        (λ lines. Each (λ line shown. Shows line.what shown) lines r.0.items)) }
+        (λ lines. Each (λ line shown. Shows (beside list.now line.entry.application) line.what shown) lines r.0.items)) }
     ensures most { IfOk result (λ r. r.1 ≤ 3) }
 {
     let (mut answers, mut status) = (Vec::new(alloc), 0u8);

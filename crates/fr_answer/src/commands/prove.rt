@@ -81,7 +81,9 @@ fn asked_of<'a>(asked: &ProveRequest<'a>) -> Asked<'a>
 }
 
 /// The files that are named, as reports show them.
-fn source_of<'a>(asked: &ProveRequest<'a>) -> Source<'a> {
+fn source_of<'a>(asked: &ProveRequest<'a>) -> Source<'a>
+    ensures { result.application.now ≡ asked.now.app.now }
+{
     Source {
         command: Command::Prove,
         application: asked.app,

@@ -48,7 +48,9 @@ fn asked_of<'a>(asked: &RefuteRequest<'a>) -> Asked<'a>
 }
 
 /// The file that is named, as reports show it.
-fn source_of<'a>(asked: &RefuteRequest<'a>) -> Source<'a> {
+fn source_of<'a>(asked: &RefuteRequest<'a>) -> Source<'a>
+    ensures { result.application.now ≡ asked.now.app.now }
+{
     Source {
         command: Command::Refute,
         application: asked.app,

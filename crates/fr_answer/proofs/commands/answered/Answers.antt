@@ -17,15 +17,15 @@ pub returns-in-Prove-clause-safe : goal.returns-in-Prove-clause-safe
 returns-in-Prove-clause-safe g c =
     let reads = Reads (g.F.Files.Gives c.args.files.now) g.F.Files.Means in
     let asked = c.in-Prove.asked in
-    rw c.in-Prove.is (safe-by (λ s. IsShown (λ what. (certificate : List ℕ) × IsProofAt reads asked.deadlock asked.app.now asked.searches certificate what) asked.format s _ _) (IsSafeAt reads asked.deadlock asked.app.now) c.prove.result c.prove.ensures.answered
-    (λ s e h. proof-shown-safe reads asked.deadlock asked.app.now asked.searches asked.format s _ _ e h))
+    rw c.in-Prove.is (safe-by (λ s. IsShown (λ what. (certificate : List ℕ) × IsProofAt reads asked.deadlock asked.app.now asked.searches certificate what) asked.format asked.app.now s _ _) (IsSafeAt reads asked.deadlock asked.app.now) c.prove.result c.prove.ensures.answered
+    (λ s e h. proof-shown-safe reads asked.deadlock asked.app.now asked.searches asked.format asked.app.now s _ _ e h))
 
 pub returns-in-Refute-clause-safe : goal.returns-in-Refute-clause-safe
 returns-in-Refute-clause-safe g c =
     let reads = Reads (g.F.Files.Gives c.args.files.now) g.F.Files.Means in
     let asked = c.in-Refute.asked in
-    rw c.in-Refute.is (safe-by (λ s. IsShown (IsSearchAt reads asked.deadlock asked.app.now) asked.format s _ _) (IsSafeAt reads asked.deadlock asked.app.now) c.refute.result c.refute.ensures.answered
-    (λ s e h. search-shown-safe reads asked.deadlock asked.app.now asked.format s _ _ e h))
+    rw c.in-Refute.is (safe-by (λ s. IsShown (IsSearchAt reads asked.deadlock asked.app.now) asked.format asked.app.now s _ _) (IsSafeAt reads asked.deadlock asked.app.now) c.refute.result c.refute.ensures.answered
+    (λ s e h. search-shown-safe reads asked.deadlock asked.app.now asked.format asked.app.now s _ _ e h))
 
 pub returns-in-Points-clause-answered : goal.returns-in-Points-clause-answered
 returns-in-Points-clause-answered g c = rw c.in-Points.is c.points.ensures.answered

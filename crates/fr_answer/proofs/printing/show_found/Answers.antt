@@ -7,7 +7,7 @@ use Rattle.fr_answer.proofs.printing.show_found.Goals as goal
 
 pub returns-clause-answered : goal.returns-clause-answered
 returns-clause-answered g c =
-    shown-found (HasFound c.args.found) c.args.asked.format _ _ c.show.result c.in_ok-answer.answer.what c.in_ok-answer.ensures.found c.show.ensures.status c.show.ensures.text
+    shown-found (HasFound c.args.found) c.args.asked.format _ _ _ _ c.show.result c.in_ok-answer.answer.what c.in_ok-answer.ensures.path c.in_ok-answer.ensures.found c.show.ensures.status c.show.ensures.text
 
 pub returns-clause-refused : goal.returns-clause-refused
 returns-clause-refused g c = refused-found c.args.found c.show.result (what_status c.in_ok-answer.answer.what) c.in_ok-answer.ensures.refused c.show.ensures.status

@@ -4,7 +4,7 @@ ghost use Rattle.fr_formats.specs.Answers.{status_of as kind_status};
 ghost use Rattle.fr_report.specs.Lines.{lines_text};
 ghost use Rattle.fr_answer.specs.Checked.{fault_status};
 ghost use Rattle.fr_answer.specs.Inputs.{Reads};
-ghost use Rattle.fr_answer.specs.Traces.{IsAnswerAt, IsRunAt};
+ghost use Rattle.fr_answer.specs.Traces.{IsAnswerAt, IsRunAt, answered_at};
 
 use crate::answer::{Refusal, What};
 use crate::fault::CheckFault;
@@ -51,7 +51,7 @@ fn answer_at<F: Files>(
     files: &F,
 ) -> Result<TraceAnswer, Refusal>
     ensures by { IfOk result (λ answer. IsAnswerAt (Reads (F.Gives files.now) F.Means) asked.now app.now
-        (record { path = path.now; kind = answer.kind; line = string_bytes answer.line; more = lines_text answer.why.items })) }
+        (answered_at path.now answer)) }
     ensures run { IfOk result (λ answer. IfSome answer.run (λ text.
         IsRunAt (Reads (F.Gives files.now) F.Means) asked.now app.now (path.now ∷ []) (string_bytes text))) }
     ensures most { IfOk result (λ answer. kind_status answer.kind ≤ 1) }
@@ -104,7 +104,7 @@ pub(super) fn answer_shown<F: Files>(
     files: &F,
 ) -> Result<TraceAnswer, AllocError>
     ensures by { IfOk result (λ answer. IsAnswerAt (Reads (F.Gives files.now) F.Means) asked.now app.now
-        (record { path = path.now; kind = answer.kind; line = string_bytes answer.line; more = lines_text answer.why.items })) }
+        (answered_at path.now answer)) }
     ensures run { IfOk result (λ answer. IfSome answer.run (λ text.
         IsRunAt (Reads (F.Gives files.now) F.Means) asked.now app.now (path.now ∷ []) (string_bytes text))) }
 {
@@ -123,7 +123,7 @@ pub(super) fn answer_one<F: Files>(
     files: &F,
 ) -> Result<TraceAnswer, Refusal>
     ensures by { IfOk result (λ answer. IsAnswerAt (Reads (F.Gives files.now) F.Means) asked.now app.now
-        (record { path = path.now; kind = answer.kind; line = string_bytes answer.line; more = lines_text answer.why.items })) }
+        (answered_at path.now answer)) }
     ensures run { IfOk result (λ answer. IfSome answer.run (λ text.
         IsRunAt (Reads (F.Gives files.now) F.Means) asked.now app.now (path.now ∷ []) (string_bytes text))) }
     ensures kept { IfOk result (λ answer. asked.now.format ≡ None → kind_status answer.kind ≤ 1) }

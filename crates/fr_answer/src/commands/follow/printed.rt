@@ -1,11 +1,11 @@
 // The answers to traces as they are printed.
-ghost use Rattle.std.specs.Prelude.{◌≡◌, ◌≤◌, ◌++◌, ◌∷◌, [], IfErr, IfOk, None, Some, codes, false, map, string_bytes, true};
+ghost use Rattle.std.specs.Prelude.{◌≡◌, ◌≤◌, ◌++◌, ◌∷◌, [], IfErr, IfOk, None, Some, codes, false, map, option_map, string_bytes, true};
 ghost use Rattle.std.specs.Io.KnownBytes.{Appends};
 ghost use Rattle.fr_report.specs.Lines.{lines_text};
 ghost use Rattle.fr_answer.specs.Checked.{fault_status};
 ghost use Rattle.fr_answer.specs.Each.{Each};
 ghost use Rattle.fr_answer.specs.Inputs.{Reads};
-ghost use Rattle.fr_answer.specs.Traces.{AreTraces, AreTracesPrinted, ShowsTrace, text_of as text_of_answer};
+ghost use Rattle.fr_answer.specs.Traces.{AreTraces, AreTracesPrinted, ShowsTrace, answered_at, text_of as text_of_answer};
 
 use super::answers::answer_shown;
 use crate::answer::copied;
@@ -37,6 +37,8 @@ fn trace_shown(
     answer: &TraceAnswer,
     asked: &FollowRequest,
 ) -> Result<AnswerShown, AllocError>
+    ensures application { IfOk result (λ shown. string_bytes shown.application ≡ asked.now.app.now) }
+    ensures trace { IfOk result (λ shown. option_map (λ trace. string_bytes trace.file) shown.trace ≡ Some path.now) }
     ensures kind { IfOk result (λ shown. shown.answer ≡ answer.now.kind) }
     ensures line { IfOk result (λ shown. string_bytes shown.report ≡ string_bytes answer.now.line) }
 {
@@ -63,8 +65,8 @@ fn report_one<O: Write>(
     asked: &FollowRequest,
     out: &mut O,
 ) -> Result<(), CheckFault>
-    ensures printed { IfOk result (λ _. AreTracesPrinted (Some format) false (O.contents out.old) (O.contents out.new)
-        (record { path = path.now; kind = answer.now.kind; line = string_bytes answer.now.line; more = lines_text answer.now.why.items } ∷ [])) }
+    ensures printed { IfOk result (λ _. AreTracesPrinted (Some format) asked.now.app.now false (O.contents out.old) (O.contents out.new)
+        (answered_at path.now answer.now ∷ [])) }
     ensures fault { IfErr result (λ fault. fault_status fault ≡ 3) }
 {
     let shown = trace_shown(alloc, path, answer, asked)?;
@@ -79,8 +81,8 @@ pub(super) fn print_one<O: Write>(
     asked: &FollowRequest,
     out: &mut O,
 ) -> Result<(), CheckFault>
-    ensures printed { IfOk result (λ _. AreTracesPrinted asked.now.format false (O.contents out.old) (O.contents out.new)
-        (record { path = path.now; kind = answer.now.kind; line = string_bytes answer.now.line; more = lines_text answer.now.why.items } ∷ [])) }
+    ensures printed { IfOk result (λ _. AreTracesPrinted asked.now.format asked.now.app.now false (O.contents out.old) (O.contents out.new)
+        (answered_at path.now answer.now ∷ [])) }
     ensures fault { IfErr result (λ fault. fault_status fault ≡ 3) }
 {
     match asked.format {
@@ -100,7 +102,7 @@ fn print_each<F: Files, O: Write>(
     out: &mut O,
 ) -> Result<u8, CheckFault>
     ensures answered { IfOk result (λ status. AreTraces (Reads (F.Gives files.now) F.Means) asked.now app.now (map (λ s. s.now) paths.now) status
-        (AreTracesPrinted None true (O.contents out.old) (O.contents out.new))) }
+        (AreTracesPrinted None asked.now.app.now true (O.contents out.old) (O.contents out.new))) }
     ensures most { IfOk result (λ status. status ≤ 3) }
     ensures fault { IfErr result (λ fault. fault_status fault ≡ 3) }
 {
@@ -124,7 +126,7 @@ fn shown_each<F: Files>(
     files: &F,
 ) -> Result<(Vec<AnswerShown>, u8), AllocError>
     ensures answered { IfOk result (λ r. AreTraces (Reads (F.Gives files.now) F.Means) asked.now app.now (map (λ s. s.now) paths.now) r.1
-        (λ answers. Each ShowsTrace answers r.0.items)) }
+        (λ answers. Each (ShowsTrace asked.now.app.now) answers r.0.items)) }
     ensures most { IfOk result (λ r. r.1 ≤ 3) }
 {
     let (mut answers, mut greatest) = (Vec::new(alloc), 0u8);
@@ -147,7 +149,7 @@ fn report_each<F: Files, O: Write>(
     out: &mut O,
 ) -> Result<u8, CheckFault>
     ensures answered { IfOk result (λ status. AreTraces (Reads (F.Gives files.now) F.Means) asked.now app.now (map (λ s. s.now) paths.now) status
-        (AreTracesPrinted (Some format) true (O.contents out.old) (O.contents out.new))) }
+        (AreTracesPrinted (Some format) asked.now.app.now true (O.contents out.old) (O.contents out.new))) }
     ensures most { IfOk result (λ status. status ≤ 3) }
     ensures fault { IfErr result (λ fault. fault_status fault ≡ 3) }
 {
@@ -167,7 +169,7 @@ pub(super) fn print_several<F: Files, O: Write>(
     out: &mut O,
 ) -> Result<u8, CheckFault>
     ensures answered { IfOk result (λ status. AreTraces (Reads (F.Gives files.now) F.Means) asked.now app.now (map (λ s. s.now) paths.now) status
-        (AreTracesPrinted asked.now.format true (O.contents out.old) (O.contents out.new))) }
+        (AreTracesPrinted asked.now.format asked.now.app.now true (O.contents out.old) (O.contents out.new))) }
     ensures most { IfOk result (λ status. status ≤ 3) }
     ensures fault { IfErr result (λ fault. fault_status fault ≡ 3) }
 {

@@ -1,5 +1,5 @@
 -- What is shown is the verdict on both files.
-use Rattle.std.proofs.Common.{IfOk, subst}
+use Rattle.std.proofs.Common.{IfOk, refl, subst}
 use Rattle.std.specs.Prelude.{option_copied}
 use Rattle.fr_answer.specs.Inputs.{Reads}
 use Rattle.fr_answer.specs.Commands.{IsCheckOf}
@@ -11,7 +11,7 @@ returns-clause-answered g c =
     let reads = Reads (g.F.Files.Gives c.args.files.now) g.F.Files.Means in
     let found = c.checked_files-found.result in
     let verdict = subst (λ asks. IfOk found (λ r. IsCheckOf reads asks c.args.app.now c.args.certificate.now r.1)) c.ways_of-ways.ensures c.checked_files-found.ensures.verdict in
-    shown-of (IsCheckOf reads c.args.asked.now.deadlock c.args.app.now c.args.certificate.now) found c.args.asked.now.format _ _ c.show_found.result verdict c.show_found.ensures.answered
+    shown-of (IsCheckOf reads c.args.asked.now.deadlock c.args.app.now c.args.certificate.now) found c.args.asked.now.format _ _ _ _ c.show_found.result refl verdict c.show_found.ensures.answered
 
 pub returns-clause-files : goal.returns-clause-files
 returns-clause-files g c =

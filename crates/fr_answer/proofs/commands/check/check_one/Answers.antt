@@ -13,4 +13,4 @@ check_looked-requires g c =
 
 pub returns-in-Err-clause-answered : goal.returns-in-Err-clause-answered
 returns-in-Err-clause-answered g c =
-    shown-none (IsCheckOf (Reads (g.F.Files.Gives c.args.files.now) g.F.Files.Means) c.args.asked.now.deadlock c.args.app.now c.args.certificate.now) _ c.args.asked.now.format _ _ c.show_outputs_refused.result c.asked_of-shown.ensures.format c.show_outputs_refused.ensures.answered
+    shown-none (IsCheckOf (Reads (g.F.Files.Gives c.args.files.now) g.F.Files.Means) c.args.asked.now.deadlock c.args.app.now c.args.certificate.now) _ c.args.asked.now.format _ _ _ _ c.show_outputs_refused.result refl c.asked_of-shown.ensures.format c.show_outputs_refused.ensures.answered

@@ -11,4 +11,4 @@ returns-clause-answered g c =
     let reads = Reads (g.F.Files.Gives c.args.files.now) g.F.Files.Means in
     let answer = c.in_ok-answer.answer in
     let t : TraceAnswerAt = record { path = c.args.path.now; kind = answer.kind; line = string_bytes answer.line; more = lines_text answer.why.items } in
-    one-alone reads c.args.asked.now c.args.app.now t (AreTracesPrinted c.args.asked.now.format false _ _) c.in_ok-answer.ensures.by c.in_ok-print_one.ensures.printed
+    one-alone reads c.args.asked.now c.args.app.now t (AreTracesPrinted c.args.asked.now.format c.args.asked.now.app.now false _ _) c.in_ok-answer.ensures.by c.in_ok-print_one.ensures.printed

@@ -22,7 +22,7 @@ loop-listed-preserved g c =
     let before = take c.loop-listed.listed-index c.args.entries.now in
     let what = c.in_ok-answer.answer.what in
     let s = c.in_ok-shown_of.field-0 in
-    let shows : Shows what s = record { kind = c.in_ok-shown_of.ensures.kind; first = c.in_ok-shown_of.ensures.report } in
+    let shows : Shows _ what s = record { application = c.in_ok-shown_of.ensures.application ∙ c.in_ok-answer.ensures.path; kind = c.in_ok-shown_of.ensures.kind; first = c.in_ok-shown_of.ensures.report } in
     let pushed : c.push.new.self.items ≡ c.loop-listed.answers.items ++ s ∷ [] = search rules in
     let more = shown-line reads c.args.ways.deadlock list (map shown before) c.loop-listed.status _ c.loop-listed.answers.items c.push.new.self.items s pushed c.loop-listed.invariant.0 c.in_ok-answer.ensures.by shows in
     let on = ap (map shown) (take_more c.args.entries.now c.loop-listed.listed-index _ c.loop-listed-test.true) ∙ map-append shown before _ in

@@ -1,4 +1,5 @@
 use Rattle.std.proofs.Common.{◌≤◌, map, take}
+use Rattle.fr_list.specs.Beside.{beside}
 use Rattle.fr_list.specs.Means.{shown}
 use Rattle.fr_answer.specs.Inputs.{Reads}
 use Rattle.fr_answer.specs.Commands.{AreAnswered, Shows}
@@ -9,4 +10,4 @@ use Rattle.fr_answer.proofs.commands.list.shown_each.Given as goal
 abbrev pub invariant-loop-listed : goal.invariant-loop-listed
 invariant-loop-listed g l =
     AreAnswered (Reads (g.F.Files.Gives l.files) g.F.Files.Means) l.ways.deadlock l.list (map shown (take l.listed-index l.entries)) l.status
-    (λ lines. Each (λ line s. Shows line.what s) lines l.answers.items) × (l.status ≤ 3)
+    (λ lines. Each (λ line s. Shows (beside l.list line.entry.application) line.what s) lines l.answers.items) × (l.status ≤ 3)

@@ -22,5 +22,5 @@ returns-in-Err-clause-files g c =
 
 pub returns-in-Err-clause-answered : goal.returns-in-Err-clause-answered
 returns-in-Err-clause-answered g c =
-    shown-none (λ what. (certificate : List ℕ) × IsProofAt (Reads (g.F.Files.Gives c.args.files.now) g.F.Files.Means) c.args.asked.now.deadlock c.args.asked.now.app.now c.args.asked.now.searches certificate what) _ c.args.asked.now.format _ _
-    c.show_outputs_refused.result c.asked_of-shown.ensures.format c.show_outputs_refused.ensures.answered
+    shown-none (λ what. (certificate : List ℕ) × IsProofAt (Reads (g.F.Files.Gives c.args.files.now) g.F.Files.Means) c.args.asked.now.deadlock c.args.asked.now.app.now c.args.asked.now.searches certificate what) _ c.args.asked.now.format _ _ _ _
+    c.show_outputs_refused.result c.source_of-source.ensures c.asked_of-shown.ensures.format c.show_outputs_refused.ensures.answered

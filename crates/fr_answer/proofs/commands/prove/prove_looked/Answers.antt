@@ -14,7 +14,7 @@ returns-clause-answered g c =
     let searches = c.args.asked.now.searches in
     let all = c.proved_file-proof.result in
     let proof = subst (λ b. IfOk all (λ r. IsProofAt reads b app searches (string_bytes r.2) r.1)) c.ways_of-ways.ensures c.proved_file-proof.ensures.proof in
-    shown-of (λ what. (certificate : List ℕ) × IsProofAt reads asks app searches certificate what) c.kept-found.result c.args.asked.now.format _ _ c.show_found.result
+    shown-of (λ what. (certificate : List ℕ) × IsProofAt reads asks app searches certificate what) c.kept-found.result c.args.asked.now.format _ _ _ _ c.show_found.result c.source_of-source.ensures
     (proof-found reads asks app searches all c.kept-found.result proof c.kept-found.ensures.found c.kept-found.ensures.none) c.show_found.ensures.answered
 
 pub returns-clause-files : goal.returns-clause-files

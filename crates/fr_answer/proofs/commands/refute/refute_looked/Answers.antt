@@ -11,7 +11,7 @@ returns-clause-answered g c =
     let reads = Reads (g.F.Files.Gives c.args.files.now) g.F.Files.Means in
     let found = c.searched_file-found.result in
     let search = subst (λ asks. IfOk found (λ r. IsSearchAt reads asks c.args.asked.now.app.now r.1)) c.ways_of-ways.ensures c.searched_file-found.ensures.found in
-    shown-of (IsSearchAt reads c.args.asked.now.deadlock c.args.asked.now.app.now) found c.args.asked.now.format _ _ c.show_found.result search c.show_found.ensures.answered
+    shown-of (IsSearchAt reads c.args.asked.now.deadlock c.args.asked.now.app.now) found c.args.asked.now.format _ _ _ _ c.show_found.result c.source_of-source.ensures search c.show_found.ensures.answered
 
 pub returns-clause-files : goal.returns-clause-files
 returns-clause-files g c =

@@ -13,7 +13,7 @@ use Rattle.fr_answer.proofs.commands.follow.printed.print_each.Goals as goal
 pub loop-path-init : goal.loop-path-init
 loop-path-init g c =
     let out = g.O.Write.contents c.args.out.now in
-    (none-yet (Reads (g.F.Files.Gives c.args.files.now) g.F.Files.Means) c.args.asked.now c.args.app.now (AreTracesPrinted None true out out) (Appends-nil out), omega arith)
+    (none-yet (Reads (g.F.Files.Gives c.args.files.now) g.F.Files.Means) c.args.asked.now c.args.app.now (AreTracesPrinted None c.args.asked.now.app.now true out out) (Appends-nil out), omega arith)
 
 pub loop-path-preserved : goal.loop-path-preserved
 loop-path-preserved g c =

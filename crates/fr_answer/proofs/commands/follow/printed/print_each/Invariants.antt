@@ -7,4 +7,4 @@ use Rattle.fr_answer.proofs.commands.follow.printed.print_each.Given as goal
 abbrev pub invariant-loop-path : goal.invariant-loop-path
 invariant-loop-path g l =
     AreTraces (Reads (g.F.Files.Gives l.files) g.F.Files.Means) l.asked l.app (map (λ s. s.now) (take l.path-index l.paths)) l.greatest
-    (AreTracesPrinted None true (g.O.Write.contents l.fn.out) (g.O.Write.contents l.out)) × (l.greatest ≤ 3)
+    (AreTracesPrinted None l.asked.app.now true (g.O.Write.contents l.fn.out) (g.O.Write.contents l.out)) × (l.greatest ≤ 3)

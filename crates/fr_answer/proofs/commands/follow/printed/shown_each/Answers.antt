@@ -13,7 +13,7 @@ use Rattle.fr_answer.proofs.commands.follow.printed.shown_each.Goals as goal
 pub loop-path-init : goal.loop-path-init
 loop-path-init g c =
     let none = c.new-answers.ensures.items in
-    (none-yet (Reads (g.F.Files.Gives c.args.files.now) g.F.Files.Means) c.args.asked.now c.args.app.now (λ answers. Each ShowsTrace answers c.new-answers.result.items) (rw none tt), omega arith)
+    (none-yet (Reads (g.F.Files.Gives c.args.files.now) g.F.Files.Means) c.args.asked.now c.args.app.now (λ answers. Each (ShowsTrace c.args.asked.now.app.now) answers c.new-answers.result.items) (rw none tt), omega arith)
 
 pub loop-path-preserved : goal.loop-path-preserved
 loop-path-preserved g c =
@@ -22,7 +22,7 @@ loop-path-preserved g c =
     let answer = c.in_ok-answer.answer in
     let t : TraceAnswerAt = record { path = _; kind = answer.kind; line = string_bytes answer.line; more = lines_text answer.why.items } in
     let s = c.in_ok-trace_shown.field-0 in
-    let shows : ShowsTrace t s = record { kind = c.in_ok-trace_shown.ensures.kind; line = c.in_ok-trace_shown.ensures.line } in
+    let shows : ShowsTrace c.args.asked.now.app.now t s = record { application = c.in_ok-trace_shown.ensures.application; trace = c.in_ok-trace_shown.ensures.trace; kind = c.in_ok-trace_shown.ensures.kind; line = c.in_ok-trace_shown.ensures.line } in
     let pushed : c.push.new.self.items ≡ c.loop-path.answers.items ++ s ∷ [] = search rules in
     let more = shown-trace reads c.args.asked.now c.args.app.now (map (λ s. s.now) before) c.loop-path.greatest t c.loop-path.answers.items c.push.new.self.items s pushed c.loop-path.invariant.0 c.in_ok-answer.ensures.by shows in
     let on = ap (map (λ s. s.now)) (take_more c.args.paths.now c.loop-path.path-index _ c.loop-path-test.true) ∙ map-append (λ s. s.now) before _ in

@@ -8,4 +8,4 @@ use Rattle.fr_answer.proofs.commands.follow.printed.shown_each.Given as goal
 abbrev pub invariant-loop-path : goal.invariant-loop-path
 invariant-loop-path g l =
     AreTraces (Reads (g.F.Files.Gives l.files) g.F.Files.Means) l.asked l.app (map (λ s. s.now) (take l.path-index l.paths)) l.greatest
-    (λ answers. Each ShowsTrace answers l.answers.items) × (l.greatest ≤ 3)
+    (λ answers. Each (ShowsTrace l.asked.app.now) answers l.answers.items) × (l.greatest ≤ 3)
