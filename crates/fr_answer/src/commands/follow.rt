@@ -1,7 +1,6 @@
 // The command `follow`.
-ghost use Rattle.std.specs.Prelude.{◌≡◌, ◌≤◌, ◌∷◌, [], ℕ, List, IfErr, IfNone, IfOk, IfSome, None, Some, false, length, map, option_copied, string_bytes, true};
+ghost use Rattle.std.specs.Prelude.{◌≡◌, ◌≤◌, ◌∷◌, [], ℕ, List, IfErr, IfNone, IfOk, IfSome, None, Some, false, length, map, string_bytes, true};
 ghost use Rattle.fr_formats.specs.Answers.{status_of as kind_status};
-ghost use Rattle.fr_report.specs.Lines.{lines_text};
 ghost use Rattle.fr_answer.specs.Checked.{fault_status};
 ghost use Rattle.fr_answer.specs.Inputs.{Reads};
 ghost use Rattle.fr_answer.specs.Traces.{AreCovered, AreTraces, AreTracesPrinted, IsAnswerAt, IsReadAs, IsRunAt, IsTracesAnswered, PutsBoth, answered_at, is_several};

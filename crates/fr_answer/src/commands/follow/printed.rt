@@ -1,11 +1,10 @@
 // The answers to traces as they are printed.
 ghost use Rattle.std.specs.Prelude.{◌≡◌, ◌≤◌, ◌++◌, ◌∷◌, [], IfErr, IfOk, None, Some, codes, false, map, option_map, string_bytes, true};
-ghost use Rattle.std.specs.Io.KnownBytes.{Appends};
 ghost use Rattle.fr_report.specs.Lines.{lines_text};
 ghost use Rattle.fr_answer.specs.Checked.{fault_status};
 ghost use Rattle.fr_answer.specs.Each.{Each};
 ghost use Rattle.fr_answer.specs.Inputs.{Reads};
-ghost use Rattle.fr_answer.specs.Traces.{AreTraces, AreTracesPrinted, ShowsTrace, answered_at, text_of as text_of_answer};
+ghost use Rattle.fr_answer.specs.Traces.{AreTraces, AreTracesPrinted, ShowsTrace, answered_at};
 
 use super::answers::answer_shown;
 use crate::answer::copied;
