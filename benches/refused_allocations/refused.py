@@ -78,6 +78,11 @@ def file(answer, truth):
     return failed_at_a_file(answer) or answer.status == 3 and not answer.out + answer.err and truth.status in (2, 3)
 
 
+def same(answer, truth):
+    """Whatever is refused, the answer is the same."""
+    return answer.is_same(truth)
+
+
 def passes(answer, _truth):
     """A test passes whichever allocation is refused."""
     return answer.status == 0
@@ -203,7 +208,14 @@ def run_sweeps():
         *of_row("memory file", "run", "run-queue-send", "--polls", "6", "--words", "1"),
         *of_row("thread", "check", "writers-in-critical-sections", "--workers", "4"),
         *of_row("thread", "run", "one-writer-one-reader", "--polls", "10"),
+        without_progress(),
     ]
+
+
+def without_progress():
+    """A search that prints how far it is, without the thread that prints."""
+    command = [program(), "refute", os.path.join(ROWS, "refute-with-progress", "app.toml"), "--progress"]
+    return Sweep("refute --progress", "thread", command, same, changes=False)
 
 
 def written(room, app):

@@ -2,11 +2,12 @@
 ghost use Rattle.std.specs.Prelude.{◌≡◌, ◌<◌, ◌^◌, IfOk, IfErr, OnOk, Some, slice_get, string_bytes};
 
 use fr_files::{FileFault, Output, OutputFault};
+use fr_progress::Meter;
 use fr_source::{Refused, Translation};
 use std::alloc::Global;
 
-/// Files by their paths: the host's, or others that whoever runs a command has. They also say what a source means, so that the promise of a
-/// command can speak of it.
+/// What a command needs of its host: files by their paths, the host's or others that whoever runs a command has, what a source means, so that
+/// the promise of a command can speak of it, and whether somebody watches how far a search is.
 pub trait Files {
     ghost use Rattle.std.specs.Prelude.{ℕ, List};
 
@@ -45,4 +46,7 @@ pub trait Files {
     /// output, or hold something that isn't to be replaced. Only what passed may be replaced. Its error says what is the case.
     fn check_outputs(&self, inputs: &[&str], outputs: &[Option<Output>]) -> Result<(), OutputFault>
         ensures { OnOk result ((k : ℕ) (output : Output) → slice_get outputs.now k ≡ Some (Some output) → May self.now output.path.now) };
+
+    /// Where a search notes how far it is; None where nobody watches.
+    fn meter(&self) -> Option<&Meter>;
 }

@@ -16,9 +16,10 @@ use fr_cert::{MOST_BYTES, read_cert, write_cert};
 use fr_ends::Certificate;
 use fr_formats::AnswerKind;
 use fr_judge::{Judging, Lists, Part, Verdict};
-use fr_order::Order;
+use fr_order::{Edge, Order};
 use fr_parallel::{Gate, is_crew, judge_with};
-use fr_program::App;
+use fr_program::{App, Point};
+use fr_progress::Meter;
 use fr_prover::{best_certificate, thinned};
 use fr_reader::read_app;
 use fr_refuter::{ActorSet, Finding, Search, refute};
@@ -50,8 +51,8 @@ fn passes(alloc: Global, app: &App, certificate: &Certificate) -> Result<bool, A
 
 /// The text of the best certificate that is found for the application: without what isn't needed where that passes, so that a change of the
 /// application changes few of its lines; and else with all that is known, unless that is longer than a certificate may be.
-fn certificate_text(alloc: Global, app: &App) -> Result<String, AllocError> {
-    let whole = best_certificate(alloc, app)?;
+fn certificate_text(alloc: Global, app: &App, meter: Option<&Meter>) -> Result<String, AllocError> {
+    let whole = best_certificate(alloc, app, meter)?;
     let thin = thinned(alloc, app, &whole)?;
     if !passes(alloc, app, &thin)? {
         let text = text_of(alloc, app, &whole)?;
@@ -85,6 +86,27 @@ fn suspects_among(verdict: Verdict, waits: &Option<Order>) -> ActorSet {
     suspects
 }
 
+/// The point of the edge with this number, if there is one.
+fn point_of(edges: &[Edge], number: usize) -> Option<Point> {
+    Some(edges.get(number)?.point)
+}
+
+/// The points to which runs are followed first: the one that fails and the one whose step spoils its note, or the first two takes of a cycle.
+fn aims_of(verdict: Verdict, waits: &Option<Order>) -> [Option<Point>; 2] {
+    match (verdict, waits) {
+        (Verdict::Yes, Some(Order::Cycle(edges))) => { [point_of(edges, 0), point_of(edges, 1)] }
+        (Verdict::Yes, _) => [None, None],
+        (
+            Verdict::No {
+                point,
+                part: Part::Spoiled(by),
+            },
+            _,
+        ) => [Some(point), Some(by)],
+        (Verdict::No { point, .. }, _) => [Some(point), None],
+    }
+}
+
 /// Whether the verdict is no, or a deadlock isn't excluded.
 fn is_unsettled(verdict: Verdict, waits: &Option<Order>) -> bool
     ensures { IsTrue result → (kind_of_judged verdict waits.now ≡ AnswerKind.No) ⊎ (kind_of_judged verdict waits.now ≡ AnswerKind.MayDeadlock) }
@@ -95,14 +117,16 @@ fn is_unsettled(verdict: Verdict, waits: &Option<Order>) -> bool
     }
 }
 
-/// What a search finds in place of a verdict: a run into a breach, or that no state of any run breaches a rule, and where that is asked
-/// the same of deadlocks; else how far it went. Its error is that an allocation was refused.
+/// What a search finds in place of this verdict and of what is known of waits: a run into a breach, or that no state of any run breaches a
+/// rule, and where that is asked the same of deadlocks; else how far it went. Its error is that an allocation was refused.
 fn settled<R: Threads + Sync>(
     rt: &R,
     alloc: Global,
     app: &App,
-    suspects: ActorSet,
+    verdict: Verdict,
+    waits: &Option<Order>,
     ways: Ways,
+    meter: Option<&Meter>,
 ) -> Result<Result<Finding, Tried>, AllocError>
     ensures found { IfOk result (λ r. IfOk r (λ found. IsFound app.now found)) }
     ensures suits { IfOk result (λ r. IfOk r (Suits ways.deadlock)) }
@@ -112,9 +136,11 @@ fn settled<R: Threads + Sync>(
         most_states: ways.states,
         most_bytes: ways.state_bytes,
         workers: ways.workers,
-        suspects,
+        suspects: suspects_among(verdict, waits),
+        aims: aims_of(verdict, waits),
         seeks_deadlocks: ways.deadlock,
         wants_shortest: false,
+        meter,
     };
     Ok(match refute(rt, alloc, app, search)? {
         Finding::Breach(run) => Ok(Finding::Breach(run)),
@@ -129,7 +155,8 @@ fn settled<R: Threads + Sync>(
 /// and `searches` asks for it, the same workers look for a run into a breach or a deadlock.
 ///
 /// Ok is the verdict by the certificate whose text comes with it. In place of one that doesn't settle the matter it is what the search
-/// found, where that is a run, or that no state of any run breaches a rule or is deadlocked.
+/// found, where that is a run, or that no state of any run breaches a rule or is deadlocked. How far it is, it notes in the meter, if there
+/// is one.
 ///
 /// # Errors
 ///
@@ -143,6 +170,7 @@ pub(crate) fn proved<R: Threads + Wait + Sync, G: Gate>(
     ways: Ways,
     gate: &G,
     searches: bool,
+    meter: Option<&Meter>,
 ) -> Result<(What, String), CheckFault>
     ensures proved { IfOk result (λ r. IsProofOf ways.deadlock app.now searches (string_bytes r.1) r.0) }
     ensures workers { IsErrOf result CheckFault.Workers ↔ IsNoCrew ways.workers }
@@ -153,14 +181,13 @@ pub(crate) fn proved<R: Threads + Wait + Sync, G: Gate>(
     }
     let bytes = app;
     let app = read_app(alloc, bytes)?;
-    let text = certificate_text(alloc, &app)?;
+    let text = certificate_text(alloc, &app, meter)?;
     let certificate = read_cert(alloc, &app, text.as_bytes())?;
     let verdict = judge_with(rt, alloc, &app, &certificate, ways.workers, gate)?;
     let waits = waits(alloc, &app, &certificate, verdict, ways.deadlock)?;
     let mut tried = None;
     if searches && is_unsettled(verdict, &waits) {
-        let suspects = suspects_among(verdict, &waits);
-        match settled(rt, alloc, &app, suspects, ways)? {
+        match settled(rt, alloc, &app, verdict, &waits, ways, meter)? {
             Ok(found) => {
                 let explains = sources_for(alloc, bytes, ways.detail)?;
                 let what = What::Searched {

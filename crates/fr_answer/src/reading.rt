@@ -135,7 +135,7 @@ pub(crate) fn proved_file<R: Threads + Wait + Sync, F: Files>(
     ensures fault { IfErr result (λ refusal. 2 ≤ fault_status refusal.fault) }
 {
     let app = application(alloc, files, app, ways.names)?;
-    match proved(rt, alloc, &app.bytes, ways, &Open, searches) {
+    match proved(rt, alloc, &app.bytes, ways, &Open, searches, files.meter()) {
         Ok((what, certificate)) => Ok((app, what, certificate)),
         Err(fault) => Err(Refusal::of_texts(alloc, &app.bytes, None, fault, ways.places)),
     }
@@ -168,7 +168,7 @@ pub(crate) fn searched_file<R: Threads + Sync, F: Files>(
     ensures fault { IfErr result (λ refusal. 2 ≤ fault_status refusal.fault) }
 {
     let app = application(alloc, files, app, ways.names)?;
-    match searched(rt, alloc, &app.bytes, ways) {
+    match searched(rt, alloc, &app.bytes, ways, files.meter()) {
         Ok(what) => Ok((app, what)),
         Err(fault) => {
             let places = ways.places

@@ -8,6 +8,7 @@ use crate::fault::CheckFault;
 use crate::sources::sources_for;
 use crate::ways::Ways;
 use fr_parallel::is_crew;
+use fr_progress::Meter;
 use fr_reader::read_app;
 use fr_refuter::{ActorSet, Search, refute};
 use std::alloc::Global;
@@ -15,7 +16,7 @@ use std::thread::Threads;
 
 /// Looks for a run of the application into a breach of one of the twelve rules, and where that is asked into a deadlock, the shortest
 /// where the states last for it, by this many workers. Ok is what was found, which is the same for every number of workers: a run, that
-/// no state of any run breaches a rule or is deadlocked, or nothing.
+/// no state of any run breaches a rule or is deadlocked, or nothing. How far the search is, it notes in the meter, if there is one.
 ///
 /// # Errors
 ///
@@ -26,6 +27,7 @@ pub(crate) fn searched<R: Threads + Sync>(
     alloc: Global,
     app: &[u8],
     ways: Ways,
+    meter: Option<&Meter>,
 ) -> Result<What, CheckFault>
     ensures found { IfOk result (IsSearchOf ways.deadlock app.now) }
     ensures workers { IsErrOf result CheckFault.Workers ↔ IsNoCrew ways.workers }
@@ -41,8 +43,10 @@ pub(crate) fn searched<R: Threads + Sync>(
         most_bytes: ways.state_bytes,
         workers: ways.workers,
         suspects: ActorSet::NONE,
+        aims: [None, None],
         seeks_deadlocks: ways.deadlock,
         wants_shortest: true,
+        meter,
     };
     let found = refute(rt, alloc, &app, search)?;
     let explains = sources_for(alloc, text, ways.detail)?;

@@ -3,13 +3,16 @@ ghost use Rattle.std.specs.Prelude.{ℕ, List};
 
 use fr_answer::Files;
 use fr_files::{FileFault, Output, OutputFault, check_outputs, read, replace};
+use fr_progress::Meter;
 use fr_source::{Refused, Translation, translated};
 use std::alloc::Global;
 
-/// The host's files. No clause can say what a disk holds.
+/// The host's files, and the meter of a search. No clause can say what a disk holds.
 #[derive(Drop)]
 pub struct HostFiles<'a> {
     pub rt: &'a HostRuntime,
+    /// Where a search notes how far it is, where that is printed.
+    pub meter: Option<&'a Meter>,
 }
 
 impl<'a> Files for HostFiles<'a> {
@@ -39,5 +42,9 @@ impl<'a> Files for HostFiles<'a> {
         outputs: &[Option<Output>],
     ) -> Result<(), OutputFault> {
         check_outputs(self.rt, inputs, outputs)
+    }
+
+    fn meter(&self) -> Option<&Meter> {
+        self.meter
     }
 }

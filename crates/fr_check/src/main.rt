@@ -2,11 +2,11 @@
 #![tactic(auto)]
 
 mod files;
+mod progress;
 mod usage;
 
-use files::HostFiles;
-use fr_answer::run;
 use fr_words::{asked, matched};
+use progress::{is_watched, run_on, run_watched};
 use std::env;
 use std::io::ErrorKind;
 use std::process::ExitCode;
@@ -29,18 +29,8 @@ fn answer<R: Threads + Wait + Sync>(rt: &HostRuntime, threads: &R) -> u8 {
         Err(error) => return explain(rt, &words, &error),
     };
     match asked(&matches) {
-        Some(request) => {
-            let mut files = HostFiles { rt };
-            let (mut out, mut err) = (rt.stdout(), rt.stderr());
-            run(
-                threads,
-                rt.alloc(),
-                &request,
-                &mut files,
-                &mut out,
-                &mut err,
-            )
-        }
+        Some(request) if is_watched(&request) => run_watched(rt, threads, &request),
+        Some(request) => run_on(rt, threads, &request, None),
         None => refuse_words(rt),
     }
 }

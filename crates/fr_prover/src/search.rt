@@ -14,6 +14,7 @@ use crate::thresholds::thresholds;
 use crate::trial::Trial;
 use fr_ends::Certificate;
 use fr_program::App;
+use fr_progress::Meter;
 use std::alloc::{AllocError, Global};
 use std::collections::BTreeSet;
 
@@ -41,6 +42,15 @@ const RETRIES: usize = 2;
 struct Tried {
     measured: Measured,
     divisions: Vec<Division>,
+}
+
+impl Tried {
+    /// Notes the try in the meter, if there is one.
+    fn note(&self, meter: Option<&Meter>) {
+        if let Some(meter) = meter {
+            meter.note_try(self.divisions.len(), self.measured.failures.len());
+        }
+    }
 }
 
 /// A search with notes that speak of certain variables.
@@ -141,7 +151,12 @@ impl<'a> Search<'a> {
     }
 
     /// The best try with one division more than these failures have, if one is better.
-    fn improved(&mut self, alloc: Global, best: &Tried) -> Result<Option<Tried>, AllocError> {
+    fn improved(
+        &mut self,
+        alloc: Global,
+        best: &Tried,
+        meter: Option<&Meter>,
+    ) -> Result<Option<Tried>, AllocError> {
         let failures = &best.measured.failures;
         let mut better: Option<Tried> = None;
         for division in &worth_trying(alloc, self.plan, failures)? {
@@ -157,6 +172,7 @@ impl<'a> Search<'a> {
                 division,
                 bar_of(failures, better.as_ref()),
             )?;
+            tried.note(meter);
             if self.left == 0 {
                 break;
             }
@@ -174,13 +190,18 @@ impl<'a> Search<'a> {
 
     /// The best try that is found from this one on. Once the first actor of those that fail doesn't fail any more, the next one has as
     /// many divisions.
-    fn divided(&mut self, alloc: Global, first: Tried) -> Result<Tried, AllocError> {
+    fn divided(
+        &mut self,
+        alloc: Global,
+        first: Tried,
+        meter: Option<&Meter>,
+    ) -> Result<Tried, AllocError> {
         let (mut best, mut count) = (first, 0usize);
         for _ in 0..MOST_DIVISIONS * MOST_ACTORS {
             if best.measured.failures.is_empty() || count >= MOST_DIVISIONS {
                 break;
             }
-            let Some(better) = self.improved(alloc, &best)? else {
+            let Some(better) = self.improved(alloc, &best, meter)? else {
                 break;
             };
             let (now, before) = (&better.measured.failures, &best.measured.failures);
@@ -195,16 +216,17 @@ impl<'a> Search<'a> {
     }
 
     /// The best try that is found: without divisions, and with them as far as their share of the steps lasts.
-    fn run(&mut self, alloc: Global) -> Result<Tried, AllocError> {
+    fn run(&mut self, alloc: Global, meter: Option<&Meter>) -> Result<Tried, AllocError> {
         let divisions = Vec::new(alloc);
         let measured = self.solve(alloc, &divisions, &[])?;
         let first = Tried {
             measured,
             divisions,
         };
+        first.note(meter);
         let rest = self.left.saturating_sub(MOST_DIVIDED);
         self.left = self.left.min(MOST_DIVIDED);
-        let best = self.divided(alloc, first)?;
+        let best = self.divided(alloc, first, meter)?;
         self.left = self.left.saturating_add(rest);
         Ok(best)
     }
@@ -235,6 +257,7 @@ fn searched(
     plan: &Plan,
     everything: bool,
     left: u64,
+    meter: Option<&Meter>,
 ) -> Result<(Measured, u64), AllocError> {
     let mut search = Search {
         plan,
@@ -243,18 +266,18 @@ fn searched(
         learned: 0,
         left,
     };
-    let found = search.run(alloc)?;
+    let found = search.run(alloc, meter)?;
     Ok((found.measured, search.left))
 }
 
 /// The best certificate that is found.
-fn best(alloc: Global, app: &App) -> Result<Certificate, AllocError> {
+fn best(alloc: Global, app: &App, meter: Option<&Meter>) -> Result<Certificate, AllocError> {
     let plan = Plan::new(alloc, app)?;
-    let (first, left) = searched(alloc, &plan, false, MOST_STEPS)?;
+    let (first, left) = searched(alloc, &plan, false, MOST_STEPS, meter)?;
     if first.failures.is_empty() || plan.keeps_everything() {
         return Ok(first.certificate);
     }
-    let (second, _) = searched(alloc, &plan, true, left)?;
+    let (second, _) = searched(alloc, &plan, true, left, meter)?;
     if second.failures.len() < first.failures.len() {
         Ok(second.certificate)
     } else {
@@ -268,14 +291,19 @@ fn best(alloc: Global, app: &App) -> Result<Certificate, AllocError> {
 /// under those of the others. A range that grows again and again goes to the next number that the code
 /// tests or sets, and to the declared end at last. Where the certificate fails, alternatives are kept
 /// apart by the value of a variable or by the life of an object, for the actors that have to do with the
-/// first failures. It is this project's own method, and a function of the application alone.
+/// first failures. It is this project's own method, and a function of the application alone. Each try is noted in the meter, if there
+/// is one.
 ///
 /// # Errors
 ///
 /// An allocation was refused.
-pub fn best_certificate(alloc: Global, app: &App) -> Result<Certificate, AllocError>
+pub fn best_certificate(
+    alloc: Global,
+    app: &App,
+    meter: Option<&Meter>,
+) -> Result<Certificate, AllocError>
     ensures fits { IfOk result (λ certificate. CertificateFits app.now certificate) }
 {
-    let found = best(alloc, app)?;
+    let found = best(alloc, app, meter)?;
     fitting(alloc, app, found)
 }

@@ -85,6 +85,8 @@ pub struct ProveRequest<'a> {
     pub states: u32,
     /// The most memory for these states, in MiB.
     pub memory: u32,
+    /// Whether it is printed meanwhile how far the search is.
+    pub progress: bool,
     /// The form of the answer; None where it is a text for a person.
     pub format: Option<Format>,
     /// The file for the page, where one is wanted.
@@ -99,6 +101,8 @@ pub struct RefuteRequest<'a> {
     pub states: u32,
     /// The most memory for these states, in MiB.
     pub memory: u32,
+    /// Whether it is printed meanwhile how far the search is.
+    pub progress: bool,
     pub workers: u16,
     /// Whether a run into a deadlock is looked for too.
     pub deadlock: bool,

@@ -4,6 +4,7 @@ ghost use Rattle.fr_trial.specs.Memory.{IsFree, IsGiven, IsPut, bytes_at};
 
 use fr_answer::Files;
 use fr_files::{FileFault, Output, OutputFault};
+use fr_progress::Meter;
 use fr_source::{Refused, Translation, translated};
 use std::alloc::{AllocError, Global};
 use std::collections::BTreeMap;
@@ -131,5 +132,9 @@ impl Files for MemoryFiles {
             }
         }
         Ok(())
+    }
+
+    fn meter(&self) -> Option<&Meter> {
+        None
     }
 }

@@ -165,6 +165,7 @@ fn proves(rt: HostRuntime) -> Result<(), AllocError> {
             searches: true,
             states: 1000,
             memory: 64,
+            progress: false,
             format: None,
             html,
         });
@@ -183,6 +184,7 @@ fn refutes(rt: HostRuntime) -> Result<(), AllocError> {
         app: "broken.toml",
         states: 1000,
         memory: 64,
+        progress: false,
         workers: 1,
         deadlock: false,
         explains: false,

@@ -81,6 +81,7 @@ pub record IsProve (rs : Rows) (asked : ProveRequest) : Type 0 where
   pub searches : asked.searches ≡ not (is_given rs (codes "no-search"))
   pub states : number_at 32 rs (codes "states") ≡ Some asked.states
   pub memory : number_at 32 rs (codes "memory") ≡ Some asked.memory
+  pub progress : asked.progress ≡ is_given rs (codes "progress")
   pub format : asked.format ≡ format_at rs
   pub html : option_map (λ s. s.now) asked.html ≡ text_at rs (codes "html")
 
@@ -98,6 +99,7 @@ pub record IsRefute (rs : Rows) (asked : RefuteRequest) : Type 0 where
   pub app : text_at rs (codes "APP") ≡ Some asked.app.now
   pub states : number_at 32 rs (codes "states") ≡ Some asked.states
   pub memory : number_at 32 rs (codes "memory") ≡ Some asked.memory
+  pub progress : asked.progress ≡ is_given rs (codes "progress")
   pub workers : number_at 16 rs (codes "workers") ≡ Some asked.workers
   pub deadlock : asked.deadlock ≡ is_given rs (codes "deadlock")
   pub explains : asked.explains ≡ is_given rs (codes "explain")

@@ -6,7 +6,8 @@ ghost use Rattle.fr_words.specs.Asked.{IsProve, can_prove};
 use crate::found::{is_given, number_at, short_number_at, text_at};
 use crate::shared::{
     APPLICATION, all_arg, command_of, deadlock_arg, detail_asked, explain_arg, file_arg, flag_arg,
-    format_arg, format_asked, html_arg, memory_arg, states_arg, text_arg, workers_arg,
+    format_arg, format_asked, html_arg, memory_arg, progress_arg, states_arg, text_arg,
+    workers_arg,
 };
 use clap::{Arg, ArgMatches, Command};
 use fr_request::{Detail, ProveRequest};
@@ -68,6 +69,7 @@ pub fn prove_command<'a>(alloc: Global) -> Result<Command<'a>, AllocError> {
         no_search_arg(alloc),
         states_arg(alloc, "1000000"),
         memory_arg(alloc, "512"),
+        progress_arg(alloc),
         format_arg(alloc),
         deadlock_arg(alloc),
         all_arg(alloc),
@@ -95,6 +97,7 @@ pub fn asked_prove<'a>(words: &ArgMatches<'a>) -> Option<ProveRequest<'a>>
         searches: !is_given(words, "no-search"),
         states: number_at(words, "states")?,
         memory: number_at(words, "memory")?,
+        progress: is_given(words, "progress"),
         format: format_asked(words),
         html: text_at(words, "html"),
     })

@@ -6,7 +6,7 @@ ghost use Rattle.fr_words.specs.Asked.{IsRefute, can_refute};
 use crate::found::{is_given, number_at, short_number_at, text_at};
 use crate::shared::{
     APPLICATION, command_of, deadlock_arg, explain_arg, file_arg, format_arg, format_asked,
-    html_arg, memory_arg, states_arg, workers_arg,
+    html_arg, memory_arg, progress_arg, states_arg, workers_arg,
 };
 use clap::{ArgMatches, Command};
 use fr_request::RefuteRequest;
@@ -29,6 +29,7 @@ pub fn refute_command<'a>(alloc: Global) -> Result<Command<'a>, AllocError> {
         file_arg(alloc, "APP", APPLICATION),
         states_arg(alloc, "1000000"),
         memory_arg(alloc, "2048"),
+        progress_arg(alloc),
         workers_arg(alloc),
         deadlock_arg(alloc),
         format_arg(alloc),
@@ -48,6 +49,7 @@ pub fn asked_refute<'a>(words: &ArgMatches<'a>) -> Option<RefuteRequest<'a>>
         app: text_at(words, "APP")?,
         states: number_at(words, "states")?,
         memory: number_at(words, "memory")?,
+        progress: is_given(words, "progress"),
         workers: short_number_at(words, "workers")?,
         deadlock: is_given(words, "deadlock"),
         explains: is_given(words, "explain"),

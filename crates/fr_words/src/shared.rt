@@ -70,6 +70,12 @@ pub fn memory_arg<'a>(alloc: Global, otherwise: &'a str) -> Arg<'a> {
         .help("The most memory for these states, 1 to 1048576 MiB")
 }
 
+/// The word `--progress`.
+pub fn progress_arg<'a>(alloc: Global) -> Arg<'a> {
+    let help = "Print each second how far the search is, on standard error";
+    flag_arg(alloc, "progress", help)
+}
+
 /// The word `--workers` with its number.
 pub fn workers_arg<'a>(alloc: Global) -> Arg<'a> {
     Arg::new(alloc, "workers")
