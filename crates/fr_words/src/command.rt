@@ -6,12 +6,12 @@ ghost use Rattle.fr_words.specs.Asked.{IsAsked, Asks, can_ask, can_ask_any};
 use crate::check::{asked_check, check_command};
 use crate::find::{asked_find, find_command};
 use crate::follow::{asked_follow, follow_command};
-use crate::found::{is_given, text_at};
-use crate::points::points_command;
+use crate::points::{asked_points, points_command};
 use crate::prove::{asked_prove, prove_command};
 use crate::refute::{asked_refute, refute_command};
 use crate::run::{asked_run, run_command};
-use crate::shared::{NAME, STATUSES};
+use crate::shared::STATUSES;
+use crate::table::{NAME, bare_command};
 use crate::translate::{asked_translate, translate_command};
 use clap::{ArgMatches, Command, Error};
 use fr_request::{Request, VERSION};
@@ -47,7 +47,7 @@ const NAMES: [Name; 8] = [
     Name::Follow,
 ];
 
-/// The command with this name.
+/// What `clap` is told of the command with this name.
 fn command_named<'a>(alloc: Global, name: Name) -> Result<Command<'a>, AllocError> {
     match name {
         Name::Prove => prove_command(alloc),
@@ -61,20 +61,26 @@ fn command_named<'a>(alloc: Global, name: Name) -> Result<Command<'a>, AllocErro
     }
 }
 
+/// Adds what `clap` is told of the commands.
+fn push_commands(commands: &mut Vec<Command>, alloc: Global) -> Result<(), AllocError> {
+    for name in NAMES {
+        commands.push(command_named(alloc, name)?)?;
+    }
+    Ok(())
+}
+
 /// The whole command line, with its eight commands.
 fn command<'a>(alloc: Global) -> Result<Command<'a>, AllocError> {
-    let mut command = Command::new(alloc, NAME)
+    let about = "Checks that a multicore FreeRTOS application keeps the kernel's usage rules";
+    let mut commands = Vec::new(alloc);
+    push_commands(&mut commands, alloc)?;
+    bare_command(alloc, NAME, about, STATUSES)
         .version(VERSION)
         .long_version(VERSIONS)
         .propagate_version(true)
-        .about("Checks that a multicore FreeRTOS application keeps the kernel's usage rules")
-        .after_help(STATUSES)
         .subcommand_required(true)
-        .arg_required_else_help(true);
-    for name in NAMES {
-        command = command.subcommand(command_named(alloc, name)?)?;
-    }
-    Ok(command)
+        .arg_required_else_help(true)
+        .subcommands(commands)
 }
 
 /// What the words match; else the usage message that says what is wrong with them, the help or the
@@ -89,17 +95,14 @@ fn asked_of<'m, 'a>(name: &str, words: &'m ArgMatches<'a>) -> Option<Request<'m>
     ensures whether { is_some result ≡ can_ask name.now (rows words.now) }
 {
     match name {
-        "check" => Some(Request::Check(asked_check(words)?)),
-        "find" => Some(Request::Find(asked_find(words)?)),
-        "prove" => Some(Request::Prove(asked_prove(words)?)),
-        "points" => Some(Request::Points {
-            app: text_at(words, "APP")?,
-            explains: is_given(words, "explain"),
-        }),
-        "refute" => Some(Request::Refute(asked_refute(words)?)),
-        "run" => Some(Request::Run(asked_run(words)?)),
-        "translate" => Some(Request::Translate(asked_translate(words)?)),
-        "follow" => Some(Request::Follow(asked_follow(words)?)),
+        "check" => asked_check(words),
+        "find" => asked_find(words),
+        "prove" => asked_prove(words),
+        "points" => asked_points(words),
+        "refute" => asked_refute(words),
+        "run" => asked_run(words),
+        "translate" => asked_translate(words),
+        "follow" => asked_follow(words),
         _ => None,
     }
 }

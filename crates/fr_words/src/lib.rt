@@ -13,6 +13,7 @@ mod prove;
 mod refute;
 mod run;
 mod shared;
+mod table;
 mod translate;
 
 pub use command::{asked, matched};

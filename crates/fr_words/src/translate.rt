@@ -1,31 +1,41 @@
 // The words of the command `translate`.
-ghost use Rattle.std.specs.Prelude.{◌≡◌, IfSome, is_some, option_map};
+ghost use Rattle.std.specs.Prelude.{◌≡◌, IfSome, codes, is_some, option_map};
 ghost use Rattle.fr_words.specs.Found.{rows};
-ghost use Rattle.fr_words.specs.Asked.{IsTranslate, can_translate, named_by};
+ghost use Rattle.fr_words.specs.Asked.{IsAsked, can_translate, named_by};
 
 use crate::found::text_at;
-use crate::shared::{command_of, file_arg};
+use crate::table::{CommandTable, FILE, Word, command_of};
 use clap::{ArgMatches, Command};
-use fr_request::TranslateRequest;
+use fr_request::{Request, TranslateRequest};
 use std::alloc::{AllocError, Global};
 
-const STATUSES: &str = "Exit status:
+/// The command `translate`.
+const TABLE: &CommandTable = &CommandTable {
+    name: "translate",
+    about: "Translates a source in the shape of C into an application",
+    statuses: "Exit status:
   0  The application was written
   2  The arguments or the source are refused, or the file for the application is the source's
-  3  The machine failed: no memory, or a file that can't be read or written";
+  3  The machine failed: no memory, or a file that can't be read or written",
+    words: &[
+        Word {
+            name: "SOURCE",
+            value: &["SOURCE"],
+            help: "The source",
+            ..FILE
+        },
+        Word {
+            name: "OUT",
+            value: &["OUT"],
+            help: "The file for the application, in TOML; - prints it",
+            ..FILE
+        },
+    ],
+};
 
-/// The command `translate`: its words, its help and its exit statuses.
+/// What `clap` is told of it.
 pub fn translate_command<'a>(alloc: Global) -> Result<Command<'a>, AllocError> {
-    let about = "Translates a source in the shape of C into an application";
-    let args = vec![in alloc;
-        file_arg(alloc, "SOURCE", "The source"),
-        file_arg(
-            alloc,
-            "OUT",
-            "The file for the application, in TOML; - prints it"
-        ),
-    ]?;
-    command_of(alloc, "translate", about, STATUSES, args)
+    command_of(alloc, TABLE)
 }
 
 /// The file that the word names; None by `-`, which is standard output.
@@ -36,12 +46,12 @@ fn file_named(word: &str) -> Option<&str>
 }
 
 /// The translation that the matched words ask for. Words that were matched always ask for something, so it is never None.
-pub fn asked_translate<'a>(words: &ArgMatches<'a>) -> Option<TranslateRequest<'a>>
-    ensures fields { IfSome result (IsTranslate (rows words.now)) }
+pub fn asked_translate<'a>(words: &ArgMatches<'a>) -> Option<Request<'a>>
+    ensures fields { IfSome result (IsAsked (codes "translate") (rows words.now)) }
     ensures whether { is_some result ≡ can_translate (rows words.now) }
 {
-    Some(TranslateRequest {
+    Some(Request::Translate(TranslateRequest {
         source: text_at(words, "SOURCE")?,
         out: file_named(text_at(words, "OUT")?),
-    })
+    }))
 }
