@@ -68,7 +68,7 @@ fn files_judged<'a>(words: &ArgMatches<'a>) -> Option<Judged<'a>>
 
 /// The verdict that the matched words ask for. Words that were matched always ask for something, so it is
 /// never None.
-pub fn asked_check<'a>(words: &ArgMatches<'a>) -> Option<Request<'a>>
+pub fn asked_check<'m, 'a>(words: &'m ArgMatches<'a>) -> Option<Request<'m>>
     ensures fields { IfSome result (IsAsked (codes "check") (rows words.now)) }
     ensures whether { is_some result ≡ can_check (rows words.now) }
 {

@@ -50,7 +50,7 @@ pub fn find_command<'a>(alloc: Global) -> Result<Command<'a>, AllocError> {
 
 /// The certificate that the matched words ask for. Words that were matched always ask for something, so
 /// it is never None.
-pub fn asked_find<'a>(words: &ArgMatches<'a>) -> Option<Request<'a>>
+pub fn asked_find<'m, 'a>(words: &'m ArgMatches<'a>) -> Option<Request<'m>>
     ensures fields { IfSome result (IsAsked (codes "find") (rows words.now)) }
     ensures whether { is_some result ≡ can_find (rows words.now) }
 {

@@ -34,7 +34,7 @@ pub fn points_command<'a>(alloc: Global) -> Result<Command<'a>, AllocError> {
 
 /// The points that the matched words ask for. Words that were matched always ask for something, so it is
 /// never None.
-pub fn asked_points<'a>(words: &ArgMatches<'a>) -> Option<Request<'a>>
+pub fn asked_points<'m, 'a>(words: &'m ArgMatches<'a>) -> Option<Request<'m>>
     ensures fields { IfSome result (IsAsked (codes "points") (rows words.now)) }
     ensures whether { is_some result ≡ has_text (rows words.now) (codes "APP") }
 {

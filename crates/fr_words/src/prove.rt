@@ -87,7 +87,7 @@ fn warns_asked(words: &ArgMatches) -> bool
 
 /// The proof that the matched words ask for. Words that were matched always ask for something, so it is
 /// never None.
-pub fn asked_prove<'a>(words: &ArgMatches<'a>) -> Option<Request<'a>>
+pub fn asked_prove<'m, 'a>(words: &'m ArgMatches<'a>) -> Option<Request<'m>>
     ensures fields { IfSome result (IsAsked (codes "prove") (rows words.now)) }
     ensures whether { is_some result ≡ can_prove (rows words.now) }
 {

@@ -45,7 +45,7 @@ const TABLE: &CommandTable = &CommandTable {
 
 /// The search that the matched words ask for. Words that were matched always ask for something, so it is
 /// never None.
-pub fn asked_refute<'a>(words: &ArgMatches<'a>) -> Option<Request<'a>>
+pub fn asked_refute<'m, 'a>(words: &'m ArgMatches<'a>) -> Option<Request<'m>>
     ensures fields { IfSome result (IsAsked (codes "refute") (rows words.now)) }
     ensures whether { is_some result ≡ can_refute (rows words.now) }
 {

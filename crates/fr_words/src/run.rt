@@ -49,7 +49,7 @@ pub fn run_command<'a>(alloc: Global) -> Result<Command<'a>, AllocError> {
 
 /// The run that the matched words ask for. Words that were matched always ask for something, so it is
 /// never None.
-pub fn asked_run<'a>(words: &ArgMatches<'a>) -> Option<Request<'a>>
+pub fn asked_run<'m, 'a>(words: &'m ArgMatches<'a>) -> Option<Request<'m>>
     ensures fields { IfSome result (IsAsked (codes "run") (rows words.now)) }
     ensures whether { is_some result ≡ can_run (rows words.now) }
 {

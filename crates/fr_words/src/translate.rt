@@ -46,7 +46,7 @@ fn file_named(word: &str) -> Option<&str>
 }
 
 /// The translation that the matched words ask for. Words that were matched always ask for something, so it is never None.
-pub fn asked_translate<'a>(words: &ArgMatches<'a>) -> Option<Request<'a>>
+pub fn asked_translate<'m, 'a>(words: &'m ArgMatches<'a>) -> Option<Request<'m>>
     ensures fields { IfSome result (IsAsked (codes "translate") (rows words.now)) }
     ensures whether { is_some result ≡ can_translate (rows words.now) }
 {
