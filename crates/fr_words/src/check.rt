@@ -57,12 +57,14 @@ fn files_judged<'a>(words: &ArgMatches<'a>) -> Option<Judged<'a>>
     ensures files { IfSome result (IsJudged (rows words.now)) }
     ensures whether { is_some result ≡ can_judge (rows words.now) }
 {
-    match text_at(words, "list") {
-        Some(list) => Some(Judged::Listed(list)),
-        None => Some(Judged::One {
-            app: text_at(words, "APP")?,
-            certificate: text_at(words, "CERT")?,
-        }),
+    match (
+        text_at(words, "list"),
+        text_at(words, "APP"),
+        text_at(words, "CERT"),
+    ) {
+        (Some(list), _, _) => Some(Judged::Listed(list)),
+        (None, Some(app), Some(certificate)) => Some(Judged::One { app, certificate }),
+        _ => None,
     }
 }
 
@@ -72,9 +74,13 @@ pub fn asked_check<'m, 'a>(words: &'m ArgMatches<'a>) -> Option<Request<'m>>
     ensures fields { IfSome result (IsAsked (codes "check") (rows words.now)) }
     ensures whether { is_some result ≡ can_check (rows words.now) }
 {
+    let (Some(files), Some(workers)) = (files_judged(words), short_number_at(words, "workers"))
+    else {
+        return None;
+    };
     Some(Request::Check(CheckRequest {
-        files: files_judged(words)?,
-        workers: short_number_at(words, "workers")?,
+        files,
+        workers,
         warns: is_given(words, "warn"),
         deadlock: is_given(words, "deadlock"),
         detail: detail_asked(words),

@@ -54,10 +54,17 @@ pub fn asked_find<'m, 'a>(words: &'m ArgMatches<'a>) -> Option<Request<'m>>
     ensures fields { IfSome result (IsAsked (codes "find") (rows words.now)) }
     ensures whether { is_some result ≡ can_find (rows words.now) }
 {
+    let (Some(app), Some(out), Some(rounds)) = (
+        text_at(words, "APP"),
+        text_at(words, "OUT"),
+        short_number_at(words, "rounds"),
+    ) else {
+        return None;
+    };
     Some(Request::Find(FindRequest {
-        app: text_at(words, "APP")?,
-        out: text_at(words, "OUT")?,
-        rounds: short_number_at(words, "rounds")?,
+        app,
+        out,
+        rounds,
         explains: is_given(words, "explain"),
     }))
 }

@@ -74,10 +74,17 @@ pub fn asked_follow<'m, 'a>(words: &'m ArgMatches<'a>) -> Option<Request<'m>>
     ensures fields { IfSome result (IsAsked (codes "follow") (rows words.now)) }
     ensures whether { is_some result ≡ can_follow (rows words.now) }
 {
+    let (Some(app), Some(traces), Some(states)) = (
+        text_at(words, "APP"),
+        texts_at(words, "TRACE"),
+        number_at(words, "states"),
+    ) else {
+        return None;
+    };
     Some(Request::Follow(FollowRequest {
-        app: text_at(words, "APP")?,
-        traces: texts_at(words, "TRACE")?,
-        states: number_at(words, "states")?,
+        app,
+        traces,
+        states,
         explains: is_given(words, "explain"),
         covers: is_given(words, "coverage"),
         any_times: is_given(words, "any-times"),

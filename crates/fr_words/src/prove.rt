@@ -91,16 +91,24 @@ pub fn asked_prove<'m, 'a>(words: &'m ArgMatches<'a>) -> Option<Request<'m>>
     ensures fields { IfSome result (IsAsked (codes "prove") (rows words.now)) }
     ensures whether { is_some result ≡ can_prove (rows words.now) }
 {
+    let (Some(app), Some(workers), Some(states), Some(memory)) = (
+        text_at(words, "APP"),
+        short_number_at(words, "workers"),
+        number_at(words, "states"),
+        number_at(words, "memory"),
+    ) else {
+        return None;
+    };
     Some(Request::Prove(ProveRequest {
-        app: text_at(words, "APP")?,
+        app,
         out: text_at(words, "certificate"),
-        workers: short_number_at(words, "workers")?,
+        workers,
         warns: warns_asked(words),
         deadlock: is_given(words, "deadlock"),
         detail: detail_of_proof(words),
         searches: !is_given(words, "no-search"),
-        states: number_at(words, "states")?,
-        memory: number_at(words, "memory")?,
+        states,
+        memory,
         progress: is_given(words, "progress"),
         format: format_asked(words),
         html: text_at(words, "html"),

@@ -49,12 +49,20 @@ pub fn asked_refute<'m, 'a>(words: &'m ArgMatches<'a>) -> Option<Request<'m>>
     ensures fields { IfSome result (IsAsked (codes "refute") (rows words.now)) }
     ensures whether { is_some result ≡ can_refute (rows words.now) }
 {
+    let (Some(app), Some(states), Some(memory), Some(workers)) = (
+        text_at(words, "APP"),
+        number_at(words, "states"),
+        number_at(words, "memory"),
+        short_number_at(words, "workers"),
+    ) else {
+        return None;
+    };
     Some(Request::Refute(RefuteRequest {
-        app: text_at(words, "APP")?,
-        states: number_at(words, "states")?,
-        memory: number_at(words, "memory")?,
+        app,
+        states,
+        memory,
         progress: is_given(words, "progress"),
-        workers: short_number_at(words, "workers")?,
+        workers,
         deadlock: is_given(words, "deadlock"),
         explains: is_given(words, "explain"),
         format: format_asked(words),

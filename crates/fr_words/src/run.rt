@@ -53,10 +53,17 @@ pub fn asked_run<'m, 'a>(words: &'m ArgMatches<'a>) -> Option<Request<'m>>
     ensures fields { IfSome result (IsAsked (codes "run") (rows words.now)) }
     ensures whether { is_some result ≡ can_run (rows words.now) }
 {
+    let (Some(app), Some(certificate), Some(polls)) = (
+        text_at(words, "APP"),
+        text_at(words, "CERT"),
+        number_at(words, "polls"),
+    ) else {
+        return None;
+    };
     Some(Request::Run(RunRequest {
-        app: text_at(words, "APP")?,
-        certificate: text_at(words, "CERT")?,
-        polls: number_at(words, "polls")?,
+        app,
+        certificate,
+        polls,
         words: text_at(words, "words"),
         detail: detail_asked(words),
     }))

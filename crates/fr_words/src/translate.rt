@@ -50,8 +50,11 @@ pub fn asked_translate<'m, 'a>(words: &'m ArgMatches<'a>) -> Option<Request<'m>>
     ensures fields { IfSome result (IsAsked (codes "translate") (rows words.now)) }
     ensures whether { is_some result ≡ can_translate (rows words.now) }
 {
+    let (Some(source), Some(out)) = (text_at(words, "SOURCE"), text_at(words, "OUT")) else {
+        return None;
+    };
     Some(Request::Translate(TranslateRequest {
-        source: text_at(words, "SOURCE")?,
-        out: file_named(text_at(words, "OUT")?),
+        source,
+        out: file_named(out),
     }))
 }
