@@ -8,12 +8,6 @@ use crate::shared::{
     ALL, APP, CERT, DEADLOCK, EXPLAIN, FORMAT, HTML, STATUSES, WARN, WORKERS, detail_asked,
     format_asked,
 };
-
-/// What `clap` is told of it.
-pub fn check_command<'a>(alloc: Global) -> Result<Command<'a>, AllocError> {
-    command_of(alloc, TABLE)
-}
-
 use crate::table::{CommandTable, TEXT, Word, command_of};
 use clap::{ArgMatches, Command};
 use fr_request::{CheckRequest, Judged, Request};
@@ -51,6 +45,11 @@ const TABLE: &CommandTable = &CommandTable {
         HTML,
     ],
 };
+
+/// What `clap` is told of `check`.
+pub fn check_command<'a>(alloc: Global) -> Result<Command<'a>, AllocError> {
+    command_of(alloc, TABLE)
+}
 
 /// The files that the matched words name.
 fn files_judged<'a>(words: &ArgMatches<'a>) -> Option<Judged<'a>>

@@ -43,7 +43,7 @@ const TABLE: &CommandTable = &CommandTable {
     ],
 };
 
-/// What `clap` is told of it.
+/// What `clap` is told of `find`.
 pub fn find_command<'a>(alloc: Global) -> Result<Command<'a>, AllocError> {
     command_of(alloc, TABLE)
 }

@@ -64,7 +64,7 @@ const TABLE: &CommandTable = &CommandTable {
     ],
 };
 
-/// What `clap` is told of it.
+/// What `clap` is told of `follow`.
 pub fn follow_command<'a>(alloc: Global) -> Result<Command<'a>, AllocError> {
     command_of(alloc, TABLE)
 }

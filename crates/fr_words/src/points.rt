@@ -27,7 +27,7 @@ const TABLE: &CommandTable = &CommandTable {
     ],
 };
 
-/// What `clap` is told of it.
+/// What `clap` is told of `points`.
 pub fn points_command<'a>(alloc: Global) -> Result<Command<'a>, AllocError> {
     command_of(alloc, TABLE)
 }

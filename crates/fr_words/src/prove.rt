@@ -8,12 +8,6 @@ use crate::shared::{
     ALL, APP, DEADLOCK, EXPLAIN, FORMAT, HTML, MEMORY, PROGRESS, STATES, WARN, WORKERS,
     detail_asked, format_asked,
 };
-
-/// What `clap` is told of it.
-pub fn prove_command<'a>(alloc: Global) -> Result<Command<'a>, AllocError> {
-    command_of(alloc, TABLE)
-}
-
 use crate::table::{CommandTable, FLAG, TEXT, Word, command_of};
 use clap::{ArgMatches, Command};
 use fr_request::{Detail, ProveRequest, Request};
@@ -67,6 +61,11 @@ const TABLE: &CommandTable = &CommandTable {
         HTML,
     ],
 };
+
+/// What `clap` is told of `prove`.
+pub fn prove_command<'a>(alloc: Global) -> Result<Command<'a>, AllocError> {
+    command_of(alloc, TABLE)
+}
 
 /// How much `prove` explains: where neither `--all` nor `--explain` is given, what matters, and with `--brief` nothing.
 fn detail_of_proof(words: &ArgMatches) -> Option<Detail>

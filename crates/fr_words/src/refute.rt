@@ -7,12 +7,6 @@ use crate::found::{is_given, number_at, short_number_at, text_at};
 use crate::shared::{
     APP, DEADLOCK, EXPLAIN, FORMAT, HTML, MEMORY, PROGRESS, STATES, WORKERS, format_asked,
 };
-
-/// What `clap` is told of it.
-pub fn refute_command<'a>(alloc: Global) -> Result<Command<'a>, AllocError> {
-    command_of(alloc, TABLE)
-}
-
 use crate::table::{CommandTable, Word, command_of};
 use clap::{ArgMatches, Command};
 use fr_request::{RefuteRequest, Request};
@@ -42,6 +36,11 @@ const TABLE: &CommandTable = &CommandTable {
         HTML,
     ],
 };
+
+/// What `clap` is told of `refute`.
+pub fn refute_command<'a>(alloc: Global) -> Result<Command<'a>, AllocError> {
+    command_of(alloc, TABLE)
+}
 
 /// The search that the matched words ask for. Words that were matched always ask for something, so it is
 /// never None.

@@ -42,7 +42,7 @@ const TABLE: &CommandTable = &CommandTable {
     ],
 };
 
-/// What `clap` is told of it.
+/// What `clap` is told of `run`.
 pub fn run_command<'a>(alloc: Global) -> Result<Command<'a>, AllocError> {
     command_of(alloc, TABLE)
 }

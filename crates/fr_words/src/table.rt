@@ -32,7 +32,7 @@ pub struct Word {
     pub conflicts: &'static [&'static str],
     /// Whether it has to be given.
     pub required: bool,
-    /// The words of which one has to be given where it isn't.
+    /// The words of which one has to be given where it isn't; none where it needn't be, or always has to be.
     pub unless: &'static [&'static str],
 }
 

@@ -33,7 +33,7 @@ const TABLE: &CommandTable = &CommandTable {
     ],
 };
 
-/// What `clap` is told of it.
+/// What `clap` is told of `translate`.
 pub fn translate_command<'a>(alloc: Global) -> Result<Command<'a>, AllocError> {
     command_of(alloc, TABLE)
 }
