@@ -6,81 +6,79 @@ use crate::line::{push_line, push_plain};
 use crate::lines::Lines;
 use crate::place::Place;
 use crate::position::{position_at, push_marked, push_position};
-use crate::scope::Scope;
+use crate::scope::{Scope, boxed_names};
 use crate::shown::push_start;
-use crate::table::{entries_at, line_at, text_at};
-use fr_instr::{LineFault, names_of};
+use crate::table::{entries_at, has_name, line_at};
+use fr_instr::LineFault;
+use fr_program::App;
 use fr_reader::{Key, MOST_BYTES, ReadFault};
 use std::alloc::{AllocError, Global};
 use toml::Table;
 
 /// Appends where the text is no TOML.
-fn push_toml(out: &mut Lines, bytes: &[u8], error: &toml::de::Error) -> Result<(), AllocError> {
+fn push_toml(out: &mut Lines, bytes: &[u8], error: &toml::de::Error) {
     let Some(span) = error.span() else {
-        return Err(AllocError);
+        return out.refuse();
     };
     let position = position_at(bytes, span.start);
-    push_position(out, position)?;
-    let message = error.message();
-    write!(out.open, ": {message}")?;
-    out.end()?;
-    push_marked(out, position.before, position.behind)
+    push_position(out, position);
+    out.say_all(&[": ", error.message()]);
+    push_marked(out, position.before, position.behind);
 }
 
-/// The table of the actor with this name.
-fn actor_named<'a>(whole: &'a Table, name: &str) -> Option<&'a Table> {
-    let actors = entries_at(whole, Key::Actor);
-    let actor = actors.iter().find(|value| match value.as_table() {
-        Some(table) => text_at(table, Key::Name) == Some(name),
-        None => false,
-    });
-    actor?.as_table()
+/// The line with this number of the actor with this name.
+fn line_of<'a>(whole: &'a Table, actor: &str, index: usize) -> Option<&'a str> {
+    for value in entries_at(whole, Key::Actor) {
+        if has_name(value, actor) {
+            return line_at(value.as_table()?, index);
+        }
+    }
+    None
+}
+
+/// Appends what is wrong with a line, for an application with these names.
+fn push_line_of(out: &mut Lines, app: &App, line: &str, fault: LineFault) {
+    match boxed_names(out.alloc, app) {
+        Ok(names) => {
+            let scope = Scope {
+                alloc: out.alloc,
+                app,
+                names: &names,
+            };
+            push_line(&scope, out, line.as_bytes(), fault);
+        }
+        Err(_) => out.refuse(),
+    }
 }
 
 /// Appends a line that can't be read, with its place.
-fn push_bad_line(
-    out: &mut Lines,
-    whole: &Table,
-    actor: &str,
-    index: usize,
-    fault: LineFault,
-) -> Result<(), AllocError> {
-    let Some(table) = actor_named(whole, actor) else {
-        return Ok(());
+fn push_bad_line(out: &mut Lines, whole: &Table, actor: &str, index: usize, fault: LineFault) {
+    let Some(line) = line_of(whole, actor, index) else {
+        return;
     };
-    let Some(line) = line_at(table, index) else {
-        return Ok(());
-    };
-    push_start(out, actor.as_bytes())?;
-    write!(out.open, " {index}:")?;
-    out.end()?;
-    match app_of_names(out.alloc, whole)? {
-        Some(app) => {
-            let names = names_of(out.alloc, &app)?;
-            let scope = Scope {
-                alloc: out.alloc,
-                app: &app,
-                names: &names,
-            };
-            push_line(&scope, out, line.as_bytes(), fault)
-        }
-        None => push_plain(out, line.as_bytes()),
+    push_start(out, actor.as_bytes());
+    out.numbers(&[(" ", index as i128)]);
+    out.say(":");
+    match app_of_names(out.alloc, whole) {
+        Ok(Some(app)) => push_line_of(out, &app, line, fault),
+        Ok(None) => push_plain(out, line.as_bytes()),
+        Err(_) => out.refuse(),
     }
 }
 
 /// Appends the place of a fault that is present in this table.
-fn push_fault(out: &mut Lines, whole: &Table, fault: &ReadFault) -> Result<(), AllocError> {
+fn push_fault(out: &mut Lines, whole: &Table, fault: &ReadFault) {
     match fault {
-        ReadFault::Memory | ReadFault::TooLong | ReadFault::Toml => Ok(()),
+        ReadFault::Memory | ReadFault::TooLong | ReadFault::Toml => {}
         ReadFault::Missing(name, key) => push_missing(out, whole, *name, *key),
         ReadFault::WrongType(name, key) => push_wrong_type(out, whole, *name, *key),
-        ReadFault::UnknownKey(name, key) => { push_unknown_key(out, whole, *name, key.as_str()) }
+        ReadFault::UnknownKey(name, key) => push_unknown_key(out, whole, *name, key.as_str()),
         ReadFault::Twice(name) => push_named(out, whole, name.as_str()),
         ReadFault::BadName(name) => {
-            push_named(out, whole, name.as_str())?;
+            push_named(out, whole, name.as_str());
             out.say(
                 "a name has 1 to 32 letters, digits and underscores, no digit first, and is no word of the lines",
-            )
+            );
         }
         ReadFault::Line {
             actor,
@@ -104,6 +102,18 @@ pub fn is_unknown_word(fault: &ReadFault) -> bool {
     }
 }
 
+/// Appends the place of a fault that is present in these bytes.
+fn push_place(out: &mut Lines, bytes: &[u8], fault: &ReadFault) {
+    if matches!(fault, ReadFault::TooLong) {
+        out.numbers(&[("the file has over ", MOST_BYTES as i128)]);
+        return out.say(" bytes");
+    }
+    match toml::table_from_slice(out.alloc, bytes) {
+        Ok(table) => push_fault(out, &table, fault),
+        Err(error) => push_toml(out, bytes, &error),
+    }
+}
+
 /// Where the application's bytes are refused for this fault, in a few lines of plain words; none where there is nothing to say.
 ///
 /// The fault is one that `read_app` gave for these bytes. For another one the lines say less, or nothing.
@@ -111,14 +121,6 @@ pub fn is_unknown_word(fault: &ReadFault) -> bool {
 /// Its error is that an allocation was refused.
 pub fn place_of_app(alloc: Global, bytes: &[u8], fault: &ReadFault) -> Result<Place, AllocError> {
     let mut out = Lines::new(alloc);
-    if matches!(fault, ReadFault::TooLong) {
-        write!(out.open, "the file has over {MOST_BYTES} bytes")?;
-        out.end()?;
-    } else {
-        match toml::table_from_slice(alloc, bytes) {
-            Ok(table) => push_fault(&mut out, &table, fault)?,
-            Err(error) => push_toml(&mut out, bytes, &error)?,
-        }
-    }
+    push_place(&mut out, bytes, fault);
     out.place()
 }

@@ -1,8 +1,8 @@
 // Where the lines of code stand in an application's text.
-use crate::table::{entries_at, lines_of};
+use crate::table::{code_of, entries_at};
 use fr_reader::Key;
 use std::alloc::{AllocError, Global};
-use toml::Value;
+use toml::{Table, Value};
 use toml_parser::text::skip_blank;
 use toml_parser::{ParseError, quoted, starts_string};
 
@@ -40,7 +40,13 @@ fn begins(byte: u8) -> bool {
 
 /// How many characters these bytes have.
 fn characters(bytes: &[u8]) -> usize {
-    bytes.iter().filter(|byte| begins(**byte)).count()
+    let mut count = 0usize;
+    for byte in bytes {
+        if begins(*byte) {
+            count = count.saturating_add(1);
+        }
+    }
+    count
 }
 
 /// How many quotes open the text that begins here.
@@ -71,7 +77,7 @@ impl<'a> Quotes<'a> {
 
     /// Goes on to the next text in quotes, outside comments, and gives whether there is one.
     fn find(&mut self) -> bool {
-        for _ in 0..=self.rest.len() {
+        for _ in 0..self.rest.len() {
             self.go_to(skip_blank(self.rest, true));
             if starts_string(self.rest) {
                 return true;
@@ -111,7 +117,7 @@ impl<'a> Quotes<'a> {
 
     /// The place of the next text in quotes that is this one.
     fn place_of(&mut self, alloc: Global, text: &str) -> Result<Option<CodePlace>, AllocError> {
-        for _ in 0..=self.rest.len() {
+        for _ in 0..self.rest.len() {
             match self.next(alloc)? {
                 Some(found) if found.text.as_str() == text => return Ok(Some(found.place)),
                 Some(_) => {}
@@ -129,14 +135,24 @@ fn places_of_actor(
     actor: &Value,
 ) -> Result<Vec<CodePlace>, AllocError> {
     let mut places = Vec::new(alloc);
-    let Some(table) = actor.as_table() else {
-        return Ok(places);
-    };
-    for line in lines_of(table) {
-        let place = quotes.place_of(alloc, line.as_str().unwrap_or(""))?;
-        if let Some(place) = place {
+    for line in code_of(actor) {
+        if let Some(place) = quotes.place_of(alloc, line.as_str().unwrap_or(""))? {
             places.push(place)?;
         }
+    }
+    Ok(places)
+}
+
+/// The same of each actor in the table of this text.
+fn places_in(alloc: Global, text: &str, whole: &Table) -> Result<Vec<Vec<CodePlace>>, AllocError> {
+    let mut quotes = Quotes {
+        rest: text,
+        line: 1,
+        column: 1,
+    };
+    let mut places = Vec::new(alloc);
+    for actor in entries_at(whole, Key::Actor) {
+        places.push(places_of_actor(alloc, &mut quotes, actor)?)?;
     }
     Ok(places)
 }
@@ -144,10 +160,17 @@ fn places_of_actor(
 /// The lines of one actor's code.
 fn lines_of_actor(alloc: Global, actor: &Value) -> Result<Vec<String>, AllocError> {
     let mut lines = Vec::new(alloc);
-    if let Some(table) = actor.as_table() {
-        for line in lines_of(table) {
-            lines.push(String::from_str(alloc, line.as_str().unwrap_or(""))?)?;
-        }
+    for line in code_of(actor) {
+        lines.push(String::from_str(alloc, line.as_str().unwrap_or(""))?)?;
+    }
+    Ok(lines)
+}
+
+/// The same of each actor in this table.
+fn lines_in(alloc: Global, whole: &Table) -> Result<Vec<Vec<String>>, AllocError> {
+    let mut lines = Vec::new(alloc);
+    for actor in entries_at(whole, Key::Actor) {
+        lines.push(lines_of_actor(alloc, actor)?)?;
     }
     Ok(lines)
 }
@@ -160,24 +183,11 @@ fn lines_of_actor(alloc: Global, actor: &Value) -> Result<Vec<String>, AllocErro
 ///
 /// Its error is that an allocation was refused.
 pub fn places_of_code(alloc: Global, bytes: &[u8]) -> Result<Vec<Vec<CodePlace>>, AllocError> {
-    let mut places = Vec::new(alloc);
-    let table = match toml::table_from_slice(alloc, bytes) {
-        Ok(table) => table,
-        Err(error) if error.is_memory() => return Err(AllocError),
-        Err(_) => return Ok(places),
-    };
-    let Ok(text) = str::from_utf8(bytes) else {
-        return Ok(places);
-    };
-    let mut quotes = Quotes {
-        rest: text,
-        line: 1,
-        column: 1,
-    };
-    for actor in entries_at(&table, Key::Actor) {
-        places.push(places_of_actor(alloc, &mut quotes, actor)?)?;
+    match toml::table_from_slice(alloc, bytes) {
+        Ok(table) => places_in(alloc, str::from_utf8(bytes).unwrap_or(""), &table),
+        Err(error) if error.is_memory() => Err(AllocError),
+        Err(_) => Ok(Vec::new(alloc)),
     }
-    Ok(places)
 }
 
 /// The lines of code as they stand in the text of an application that isn't refused: for each actor, in order, each of its lines. Of a text
@@ -185,14 +195,9 @@ pub fn places_of_code(alloc: Global, bytes: &[u8]) -> Result<Vec<Vec<CodePlace>>
 ///
 /// Its error is that an allocation was refused.
 pub fn lines_of_code(alloc: Global, bytes: &[u8]) -> Result<Vec<Vec<String>>, AllocError> {
-    let mut lines = Vec::new(alloc);
-    let table = match toml::table_from_slice(alloc, bytes) {
-        Ok(table) => table,
-        Err(error) if error.is_memory() => return Err(AllocError),
-        Err(_) => return Ok(lines),
-    };
-    for actor in entries_at(&table, Key::Actor) {
-        lines.push(lines_of_actor(alloc, actor)?)?;
+    match toml::table_from_slice(alloc, bytes) {
+        Ok(table) => lines_in(alloc, &table),
+        Err(error) if error.is_memory() => Err(AllocError),
+        Err(_) => Ok(Vec::new(alloc)),
     }
-    Ok(lines)
 }

@@ -1,17 +1,13 @@
 // The names that an application's text declares, for reading its lines.
-use crate::table::{entries_at, text_at};
+use crate::table::{entries_at, name_in};
 use fr_program::{Actor, ActorKind, App, BuildFault, Instr, Kind, Object, Parts, Variable};
 use fr_reader::Key;
 use std::alloc::{AllocError, Global};
 use toml::{Table, Value};
 
 /// The name that a table gives, and no text where it gives none.
-fn name_in(alloc: Global, value: &Value) -> Result<String, AllocError> {
-    let name = match value.as_table() {
-        Some(table) => text_at(table, Key::Name).unwrap_or(""),
-        None => "",
-    };
-    String::from_str(alloc, name)
+fn owned_name(alloc: Global, value: &Value) -> Result<String, AllocError> {
+    String::from_str(alloc, name_in(value).unwrap_or(""))
 }
 
 /// The variables, each with no number but 0.
@@ -19,7 +15,7 @@ fn variables_in(alloc: Global, whole: &Table) -> Result<Vec<Variable>, AllocErro
     let mut variables = Vec::new(alloc);
     for value in entries_at(whole, Key::Variable) {
         variables.push(Variable {
-            name: name_in(alloc, value)?,
+            name: owned_name(alloc, value)?,
             lo: 0,
             hi: 0,
             init: 0,
@@ -34,7 +30,7 @@ fn objects_in(alloc: Global, whole: &Table) -> Result<Vec<Object>, AllocError> {
     let mut objects = Vec::new(alloc);
     for value in entries_at(whole, Key::Object) {
         objects.push(Object {
-            name: name_in(alloc, value)?,
+            name: owned_name(alloc, value)?,
             kind: Kind::Binary,
             live: false,
         })?;
@@ -42,15 +38,20 @@ fn objects_in(alloc: Global, whole: &Table) -> Result<Vec<Object>, AllocError> {
     Ok(objects)
 }
 
+/// An actor with this name and nothing to do.
+fn idle_actor(alloc: Global, name: String) -> Result<Actor, AllocError> {
+    Ok(Actor {
+        name,
+        kind: ActorKind::Task,
+        code: Vec::from_slice(alloc, &[Instr::Return])?,
+    })
+}
+
 /// The actors, each with nothing to do.
 fn actors_in(alloc: Global, whole: &Table) -> Result<Vec<Actor>, AllocError> {
     let mut actors = Vec::new(alloc);
     for value in entries_at(whole, Key::Actor) {
-        actors.push(Actor {
-            name: name_in(alloc, value)?,
-            kind: ActorKind::Task,
-            code: vec![in alloc; Instr::Return]?,
-        })?;
+        actors.push(idle_actor(alloc, owned_name(alloc, value)?)?)?;
     }
     Ok(actors)
 }

@@ -1,12 +1,12 @@
 // What is wrong with a table of an application's text.
 use crate::lines::Lines;
 use crate::nearness::push_nearest;
-use crate::shown::{listed, push_quoted};
+use crate::shown::{push_listed, push_quoted};
 use crate::table::{
-    entries_at, entry_at, lines_of, names_at, push_table, push_value, table_named, text_at,
+    entries_at, entry_at, has_name, lines_of, names_at, push_table, push_value, table_named,
+    text_or_none,
 };
 use fr_reader::{Key, TableName};
-use std::alloc::{AllocError, Global};
 use toml::{Table, Value};
 
 /// The kinds of objects, as the text has them.
@@ -39,7 +39,7 @@ fn keys_of(whole: &Table, name: TableName) -> &'static [&'static str] {
         TableName::Whole => &["variable", "object", "actor"],
         TableName::Variable(_) => &["name", "lo", "hi", "init", "owner"],
         TableName::Object(index) => match entry_at(whole, Key::Object, index) {
-            Some(object) => keys_of_kind(text_at(object, Key::Kind).unwrap_or("")),
+            Some(object) => keys_of_kind(text_or_none(object, Key::Kind)),
             None => &[],
         },
         TableName::Actor(_) => &["name", "kind", "code"],
@@ -61,20 +61,19 @@ fn wanted_at(name: TableName, key: Key) -> &'static str {
     }
 }
 
+/// Appends the nearest of the actors' names, and ends the line.
+fn push_nearest_actor(out: &mut Lines, whole: &Table, word: &str) {
+    match names_at(out.alloc, whole, Key::Actor) {
+        Ok(actors) => push_nearest(out, word, &actors),
+        Err(_) => out.refuse(),
+    }
+}
+
 /// Appends the nearest of the words of which one has to be at the key of a table, if there are such words, and ends
 /// the line.
-fn push_nearest_word(
-    out: &mut Lines,
-    whole: &Table,
-    name: TableName,
-    key: Key,
-    word: &str,
-) -> Result<(), AllocError> {
+fn push_nearest_word(out: &mut Lines, whole: &Table, name: TableName, key: Key, word: &str) {
     match (key, name) {
-        (Key::Owner, _) => {
-            let actors = names_at(out.alloc, whole, Key::Actor)?;
-            push_nearest(out, word, &actors)
-        }
+        (Key::Owner, _) => push_nearest_actor(out, whole, word),
         (Key::Kind, TableName::Actor(_)) => push_nearest(out, word, &ACTOR_KINDS),
         (Key::Kind, _) => push_nearest(out, word, &OBJECT_KINDS),
         _ => out.end(),
@@ -82,96 +81,81 @@ fn push_nearest_word(
 }
 
 /// Appends that the table lacks the key.
-pub(crate) fn push_missing(
-    out: &mut Lines,
-    whole: &Table,
-    name: TableName,
-    key: Key,
-) -> Result<(), AllocError> {
-    push_table(out, whole, name)?;
-    let (key, wanted) = (key.text(), wanted_at(name, key));
-    write!(out.open, ": {key} is missing; it is {wanted}")?;
-    out.end()
+pub(crate) fn push_missing(out: &mut Lines, whole: &Table, name: TableName, key: Key) {
+    push_table(out, whole, name);
+    out.say_all(&[
+        ": ",
+        key.text(),
+        " is missing; it is ",
+        wanted_at(name, key),
+    ]);
 }
 
 /// The value in an actor's code that is no text.
 fn line_that_is_none(code: &[Value]) -> Option<(usize, &Value)> {
-    code.iter()
-        .enumerate()
-        .find(|(_, line)| line.as_str().is_none())
+    for (index, line) in code.iter().enumerate() {
+        if line.as_str().is_none() {
+            return Some((index, line));
+        }
+    }
+    None
 }
 
 /// Appends the value at the key of the table, or the entry of code that is no text.
-fn push_found(out: &mut Lines, table: &Table, key: Key) -> Result<(), AllocError> {
-    let text = key.text();
-    match (line_that_is_none(lines_of(table)), table.get(text)) {
-        (Some((index, value)), _) if matches!(key, Key::Code) => {
-            write!(out.open, ": entry {index} of {text} is ")?;
-            push_value(out, value)
-        }
-        (_, Some(value)) => {
-            write!(out.open, ": {text} = ")?;
-            push_value(out, value)
-        }
-        _ => Ok(()),
+fn push_found(out: &mut Lines, table: &Table, key: Key) {
+    if matches!(key, Key::Code)
+        && let Some((index, value)) = line_that_is_none(lines_of(table))
+    {
+        out.numbers(&[(": entry ", index as i128)]);
+        out.texts(&[" of ", key.text(), " is "]);
+        push_value(out, value);
+    } else if let Some(value) = table.get(key.text()) {
+        out.texts(&[": ", key.text(), " = "]);
+        push_value(out, value);
     }
 }
 
 /// Appends that the table has a wrong value at the key, and what it has to be.
-pub(crate) fn push_wrong_type(
-    out: &mut Lines,
-    whole: &Table,
-    name: TableName,
-    key: Key,
-) -> Result<(), AllocError> {
-    push_table(out, whole, name)?;
+pub(crate) fn push_wrong_type(out: &mut Lines, whole: &Table, name: TableName, key: Key) {
+    push_table(out, whole, name);
     let wanted = wanted_at(name, key);
     let Some(table) = table_named(whole, name) else {
-        write!(out.open, ": it has to be {wanted}")?;
-        return out.end();
+        return out.say_all(&[": it has to be ", wanted]);
     };
-    push_found(out, table, key)?;
-    write!(out.open, "; it has to be {wanted}")?;
-    let word = text_at(table, key).unwrap_or("");
-    push_nearest_word(out, whole, name, key, word)
+    push_found(out, table, key);
+    out.texts(&["; it has to be ", wanted]);
+    push_nearest_word(out, whole, name, key, text_or_none(table, key));
 }
 
 /// Appends that the table has a key that is none there.
-pub(crate) fn push_unknown_key(
-    out: &mut Lines,
-    whole: &Table,
-    name: TableName,
-    key: &str,
-) -> Result<(), AllocError> {
-    push_table(out, whole, name)?;
-    out.open.push_str(": ")?;
-    push_quoted(out, key)?;
-    out.open.push_str(" is none of its keys")?;
+pub(crate) fn push_unknown_key(out: &mut Lines, whole: &Table, name: TableName, key: &str) {
+    push_table(out, whole, name);
+    out.text(": ");
+    push_quoted(out, key);
+    out.text(" is none of its keys");
     let keys = keys_of(whole, name);
-    push_nearest(out, key, keys)?;
-    let listed = listed(out.alloc, keys)?;
-    write!(out.open, "its keys: {listed}")?;
-    out.end()
+    push_nearest(out, key, keys);
+    out.text("its keys: ");
+    push_listed(out, keys);
+    out.end();
 }
 
 /// Appends each table of a list that has the name.
-fn push_holders(out: &mut Lines, whole: &Table, key: Key, name: &str) -> Result<(), AllocError> {
-    let list = key.text();
+fn push_holders(out: &mut Lines, whole: &Table, key: Key, name: &str) {
     for (index, value) in entries_at(whole, key).iter().enumerate() {
-        if let Some(table) = value.as_table()
-            && text_at(table, Key::Name) == Some(name)
-        {
-            write!(out.open, "{list} {index} has the name ")?;
-            push_quoted(out, name)?;
-            out.end()?;
+        if has_name(value, name) {
+            out.text(key.text());
+            out.numbers(&[(" ", index as i128)]);
+            out.text(" has the name ");
+            push_quoted(out, name);
+            out.end();
         }
     }
-    Ok(())
 }
 
 /// Appends each table that has the name.
-pub(crate) fn push_named(out: &mut Lines, whole: &Table, name: &str) -> Result<(), AllocError> {
-    push_holders(out, whole, Key::Variable, name)?;
-    push_holders(out, whole, Key::Object, name)?;
-    push_holders(out, whole, Key::Actor, name)
+pub(crate) fn push_named(out: &mut Lines, whole: &Table, name: &str) {
+    push_holders(out, whole, Key::Variable, name);
+    push_holders(out, whole, Key::Object, name);
+    push_holders(out, whole, Key::Actor, name);
 }

@@ -26,6 +26,7 @@ mod shown;
 mod source;
 mod swap;
 mod table;
+mod words;
 
 pub use app::{is_unknown_word, place_of_app};
 pub use certificate::place_of_certificate;

@@ -1,7 +1,7 @@
 // A line of code that can't be read: where it goes wrong, and what is wrong there.
-use crate::calls::{arguments_of, call_names};
+use crate::calls::{CALLS, arguments_of};
 use crate::lines::Lines;
-use crate::nearness::push_nearest;
+use crate::nearness::{push_nearest, push_nearest_name};
 use crate::piece::{Piece, pieces_of};
 use crate::position::push_marked;
 use crate::recipe::recipe_for;
@@ -9,7 +9,7 @@ use crate::scope::{Scope, Thing};
 use crate::shown::push_start;
 use fr_instr::LineFault;
 use fr_program::is_name;
-use std::alloc::AllocError;
+use std::alloc::{AllocError, Global};
 
 /// The most bytes of a line that is looked into.
 const MOST_BYTES: usize = 512;
@@ -51,13 +51,28 @@ static ENDINGS: [&str; 30] = [
     " v, 0)",
 ];
 
-/// Whether some line begins with these bytes, names and numbers aside.
-fn begins_a_line(scope: &Scope, front: &[u8]) -> Result<bool, AllocError> {
+/// The line with the text in place of the bytes from `start` to `end`.
+fn replaced(
+    alloc: Global,
+    line: &[u8],
+    start: usize,
+    end: usize,
+    text: &[u8],
+) -> Result<Vec<u8>, AllocError> {
+    let (front, _) = line.split_at(start.min(line.len()));
+    let (_, back) = line.split_at(end.min(line.len()));
+    let mut changed = Vec::from_slice(alloc, front)?;
+    changed.extend_from_slice(text)?;
+    changed.extend_from_slice(back)?;
+    Ok(changed)
+}
+
+/// Whether some line begins with the bytes of this one up to `end`, names and numbers aside.
+fn begins_a_line(scope: &Scope, line: &[u8], end: usize) -> Result<bool, AllocError> {
     for ending in &ENDINGS {
-        let mut line = Vec::from_slice(scope.alloc, front)?;
-        line.extend_from_slice(ending.as_bytes())?;
-        match scope.read(&line)? {
-            Err(LineFault::Syntax | LineFault::ArgCount) => {}
+        let changed = replaced(scope.alloc, line, end, line.len(), ending.as_bytes())?;
+        match scope.fault_in(&changed)? {
+            Some(LineFault::Syntax | LineFault::ArgCount) => {}
             _ => return Ok(true),
         }
     }
@@ -65,14 +80,17 @@ fn begins_a_line(scope: &Scope, front: &[u8]) -> Result<bool, AllocError> {
 }
 
 /// The number of the first piece with which no line can go on, or how many there are.
-fn first_unfit(scope: &Scope, line: &[u8], pieces: &[Piece<'_>]) -> Result<usize, AllocError> {
+fn first_unfit(
+    scope: &Scope,
+    line: &[u8],
+    pieces: &[Piece<'_>],
+) -> Result<Option<usize>, AllocError> {
     for (index, piece) in pieces.iter().enumerate() {
-        let (front, _) = line.split_at(piece.end.min(line.len()));
-        if !begins_a_line(scope, front)? {
-            return Ok(index);
+        if !begins_a_line(scope, line, piece.end)? {
+            return Ok(Some(index));
         }
     }
-    Ok(pieces.len())
+    Ok(Some(pieces.len()))
 }
 
 /// Whether the piece with this number is this sign.
@@ -153,16 +171,6 @@ fn call_with_recipe(pieces: &[Piece<'_>]) -> Option<usize> {
     None
 }
 
-/// The line with 1 in place of the piece.
-fn with_one(scope: &Scope, line: &[u8], piece: Piece<'_>) -> Result<Vec<u8>, AllocError> {
-    let (front, _) = line.split_at(piece.start.min(line.len()));
-    let (_, back) = line.split_at(piece.end.min(line.len()));
-    let mut changed = Vec::from_slice(scope.alloc, front)?;
-    changed.push(b'1')?;
-    changed.extend_from_slice(back)?;
-    Ok(changed)
-}
-
 /// The number of the first piece that is a number, where the line with 1 in its place has no bad number.
 fn bad_number(
     scope: &Scope,
@@ -171,8 +179,8 @@ fn bad_number(
 ) -> Result<Option<usize>, AllocError> {
     for (index, piece) in pieces.iter().enumerate() {
         if piece.is_number() {
-            let read = scope.read(&with_one(scope, line, *piece)?)?;
-            if !matches!(read, Err(LineFault::BadNumber)) {
+            let changed = replaced(scope.alloc, line, piece.start, piece.end, b"1")?;
+            if !matches!(scope.fault_in(&changed)?, Some(LineFault::BadNumber)) {
                 return Ok(Some(index));
             }
         }
@@ -193,7 +201,7 @@ fn piece_at_fault(
     }
     match fault {
         LineFault::Memory => Ok(None),
-        LineFault::Syntax => Ok(Some(first_unfit(scope, line, pieces)?)),
+        LineFault::Syntax => first_unfit(scope, line, pieces),
         LineFault::UnknownName => Ok(unknown_name(scope, pieces)),
         LineFault::UnknownCall | LineFault::ArgCount => Ok(called(pieces)),
         LineFault::BadNumber => bad_number(scope, line, pieces),
@@ -201,52 +209,81 @@ fn piece_at_fault(
 }
 
 /// Appends what is wrong with a name: what else it names, or which name is nearest.
-fn push_unknown_name(
-    scope: &Scope,
-    out: &mut Lines,
-    word: &str,
-    wanted: Thing,
-) -> Result<(), AllocError> {
-    let (kind, one) = (wanted.text(), wanted.one());
+fn push_unknown_name(scope: &Scope, out: &mut Lines, word: &str, wanted: Thing) {
     match scope.thing_named(word) {
         Some(thing) => {
-            let other = thing.one();
-            write!(out.open, "{word} is {other}, and {one} is wanted here")?;
-            out.end()
+            out.text(word);
+            out.texts(&[" is ", thing.one(), ", and "]);
+            out.say_all(&[wanted.one(), " is wanted here"]);
         }
         None => {
-            write!(out.open, "no {kind} has the name {word}")?;
-            push_nearest(out, word, &scope.names_of(wanted)?)
+            out.texts(&["no ", wanted.text(), " has the name "]);
+            out.text(word);
+            push_nearest_name(scope, out, word, wanted);
         }
     }
+}
+
+/// How many commas there are.
+fn commas(pieces: &[Piece<'_>]) -> usize {
+    let mut count = 0usize;
+    for piece in pieces {
+        if piece.is(b',') {
+            count = count.saturating_add(1);
+        }
+    }
+    count
 }
 
 /// How many arguments are between the brackets behind the call with this number.
 fn arguments_given(pieces: &[Piece<'_>], index: usize) -> usize {
-    let commas = pieces.iter().filter(|piece| piece.is(b',')).count();
     if is_sign_at(pieces, index.saturating_add(2), b')') {
         0
     } else {
-        commas.saturating_add(1)
+        commas(pieces).saturating_add(1)
     }
 }
 
 /// Appends how many arguments a call has, and how many it is given.
-fn push_arguments(
+fn push_arguments(out: &mut Lines, word: &str, given: usize) {
+    if let Some(wanted) = arguments_of(word) {
+        out.texts(&["arguments of ", word]);
+        out.numbers(&[(": ", wanted as i128), (" wanted, ", given as i128)]);
+        out.say(" given");
+    }
+}
+
+/// Appends why the number is a bad one.
+fn push_bad_number(out: &mut Lines, number: &[u8]) {
+    out.say(if has_leading_zero(number) {
+        "a number has no leading zero, and 0 no sign"
+    } else {
+        "this number is out of the limits of its place"
+    });
+}
+
+/// Appends what is wrong with this piece, which has this number.
+fn push_fault(
     scope: &Scope,
     out: &mut Lines,
-    word: &str,
-    given: usize,
-) -> Result<(), AllocError> {
-    match arguments_of(scope, word)? {
-        Some(wanted) => {
-            write!(
-                out.open,
-                "arguments of {word}: {wanted} wanted, {given} given"
-            )?;
-            out.end()
+    pieces: &[Piece<'_>],
+    index: usize,
+    piece: Piece<'_>,
+    fault: LineFault,
+) {
+    let word = piece.word();
+    match fault {
+        LineFault::Memory => {}
+        LineFault::Syntax => out.say("this doesn't fit here"),
+        LineFault::UnknownName => if let Some(wanted) = thing_wanted(pieces, index, piece) {
+            push_unknown_name(scope, out, word, wanted);
+        },
+        LineFault::UnknownCall => {
+            out.texts(&["no call has the name ", word]);
+            push_nearest(out, word, &CALLS);
         }
-        None => Ok(()),
+        LineFault::ArgCount => push_arguments(out, word, arguments_given(pieces, index)),
+        LineFault::BadNumber => push_bad_number(out, piece.text),
     }
 }
 
@@ -257,31 +294,16 @@ fn push_reason(
     pieces: &[Piece<'_>],
     index: usize,
     fault: LineFault,
-) -> Result<(), AllocError> {
+) {
     let Some(piece) = pieces.get(index) else {
         return out.say("the line ends too soon");
     };
-    let word = piece.word();
-    if let Some(instead) = recipe_of(pieces, index, *piece) {
-        write!(out.open, "no line has {word}: {instead}")?;
-        return out.end();
-    }
-    match fault {
-        LineFault::Memory => Ok(()),
-        LineFault::Syntax => out.say("this doesn't fit here"),
-        LineFault::UnknownName => match thing_wanted(pieces, index, *piece) {
-            Some(wanted) => push_unknown_name(scope, out, word, wanted),
-            None => Ok(()),
-        },
-        LineFault::UnknownCall => {
-            write!(out.open, "no call has the name {word}")?;
-            push_nearest(out, word, &call_names(scope)?)
+    match recipe_of(pieces, index, *piece) {
+        Some(instead) => {
+            out.texts(&["no line has ", piece.word(), ": "]);
+            out.say(instead);
         }
-        LineFault::ArgCount => push_arguments(scope, out, word, arguments_given(pieces, index)),
-        LineFault::BadNumber if has_leading_zero(piece.text) => out.say(
-            "a number has no leading zero, and 0 no sign",
-        ),
-        LineFault::BadNumber => out.say("this number is out of the limits of its place"),
+        None => push_fault(scope, out, pieces, index, *piece, fault),
     }
 }
 
@@ -294,31 +316,46 @@ fn has_leading_zero(number: &[u8]) -> bool {
     }
 }
 
-/// Appends the line with a mark under what is at fault, and what is wrong there.
-pub(crate) fn push_line(
+/// The place in the line where the piece with this number begins, or the line's end.
+fn start_of(line: &[u8], pieces: &[Piece<'_>], index: usize) -> usize {
+    match pieces.get(index) {
+        Some(piece) => piece.start,
+        None => line.len(),
+    }
+}
+
+/// Appends the line of these pieces with a mark under what is at fault, and what is wrong there.
+fn push_pieces(
     scope: &Scope,
     out: &mut Lines,
     line: &[u8],
+    pieces: &[Piece<'_>],
     fault: LineFault,
-) -> Result<(), AllocError> {
+) {
+    match piece_at_fault(scope, line, pieces, fault) {
+        Ok(Some(index)) => {
+            let (before, behind) = line.split_at(start_of(line, pieces, index).min(line.len()));
+            push_marked(out, before, behind);
+            push_reason(scope, out, pieces, index, fault);
+        }
+        Ok(None) => push_plain(out, line),
+        Err(_) => out.refuse(),
+    }
+}
+
+/// Appends the line with a mark under what is at fault, and what is wrong there.
+pub(crate) fn push_line(scope: &Scope, out: &mut Lines, line: &[u8], fault: LineFault) {
     if line.len() > MOST_BYTES {
         return push_plain(out, line);
     }
-    let pieces = pieces_of(scope.alloc, line)?;
-    let Some(index) = piece_at_fault(scope, line, &pieces, fault)? else {
-        return push_plain(out, line);
-    };
-    let at = match pieces.get(index) {
-        Some(piece) => piece.start,
-        None => line.len(),
-    };
-    let (before, behind) = line.split_at(at.min(line.len()));
-    push_marked(out, before, behind)?;
-    push_reason(scope, out, &pieces, index, fault)
+    match pieces_of(scope.alloc, line) {
+        Ok(pieces) => push_pieces(scope, out, line, &pieces, fault),
+        Err(_) => out.refuse(),
+    }
 }
 
 /// Appends the start of the line.
-pub(crate) fn push_plain(out: &mut Lines, line: &[u8]) -> Result<(), AllocError> {
-    push_start(out, line)?;
-    out.end()
+pub(crate) fn push_plain(out: &mut Lines, line: &[u8]) {
+    push_start(out, line);
+    out.end();
 }

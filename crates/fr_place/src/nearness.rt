@@ -3,6 +3,7 @@ ghost use Rattle.std.specs.Prelude.{◌≤◌, ◌<◌, All, IfNone, IfOk, IfSom
 ghost use Rattle.fr_place.specs.Told.{IsNearest, edits, too_many};
 
 use crate::lines::Lines;
+use crate::scope::{Scope, Thing};
 use std::alloc::{AllocError, Global};
 use strsim::levenshtein;
 
@@ -42,10 +43,18 @@ pub fn nearest<'a>(
 }
 
 /// Appends that the name is nearest, if there is one, and ends the line.
-pub(crate) fn push_nearest(out: &mut Lines, word: &str, names: &[&str]) -> Result<(), AllocError> {
-    if let Some(name) = nearest(out.alloc, word, names)? {
-        out.open.push_str("; the nearest is ")?;
-        out.open.push_str(name)?;
+pub(crate) fn push_nearest(out: &mut Lines, word: &str, names: &[&str]) {
+    match nearest(out.alloc, word, names) {
+        Ok(Some(name)) => out.say_all(&["; the nearest is ", name]),
+        Ok(None) => out.end(),
+        Err(_) => out.refuse(),
     }
-    out.end()
+}
+
+/// Appends the name of a thing of this sort that is nearest, and ends the line.
+pub(crate) fn push_nearest_name(scope: &Scope, out: &mut Lines, word: &str, wanted: Thing) {
+    match scope.names_of(wanted) {
+        Ok(names) => push_nearest(out, word, &names),
+        Err(_) => out.refuse(),
+    }
 }

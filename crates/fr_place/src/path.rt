@@ -4,57 +4,57 @@ use crate::shown::push_start;
 use fr_cert::Step;
 use fr_program::{App, Side};
 use serde_json::Value;
-use std::alloc::AllocError;
 
-/// Appends the actor, the line and the side of the point with this number, if there is one.
-pub(crate) fn push_point(out: &mut Lines, app: &App, number: usize) -> Result<(), AllocError> {
-    if number >= app.points() {
-        return Ok(());
-    }
-    let point = app.point(number);
-    let Some(actor) = app.actors().get(point.actor.0) else {
-        return Ok(());
-    };
-    let (name, pc) = (actor.name.as_str(), point.pc);
-    match point.side {
-        Side::Before => write!(out.open, " ({name} {pc} before)"),
-        Side::Inside => write!(out.open, " ({name} {pc} inside)"),
+/// The word for a side of a point.
+fn side_text(side: Side) -> &'static str {
+    match side {
+        Side::Before => " before)",
+        Side::Inside => " inside)",
     }
 }
 
-/// Whether the step leads to the value at this key.
-fn is_key(step: &Step, name: &str) -> bool {
-    match step {
-        Step::Key(key) => key.as_str() == name,
-        Step::At(_) => false,
+/// Appends the actor, the line and the side of the point with this number, if there is one.
+fn push_point(out: &mut Lines, app: &App, number: usize) {
+    if number >= app.points() {
+        return;
+    }
+    let point = app.point(number);
+    if let Some(actor) = app.actors().get(point.actor.0) {
+        out.texts(&[" (", actor.name.as_str()]);
+        out.numbers(&[(" ", point.pc as i128)]);
+        out.text(side_text(point.side));
     }
 }
 
 /// Whether the steps lead to the notes, or into them.
 fn is_in_notes(steps: &[Step]) -> bool {
     match steps.first() {
-        Some(first) => is_key(first, "notes"),
-        None => false,
+        Some(Step::Key(key)) => key.as_str() == "notes",
+        _ => false,
+    }
+}
+
+/// Appends a step, and behind the number of a note its point.
+fn push_step(out: &mut Lines, app: &App, step: &Step, is_note: bool) {
+    match step {
+        Step::Key(key) => push_start(out, key.as_bytes()),
+        Step::At(number) => {
+            out.numbers(&[("", *number as i128)]);
+            if is_note {
+                push_point(out, app, *number);
+            }
+        }
     }
 }
 
 /// Appends the steps with a `/` between two, and behind the number of a note its point.
-pub(crate) fn push_path(out: &mut Lines, app: &App, steps: &[Step]) -> Result<(), AllocError> {
+pub(crate) fn push_path(out: &mut Lines, app: &App, steps: &[Step]) {
     for (index, step) in steps.iter().enumerate() {
         if index > 0 {
-            out.open.push('/')?;
+            out.character('/');
         }
-        match step {
-            Step::Key(key) => push_start(out, key.as_bytes())?,
-            Step::At(number) => {
-                write!(out.open, "{number}")?;
-                if index == 1 && is_in_notes(steps) {
-                    push_point(out, app, *number)?;
-                }
-            }
-        }
+        push_step(out, app, step, index == 1 && is_in_notes(steps));
     }
-    Ok(())
 }
 
 /// The value to which the step leads.
@@ -82,29 +82,61 @@ pub(crate) fn key_of(step: &Step) -> Option<&str> {
     }
 }
 
+/// The first key among the steps.
+fn first_key(steps: &[Step]) -> Option<&str> {
+    for step in steps {
+        if let Step::Key(key) = step {
+            return Some(key.as_str());
+        }
+    }
+    None
+}
+
 /// The last key on the way.
 pub(crate) fn last_key(steps: &[Step]) -> Option<&str> {
-    steps.iter().rev().find_map(|step| key_of(step))
+    let mut last = None;
+    for step in steps {
+        if let Step::Key(key) = step {
+            last = Some(key.as_str());
+        }
+    }
+    last
 }
 
 /// The first key inside a note or the guard of an end.
 pub(crate) fn inner_key(steps: &[Step]) -> Option<&str> {
-    let (_, inner) = steps.split_first()?;
-    inner.iter().find_map(|step| key_of(step))
+    match steps.split_first() {
+        Some((_, inner)) => first_key(inner),
+        None => None,
+    }
+}
+
+/// Whether the steps lead to the guard of an end.
+pub(crate) fn is_guard(steps: &[Step]) -> bool {
+    inner_key(steps) == Some("guard") && last_key(steps) == Some("guard")
+}
+
+/// The keys of an end, or of its guard, to which these steps lead.
+fn keys_of_end(steps: &[Step]) -> &'static [&'static str] {
+    if is_guard(steps) {
+        &["sole", "mutex", "turn", "values"]
+    } else if inner_key(steps).is_none() {
+        &["buffer", "end", "guard"]
+    } else {
+        &[]
+    }
 }
 
 /// The keys that the object has to which these steps lead, where it has keys of its own.
 pub(crate) fn keys_behind(steps: &[Step]) -> &'static [&'static str] {
-    let top = match steps.first() {
-        Some(first) => key_of(first),
-        None => return &["version", "ends", "notes"],
+    let Some(first) = steps.first() else {
+        return &["version", "ends", "notes"];
     };
-    match (top, inner_key(steps)) {
-        (Some("ends"), None) => &["buffer", "end", "guard"],
-        (Some("ends"), Some("guard")) if last_key(steps) == Some("guard") => {
-            &["sole", "mutex", "turn", "values"]
+    match key_of(first) {
+        Some("ends") => keys_of_end(steps),
+        Some("notes") if inner_key(steps).is_none() => {
+            &["held", "crit", "susp", "live", "dead", "range"]
         }
-        (Some("notes"), None) => &["held", "crit", "susp", "live", "dead", "range"],
         _ => &[],
     }
 }

@@ -46,10 +46,14 @@ fn is_inner(byte: u8) -> bool {
 
 /// How many bytes at the front can be inside a word.
 fn inner_length(text: &[u8]) -> usize {
-    match text.iter().position(|byte| !is_inner(*byte)) {
-        Some(length) => length,
-        None => text.len(),
+    let mut length = 0usize;
+    for byte in text {
+        if !is_inner(*byte) {
+            break;
+        }
+        length = length.saturating_add(1);
     }
+    length
 }
 
 /// How long the piece is that begins with this byte.

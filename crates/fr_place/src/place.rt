@@ -52,14 +52,21 @@ impl Place {
     }
 }
 
+/// The text as a line of a place, with what would steer a terminal written as in a literal.
+fn line_of(alloc: Global, text: &str) -> Result<String, AllocError>
+    ensures { IfOk result (λ line. IsPlaceLine (string_bytes line)) }
+{
+    let mut line = String::from_str(alloc, "  ")?;
+    push_plain(&mut line, text)?;
+    Ok(line)
+}
+
 /// The texts as the lines of a place, with what would steer a terminal written as in a literal. Its error is that an allocation was
 /// refused.
 pub fn place_of_texts(alloc: Global, texts: &[String]) -> Result<Place, AllocError> {
     let mut place = Place::new(alloc);
     for text in texts {
-        let mut line = String::from_str(alloc, "  ")?;
-        push_plain(&mut line, text)?;
-        place.add(line)?;
+        place.add(line_of(alloc, text)?)?;
     }
     Ok(place)
 }

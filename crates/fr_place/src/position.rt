@@ -1,7 +1,6 @@
 // Places in a text by line and column, and a line with a mark below it.
 use crate::lines::Lines;
 use crate::shown::{push_blanks, push_shown};
-use std::alloc::{AllocError, Global};
 
 /// The most bytes of a line that are shown before a mark.
 const MOST_BEFORE: usize = 60;
@@ -41,22 +40,28 @@ fn without_return(line: &[u8]) -> &[u8] {
     line.strip_suffix(b"\r").unwrap_or(line)
 }
 
+/// The line of the text that follows so many other ones, and no text where there is none.
+fn line_after(text: &[u8], lines: usize) -> &[u8] {
+    match text.split(|byte| is_newline(*byte)).nth(lines) {
+        Some(line) => line,
+        None => b"",
+    }
+}
+
 /// The place of the byte with this number, or the end of the text.
 pub(crate) fn position_at(text: &[u8], offset: usize) -> Position<'_> {
     let (front, back) = text.split_at(offset.min(text.len()));
-    let before = front.rsplit(|byte| is_newline(*byte)).next();
-    let behind = back.split(|byte| is_newline(*byte)).next();
+    let lines = lines_ended(front);
     Position {
-        line: lines_ended(front).saturating_add(1),
-        before: before.unwrap_or(front),
-        behind: without_return(behind.unwrap_or(back)),
+        line: lines.saturating_add(1),
+        before: line_after(front, lines),
+        behind: without_return(line_after(back, 0)),
     }
 }
 
 /// The place in this line, from 1, of the byte in this column, from 1.
 pub(crate) fn position_in(text: &[u8], line: usize, column: usize) -> Position<'_> {
-    let mut lines = text.split(|byte| is_newline(*byte));
-    let whole = lines.nth(line.saturating_sub(1)).unwrap_or(b"");
+    let whole = line_after(text, line.saturating_sub(1));
     let (before, behind) = whole.split_at(column.saturating_sub(1).min(whole.len()));
     Position {
         line,
@@ -66,19 +71,22 @@ pub(crate) fn position_in(text: &[u8], line: usize, column: usize) -> Position<'
 }
 
 /// Appends the line and the column of a place.
-pub(crate) fn push_position(out: &mut Lines, position: Position<'_>) -> Result<(), AllocError> {
-    let (line, column) = (position.line, position.before.len().saturating_add(1));
-    write!(out.open, "line {line}, column {column}")
+pub(crate) fn push_position(out: &mut Lines, position: Position<'_>) {
+    let column = position.before.len().saturating_add(1);
+    out.numbers(&[
+        ("line ", position.line as i128),
+        (", column ", column as i128),
+    ]);
 }
 
 /// Appends the line of a place and, below it, a mark under the place.
-pub(crate) fn push_marked(out: &mut Lines, before: &[u8], behind: &[u8]) -> Result<(), AllocError> {
+pub(crate) fn push_marked(out: &mut Lines, before: &[u8], behind: &[u8]) {
     let (_, before) = before.split_at(before.len().saturating_sub(MOST_BEFORE));
     let (behind, _) = behind.split_at(behind.len().min(MOST_BEHIND));
-    push_shown(out, before)?;
-    let blanks = out.open.len();
-    push_shown(out, behind)?;
-    out.end()?;
-    push_blanks(out, blanks)?;
-    out.say("^")
+    push_shown(out, before);
+    let blanks = out.width();
+    push_shown(out, behind);
+    out.end();
+    push_blanks(out, blanks);
+    out.say("^");
 }

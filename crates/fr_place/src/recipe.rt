@@ -61,11 +61,16 @@ fn recipe_among(recipes: &[Recipe], call: &str) -> Option<&'static str> {
 
 /// What to write in place of a call that no line has: where the recipe for it is; None where there is none.
 pub(crate) fn recipe_for(call: &str) -> Option<&'static str> {
-    recipe_among(&RECIPES, call).or(recipe_among(&LINE_RECIPES, call))
+    match recipe_among(&RECIPES, call) {
+        Some(instead) => Some(instead),
+        None => recipe_among(&LINE_RECIPES, call),
+    }
 }
 
 /// The same of a call that no source has, which begins at this column of a line of a source, from 1.
 pub fn recipe_at(line: &str, column: usize) -> Option<&'static str> {
-    let (_, after) = line.split_at_checked(column.checked_sub(1)?)?;
-    recipe_among(&RECIPES, after)
+    match line.split_at_checked(column.checked_sub(1)?) {
+        Some((_, after)) => recipe_among(&RECIPES, after),
+        None => None,
+    }
 }

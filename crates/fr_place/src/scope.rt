@@ -1,6 +1,6 @@
 // What lines and notes are read with: an application's names.
-use fr_instr::{Line, LineFault, Names, read_line};
-use fr_program::App;
+use fr_instr::{LineFault, Names, names_of, read_line};
+use fr_program::{App, Kind, Variable};
 use std::alloc::{AllocError, Global};
 
 /// What a name can be the name of.
@@ -31,23 +31,32 @@ impl Thing {
     }
 }
 
+/// What a name can be the name of, in order.
+static THINGS: [Thing; 3] = [Thing::Variable, Thing::Object, Thing::Actor];
+
 /// An application with its names.
-#[derive(Drop)]
+#[derive(Clone, Copy)]
 pub(crate) struct Scope<'a> {
     pub alloc: Global,
     pub app: &'a App,
     pub names: &'a Names,
 }
 
+/// The names of an application, in a box, since maps are expensive to prove wherever they are let go.
+pub(crate) fn boxed_names(alloc: Global, app: &App) -> Result<Box<Names>, AllocError> {
+    Ok(Box::new(alloc, names_of(alloc, app)?)?)
+}
+
 impl Scope<'_> {
-    /// The line that the text is, or why it is none.
-    pub(crate) fn read(&self, text: &[u8]) -> Result<Result<Line, LineFault>, AllocError> {
+    /// Why the text is no line; None where it is one.
+    pub(crate) fn fault_in(&self, text: &[u8]) -> Result<Option<LineFault>, AllocError> {
         let Ok(text) = std::str::from_utf8(text) else {
-            return Ok(Err(LineFault::Syntax));
+            return Ok(Some(LineFault::Syntax));
         };
         match read_line(self.alloc, text, self.names) {
+            Ok(_) => Ok(None),
             Err(LineFault::Memory) => Err(AllocError),
-            read => Ok(read),
+            Err(fault) => Ok(Some(fault)),
         }
     }
 
@@ -62,29 +71,49 @@ impl Scope<'_> {
 
     /// What the name is the name of.
     pub(crate) fn thing_named(&self, name: &str) -> Option<Thing> {
-        let things = [Thing::Variable, Thing::Object, Thing::Actor];
-        things.into_iter().find(|thing| self.has(*thing, name))
+        for thing in &THINGS {
+            if self.has(*thing, name) {
+                return Some(*thing);
+            }
+        }
+        None
+    }
+
+    /// The variable with this name.
+    pub(crate) fn variable_named(&self, name: &str) -> Option<&Variable> {
+        match self.names.variable(name) {
+            Some(variable) => self.app.variables().get(variable.0),
+            None => None,
+        }
+    }
+
+    /// The kind of the object with this name.
+    pub(crate) fn kind_named(&self, name: &str) -> Option<Kind> {
+        match self.names.object(name) {
+            Some(object) => Some(self.app.objects().get(object.0)?.kind),
+            None => None,
+        }
+    }
+
+    /// The name of the thing of this sort with this number.
+    fn name_of(&self, thing: Thing, index: usize) -> Option<&str> {
+        let name = match thing {
+            Thing::Variable => &self.app.variables().get(index)?.name,
+            Thing::Object => &self.app.objects().get(index)?.name,
+            Thing::Actor => &self.app.actors().get(index)?.name,
+        };
+        Some(name.as_str())
     }
 
     /// The names of the things of this sort, in order.
     pub(crate) fn names_of(&self, thing: Thing) -> Result<Vec<&str>, AllocError> {
-        let app = self.app;
-        match thing {
-            Thing::Variable => app
-                .variables()
-                .iter()
-                .map(|v| v.name.as_str())
-                .collect(self.alloc),
-            Thing::Object => app
-                .objects()
-                .iter()
-                .map(|o| o.name.as_str())
-                .collect(self.alloc),
-            Thing::Actor => app
-                .actors()
-                .iter()
-                .map(|a| a.name.as_str())
-                .collect(self.alloc),
+        let mut names = Vec::new(self.alloc);
+        for index in 0..usize::MAX {
+            match self.name_of(thing, index) {
+                Some(name) => names.push(name)?,
+                None => break,
+            }
         }
+        Ok(names)
     }
 }

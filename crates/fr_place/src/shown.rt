@@ -1,9 +1,11 @@
 // Text of a file as a terminal may have it.
 use crate::lines::Lines;
-use std::alloc::{AllocError, Global};
 
 /// How many bytes of a text are shown.
 const MOST_SHOWN: usize = 60;
+
+/// The digits of a byte that is shown by its number.
+const DIGITS: [u8; 16] = *b"0123456789abcdef";
 
 /// Whether the byte is printable ASCII.
 fn is_printable(byte: u8) -> bool {
@@ -11,56 +13,56 @@ fn is_printable(byte: u8) -> bool {
 }
 
 /// Appends the byte, by `\x` and its two digits where it isn't printable.
-fn push_byte(out: &mut Lines, byte: u8) -> Result<(), AllocError> {
+fn push_byte(out: &mut Lines, byte: u8) {
     if is_printable(byte) {
-        out.open.push(char::from(byte))
+        out.character(char::from(byte));
     } else {
-        write!(out.open, "\\x{byte:02x}")
+        out.text("\\x");
+        out.character(char::from(DIGITS[usize::from(byte / 16)]));
+        out.character(char::from(DIGITS[usize::from(byte % 16)]));
     }
 }
 
 /// Appends the bytes, each that isn't printable ASCII by its number.
-pub(crate) fn push_shown(out: &mut Lines, bytes: &[u8]) -> Result<(), AllocError> {
+pub(crate) fn push_shown(out: &mut Lines, bytes: &[u8]) {
     for byte in bytes {
-        push_byte(out, *byte)?;
+        push_byte(out, *byte);
     }
-    Ok(())
 }
 
 /// Appends the first bytes of a text, and two dots where there are more.
-pub(crate) fn push_start(out: &mut Lines, bytes: &[u8]) -> Result<(), AllocError> {
+pub(crate) fn push_start(out: &mut Lines, bytes: &[u8]) {
     match bytes.get(..MOST_SHOWN) {
         Some(first) => {
-            push_shown(out, first)?;
-            out.open.push_str(" ..")
+            push_shown(out, first);
+            out.text(" ..");
         }
         None => push_shown(out, bytes),
     }
 }
 
 /// Appends the text in quotes.
-pub(crate) fn push_quoted(out: &mut Lines, text: &str) -> Result<(), AllocError> {
-    out.open.push('"')?;
-    push_start(out, text.as_bytes())?;
-    out.open.push('"')
+pub(crate) fn push_quoted(out: &mut Lines, text: &str) {
+    out.character('"');
+    push_start(out, text.as_bytes());
+    out.character('"');
 }
 
 /// Appends so many blanks.
-pub(crate) fn push_blanks(out: &mut Lines, count: usize) -> Result<(), AllocError> {
+pub(crate) fn push_blanks(out: &mut Lines, count: usize) {
     for _ in 0..count {
-        out.open.push(' ')?;
+        out.character(' ');
     }
-    Ok(())
 }
 
-/// The texts with commas between them.
-pub(crate) fn listed(alloc: Global, texts: &[&str]) -> Result<String, AllocError> {
-    let mut out = String::new(alloc);
+/// Appends the texts with commas between them.
+pub(crate) fn push_listed(out: &mut Lines, texts: &[&str]) {
+    let mut between = "";
     for text in texts {
-        if !out.is_empty() {
-            out.push_str(", ")?;
+        out.text(between);
+        out.text(text);
+        if !text.is_empty() {
+            between = ", ";
         }
-        out.push_str(text)?;
     }
-    Ok(out)
 }

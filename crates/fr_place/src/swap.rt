@@ -5,10 +5,12 @@ use std::alloc::{AllocError, Global};
 
 /// The first byte that is no blank, and 0 where there is none.
 fn first_byte(text: &[u8]) -> u8 {
-    match text.iter().find(|byte| !byte.is_ascii_whitespace()) {
-        Some(byte) => *byte,
-        None => 0,
+    for byte in text {
+        if !byte.is_ascii_whitespace() {
+            return *byte;
+        }
     }
+    0
 }
 
 /// Whether the two files seem to be swapped: the application's begins as a certificate does, with `{`, and the
@@ -21,6 +23,6 @@ pub fn seem_swapped(app: &[u8], certificate: &[u8]) -> bool {
 /// What is said of two files that seem to be swapped. Its error is that an allocation was refused.
 pub fn place_of_swapped(alloc: Global) -> Result<Place, AllocError> {
     let mut out = Lines::new(alloc);
-    out.say("the two files seem to be swapped")?;
+    out.say("the two files seem to be swapped");
     out.place()
 }

@@ -15,17 +15,58 @@ pub(crate) fn entries_at(whole: &Table, key: Key) -> &[Value] {
 
 /// The table with this place in the list at this key.
 pub(crate) fn entry_at(whole: &Table, key: Key, index: usize) -> Option<&Table> {
-    entries_at(whole, key).get(index)?.as_table()
+    match entries_at(whole, key).get(index) {
+        Some(value) => value.as_table(),
+        None => None,
+    }
 }
 
 /// The text at this key.
 pub(crate) fn text_at(table: &Table, key: Key) -> Option<&str> {
-    table.get(key.text())?.as_str()
+    match table.get(key.text()) {
+        Some(value) => value.as_str(),
+        None => None,
+    }
+}
+
+/// The text at this key, and no text where there is none.
+pub(crate) fn text_or_none(table: &Table, key: Key) -> &str {
+    match text_at(table, key) {
+        Some(text) => text,
+        None => "",
+    }
+}
+
+/// The name that a table gives itself.
+pub(crate) fn name_in(value: &Value) -> Option<&str> {
+    match value.as_table() {
+        Some(table) => text_at(table, Key::Name),
+        None => None,
+    }
+}
+
+/// Whether a table gives itself this name.
+pub(crate) fn has_name(value: &Value, name: &str) -> bool {
+    match name_in(value) {
+        Some(own) => own == name,
+        None => false,
+    }
+}
+
+/// The name of the table with this place in the list at this key.
+pub(crate) fn name_at(whole: &Table, key: Key, index: usize) -> Option<&str> {
+    match entries_at(whole, key).get(index) {
+        Some(value) => name_in(value),
+        None => None,
+    }
 }
 
 /// The number at this key.
 pub(crate) fn number_at(table: &Table, key: Key) -> Option<i64> {
-    table.get(key.text())?.as_integer()
+    match table.get(key.text()) {
+        Some(value) => value.as_integer(),
+        None => None,
+    }
 }
 
 /// The lines of an actor's code.
@@ -33,9 +74,20 @@ pub(crate) fn lines_of(actor: &Table) -> &[Value] {
     entries_at(actor, Key::Code)
 }
 
+/// The same of a table, and none of another value.
+pub(crate) fn code_of(actor: &Value) -> &[Value] {
+    match actor.as_table() {
+        Some(table) => lines_of(table),
+        None => &[],
+    }
+}
+
 /// The text of the line with this number.
 pub(crate) fn line_at(actor: &Table, index: usize) -> Option<&str> {
-    lines_of(actor).get(index)?.as_str()
+    match lines_of(actor).get(index) {
+        Some(line) => line.as_str(),
+        None => None,
+    }
 }
 
 /// The list that has the table, and its place there.
@@ -56,36 +108,35 @@ pub(crate) fn table_named(whole: &Table, name: TableName) -> Option<&Table> {
     }
 }
 
-/// Appends the name of the table: its list, its place there from 0, and the name that it gives itself.
-pub(crate) fn push_table(
-    out: &mut Lines,
-    whole: &Table,
-    name: TableName,
-) -> Result<(), AllocError> {
-    let Some((key, index)) = entry_of(name) else {
-        return out.open.push_str("the file");
-    };
-    let list = key.text();
-    write!(out.open, "{list} {index} ")?;
-    match entry_at(whole, key, index) {
-        Some(table) => match text_at(table, Key::Name) {
-            Some(text) => push_quoted(out, text),
-            None => out.open.push_str("(counted from 0)"),
-        },
-        None => out.open.push_str("(counted from 0)"),
+/// Appends the name of a table: its list, its place there from 0, and the name that it gives itself.
+pub(crate) fn push_entry(out: &mut Lines, whole: &Table, key: Key, index: usize) {
+    out.text(key.text());
+    out.numbers(&[(" ", index as i128)]);
+    out.character(' ');
+    match name_at(whole, key, index) {
+        Some(name) => push_quoted(out, name),
+        None => out.text("(counted from 0)"),
+    }
+}
+
+/// The same of the table with this name, which may be the whole text.
+pub(crate) fn push_table(out: &mut Lines, whole: &Table, name: TableName) {
+    match entry_of(name) {
+        Some((key, index)) => push_entry(out, whole, key, index),
+        None => out.text("the file"),
     }
 }
 
 /// Appends a value: a text, a number or a truth value as it is written, else what it is.
-pub(crate) fn push_value(out: &mut Lines, value: &Value) -> Result<(), AllocError> {
+pub(crate) fn push_value(out: &mut Lines, value: &Value) {
     match value {
         Value::String(text) => push_quoted(out, text.as_str()),
-        Value::Array(_) => out.open.push_str("a list"),
-        Value::Table(_) => out.open.push_str("a table"),
-        _ => {
-            let text = format!(in out.alloc; "{value}")?;
-            push_start(out, text.as_bytes())
-        }
+        Value::Array(_) => out.text("a list"),
+        Value::Table(_) => out.text("a table"),
+        _ => match format!(in out.alloc; "{value}") {
+            Ok(text) => push_start(out, text.as_bytes()),
+            Err(_) => out.refuse(),
+        },
     }
 }
 
@@ -93,9 +144,7 @@ pub(crate) fn push_value(out: &mut Lines, value: &Value) -> Result<(), AllocErro
 pub(crate) fn names_at(alloc: Global, whole: &Table, key: Key) -> Result<Vec<&str>, AllocError> {
     let mut names = Vec::new(alloc);
     for value in entries_at(whole, key) {
-        if let Some(table) = value.as_table()
-            && let Some(name) = text_at(table, Key::Name)
-        {
+        if let Some(name) = name_in(value) {
             names.push(name)?;
         }
     }
