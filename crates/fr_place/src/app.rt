@@ -57,7 +57,7 @@ fn push_bad_line(out: &mut Lines, whole: &Table, actor: &str, index: usize, faul
         return;
     };
     push_start(out, actor.as_bytes());
-    out.numbers(&[(" ", index as i128)]);
+    out.number(" ", index as i128);
     out.say(":");
     match app_of_names(out.alloc, whole) {
         Ok(Some(app)) => push_line_of(out, &app, line, fault),
@@ -105,7 +105,7 @@ pub fn is_unknown_word(fault: &ReadFault) -> bool {
 /// Appends the place of a fault that is present in these bytes.
 fn push_place(out: &mut Lines, bytes: &[u8], fault: &ReadFault) {
     if matches!(fault, ReadFault::TooLong) {
-        out.numbers(&[("the file has over ", MOST_BYTES as i128)]);
+        out.number("the file has over ", MOST_BYTES as i128);
         return out.say(" bytes");
     }
     match toml::table_from_slice(out.alloc, bytes) {

@@ -150,14 +150,10 @@ fn push_ranges(out: &mut Lines, whole: &Table, instr: Instr) {
         && let Some((least, most)) = range_given(whole, instr)
     {
         out.text(variable_name(whole, x));
-        out.numbers(&[
-            (" is declared from ", i128::from(lo)),
-            (" to ", i128::from(hi)),
-        ]);
-        out.numbers(&[
-            (", and is given ", i128::from(least)),
-            (" to ", i128::from(most)),
-        ]);
+        out.number(" is declared from ", lo as i128);
+        out.number(" to ", hi as i128);
+        out.number(", and is given ", least as i128);
+        out.number(" to ", most as i128);
         out.end();
     }
 }
@@ -171,10 +167,8 @@ fn last_of(lines: usize) -> usize {
 fn push_length(out: &mut Lines, actor: &Table, name: &str) {
     let lines = lines_of(actor).len();
     out.texts(&["lines of ", name]);
-    out.numbers(&[
-        (": ", lines as i128),
-        (", from 0 to ", last_of(lines) as i128),
-    ]);
+    out.number(": ", lines as i128);
+    out.number(", from 0 to ", last_of(lines) as i128);
     out.end();
 }
 
@@ -225,7 +219,7 @@ fn push_reason(out: &mut Lines, whole: &Table, actor: &Table, instr: Instr, faul
 /// Appends the line with this number of the actor.
 fn push_code_line(out: &mut Lines, actor: &Table, index: usize, line: &str) {
     out.text(text_or_none(actor, Key::Name));
-    out.numbers(&[(" ", index as i128)]);
+    out.number(" ", index as i128);
     out.text(": ");
     push_start(out, line.as_bytes());
     out.end();
@@ -282,14 +276,14 @@ fn count_at(whole: &Table, key: Key) -> i128 {
 
 /// Appends how many things there are of each sort.
 fn push_counts(out: &mut Lines, whole: &Table) {
-    out.numbers(&[("actors: ", count_at(whole, Key::Actor))]);
-    out.numbers(&[(", at most 32; variables: ", count_at(whole, Key::Variable))]);
+    out.number("actors: ", count_at(whole, Key::Actor));
+    out.number(", at most 32; variables: ", count_at(whole, Key::Variable));
     out.say(", at most 64");
-    out.numbers(&[("objects: ", count_at(whole, Key::Object))]);
-    out.numbers(&[(
+    out.number("objects: ", count_at(whole, Key::Object));
+    out.number(
         ", at most 64; lines of an actor: ",
         most_lines(whole) as i128,
-    )]);
+    );
     out.say(", at most 512");
 }
 
@@ -323,7 +317,7 @@ fn push_numbers(out: &mut Lines, table: &Table) {
     for key in &NUMBERS {
         if let Some(number) = number_at(table, *key) {
             out.texts(&[", ", key.text()]);
-            out.numbers(&[(" = ", i128::from(number))]);
+            out.number(" = ", number as i128);
         }
     }
 }
@@ -345,8 +339,10 @@ fn push_bad_entries(out: &mut Lines, whole: &Table, key: Key) {
 fn push_declarations(out: &mut Lines, whole: &Table) {
     push_bad_entries(out, whole, Key::Variable);
     push_bad_entries(out, whole, Key::Object);
-    out.text("init is from lo to hi, first from 0 to size, and size from 1");
-    out.numbers(&[(" to ", i128::from(MOST_SIZE))]);
+    out.number(
+        "init is from lo to hi, first from 0 to size, and size from 1 to ",
+        MOST_SIZE as i128,
+    );
     out.end();
 }
 

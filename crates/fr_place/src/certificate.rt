@@ -3,7 +3,7 @@ use crate::guard::push_guard;
 use crate::lines::Lines;
 use crate::nearness::{push_nearest, push_nearest_name};
 use crate::note::push_note;
-use crate::path::{inner_key, is_guard, key_of, keys_behind, last_key, push_path, value_at};
+use crate::path::{inner_key, is_guard, keys_behind, last_key, push_path, value_at};
 use crate::place::Place;
 use crate::position::{position_in, push_marked, push_position};
 use crate::scope::{Scope, Thing, boxed_names};
@@ -33,7 +33,7 @@ fn push_json(out: &mut Lines, bytes: &[u8], error: &serde_json::Error) {
 pub(crate) fn push_json_value(out: &mut Lines, value: &Value) {
     match value {
         Value::String(text) => push_quoted(out, text.as_str()),
-        Value::Array(list) => out.numbers(&[("a list of ", list.len() as i128)]),
+        Value::Array(list) => out.number("a list of ", list.len() as i128),
         Value::Object(_) => out.text("an object"),
         _ => match format!(in out.alloc; "{value}") {
             Ok(text) => push_start(out, text.as_bytes()),
@@ -103,12 +103,14 @@ fn keys_around(steps: &[Step]) -> &'static [&'static str] {
 
 /// The key at the end of the way, where an object with keys of its own has no such key.
 fn unknown_key(steps: &[Step]) -> Option<&str> {
+    let Some(Step::Key(key)) = steps.last() else {
+        return None;
+    };
     let keys = keys_around(steps);
-    let key = key_of(steps.last()?)?;
-    if keys.is_empty() || is_among(keys, key) {
+    if keys.is_empty() || is_among(keys, key.as_str()) {
         None
     } else {
-        Some(key)
+        Some(key.as_str())
     }
 }
 
@@ -156,14 +158,27 @@ fn push_shape(out: &mut Lines, tree: &Value, steps: &[Step]) {
     }
 }
 
+/// What a name has to be the name of, by the key that it is behind.
+static NAMED: [(&str, Thing); 9] = [
+    ("held", Thing::Object),
+    ("live", Thing::Object),
+    ("dead", Thing::Object),
+    ("buffer", Thing::Object),
+    ("mutex", Thing::Object),
+    ("range", Thing::Variable),
+    ("turn", Thing::Variable),
+    ("sole", Thing::Actor),
+    ("values", Thing::Actor),
+];
+
 /// What a name has to be the name of, behind this key.
 fn thing_behind(key: &str) -> Option<Thing> {
-    match key {
-        "held" | "live" | "dead" | "buffer" | "mutex" => Some(Thing::Object),
-        "range" | "turn" => Some(Thing::Variable),
-        "sole" | "values" => Some(Thing::Actor),
-        _ => None,
+    for (other, thing) in &NAMED {
+        if *other == key {
+            return Some(*thing);
+        }
     }
+    None
 }
 
 /// Appends that nothing of the sort has the name.
@@ -189,8 +204,8 @@ fn push_version(out: &mut Lines, tree: &Value) {
 /// Appends how many notes and how many points there are.
 fn push_point_count(out: &mut Lines, app: &App, tree: &Value) {
     if let Some(Value::Array(notes)) = tree.get("notes") {
-        out.numbers(&[("notes: ", notes.len() as i128)]);
-        out.numbers(&[("; points of the application: ", app.points() as i128)]);
+        out.number("notes: ", notes.len() as i128);
+        out.number("; points of the application: ", app.points() as i128);
         out.end();
     }
 }
@@ -198,7 +213,7 @@ fn push_point_count(out: &mut Lines, app: &App, tree: &Value) {
 /// Appends how many alternatives there are.
 fn push_alternatives(out: &mut Lines, tree: &Value, steps: &[Step]) {
     if let Some(Value::Array(list)) = value_at(tree, steps) {
-        out.numbers(&[(": ", list.len() as i128)]);
+        out.number(": ", list.len() as i128);
         out.text(" alternatives; 1 to 4 are allowed");
     }
     out.end();
@@ -263,7 +278,7 @@ fn push_fault(out: &mut Lines, app: &App, tree: &Value, fault: &CertFault) {
 /// Appends the place of a fault that is present in these bytes.
 fn push_place(out: &mut Lines, app: &App, bytes: &[u8], fault: &CertFault) {
     if matches!(fault, CertFault::TooLong) {
-        out.numbers(&[("the file has over ", MOST_BYTES as i128)]);
+        out.number("the file has over ", MOST_BYTES as i128);
         return out.say(" bytes");
     }
     match Value::from_slice(out.alloc, bytes) {

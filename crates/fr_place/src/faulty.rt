@@ -106,7 +106,7 @@ fn push_found(out: &mut Lines, table: &Table, key: Key) {
     if matches!(key, Key::Code)
         && let Some((index, value)) = line_that_is_none(lines_of(table))
     {
-        out.numbers(&[(": entry ", index as i128)]);
+        out.number(": entry ", index as i128);
         out.texts(&[" of ", key.text(), " is "]);
         push_value(out, value);
     } else if let Some(value) = table.get(key.text()) {
@@ -145,7 +145,7 @@ fn push_holders(out: &mut Lines, whole: &Table, key: Key, name: &str) {
     for (index, value) in entries_at(whole, key).iter().enumerate() {
         if has_name(value, name) {
             out.text(key.text());
-            out.numbers(&[(" ", index as i128)]);
+            out.number(" ", index as i128);
             out.text(" has the name ");
             push_quoted(out, name);
             out.end();

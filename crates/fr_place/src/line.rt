@@ -248,7 +248,8 @@ fn arguments_given(pieces: &[Piece<'_>], index: usize) -> usize {
 fn push_arguments(out: &mut Lines, word: &str, given: usize) {
     if let Some(wanted) = arguments_of(word) {
         out.texts(&["arguments of ", word]);
-        out.numbers(&[(": ", wanted as i128), (" wanted, ", given as i128)]);
+        out.number(": ", wanted as i128);
+        out.number(" wanted, ", given as i128);
         out.say(" given");
     }
 }

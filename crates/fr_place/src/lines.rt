@@ -84,18 +84,10 @@ impl Lines {
         }
     }
 
-    /// Writes a number.
-    pub(crate) fn number(&mut self, number: i128) {
-        if write!(self.open, "{number}").is_err() {
+    /// Writes a text, and a number behind it.
+    pub(crate) fn number(&mut self, text: &str, number: i128) {
+        if write!(self.open, "{text}{number}").is_err() {
             self.refuse();
-        }
-    }
-
-    /// Writes each text with the number behind it.
-    pub(crate) fn numbers(&mut self, numbers: &[(&str, i128)]) {
-        for (text, number) in numbers {
-            self.text(text);
-            self.number(*number);
         }
     }
 

@@ -31,12 +31,10 @@ fn push_range(scope: &Scope, out: &mut Lines, name: &str, range: &Value) {
         && (lo < least || most < hi)
     {
         out.texts(&["range of ", name]);
-        out.numbers(&[
-            (": ", lo),
-            (" to ", hi),
-            ("; declared: ", least),
-            (" to ", most),
-        ]);
+        out.number(": ", lo);
+        out.number(" to ", hi);
+        out.number("; declared: ", least);
+        out.number(" to ", most);
         out.end();
     }
 }
@@ -69,7 +67,7 @@ fn push_times(out: &mut Lines, name: &str, is_plain: bool, count: u64) {
         out.say_all(&["held ", name, ": 0; leave it out"]);
     } else if is_plain && count > 1 {
         out.texts(&["held ", name]);
-        out.numbers(&[(": ", i128::from(count))]);
+        out.number(": ", i128::from(count));
         out.say("; a plain mutex is held once");
     }
 }

@@ -21,16 +21,24 @@ fn push_point(out: &mut Lines, app: &App, number: usize) {
     let point = app.point(number);
     if let Some(actor) = app.actors().get(point.actor.0) {
         out.texts(&[" (", actor.name.as_str()]);
-        out.numbers(&[(" ", point.pc as i128)]);
+        out.number(" ", point.pc as i128);
         out.text(side_text(point.side));
+    }
+}
+
+/// Whether the step leads to the value at this key.
+fn is_key(step: &Step, name: &str) -> bool {
+    match step {
+        Step::Key(key) => key.as_str() == name,
+        Step::At(_) => false,
     }
 }
 
 /// Whether the steps lead to the notes, or into them.
 fn is_in_notes(steps: &[Step]) -> bool {
     match steps.first() {
-        Some(Step::Key(key)) => key.as_str() == "notes",
-        _ => false,
+        Some(first) => is_key(first, "notes"),
+        None => false,
     }
 }
 
@@ -39,7 +47,7 @@ fn push_step(out: &mut Lines, app: &App, step: &Step, is_note: bool) {
     match step {
         Step::Key(key) => push_start(out, key.as_bytes()),
         Step::At(number) => {
-            out.numbers(&[("", *number as i128)]);
+            out.number("", *number as i128);
             if is_note {
                 push_point(out, app, *number);
             }
@@ -72,14 +80,6 @@ pub(crate) fn value_at<'a>(tree: &'a Value, steps: &[Step]) -> Option<&'a Value>
         value = value_behind(value, step)?;
     }
     Some(value)
-}
-
-/// The key of a step, if it has one.
-pub(crate) fn key_of(step: &Step) -> Option<&str> {
-    match step {
-        Step::Key(key) => Some(key.as_str()),
-        Step::At(_) => None,
-    }
 }
 
 /// The first key among the steps.
@@ -132,11 +132,11 @@ pub(crate) fn keys_behind(steps: &[Step]) -> &'static [&'static str] {
     let Some(first) = steps.first() else {
         return &["version", "ends", "notes"];
     };
-    match key_of(first) {
-        Some("ends") => keys_of_end(steps),
-        Some("notes") if inner_key(steps).is_none() => {
-            &["held", "crit", "susp", "live", "dead", "range"]
-        }
-        _ => &[],
+    if is_key(first, "ends") {
+        keys_of_end(steps)
+    } else if is_key(first, "notes") && inner_key(steps).is_none() {
+        &["held", "crit", "susp", "live", "dead", "range"]
+    } else {
+        &[]
     }
 }

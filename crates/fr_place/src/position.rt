@@ -73,10 +73,8 @@ pub(crate) fn position_in(text: &[u8], line: usize, column: usize) -> Position<'
 /// Appends the line and the column of a place.
 pub(crate) fn push_position(out: &mut Lines, position: Position<'_>) {
     let column = position.before.len().saturating_add(1);
-    out.numbers(&[
-        ("line ", position.line as i128),
-        (", column ", column as i128),
-    ]);
+    out.number("line ", position.line as i128);
+    out.number(", column ", column as i128);
 }
 
 /// Appends the line of a place and, below it, a mark under the place.

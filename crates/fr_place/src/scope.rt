@@ -4,7 +4,7 @@ use fr_program::{App, Kind, Variable};
 use std::alloc::{AllocError, Global};
 
 /// What a name can be the name of.
-#[derive(Clone, Copy, PartialEq, Eq)]
+#[derive(Clone, Copy)]
 pub(crate) enum Thing {
     Variable,
     Object,
@@ -97,12 +97,20 @@ impl Scope<'_> {
 
     /// The name of the thing of this sort with this number.
     fn name_of(&self, thing: Thing, index: usize) -> Option<&str> {
-        let name = match thing {
-            Thing::Variable => &self.app.variables().get(index)?.name,
-            Thing::Object => &self.app.objects().get(index)?.name,
-            Thing::Actor => &self.app.actors().get(index)?.name,
-        };
-        Some(name.as_str())
+        match thing {
+            Thing::Variable => match self.app.variables().get(index) {
+                Some(variable) => Some(variable.name.as_str()),
+                None => None,
+            },
+            Thing::Object => match self.app.objects().get(index) {
+                Some(object) => Some(object.name.as_str()),
+                None => None,
+            },
+            Thing::Actor => match self.app.actors().get(index) {
+                Some(actor) => Some(actor.name.as_str()),
+                None => None,
+            },
+        }
     }
 
     /// The names of the things of this sort, in order.

@@ -123,8 +123,10 @@ fn split_file(text: &str) -> Option<(&str, &str)> {
 
 /// What follows one caller at the front of the text.
 fn after_caller(text: &str) -> Option<&str> {
-    let (_, rest) = split_digits(text.strip_prefix(" from ")?)?;
-    Some(rest)
+    match split_digits(text.strip_prefix(" from ")?) {
+        Some((_, rest)) => Some(rest),
+        None => None,
+    }
 }
 
 /// The callers at the front of the text, and what follows them.
@@ -146,7 +148,9 @@ fn named_by(comment: &str) -> Option<Named<'_>> {
     let place = after_blanks(after);
     let (file, rest) = split_file(place)?;
     let (digits, rest) = split_digits(rest)?;
-    let line = digits.parse().ok()?;
+    let Ok(line) = digits.parse::<usize>() else {
+        return None;
+    };
     let (callers, end) = split_callers(rest)?;
     let is_ended = end.is_empty() || end.starts_with(": ");
     if is_ended && place.len() < after.len() && !file.is_empty() && line > 0 {
@@ -175,7 +179,7 @@ impl<'a> Reading<'a> {
     /// What was passed on a line isn't read again while the columns rise.
     fn go_to(&mut self, line: usize, column: usize) -> Option<&'a str> {
         if line != self.line || column < self.column {
-            self.rest = self.lines.get(line.checked_sub(1)?).copied()?;
+            self.rest = *self.lines.get(line.checked_sub(1)?)?;
             self.line = line;
             self.column = 1;
         }

@@ -111,7 +111,7 @@ pub(crate) fn table_named(whole: &Table, name: TableName) -> Option<&Table> {
 /// Appends the name of a table: its list, its place there from 0, and the name that it gives itself.
 pub(crate) fn push_entry(out: &mut Lines, whole: &Table, key: Key, index: usize) {
     out.text(key.text());
-    out.numbers(&[(" ", index as i128)]);
+    out.number(" ", index as i128);
     out.character(' ');
     match name_at(whole, key, index) {
         Some(name) => push_quoted(out, name),
