@@ -114,13 +114,23 @@ fn unknown_key(steps: &[Step]) -> Option<&str> {
     }
 }
 
+/// Keys of a guard, each with one of another sort of guard that it can't be beside.
+static APART: [(&str, &str); 5] = [
+    ("mutex", "sole"),
+    ("turn", "sole"),
+    ("turn", "mutex"),
+    ("values", "sole"),
+    ("values", "mutex"),
+];
+
 /// Whether the guard has the key of another sort of guard than this key.
 fn has_another(guard: &Value, key: &str) -> bool {
-    match key {
-        "mutex" => guard.get("sole").is_some(),
-        "turn" | "values" => guard.get("sole").is_some() || guard.get("mutex").is_some(),
-        _ => false,
+    for (own, other) in &APART {
+        if *own == key && guard.get(*other).is_some() {
+            return true;
+        }
     }
+    false
 }
 
 /// Whether the key at the end of the way is in a guard that has the key of another sort of guard.

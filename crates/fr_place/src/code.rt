@@ -26,13 +26,6 @@ struct Quotes<'a> {
     column: usize,
 }
 
-/// A text in quotes, and its place.
-#[derive(Drop)]
-struct Quoted {
-    text: String,
-    place: CodePlace,
-}
-
 /// Whether the byte begins a character, as UTF-8 writes it.
 fn begins(byte: u8) -> bool {
     byte < 128 || byte >= 192
@@ -91,12 +84,12 @@ impl<'a> Quotes<'a> {
         false
     }
 
-    /// The next text in quotes; None where there is no other one.
-    fn next(&mut self, alloc: Global) -> Result<Option<Quoted>, AllocError> {
+    /// The place of the next text in quotes, and whether it is this text; None where there is no other one.
+    fn next(&mut self, alloc: Global, text: &str) -> Result<Option<(CodePlace, bool)>, AllocError> {
         if !self.find() || !starts_string(self.rest) {
             return Ok(None);
         }
-        let (text, rest) = match quoted(alloc, self.rest) {
+        let (found, rest) = match quoted(alloc, self.rest) {
             Ok(read) => read,
             Err(ParseError::OutOfMemory) => return Err(AllocError),
             Err(_) => return Ok(None),
@@ -105,22 +98,20 @@ impl<'a> Quotes<'a> {
         let (line, column) = (self.line, self.column.saturating_add(quotes));
         let passed = characters(self.go_to(rest));
         let length = passed.saturating_sub(quotes.saturating_mul(2));
-        Ok(Some(Quoted {
-            text,
-            place: CodePlace {
-                line,
-                column,
-                length,
-            },
-        }))
+        let place = CodePlace {
+            line,
+            column,
+            length,
+        };
+        Ok(Some((place, found.as_str() == text)))
     }
 
     /// The place of the next text in quotes that is this one.
     fn place_of(&mut self, alloc: Global, text: &str) -> Result<Option<CodePlace>, AllocError> {
         for _ in 0..self.rest.len() {
-            match self.next(alloc)? {
-                Some(found) if found.text.as_str() == text => return Ok(Some(found.place)),
-                Some(_) => {}
+            match self.next(alloc, text)? {
+                Some((place, true)) => return Ok(Some(place)),
+                Some((_, false)) => {}
                 None => return Ok(None),
             }
         }

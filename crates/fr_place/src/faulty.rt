@@ -107,7 +107,7 @@ fn push_found(out: &mut Lines, table: &Table, key: Key) {
         && let Some((index, value)) = line_that_is_none(lines_of(table))
     {
         out.number(": entry ", index as i128);
-        out.texts(&[" of ", key.text(), " is "]);
+        out.text(" of code is ");
         push_value(out, value);
     } else if let Some(value) = table.get(key.text()) {
         out.texts(&[": ", key.text(), " = "]);

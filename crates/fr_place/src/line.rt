@@ -9,7 +9,7 @@ use crate::scope::{Scope, Thing};
 use crate::shown::push_start;
 use fr_instr::LineFault;
 use fr_program::is_name;
-use std::alloc::{AllocError, Global};
+use std::alloc::AllocError;
 
 /// The most bytes of a line that is looked into.
 const MOST_BYTES: usize = 512;
@@ -51,27 +51,26 @@ static ENDINGS: [&str; 30] = [
     " v, 0)",
 ];
 
-/// The line with the text in place of the bytes from `start` to `end`.
-fn replaced(
-    alloc: Global,
+/// Why the line is none with the text in place of its bytes from `start` to `end`; None where it is one.
+fn fault_with(
+    scope: &Scope,
     line: &[u8],
     start: usize,
     end: usize,
     text: &[u8],
-) -> Result<Vec<u8>, AllocError> {
+) -> Result<Option<LineFault>, AllocError> {
     let (front, _) = line.split_at(start.min(line.len()));
     let (_, back) = line.split_at(end.min(line.len()));
-    let mut changed = Vec::from_slice(alloc, front)?;
+    let mut changed = Vec::from_slice(scope.alloc, front)?;
     changed.extend_from_slice(text)?;
     changed.extend_from_slice(back)?;
-    Ok(changed)
+    scope.fault_in(&changed)
 }
 
 /// Whether some line begins with the bytes of this one up to `end`, names and numbers aside.
 fn begins_a_line(scope: &Scope, line: &[u8], end: usize) -> Result<bool, AllocError> {
     for ending in &ENDINGS {
-        let changed = replaced(scope.alloc, line, end, line.len(), ending.as_bytes())?;
-        match scope.fault_in(&changed)? {
+        match fault_with(scope, line, end, line.len(), ending.as_bytes())? {
             Some(LineFault::Syntax | LineFault::ArgCount) => {}
             _ => return Ok(true),
         }
@@ -179,8 +178,8 @@ fn bad_number(
 ) -> Result<Option<usize>, AllocError> {
     for (index, piece) in pieces.iter().enumerate() {
         if piece.is_number() {
-            let changed = replaced(scope.alloc, line, piece.start, piece.end, b"1")?;
-            if !matches!(scope.fault_in(&changed)?, Some(LineFault::BadNumber)) {
+            let fault = fault_with(scope, line, piece.start, piece.end, b"1")?;
+            if !matches!(fault, Some(LineFault::BadNumber)) {
                 return Ok(Some(index));
             }
         }
