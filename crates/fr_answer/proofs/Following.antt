@@ -55,10 +55,10 @@ printed-of app old new t text same (Ok x) is told h = printed-one app old new t 
 printed-of app old new t text same (Err y) is told h = tt
 
 -- the one answer is shown by a report
-pub reported-of : {X Y : Type 0} (format : Format) (app : List ℕ) (old new : Option (List ℕ)) (t : TraceAnswerAt) (shown : AnswerShown) (text same : List ℕ) (r : Result X Y) → same ≡ text → ShowsTrace app t shown
-    → IsReport format (shown ∷ []) text → IfOk r (λ _. Appends old new same) → IfOk r (λ _. AreTracesPrinted (Some format) app false old new (t ∷ []))
-reported-of format app old new t shown text same (Ok x) is shows report h = (shown ∷ [], text, (shows, tt), report, subst (Appends old new) is h)
-reported-of format app old new t shown text same (Err y) is shows report h = tt
+pub reported-of : {X Y : Type 0} (format : Format) (app : List ℕ) (old new : Option (List ℕ)) (t : TraceAnswerAt) (shown : AnswerShown) (all : List AnswerShown) (r : Result X Y) → all ≡ shown ∷ [] → ShowsTrace app t shown
+    → IfOk r (λ _. (text : List ℕ) × IsReport format all text × Appends old new text) → IfOk r (λ _. AreTracesPrinted (Some format) app false old new (t ∷ []))
+reported-of format app old new t shown all (Ok x) is shows h = (shown ∷ [], h.0, (shows, tt), subst (λ answers. IsReport format answers h.0) is h.1, h.2)
+reported-of format app old new t shown all (Err y) is shows h = tt
 
 module _ (reads : Reading → List ℕ → List ℕ → Type 0) (asked : FollowRequest) (P : Program) where
   -- nothing is promised of a refusal

@@ -1,5 +1,5 @@
 -- One line more of a list is answered and printed.
-use Rattle.std.proofs.Common.{◌≡◌, ◌++◌, ◌∙◌, ℕ, List, [], ◌∷◌, Bool, Option, None, ap, append-nil, max, subst, sym}
+use Rattle.std.proofs.Common.{◌≡◌, ◌++◌, ◌∙◌, ℕ, List, [], ◌∷◌, Bool, Option, None, Result, Ok, Err, IfOk, ap, append-nil, max, subst, sym}
 use Rattle.std.proofs.lemmas.List.{map-append}
 use Rattle.std.proofs.lemmas.List.Elements.{All-append, All-cons, All-nil}
 use Rattle.std.proofs.lemmas.List.Folds.{concat-append}
@@ -11,9 +11,10 @@ use Rattle.fr_formats.specs.declared.answer.AnswerShown.{AnswerShown}
 use Rattle.fr_list.specs.Means.{Entry}
 use Rattle.fr_list.specs.Beside.{beside}
 use Rattle.fr_answer.specs.Inputs.{Reading}
+use Rattle.fr_answer.specs.declared.answer.What.{What}
 use Rattle.fr_answer.specs.Answers.{what_status}
-use Rattle.fr_answer.specs.Commands.{AreAnswered, AreLinesPrinted, IsLineAnswer, IsLineText, LineAnswer, Shows, greater_status}
-use Rattle.fr_answer.specs.Each.{Each}
+use Rattle.fr_answer.specs.Commands.{AreAnswered, AreLinesPrinted, IsLineAdded, IsLineAnswer, IsLinePrinted, IsLineText, LineAnswer, Shows, greater_status}
+use Rattle.fr_answer.specs.Each.{Each, IsAdded}
 
 -- two more
 pub each-more : {A B : Type 0} (Is : A → B → Type 0) (xs : List A) (ys : List B) (x : A) (y : B) → Each Is xs ys → Is x y → Each Is (xs ++ x ∷ []) (ys ++ y ∷ [])
@@ -65,3 +66,20 @@ module _ (reads : Reading → List ℕ → List ℕ → Type 0) (asks : Bool) wh
   -- the answers, of other lines and with another status that are the same
   pub answered-at : (list : List ℕ) (one other : List Entry) (s t : ℕ) (Is : List LineAnswer → Type 0) → other ≡ one → t ≡ s → AreAnswered reads asks list one s Is → AreAnswered reads asks list other t Is
   answered-at list one other s t Is same next h = (h.0, h.1 ∙ sym same, h.2, next ∙ h.3, h.4)
+
+  -- the line with this entry is answered and printed, where that is so of its path
+  pub line-printed : {E : Type 0} (list : List ℕ) (entry : Entry) (what : What) (e explains : Bool) (path : List ℕ) (old new : Option (List ℕ)) (r : Result ℕ E)
+      → IsLineAnswer reads asks list (record { entry = entry; what = what }) → path ≡ beside list entry.application → e ≡ explains
+      → IfOk r (λ _. (text : List ℕ) × IsLineText e path what text × Appends old new text) → IfOk r (λ status. status ≡ what_status what)
+      → IfOk r (IsLinePrinted reads asks explains list entry old new)
+  line-printed list entry what e explains path old new (Ok status) own is same h by =
+      (what, h.0, own, subst (λ b. IsLineText b (beside list entry.application) what h.0) same (subst (λ p. IsLineText e p what h.0) is h.1), h.2, by)
+  line-printed list entry what e explains path old new (Err f) own is same h by = tt
+
+  -- so it is of one that is added
+  pub line-added : {E : Type 0} (list : List ℕ) (entry : Entry) (what : What) (path : List ℕ) (old new : List AnswerShown) (r : Result ℕ E)
+      → IsLineAnswer reads asks list (record { entry = entry; what = what }) → path ≡ beside list entry.application
+      → IfOk r (λ _. IsAdded (Shows path what) old new) → IfOk r (λ status. status ≡ what_status what)
+      → IfOk r (IsLineAdded reads asks list entry old new)
+  line-added list entry what path old new (Ok status) own is h by = (what, own, (h.0, subst (λ p. Shows p what h.0) is h.1, h.2), by)
+  line-added list entry what path old new (Err f) own is h by = tt

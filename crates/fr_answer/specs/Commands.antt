@@ -12,6 +12,7 @@
 -- | IsShown                           | such an answer has this exit status, and was printed                           |
 -- | IsAnswerBy, LineAnswer, IsLineAnswer | the answer to a line of a list                                              |
 -- | IsLineText                        | what is printed of a line: the path, and the answer's lines                    |
+-- | IsLinePrinted, IsLineAdded        | one line more is answered, and printed or added to a report                    |
 -- | AreLinesPrinted, IsListAnswered   | the lines of a list, each answered and printed, in their order                 |
 -- | AreRunWords                       | the words of a run that are asked for                                          |
 -- | AreShown, IsListed, IsListing     | the points of the application in a file, with places in a source where that is asked |
@@ -51,7 +52,7 @@ use Rattle.fr_answer.specs.Pages.{IsPageOf}
 use Rattle.fr_answer.specs.Found.{IsCertificateFor, IsFound, found_line, found_status}
 use Rattle.fr_answer.specs.Ran.{IsRunText}
 use Rattle.fr_answer.specs.Heading.{heading}
-use Rattle.fr_answer.specs.Each.{Each}
+use Rattle.fr_answer.specs.Each.{Each, IsAdded}
 use Rattle.fr_answer.specs.Traces.{IsTracesAnswered, PutsBoth}
 use Rattle.fr_answer.specs.Words.{AreWords}
 
@@ -136,6 +137,17 @@ AreLinesPrinted None explains list lines old new =
 AreLinesPrinted (Some format) explains list lines old new =
     (shown : List AnswerShown) × (text : List ℕ) × Each (λ line s. Shows (beside list line.entry.application) line.what s) lines shown
     × IsReport format shown text × Appends old new text
+
+-- the line with this entry is answered, with this exit status, and printed
+abbrev pub IsLinePrinted : (Reading → List ℕ → List ℕ → Type 0) → Bool → Bool → List ℕ → Entry → Option (List ℕ) → Option (List ℕ) → ℕ → Type 0
+IsLinePrinted reads asks explains list entry old new status =
+    (what : What) × (text : List ℕ) × IsLineAnswer reads asks list (record { entry = entry; what = what }) × IsLineText explains (beside list entry.application) what text
+    × Appends old new text × (status ≡ what_status what)
+
+-- the line with this entry is answered, with this exit status, and the answer was added as reports show it
+abbrev pub IsLineAdded : (Reading → List ℕ → List ℕ → Type 0) → Bool → List ℕ → Entry → List AnswerShown → List AnswerShown → ℕ → Type 0
+IsLineAdded reads asks list entry old new status =
+    (what : What) × IsLineAnswer reads asks list (record { entry = entry; what = what }) × IsAdded (Shows (beside list entry.application) what) old new × (status ≡ what_status what)
 
 -- these lines are answered, this is the greatest exit status, and this is so of the answers
 abbrev pub AreAnswered : (Reading → List ℕ → List ℕ → Type 0) → Bool → List ℕ → List Entry → ℕ → (List LineAnswer → Type 0) → Type 0

@@ -25,17 +25,15 @@ use std::thread::Threads;
 const MOST_LISTED: u64 = 1000;
 
 /// Adds the points that fail, after the first of them; of more than 1,000 the number of the others.
-fn add_others(
+fn add_failing(
     alloc: Global,
     items: &mut Vec<Explained>,
     app: &App,
-    certificate: &Certificate,
+    judging: &Judging,
     first: usize,
 ) -> Result<(), AllocError>
-    requires { CertificateFits app.now certificate.now }
+    requires { judging.now.app ≡ app.now }
 {
-    let lists = Lists::build(alloc, app, certificate)?;
-    let judging = Judging::with(app, certificate, &lists);
     let mut listed = 1u64;
     for number in 0..app.points() {
         if let Some(part) = judging.part_at(number)
@@ -53,6 +51,21 @@ fn add_others(
         items.push(Explained::More(listed - MOST_LISTED))?;
     }
     Ok(())
+}
+
+/// The same by the certificate.
+fn add_others(
+    alloc: Global,
+    items: &mut Vec<Explained>,
+    app: &App,
+    certificate: &Certificate,
+    first: usize,
+) -> Result<(), AllocError>
+    requires { CertificateFits app.now certificate.now }
+{
+    let lists = Lists::build(alloc, app, certificate)?;
+    let judging = Judging::with(app, certificate, &lists);
+    add_failing(alloc, items, app, &judging, first)
 }
 
 /// Why the verdict on the application with this text is no, as it is asked for: None where nobody asks, or where it is yes. With all

@@ -1,6 +1,5 @@
 // An answer as a page to look at.
 ghost use Rattle.std.specs.Prelude.{◌≡◌, IfOk, string_bytes};
-ghost use Rattle.fr_answer.specs.Answers.{kind_of, shown_line};
 ghost use Rattle.fr_answer.specs.Pages.{IsPageOf, page_kind};
 
 mod actors;
@@ -14,6 +13,7 @@ use actors::put_actors;
 use code::Code;
 use fr_formats::{AnswerKind, Command};
 use fr_page::{ActorShown, Kind, Page, StepShown, WaitShown, page_text};
+use fr_program::App;
 use fr_refuter::Finding;
 use points::put_judged;
 use std::alloc::{AllocError, Global};
@@ -80,51 +80,74 @@ fn empty_body(alloc: Global) -> Body {
     }
 }
 
-/// What the page shows below the answer: the actors side by side, with a certificate what each note says, which points fail and
-/// which are never reached; with a run into a breach the run, step by step; and where a text is refused, where. Lines of code
-/// are as they stand in the text, with their places in the source where the application was translated from one.
-fn body_of(alloc: Global, answer: &Answer) -> Result<Body, AllocError> {
-    let mut body = empty_body(alloc);
+/// Adds what a search found below the actors: a run into a breach or a deadlock, step by step.
+fn put_found(
+    alloc: Global,
+    body: &mut Body,
+    app: &App,
+    code: &Code,
+    found: &Finding,
+) -> Result<(), AllocError> {
+    put_actors(alloc, body, app, code)?;
+    match found {
+        Finding::Breach(run) => put_run(alloc, body, app, code, run),
+        Finding::Deadlock(run) => put_deadlock(alloc, body, app, code, run),
+        _ => Ok(()),
+    }
+}
+
+/// Adds what the page shows below the answer: the actors side by side, with a certificate what each note says, which points fail
+/// and which are never reached; with a run into a breach the run, step by step; and where a text is refused, where.
+fn put_below(
+    alloc: Global,
+    body: &mut Body,
+    answer: &Answer,
+    code: &Code,
+) -> Result<(), AllocError> {
     let what = &answer.what;
-    let code = Code::of(alloc, &answer.text)?;
     match what {
         What::Judged(judged) => {
-            put_actors(alloc, &mut body, judged.app(), &code)?;
+            put_actors(alloc, body, judged.app(), code)?;
             let blames = matches!(answer.command, Command::Prove);
-            put_judged(alloc, &mut body, judged, &code, blames)?;
+            put_judged(alloc, body, judged, code, blames)?;
             if matches!(what.kind(), AnswerKind::Yes) {
                 body.details = what.second_lines(alloc)?;
             }
+            Ok(())
         }
-        What::Searched { app, found, .. } => {
-            put_actors(alloc, &mut body, app, &code)?;
-            match found {
-                Finding::Breach(run) => put_run(alloc, &mut body, app, &code, run)?,
-                Finding::Deadlock(run) => put_deadlock(alloc, &mut body, app, &code, run)?,
-                _ => {}
-            }
+        What::Searched { app, found, .. } => put_found(alloc, body, app, code, found),
+        What::Refused(_) => {
+            body.details = what.lines(alloc)?;
+            Ok(())
         }
-        What::Refused(_) => body.details = what.lines(alloc)?,
     }
+}
+
+/// What the page shows below the answer. Lines of code are as they stand in the text, with their places in the source where the
+/// application was translated from one.
+fn body_of(alloc: Global, answer: &Answer) -> Result<Body, AllocError> {
+    let code = Code::of(alloc, &answer.text)?;
+    let mut body = empty_body(alloc);
+    put_below(alloc, &mut body, answer, &code)?;
     Ok(body)
 }
 
-/// The page with this below the heading of the answer's kind and the line that reports show of it.
-fn headed(alloc: Global, answer: &Answer, body: Body) -> Result<Page, AllocError>
-    ensures kind { IfOk result (λ page. page.kind ≡ page_kind (kind_of answer.now.what)) }
-    ensures line { IfOk result (λ page. string_bytes page.answer ≡ shown_line answer.now.what) }
+/// The page with this heading and the words of the command, with this line and this below it.
+fn page_with(kind: Kind, command: String, line: String, body: Body) -> Page
+    ensures kind { result.kind ≡ kind }
+    ensures line { result.answer ≡ line }
 {
-    Ok(Page {
-        kind: page_kind(answer.what.kind()),
-        command: command_text(alloc, answer)?,
-        answer: answer.what.shown_line(alloc)?,
+    Page {
+        kind,
+        command,
+        answer: line,
         details: body.details,
         counts: body.counts,
         omissions: body.omissions,
         actors: body.actors,
         steps: body.steps,
         waits: body.waits,
-    })
+    }
 }
 
 /// The page of an answer, as one HTML file. Its heading is that of the answer's kind, and the line below it is the one that
@@ -132,7 +155,9 @@ fn headed(alloc: Global, answer: &Answer, body: Body) -> Result<Page, AllocError
 pub fn page_of(alloc: Global, answer: &Answer) -> Result<String, AllocError>
     ensures { IfOk result (λ text. IsPageOf answer.now.what (string_bytes text)) }
 {
+    let (command, line) = (command_text(alloc, answer)?, answer.what.shown_line(alloc)?);
+    let kind = page_kind(answer.what.kind());
     let body = body_of(alloc, answer)?;
-    let page = headed(alloc, answer, body)?;
+    let page = page_with(kind, command, line, body);
     page_text(alloc, &page)
 }

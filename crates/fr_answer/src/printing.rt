@@ -1,6 +1,7 @@
 // How an answer is printed, and shown as a page.
-ghost use Rattle.std.specs.Prelude.{◌≡◌, ◌≤◌, ℕ, List, IfOk, IfErr, None, Some, option_copied, string_bytes};
+ghost use Rattle.std.specs.Prelude.{◌≡◌, ◌≤◌, ◌⊎◌, ℕ, List, IfOk, IfErr, None, Some, option_copied, string_bytes};
 ghost use Rattle.std.specs.Io.KnownBytes.{Appends};
+ghost use Rattle.fr_formats.specs.Reports.{IsReport};
 ghost use Rattle.fr_answer.specs.Answers.{HasFound, IsTextOf, what_status};
 ghost use Rattle.fr_answer.specs.Checked.{fault_status};
 ghost use Rattle.fr_answer.specs.Commands.{IsPaged, IsPrinted, IsShown, IsTextPrinted};
@@ -14,7 +15,7 @@ use crate::reading::AppText;
 use crate::shown::shown_of;
 use crate::ways::{Asked, Warns};
 use fr_files::OutputFault;
-use fr_formats::{Source, answers_text};
+use fr_formats::{AnswerShown, Source, answers_text};
 use fr_place::is_unknown_word;
 use fr_report::text_of;
 use fr_request::Format;
@@ -33,6 +34,22 @@ pub(crate) fn put<W: Write>(text: &str, writer: &mut W) -> Result<(), CheckFault
     }
 }
 
+/// Prints an answer on standard error, and gives its exit status; it is 3 where there is no memory for the text, in whose place
+/// `machine: memory` is printed, and where the writer failed.
+fn print_whole<E: Write>(alloc: Global, what: &What, err: &mut E) -> u8
+    ensures status { (result ≡ 3) ⊎ (result ≡ what_status what.now) }
+    ensures printed { result ≡ 2 → (text : List ℕ) × IsTextOf what.now text × Appends (E.contents err.old) (E.contents err.new) text }
+{
+    let Ok(text) = what.text(alloc) else {
+        let _written = err.write_all(b"machine: memory\n");
+        return MACHINE;
+    };
+    match err.write_all(text.as_bytes()) {
+        Ok(()) => what.status(),
+        Err(_) => MACHINE,
+    }
+}
+
 /// Prints a refusal on standard error, its line first, and gives its exit status. Where there is no memory for its text it prints
 /// `machine: memory`, and the status is 3; it is 3 too where the writer failed.
 pub(crate) fn refuse<E: Write>(alloc: Global, refusal: Refusal, err: &mut E) -> u8
@@ -42,14 +59,7 @@ pub(crate) fn refuse<E: Write>(alloc: Global, refusal: Refusal, err: &mut E) -> 
     ensures most { result ≤ 3 }
 {
     let what = What::Refused(refusal);
-    let Ok(text) = what.text(alloc) else {
-        let _written = err.write_all(b"machine: memory\n");
-        return MACHINE;
-    };
-    match err.write_all(text.as_bytes()) {
-        Ok(()) => what.status(),
-        Err(_) => MACHINE,
-    }
+    print_whole(alloc, &what, err)
 }
 
 /// Whether it is printed where a fault is: always of a file and of a source.
@@ -91,6 +101,19 @@ fn print_text<O: Write, E: Write>(
     }
 }
 
+/// Writes a report of these answers in this form.
+pub(crate) fn put_report<O: Write>(
+    alloc: Global,
+    format: Format,
+    answers: &[AnswerShown],
+    out: &mut O,
+) -> Result<(), CheckFault>
+    ensures report { IfOk result (λ _. (text : List ℕ) × IsReport format answers.now text × Appends (O.contents out.old) (O.contents out.new) text) }
+    ensures fault { IfErr result (λ fault. fault_status fault ≡ 3) }
+{
+    put(&answers_text(alloc, format, answers)?, out)
+}
+
 /// Prints the answer in a form that machines read.
 fn print_formed<O: Write>(
     alloc: Global,
@@ -103,7 +126,7 @@ fn print_formed<O: Write>(
     ensures fault { IfErr result (λ fault. fault_status fault ≡ 3) }
 {
     let shown = shown_of(alloc, answer)?;
-    put(&answers_text(alloc, format, slice::from_ref(&shown))?, out)
+    put_report(alloc, format, slice::from_ref(&shown), out)
 }
 
 /// Prints the answer as it is asked for.

@@ -35,32 +35,58 @@ fn text_of(alloc: Global, app: &App, certificate: &Certificate) -> Result<String
     laid_out(alloc, compact.as_str())
 }
 
+/// Whether every part is kept at every point of the application.
+fn all_pass(app: &App, judging: &Judging) -> bool
+    requires { judging.now.app ≡ app.now }
+{
+    for number in 0..app.points() {
+        if judging.part_at(number).is_some() {
+            return false;
+        }
+    }
+    true
+}
+
 /// Whether the certificate keeps every part at every point.
 fn passes(alloc: Global, app: &App, certificate: &Certificate) -> Result<bool, AllocError>
     requires { CertificateFits app.now certificate.now }
 {
     let lists = Lists::build(alloc, app, certificate)?;
-    let judging = Judging::with(app, certificate, &lists);
-    for number in 0..app.points() {
-        if judging.part_at(number).is_some() {
-            return Ok(false);
+    Ok(all_pass(app, &Judging::with(app, certificate, &lists)))
+}
+
+/// The text of the thin certificate where that passes, and else of the whole one, unless that is longer than a certificate may be.
+fn shorter_text(
+    alloc: Global,
+    app: &App,
+    whole: &Certificate,
+    thin: &Certificate,
+) -> Result<String, AllocError>
+    requires whole { CertificateFits app.now whole.now }
+    requires thin { CertificateFits app.now thin.now }
+{
+    if !passes(alloc, app, thin)? {
+        let text = text_of(alloc, app, whole)?;
+        if text.len() <= MOST_BYTES {
+            return Ok(text);
         }
     }
-    Ok(true)
+    text_of(alloc, app, thin)
+}
+
+/// The text of this certificate, or of the one without what isn't needed.
+fn text_of_best(alloc: Global, app: &App, whole: &Certificate) -> Result<String, AllocError>
+    requires { CertificateFits app.now whole.now }
+{
+    let thin = thinned(alloc, app, whole)?;
+    shorter_text(alloc, app, whole, &thin)
 }
 
 /// The text of the best certificate that is found for the application: without what isn't needed where that passes, so that a change of the
 /// application changes few of its lines; and else with all that is known, unless that is longer than a certificate may be.
 fn certificate_text(alloc: Global, app: &App, meter: Option<&Meter>) -> Result<String, AllocError> {
     let whole = best_certificate(alloc, app, meter)?;
-    let thin = thinned(alloc, app, &whole)?;
-    if !passes(alloc, app, &thin)? {
-        let text = text_of(alloc, app, &whole)?;
-        if text.len() <= MOST_BYTES {
-            return Ok(text);
-        }
-    }
-    text_of(alloc, app, &thin)
+    text_of_best(alloc, app, &whole)
 }
 
 /// The actors that the verdict names: the one whose point fails, and the one whose step spoils its note.

@@ -15,7 +15,7 @@ use crate::source::{is_source, translation};
 use crate::warning::said_beside;
 use crate::ways::{Warns, Ways};
 use fr_cert::MOST_BYTES as MOST_CERTIFICATE_BYTES;
-use fr_formats::Source;
+use fr_formats::{Source, WarningShown};
 use fr_parallel::Open;
 use fr_place::is_unknown_word;
 use fr_reader::MOST_BYTES as MOST_APP_BYTES;
@@ -178,6 +178,41 @@ pub(crate) fn searched_file<R: Threads + Sync, F: Files>(
     }
 }
 
+/// What an answer has besides what was found out.
+#[derive(Drop)]
+struct Beside {
+    application: String,
+    certificate: Option<String>,
+    warnings: Vec<WarningShown>,
+    notes: Vec<String>,
+}
+
+impl Beside {
+    /// The files as they were named, and what is said beside what was found out.
+    fn of(
+        alloc: Global,
+        source: Source,
+        what: &What,
+        left_out: &[Message],
+        warns: Warns,
+    ) -> Result<Beside, AllocError>
+        ensures { IfOk result (λ beside. string_bytes beside.application ≡ source.entry.application.now) }
+    {
+        let application = String::from_str(alloc, source.application)?;
+        let certificate = match source.certificate {
+            Some(path) => Some(String::from_str(alloc, path)?),
+            None => None,
+        };
+        let (warnings, notes) = said_beside(alloc, source, what, left_out, warns)?;
+        Ok(Beside {
+            application,
+            certificate,
+            warnings,
+            notes,
+        })
+    }
+}
+
 impl Answer {
     /// The answer of a command for these files: what was found out, with the application's text, or why there is no verdict.
     pub(crate) fn new(
@@ -191,24 +226,19 @@ impl Answer {
         ensures refused { IfErr found (λ _. IfOk result (λ a. 2 ≤ what_status a.what)) }
         ensures most { IfOk result (λ a. what_status a.what ≤ 3) }
     {
-        let application = String::from_str(alloc, source.application)?;
-        let certificate = match source.certificate {
-            Some(path) => Some(String::from_str(alloc, path)?),
-            None => None,
-        };
         let (text, what) = match found {
             Ok(found) => found,
             Err(refusal) => (AppText::none(alloc), What::Refused(refusal)),
         };
-        let (warnings, notes) = said_beside(alloc, source, &what, &text.left_out, warns)?;
+        let beside = Beside::of(alloc, source, &what, &text.left_out, warns)?;
         Ok(Answer {
             command: source.command,
-            application,
-            certificate,
+            application: beside.application,
+            certificate: beside.certificate,
             text: text.bytes,
             what,
-            warnings,
-            notes,
+            warnings: beside.warnings,
+            notes: beside.notes,
         })
     }
 }

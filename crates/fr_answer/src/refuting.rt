@@ -37,6 +37,7 @@ pub(crate) fn searched<R: Threads + Sync>(
         return Err(CheckFault::Workers);
     }
     let text = app;
+    let explains = sources_for(alloc, text, ways.detail)?;
     let app = read_app(alloc, text)?;
     let search = Search {
         most_states: ways.states,
@@ -49,7 +50,6 @@ pub(crate) fn searched<R: Threads + Sync>(
         meter,
     };
     let found = refute(rt, alloc, &app, search)?;
-    let explains = sources_for(alloc, text, ways.detail)?;
     Ok(What::Searched {
         app,
         found,

@@ -1,5 +1,5 @@
 // An answer as reports for machines show it.
-ghost use Rattle.std.specs.Prelude.{◌≡◌, IfOk, string_bytes};
+ghost use Rattle.std.specs.Prelude.{◌≡◌, IfOk, OnOk, string_bytes};
 ghost use Rattle.fr_answer.specs.Answers.{kind_of, shown_line};
 
 mod failure;
@@ -7,12 +7,35 @@ mod places;
 mod steps;
 
 use crate::answer::{Answer, What};
+use crate::judged::Judged;
 use failure::failure_of;
 use fr_formats::{AnswerShown, Failure, Source, StepShown, WarningShown};
 use fr_refuter::Finding;
 use places::Places;
 use std::alloc::{AllocError, Global};
 use steps::{deadlock_shown, run_shown};
+
+/// What fails by a verdict.
+fn verdict_shown(
+    alloc: Global,
+    places: &Places,
+    judged: &Judged,
+) -> Result<(Option<Failure>, Vec<StepShown>), AllocError> {
+    Ok((failure_of(alloc, places, judged)?, Vec::new(alloc)))
+}
+
+/// What fails by a run that was found, and its steps; nothing where none was found.
+fn found_shown(
+    alloc: Global,
+    places: &Places,
+    found: &Finding,
+) -> Result<(Option<Failure>, Vec<StepShown>), AllocError> {
+    match found {
+        Finding::Breach(run) => run_shown(alloc, places, run),
+        Finding::Deadlock(run) => deadlock_shown(alloc, places, run),
+        _ => Ok((None, Vec::new(alloc))),
+    }
+}
 
 /// What fails, and the steps of a run, each with its place in the application's text.
 fn details_of(
@@ -22,25 +45,13 @@ fn details_of(
     match &answer.what {
         What::Judged(judged) => {
             let places = Places::build(alloc, judged.app(), &answer.text)?;
-            Ok((failure_of(alloc, &places, judged)?, Vec::new(alloc)))
+            verdict_shown(alloc, &places, judged)
         }
-        What::Searched {
-            app,
-            found: Finding::Breach(run),
-            ..
-        } => {
+        What::Searched { app, found, .. } => {
             let places = Places::build(alloc, app, &answer.text)?;
-            run_shown(alloc, &places, run)
+            found_shown(alloc, &places, found)
         }
-        What::Searched {
-            app,
-            found: Finding::Deadlock(run),
-            ..
-        } => {
-            let places = Places::build(alloc, app, &answer.text)?;
-            deadlock_shown(alloc, &places, run)
-        }
-        _ => Ok((None, Vec::new(alloc))),
+        What::Refused(_) => Ok((None, Vec::new(alloc))),
     }
 }
 
@@ -57,6 +68,20 @@ fn warnings_shown(
     Ok(shown)
 }
 
+/// Adds what reports show besides the answer itself: its other lines, its warnings, what fails and the steps of a run.
+fn add_details(alloc: Global, answer: &Answer, shown: &mut AnswerShown) -> Result<(), AllocError>
+    ensures application { OnOk result (shown.new.application ≡ shown.old.application) }
+    ensures kind { OnOk result (shown.new.answer ≡ shown.old.answer) }
+    ensures report { OnOk result (shown.new.report ≡ shown.old.report) }
+{
+    shown.lines = answer.what.shown_lines(alloc)?;
+    shown.warnings = warnings_shown(alloc, &answer.warnings)?;
+    let (failure, steps) = details_of(alloc, answer)?;
+    shown.failure = failure;
+    shown.steps = steps;
+    Ok(())
+}
+
 /// The answer as JSON, SARIF and JUnit show it. Its error is that an allocation was refused.
 pub fn shown_of(alloc: Global, answer: &Answer) -> Result<AnswerShown, AllocError>
     ensures application { IfOk result (λ shown. string_bytes shown.application ≡ string_bytes answer.now.application) }
@@ -70,10 +95,6 @@ pub fn shown_of(alloc: Global, answer: &Answer) -> Result<AnswerShown, AllocErro
     };
     let report = answer.what.shown_line(alloc)?;
     let mut shown = AnswerShown::new(alloc, source, answer.what.kind(), report)?;
-    shown.lines = answer.what.shown_lines(alloc)?;
-    shown.warnings = warnings_shown(alloc, &answer.warnings)?;
-    let (failure, steps) = details_of(alloc, answer)?;
-    shown.failure = failure;
-    shown.steps = steps;
+    add_details(alloc, answer, &mut shown)?;
     Ok(shown)
 }

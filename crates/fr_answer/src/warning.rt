@@ -40,20 +40,54 @@ fn add_noted(
     app: &App,
     notes: &Notes,
 ) -> Result<(), AllocError> {
-    let unreached = never_reached(alloc, app, notes)?;
-    let held = held_while_waiting(alloc, app, notes)?;
-    let taken = never_given(alloc, app, notes)?;
-    let lost = lost_updates(alloc, app, notes)?;
-    let critical = buffers_in_critical_sections(alloc, app, notes)?;
-    add(warnings, WarningKind::NeverReached, unreached)?;
-    add(warnings, WarningKind::HeldWhileWaiting, held)?;
-    add(warnings, WarningKind::NeverGiven, taken)?;
-    add(warnings, WarningKind::LostUpdate, lost)?;
-    add(warnings, WarningKind::BufferInCriticalSection, critical)
+    let lines = never_reached(alloc, app, notes)?;
+    add(warnings, WarningKind::NeverReached, lines)?;
+    let lines = held_while_waiting(alloc, app, notes)?;
+    add(warnings, WarningKind::HeldWhileWaiting, lines)?;
+    let lines = never_given(alloc, app, notes)?;
+    add(warnings, WarningKind::NeverGiven, lines)?;
+    let lines = lost_updates(alloc, app, notes)?;
+    add(warnings, WarningKind::LostUpdate, lines)?;
+    let lines = buffers_in_critical_sections(alloc, app, notes)?;
+    add(warnings, WarningKind::BufferInCriticalSection, lines)
 }
 
-/// The warnings for an application: that it has no actors, and where all are asked for what the notes hint at, where there are
-/// notes, and what is never used or used one way.
+/// Adds what is never used, or used one way.
+fn add_unused(
+    alloc: Global,
+    warnings: &mut Vec<WarningShown>,
+    app: &App,
+) -> Result<(), AllocError> {
+    let lines = never_used(alloc, app)?;
+    add(warnings, WarningKind::NeverUsed, lines)?;
+    let lines = used_one_way(alloc, app)?;
+    add(warnings, WarningKind::UsedOneWay, lines)
+}
+
+/// Adds that the application has no actors, and where all warnings are asked for what the notes hint at, where there are notes, and
+/// what is never used or used one way.
+fn add_for(
+    alloc: Global,
+    warnings: &mut Vec<WarningShown>,
+    app: &App,
+    notes: Option<&Notes>,
+    warns: Warns,
+) -> Result<(), AllocError> {
+    if app.actors().is_empty() {
+        let text = String::from_str(alloc, NO_ACTORS)?;
+        let kind = WarningKind::NoActors;
+        warnings.push(WarningShown { kind, text })?;
+    }
+    if warns != Warns::OfAll {
+        return Ok(());
+    }
+    if let Some(notes) = notes {
+        add_noted(alloc, warnings, app, notes)?;
+    }
+    add_unused(alloc, warnings, app)
+}
+
+/// The warnings for an application, with these notes where a certificate has some.
 fn warnings_for(
     alloc: Global,
     app: &App,
@@ -61,19 +95,7 @@ fn warnings_for(
     warns: Warns,
 ) -> Result<Vec<WarningShown>, AllocError> {
     let mut warnings = Vec::new(alloc);
-    if app.actors().is_empty() {
-        let text = String::from_str(alloc, NO_ACTORS)?;
-        let kind = WarningKind::NoActors;
-        warnings.push(WarningShown { kind, text })?;
-    }
-    if warns == Warns::OfAll {
-        if let Some(notes) = notes {
-            add_noted(alloc, &mut warnings, app, notes)?;
-        }
-        let (unused, one_way) = (never_used(alloc, app)?, used_one_way(alloc, app)?);
-        add(&mut warnings, WarningKind::NeverUsed, unused)?;
-        add(&mut warnings, WarningKind::UsedOneWay, one_way)?;
-    }
+    add_for(alloc, &mut warnings, app, notes, warns)?;
     Ok(warnings)
 }
 
@@ -116,32 +138,52 @@ fn sought(judged: &Judged) -> &'static str {
     }
 }
 
+/// The line that says how many states were gone through for a run that isn't there.
+fn tried_line(alloc: Global, judged: &Judged, states: usize) -> Result<String, AllocError> {
+    let into = sought(judged);
+    format!(in alloc; "no run into {into} in {states} states")
+}
+
+/// Adds what a search is said to have left, if anything is.
+fn add_left(alloc: Global, notes: &mut Vec<String>, left: Left) -> Result<(), AllocError> {
+    if let Some(line) = left_line(alloc, left)? {
+        notes.push(line)?;
+    }
+    Ok(())
+}
+
+/// Adds what was tried besides.
+fn add_notes(
+    alloc: Global,
+    notes: &mut Vec<String>,
+    source: Source,
+    what: &What,
+) -> Result<(), AllocError> {
+    match what {
+        What::Judged(judged) => match judged.tried() {
+            Some(Tried { states, left }) => {
+                notes.push(tried_line(alloc, judged, states)?)?;
+                add_left(alloc, notes, left)
+            }
+            None => Ok(()),
+        },
+        What::Searched { found, .. } => match found {
+            Finding::Unknown { left, .. } => add_left(alloc, notes, *left),
+            Finding::Safe { .. } | Finding::Free { .. } if is_unwritten(source) => {
+                Ok(notes.push(String::from_str(alloc, NO_CERTIFICATE)?)?)
+            }
+            _ => Ok(()),
+        },
+        What::Refused(_) => Ok(()),
+    }
+}
+
 /// What was tried besides: how many states were gone through for a run into a breach or a deadlock, where `prove` found none, and what kept the search
 /// from going through all; or that no certificate was written, where the proof is by all states. Its error is that an allocation
 /// was refused.
 fn notes_of(alloc: Global, source: Source, what: &What) -> Result<Vec<String>, AllocError> {
     let mut notes = Vec::new(alloc);
-    let left = match what {
-        What::Judged(judged) => match judged.tried() {
-            Some(Tried { states, left }) => {
-                let into = sought(judged);
-                notes.push(format!(in alloc; "no run into {into} in {states} states")?)?;
-                left_line(alloc, left)?
-            }
-            None => None,
-        },
-        What::Searched { found, .. } => match found {
-            Finding::Unknown { left, .. } => left_line(alloc, *left)?,
-            Finding::Safe { .. } | Finding::Free { .. } if is_unwritten(source) => {
-                Some(String::from_str(alloc, NO_CERTIFICATE)?)
-            }
-            _ => None,
-        },
-        What::Refused(_) => None,
-    };
-    if let Some(line) = left {
-        notes.push(line)?;
-    }
+    add_notes(alloc, &mut notes, source, what)?;
     Ok(notes)
 }
 

@@ -12,24 +12,26 @@ ghost use Rattle.fr_answer.specs.Commands.{
   AreLinesPrinted,
   AreMore,
   IsAnswerBy,
+  IsLineAdded,
   IsLineAnswer,
+  IsLinePrinted,
   IsLineText,
   IsListAnswered,
   Shows,
 };
-ghost use Rattle.fr_answer.specs.Each.{Each};
+ghost use Rattle.fr_answer.specs.Each.{Each, IsAdded};
 ghost use Rattle.fr_answer.specs.Heading.{heading};
 ghost use Rattle.fr_answer.specs.Inputs.{Reads};
 
 use crate::answer::{Answer, Refusal, What};
 use crate::fault::CheckFault;
 use crate::files::Files;
-use crate::printing::{put, warn};
+use crate::printing::{put, put_report, warn};
 use crate::reading::{checked_files, input, proved_alone};
 use crate::shown::shown_of;
 use crate::ways::{MOST_STATE_BYTES, MOST_STATES, Warns, Ways, detail_in};
 use fr_escape::push_plain;
-use fr_formats::{AnswerShown, Command, Source, answers_text};
+use fr_formats::{AnswerShown, Command, Source};
 use fr_list::{Listed, MOST_LIST_BYTES, listed_in, path_beside};
 use fr_report::text_of;
 use fr_request::{CheckRequest, Format};
@@ -155,22 +157,43 @@ fn line_text(
     format!(in alloc; "{heading}{line}\n{more}")
 }
 
-/// Prints the answer for one line, and warnings on standard error.
+/// Prints the answer for one line, and warnings on standard error; gives its exit status.
 fn print_line<O: Write, E: Write>(
     alloc: Global,
     answer: &Answer,
     explains: bool,
     out: &mut O,
     err: &mut E,
-) -> Result<(), CheckFault>
+) -> Result<u8, CheckFault>
     ensures text { IfOk result (λ _. (text : List ℕ)
         × IsLineText explains (string_bytes answer.now.application) answer.now.what text
         × Appends (O.contents out.old) (O.contents out.new) text) }
+    ensures status { IfOk result (λ status. status ≡ what_status answer.now.what) }
     ensures fault { IfErr result (λ fault. fault_status fault ≡ 3) }
 {
     let heading = heading(alloc, &answer.application)?;
     put(&line_text(alloc, &heading, &answer.what, explains)?, out)?;
-    warn(alloc, answer, &heading, err)
+    warn(alloc, answer, &heading, err)?;
+    Ok(answer.what.status())
+}
+
+/// Answers one line and prints that; gives its exit status.
+fn print_answer<R: Threads + Wait + Sync, F: Files, O: Write, E: Write>(
+    rt: &R,
+    alloc: Global,
+    list: &str,
+    listed: Listed,
+    ways: Ways,
+    files: &F,
+    out: &mut O,
+    err: &mut E,
+) -> Result<u8, CheckFault>
+    ensures printed { IfOk result (IsLinePrinted (Reads (F.Gives files.now) F.Means) ways.deadlock (is_some ways.detail) list.now
+        (entry_of listed.entry) (O.contents out.old) (O.contents out.new)) }
+    ensures fault { IfErr result (λ fault. fault_status fault ≡ 3) }
+{
+    let answer = answer_line(rt, alloc, list, listed, ways, files)?;
+    print_line(alloc, &answer, ways.detail.is_some(), out, err)
 }
 
 /// Answers each line and prints it when it is answered; gives the greatest exit status.
@@ -191,11 +214,40 @@ fn print_each<R: Threads + Wait + Sync, F: Files, O: Write, E: Write>(
 {
     let mut greatest = 0u8;
     for entry in entries {
-        let answer = answer_line(rt, alloc, list, *entry, ways, files)?;
-        print_line(alloc, &answer, ways.detail.is_some(), out, err)?;
-        greatest = greatest.max(answer.what.status());
+        let status = print_answer(rt, alloc, list, *entry, ways, files, out, err)?;
+        greatest = greatest.max(status);
     }
     Ok(greatest)
+}
+
+/// Adds an answer as reports show it, and gives its exit status.
+fn add_answer(
+    alloc: Global,
+    answer: &Answer,
+    answers: &mut Vec<AnswerShown>,
+) -> Result<u8, AllocError>
+    ensures added { IfOk result
+        (λ _. IsAdded (Shows (string_bytes answer.now.application) answer.now.what) answers.old.items answers.new.items) }
+    ensures status { IfOk result (λ status. status ≡ what_status answer.now.what) }
+{
+    answers.push(shown_of(alloc, answer)?)?;
+    Ok(answer.what.status())
+}
+
+/// Answers one line, adds the answer as reports show it, and gives its exit status.
+fn add_line<R: Threads + Wait + Sync, F: Files>(
+    rt: &R,
+    alloc: Global,
+    list: &str,
+    listed: Listed,
+    ways: Ways,
+    files: &F,
+    answers: &mut Vec<AnswerShown>,
+) -> Result<u8, AllocError>
+    ensures { IfOk result (IsLineAdded (Reads (F.Gives files.now) F.Means) ways.deadlock list.now (entry_of listed.entry) answers.old.items answers.new.items) }
+{
+    let answer = answer_line(rt, alloc, list, listed, ways, files)?;
+    add_answer(alloc, &answer, answers)
 }
 
 /// The answers to all lines as reports show them, and the greatest exit status.
@@ -211,13 +263,12 @@ fn shown_each<R: Threads + Wait + Sync, F: Files>(
         (λ lines. Each (λ line shown. Shows (beside list.now line.entry.application) line.what shown) lines r.0.items)) }
     ensures most { IfOk result (λ r. r.1 ≤ 3) }
 {
-    let (mut answers, mut status) = (Vec::new(alloc), 0u8);
+    let (mut answers, mut greatest) = (Vec::new(alloc), 0u8);
     for listed in entries {
-        let answer = answer_line(rt, alloc, list, *listed, ways, files)?;
-        answers.push(shown_of(alloc, &answer)?)?;
-        status = status.max(answer.what.status());
+        let status = add_line(rt, alloc, list, *listed, ways, files, &mut answers)?;
+        greatest = greatest.max(status);
     }
-    Ok((answers, status))
+    Ok((answers, greatest))
 }
 
 /// Answers each line, and prints a report of all answers in this form; gives the greatest exit status.
@@ -237,7 +288,7 @@ fn report_each<R: Threads + Wait + Sync, F: Files, O: Write>(
     ensures fault { IfErr result (λ fault. fault_status fault ≡ 3) }
 {
     let (answers, status) = shown_each(rt, alloc, list, entries, ways, files)?;
-    put(&answers_text(alloc, format, &answers)?, out)?;
+    put_report(alloc, format, &answers, out)?;
     Ok(status)
 }
 

@@ -1,5 +1,6 @@
 // The command `points`.
-ghost use Rattle.std.specs.Prelude.{◌≡◌, IfErr, IfOk, string_bytes};
+ghost use Rattle.std.specs.Prelude.{◌≡◌, ℕ, List, IfErr, IfOk, string_bytes};
+ghost use Rattle.std.specs.Io.KnownBytes.{Appends};
 ghost use Rattle.fr_answer.specs.Checked.{fault_status};
 ghost use Rattle.fr_answer.specs.Commands.{AreShown, IsListed, IsListing};
 ghost use Rattle.fr_answer.specs.Inputs.{Reads};
@@ -37,6 +38,22 @@ fn listed(alloc: Global, app: &App, text: &[u8], explains: bool) -> Result<Strin
     points_text(alloc, app, &sources)
 }
 
+/// Prints the points of the application with this text, and gives the exit status.
+fn put_listed<O: Write>(
+    alloc: Global,
+    app: &App,
+    text: &[u8],
+    explains: bool,
+    out: &mut O,
+) -> Result<u8, CheckFault>
+    ensures put { IfOk result (λ _. (lines : List ℕ) × IsListed explains app.now lines × Appends (O.contents out.old) (O.contents out.new) lines) }
+    ensures done { IfOk result (λ status. status ≡ 0) }
+    ensures fault { IfErr result (λ fault. fault_status fault ≡ 3) }
+{
+    put(&listed(alloc, app, text, explains)?, out)?;
+    Ok(DONE)
+}
+
 /// Prints the points of the application in the file, a line each, where it is asked for with the line's place in its source, and gives the
 /// exit status.
 pub(crate) fn points<F: Files, O: Write>(
@@ -53,10 +70,7 @@ pub(crate) fn points<F: Files, O: Write>(
 {
     let AppText { bytes: text, .. } = application(alloc, files, app, explains)?;
     match read_app(alloc, &text) {
-        Ok(app) => {
-            put(&listed(alloc, &app, &text, explains)?, out)?;
-            Ok(DONE)
-        }
+        Ok(app) => Ok(put_listed(alloc, &app, &text, explains, out)?),
         Err(fault) => {
             let places = explains || is_unknown_word(&fault);
             let fault = CheckFault::from(fault);

@@ -11,7 +11,9 @@ use fr_ends::Certificate;
 use fr_judge::{Judging, Lists, Part, Verdict};
 use fr_page::{PointShown, Reason, Standing};
 use fr_program::{App, ObjId, Point};
-use fr_report::{Line, explain, never_deleted, note_told, object_name, part_text, side_name};
+use fr_report::{
+    Explained, Line, explain, never_deleted, note_told, object_name, part_text, side_name,
+};
 use fr_request::Detail;
 use std::alloc::{AllocError, Global};
 
@@ -52,6 +54,22 @@ impl Tally {
     }
 }
 
+/// What explains that a point fails, a reason each, with lines of code as they stand in the text.
+fn reasons_in(
+    alloc: Global,
+    app: &App,
+    code: &Code,
+    items: &mut [Explained],
+) -> Result<Vec<Reason>, AllocError> {
+    let mut reasons = Vec::new(alloc);
+    for item in items {
+        code.put_into(alloc, item)?;
+        let Line { of, said } = item.line(alloc, app)?;
+        reasons.push(Reason { of, said })?;
+    }
+    Ok(reasons)
+}
+
 /// Why a point fails, as a command explains it.
 fn reasons(
     alloc: Global,
@@ -63,19 +81,34 @@ fn reasons(
 ) -> Result<Vec<Reason>, AllocError>
     requires { CertificateFits app.now certificate.now }
 {
-    let mut reasons = Vec::new(alloc);
     let verdict = Verdict::No { point, part };
-    let detail = Detail::Told;
     let Look { code, blames, .. } = look;
-    let sources = &code.sources;
-    if let Some(mut found) = explain(alloc, app, certificate, sources, verdict, detail, blames)? {
-        for item in &mut found.items {
-            code.put_into(alloc, item)?;
-            let Line { of, said } = item.line(alloc, app)?;
-            reasons.push(Reason { of, said })?;
-        }
+    match explain(
+        alloc,
+        app,
+        certificate,
+        &code.sources,
+        verdict,
+        Detail::Told,
+        blames,
+    )? {
+        Some(mut found) => reasons_in(alloc, app, code, &mut found.items),
+        None => Ok(Vec::new(alloc)),
     }
-    Ok(reasons)
+}
+
+/// How it is with a point whose note says this, by what fails there.
+fn standing_of(
+    alloc: Global,
+    app: &App,
+    notes: &[String],
+    part: Option<Part>,
+) -> Result<Standing, AllocError> {
+    match part {
+        Some(part) => Ok(Standing::Fails(part_text(alloc, app, part)?)),
+        None if notes.is_empty() => Ok(Standing::Never),
+        None => Ok(Standing::Holds),
+    }
 }
 
 /// A point of the application with what its note says and how it is with it. Why it fails is shown where
@@ -94,20 +127,14 @@ fn point_shown(
     requires app { judging.now.app ≡ app.now }
 {
     app.recall_numbered();
-    let point = app.point(number);
+    let (point, part) = (app.point(number), judging.part_at(number));
+    let explanation = match part {
+        Some(part) if explains => reasons(alloc, app, certificate, look, point, part)?,
+        _ => Vec::new(alloc),
+    };
     let notes = note_told(alloc, app, certificate, point, look.live)?;
-    let (mut standing, mut explanation) = (Standing::Holds, Vec::new(alloc));
-    match judging.part_at(number) {
-        Some(part) => {
-            standing = Standing::Fails(part_text(alloc, app, part)?);
-            if explains {
-                explanation = reasons(alloc, app, certificate, look, point, part)?;
-            }
-        }
-        None if notes.is_empty() => standing = Standing::Never,
-        None => {}
-    }
     let side = String::from_str(alloc, side_name(point.side))?;
+    let standing = standing_of(alloc, app, &notes, part)?;
     Ok(PointShown {
         number,
         side,
@@ -183,6 +210,23 @@ fn put_live(alloc: Global, body: &mut Body, app: &App, live: &[ObjId]) -> Result
     Ok(body.omissions.push(text)?)
 }
 
+/// Adds the points with the objects that are always live, and counts them.
+fn put_all(
+    alloc: Global,
+    body: &mut Body,
+    app: &App,
+    certificate: &Certificate,
+    look: Look,
+    judging: &Judging,
+) -> Result<(), AllocError>
+    requires fits { CertificateFits app.now certificate.now }
+    requires app { judging.now.app ≡ app.now }
+{
+    put_live(alloc, body, app, look.live)?;
+    let tally = put_points(alloc, body, app, certificate, look, judging)?;
+    put_counts(alloc, body, app.points(), tally)
+}
+
 /// Adds to the page what the certificate says of each point, and whether it is so. Where `blames` asks for it, lines are named that a person
 /// would change.
 pub(super) fn put_judged(
@@ -194,15 +238,13 @@ pub(super) fn put_judged(
 ) -> Result<(), AllocError> {
     judged.recall_verdict();
     let (app, certificate) = (judged.app(), judged.certificate());
-    let lists = Lists::build(alloc, app, certificate)?;
-    let judging = Judging::with(app, certificate, &lists);
     let live = never_deleted(alloc, app)?;
-    put_live(alloc, body, app, &live)?;
     let look = Look {
         code,
         live: &live,
         blames,
     };
-    let tally = put_points(alloc, body, app, certificate, look, &judging)?;
-    put_counts(alloc, body, app.points(), tally)
+    let lists = Lists::build(alloc, app, certificate)?;
+    let judging = Judging::with(app, certificate, &lists);
+    put_all(alloc, body, app, certificate, look, &judging)
 }

@@ -314,6 +314,27 @@ fn put_taken(
     put_steps(alloc, body, app, code, depths, &run.steps)
 }
 
+/// Adds a run that is explained, and the rule that its last step breaks.
+fn put_broken(
+    alloc: Global,
+    body: &mut Body,
+    app: &App,
+    code: &Code,
+    depths: &[Depth],
+    run: &ExplainedRun,
+    rule: Rule,
+) -> Result<(), AllocError> {
+    let said = rule_told(alloc, rule)?;
+    let last = put_taken(alloc, body, app, code, depths, run)?;
+    match run.lasts.first() {
+        Some(at) => {
+            let end = (Doing::Breach, said.as_str());
+            put_end(alloc, body, app, code, depths, at, end, &last)
+        }
+        None => Ok(()),
+    }
+}
+
 /// Adds a run into a breach to the body.
 pub(super) fn put_run(
     alloc: Global,
@@ -322,25 +343,9 @@ pub(super) fn put_run(
     code: &Code,
     found: &Refutation,
 ) -> Result<(), AllocError> {
-    let (depths, run) = (
-        depths_of(alloc, app)?,
-        explain_run(alloc, app, &code.sources, found)?,
-    );
-    let last = put_taken(alloc, body, app, code, &depths, &run)?;
-    let rule = rule_told(alloc, found.rule)?;
-    match run.lasts.first() {
-        Some(at) => put_end(
-            alloc,
-            body,
-            app,
-            code,
-            &depths,
-            at,
-            (Doing::Breach, &rule),
-            &last,
-        ),
-        None => Ok(()),
-    }
+    let depths = depths_of(alloc, app)?;
+    let run = explain_run(alloc, app, &code.sources, found)?;
+    put_broken(alloc, body, app, code, &depths, &run, found.rule)
 }
 
 /// Adds where the actors are that wait for one another.
@@ -387,6 +392,20 @@ fn arrows_of(alloc: Global, app: &App, cycle: &[Wait]) -> Result<Vec<WaitShown>,
     Ok(arrows)
 }
 
+/// Adds a run that is explained, and the cycle of those that wait after it.
+fn put_cycle(
+    alloc: Global,
+    body: &mut Body,
+    app: &App,
+    code: &Code,
+    depths: &[Depth],
+    run: &ExplainedRun,
+    cycle: &[Wait],
+) -> Result<(), AllocError> {
+    let last = put_taken(alloc, body, app, code, depths, run)?;
+    put_waits(alloc, body, app, code, depths, (&run.lasts, cycle), &last)
+}
+
 /// Adds a run into a deadlock to the body.
 pub(super) fn put_deadlock(
     alloc: Global,
@@ -395,20 +414,9 @@ pub(super) fn put_deadlock(
     code: &Code,
     found: &Deadlocked,
 ) -> Result<(), AllocError> {
-    let (depths, run) = (
-        depths_of(alloc, app)?,
-        explain_deadlock(alloc, app, &code.sources, found)?,
-    );
-    let last = put_taken(alloc, body, app, code, &depths, &run)?;
-    put_waits(
-        alloc,
-        body,
-        app,
-        code,
-        &depths,
-        (&run.lasts, &found.cycle),
-        &last,
-    )?;
+    let depths = depths_of(alloc, app)?;
+    let run = explain_deadlock(alloc, app, &code.sources, found)?;
+    put_cycle(alloc, body, app, code, &depths, &run, &found.cycle)?;
     body.waits = arrows_of(alloc, app, &found.cycle)?;
     Ok(())
 }

@@ -1,17 +1,17 @@
 // A run that was found for a trace, with the events of the trace beside it.
 ghost use Rattle.std.specs.Prelude.{◌≡◌, IfOk, string_bytes};
 ghost use Rattle.fr_calls.specs.State.{IsWellFormed};
-ghost use Rattle.fr_answer.specs.Pages.{IsTrailPage, page_kind};
+ghost use Rattle.fr_answer.specs.Pages.{IsTrailPage};
 
 use super::actors::{count_text, put_actors};
 use super::code::Code;
 use super::steps::{
     Spot, is_shown, omitted_before, put_end, put_start, put_step, put_tracks, row_of, rule_told,
 };
-use super::{Body, empty_body, page_kind};
+use super::{Body, empty_body, page_kind, page_with};
 use fr_calls::{Rule, State};
 use fr_follower::Followed;
-use fr_page::{Doing, Moved, Page, page_text};
+use fr_page::{Doing, Moved, page_text};
 use fr_program::{ActorId, App};
 use fr_refuter::StepTaken;
 use fr_report::{Depth, ExplainedRun, depths_of, explain_steps};
@@ -114,6 +114,37 @@ fn broken(followed: &Option<Followed>) -> Option<(Rule, ActorId)> {
     }
 }
 
+/// Adds the run that was found for a trace, with its events, and the rule that its last step breaks.
+fn put_found(
+    alloc: Global,
+    body: &mut Body,
+    app: &App,
+    code: &Code,
+    depths: &[Depth],
+    answer: &TraceAnswer,
+    run: &ExplainedRun,
+) -> Result<(), AllocError> {
+    let state = put_rows(alloc, body, app, code, depths, &answer.rows, run)?;
+    match (run.lasts.first(), broken(&answer.followed)) {
+        (Some(at), Some((rule, _))) => {
+            let said = rule_told(alloc, rule)?;
+            let end = (Doing::Breach, said.as_str());
+            put_end(alloc, body, app, code, depths, at, end, &state)
+        }
+        _ => Ok(()),
+    }
+}
+
+/// Adds how many steps and events the rows have.
+fn put_counts(alloc: Global, body: &mut Body, steps: usize, rows: usize) -> Result<(), AllocError> {
+    let events = rows.saturating_sub(steps);
+    body.counts
+        .push(count_text(alloc, steps, "step", "steps")?)?;
+    body.counts
+        .push(count_text(alloc, events, "event", "events")?)?;
+    Ok(())
+}
+
 /// Adds the run that was found for a trace to the body, with the events of the trace; nothing where none was found.
 fn put_trail(
     alloc: Global,
@@ -125,62 +156,40 @@ fn put_trail(
     if answer.rows.is_empty() {
         return Ok(());
     }
-    let (steps, breach) = (steps_in(alloc, &answer.rows)?, broken(&answer.followed));
-    let last = breach.map(|breach| breach.1);
-    let (depths, run) = (
-        depths_of(alloc, app)?,
-        explain_steps(alloc, app, &code.sources, &steps, last)?,
-    );
+    let (steps, depths) = (steps_in(alloc, &answer.rows)?, depths_of(alloc, app)?);
     put_tracks(alloc, body, app, &depths)?;
-    let events = answer.rows.len().saturating_sub(steps.len());
-    body.counts
-        .push(count_text(alloc, steps.len(), "step", "steps")?)?;
-    body.counts
-        .push(count_text(alloc, events, "event", "events")?)?;
-    let state = put_rows(alloc, body, app, code, &depths, &answer.rows, &run)?;
-    match (run.lasts.first(), breach) {
-        (Some(at), Some((rule, _))) => {
-            let said = rule_told(alloc, rule)?;
-            let end = (Doing::Breach, said.as_str());
-            put_end(alloc, body, app, code, &depths, at, end, &state)
-        }
-        _ => Ok(()),
-    }
+    put_counts(alloc, body, steps.len(), answer.rows.len())?;
+    let last = broken(&answer.followed).map(|broken| broken.1);
+    let run = explain_steps(alloc, app, &code.sources, &steps, last)?;
+    put_found(alloc, body, app, code, &depths, answer, &run)
 }
 
-/// What the page shows below the answer to a trace: what explains it, the actors, and the run that was found.
+/// Adds what the page shows below the answer to a trace: what explains it, the actors, and the run that was found.
+fn put_below(
+    alloc: Global,
+    body: &mut Body,
+    app: &App,
+    code: &Code,
+    answer: &TraceAnswer,
+) -> Result<(), AllocError> {
+    for line in &answer.why {
+        body.details.push(line.clone()?)?;
+    }
+    put_actors(alloc, body, app, code)?;
+    put_trail(alloc, body, app, code, answer)
+}
+
+/// What the page shows below the answer to a trace.
 fn trail_body(
     alloc: Global,
     app: &App,
     text: &[u8],
     answer: &TraceAnswer,
 ) -> Result<Body, AllocError> {
-    let mut body = empty_body(alloc);
-    for line in &answer.why {
-        body.details.push(line.clone()?)?;
-    }
     let code = Code::of(alloc, text)?;
-    put_actors(alloc, &mut body, app, &code)?;
-    put_trail(alloc, &mut body, app, &code, answer)?;
+    let mut body = empty_body(alloc);
+    put_below(alloc, &mut body, app, &code, answer)?;
     Ok(body)
-}
-
-/// The page with this below the heading of the answer's kind and its line.
-fn headed(command: String, answer: &TraceAnswer, body: Body) -> Result<Page, AllocError>
-    ensures kind { IfOk result (λ page. page.kind ≡ page_kind answer.now.kind) }
-    ensures line { IfOk result (λ page. string_bytes page.answer ≡ string_bytes answer.now.line) }
-{
-    Ok(Page {
-        kind: page_kind(answer.kind),
-        command,
-        answer: answer.line.clone()?,
-        details: body.details,
-        counts: body.counts,
-        omissions: body.omissions,
-        actors: body.actors,
-        steps: body.steps,
-        waits: body.waits,
-    })
 }
 
 /// The page of the answer to a trace, as one HTML file, where the application has this text and the command was spelled so. Its heading is
@@ -194,7 +203,8 @@ pub(crate) fn trail_page(
 ) -> Result<String, AllocError>
     ensures { IfOk result (λ page. IsTrailPage answer.now.kind (string_bytes answer.now.line) (string_bytes page)) }
 {
+    let line = answer.line.clone()?;
     let body = trail_body(alloc, app, text, answer)?;
-    let page = headed(command, answer, body)?;
+    let page = page_with(page_kind(answer.kind), command, line, body);
     page_text(alloc, &page)
 }

@@ -28,6 +28,18 @@ fn words_of(alloc: Global, app: &App, items: &[Explained]) -> Result<String, All
     Ok(text)
 }
 
+/// The point with its line of code, if there is one.
+fn point_shown(
+    alloc: Global,
+    places: &Places,
+    point: Option<Point>,
+) -> Result<Option<PlaceShown>, AllocError> {
+    match point {
+        Some(point) => Ok(Some(places.shown(alloc, point)?)),
+        None => Ok(None),
+    }
+}
+
 /// What fails at a point, with the state that shows it and the step from there.
 fn failure_at(
     alloc: Global,
@@ -37,34 +49,30 @@ fn failure_at(
     items: &[Explained],
 ) -> Result<Failure, AllocError> {
     let app = places.app();
-    let other = match other_of(part) {
-        Some(point) => Some(places.shown(alloc, point)?),
-        None => None,
-    };
     let step = items
         .iter()
         .position(|item| matches!(item, Explained::Step { .. }))
         .unwrap_or(items.len());
+    let (state, step) = (
+        words_of(alloc, app, &items[..step])?,
+        words_of(alloc, app, &items[step..])?,
+    );
+    let text = part_text(alloc, app, part)?;
+    let place = places.shown(alloc, point)?;
+    let other = point_shown(alloc, places, other_of(part))?;
     Ok(Failure {
         rule: part_name(part),
-        text: part_text(alloc, app, part)?,
-        place: Some(places.shown(alloc, point)?),
+        text,
+        place: Some(place),
         other,
-        state: words_of(alloc, app, &items[..step])?,
-        step: words_of(alloc, app, &items[step..])?,
+        state,
+        step,
     })
 }
 
-/// The point of an edge with its line of code, if there is one.
-fn edge_shown(
-    alloc: Global,
-    places: &Places,
-    edge: Option<&Edge>,
-) -> Result<Option<PlaceShown>, AllocError> {
-    match edge {
-        Some(edge) => Ok(Some(places.shown(alloc, edge.point)?)),
-        None => Ok(None),
-    }
+/// The point of an edge, if there is one.
+fn point_of(edge: Option<&Edge>) -> Option<Point> {
+    Some(edge?.point)
 }
 
 /// The deadlock that isn't excluded, at the first two takes of the cycle; None where there is no cycle.
@@ -79,11 +87,14 @@ fn may_deadlock(
     let Order::Cycle(edges) = order else {
         return Ok(None);
     };
+    let text = order_line(alloc, places.app(), order)?;
+    let place = point_shown(alloc, places, point_of(edges.first()))?;
+    let other = point_shown(alloc, places, point_of(edges.get(1)))?;
     Ok(Some(Failure {
         rule: "may-deadlock",
-        text: order_line(alloc, places.app(), order)?,
-        place: edge_shown(alloc, places, edges.first())?,
-        other: edge_shown(alloc, places, edges.get(1))?,
+        text,
+        place,
+        other,
         state: String::new(alloc),
         step: String::new(alloc),
     }))
@@ -98,9 +109,8 @@ pub(super) fn failure_of(
     let Verdict::No { point, part } = judged.verdict() else {
         return may_deadlock(alloc, places, judged);
     };
-    let failure = match judged.why() {
-        Some(why) => failure_at(alloc, places, point, part, &why.items)?,
-        None => failure_at(alloc, places, point, part, &[])?,
-    };
-    Ok(Some(failure))
+    match judged.why() {
+        Some(why) => Ok(Some(failure_at(alloc, places, point, part, &why.items)?)),
+        None => Ok(Some(failure_at(alloc, places, point, part, &[])?)),
+    }
 }

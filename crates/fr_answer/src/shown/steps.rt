@@ -37,6 +37,22 @@ fn steps_shown(
     Ok(shown)
 }
 
+/// Where the first of those is that stand in the last state, and what is said of it; nothing where nobody does.
+fn last_shown(
+    alloc: Global,
+    places: &Places,
+    run: &ExplainedRun,
+) -> Result<(Option<PlaceShown>, String), AllocError> {
+    match run.lasts.first() {
+        Some(last) => {
+            let line = last.line(alloc, places.app(), "")?;
+            let state = line.text(alloc)?;
+            Ok((place_of(alloc, places, last)?, state))
+        }
+        None => Ok((None, String::new(alloc))),
+    }
+}
+
 /// What is so after a run, which has this name and is described so, and the steps of the run.
 fn ended(
     alloc: Global,
@@ -45,11 +61,8 @@ fn ended(
     rule: &'static str,
     text: String,
 ) -> Result<(Option<Failure>, Vec<StepShown>), AllocError> {
-    let (mut place, mut state) = (None, String::new(alloc));
-    if let Some(last) = run.lasts.first() {
-        place = place_of(alloc, places, last)?;
-        state = last.line(alloc, places.app(), "")?.text(alloc)?;
-    }
+    let steps = steps_shown(alloc, places, &run.steps)?;
+    let (place, state) = last_shown(alloc, places, run)?;
     let failure = Failure {
         rule,
         text,
@@ -58,7 +71,7 @@ fn ended(
         state,
         step: String::new(alloc),
     };
-    Ok((Some(failure), steps_shown(alloc, places, &run.steps)?))
+    Ok((Some(failure), steps))
 }
 
 /// The deadlock, and the steps of the run into it.
@@ -67,8 +80,9 @@ pub(super) fn deadlock_shown(
     places: &Places,
     found: &Deadlocked,
 ) -> Result<(Option<Failure>, Vec<StepShown>), AllocError> {
-    let run = explain_deadlock(alloc, places.app(), &places.sources(alloc)?, found)?;
     let text = deadlock_text(alloc, places.app(), found)?;
+    let sources = places.sources(alloc)?;
+    let run = explain_deadlock(alloc, places.app(), &sources, found)?;
     ended(alloc, places, &run, "deadlock", text)
 }
 
@@ -78,7 +92,8 @@ pub(super) fn run_shown(
     places: &Places,
     found: &Refutation,
 ) -> Result<(Option<Failure>, Vec<StepShown>), AllocError> {
-    let run = explain_run(alloc, places.app(), &places.sources(alloc)?, found)?;
     let text = breach_text(alloc, places.app(), found)?;
+    let sources = places.sources(alloc)?;
+    let run = explain_run(alloc, places.app(), &sources, found)?;
     ended(alloc, places, &run, rule_name(found.rule), text)
 }

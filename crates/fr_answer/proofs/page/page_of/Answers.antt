@@ -1,5 +1,5 @@
 -- The page has the heading and the line.
-use Rattle.std.proofs.Common.{◌≡◌, ◌++◌, ℕ, List, Result, Ok, Err, IfOk, String, string_bytes}
+use Rattle.std.proofs.Common.{◌≡◌, ◌++◌, ◌∙◌, ℕ, List, Result, Ok, Err, IfOk, String, ap, string_bytes}
 use Rattle.std.specs.declared.alloc.Global.{Global}
 use Rattle.fr_page.specs.declared.page.Page.{Page}
 use Rattle.fr_page.specs.Whole.{head_of}
@@ -14,4 +14,6 @@ written what page (Ok text) kind line h = (page, kind, line, h.0, h.1)
 written what page (Err e) kind line h = tt
 
 pub returns : goal.returns
-returns c = written c.args.answer.now.what c.in_ok-page.page c.page_text.result c.in_ok-page.ensures.kind c.in_ok-page.ensures.line c.page_text.ensures
+returns c =
+    written c.args.answer.now.what c.page_with-page.result c.page_text.result (c.page_with-page.ensures.kind ∙ c.page_kind-kind.ensures ∙ ap page_kind c.kind.ensures)
+    (ap string_bytes c.page_with-page.ensures.line ∙ c.in_ok-line.ensures) c.page_text.ensures

@@ -6,5 +6,5 @@ use Rattle.fr_answer.proofs.refuting.searched.Goals as goal
 
 pub returns-in_err-app-clause-refused : goal.returns-in_err-app-clause-refused
 returns-in_err-app-clause-refused g c =
-    let p = err_from_is_err_and c.from_residual.result c.from_residual.ensures.1 in
+    let p = err_from_is_err_and c.from_residual-in_err-app.result c.from_residual-in_err-app.ensures.1 in
     rw (p.1, p.2) (app-refused (CanRefuseSearch c.args.app.now c.args.ways.workers) c.in_err-app.field-0.0 tt (λ e. (e, c.in_err-app.ensures.err e)))

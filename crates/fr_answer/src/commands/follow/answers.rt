@@ -1,6 +1,7 @@
 // The answers to traces in files.
 ghost use Rattle.std.specs.Prelude.{◌≡◌, ◌≤◌, ◌∷◌, [], IfErr, IfOk, IfSome, None, string_bytes};
 ghost use Rattle.fr_formats.specs.Answers.{status_of as kind_status};
+ghost use Rattle.fr_answer.specs.Answers.{kind_of};
 ghost use Rattle.fr_answer.specs.Checked.{fault_status};
 ghost use Rattle.fr_answer.specs.Inputs.{Reads};
 ghost use Rattle.fr_answer.specs.Traces.{IsAnswerAt, IsRunAt, answered_at};
@@ -72,26 +73,36 @@ fn answer_at<F: Files>(
     }
 }
 
-/// A refusal as the answer to a trace.
-fn answer_of(alloc: Global, refusal: Refusal, explains: bool) -> Result<TraceAnswer, AllocError>
-    ensures least { IfOk result (λ answer. 2 ≤ kind_status answer.kind) }
+/// What was found out of a trace, without a run.
+fn answer_with(alloc: Global, what: &What, explains: bool) -> Result<TraceAnswer, AllocError>
+    ensures kind { IfOk result (λ answer. answer.kind ≡ kind_of what.now) }
     ensures run { IfOk result (λ answer. answer.run ≡ None) }
 {
-    let what = What::Refused(refusal);
+    let line = what.line(alloc)?;
+    let why = if explains {
+        what.lines(alloc)?
+    } else {
+        Vec::new(alloc)
+    };
     Ok(TraceAnswer {
         kind: what.kind(),
-        line: what.line(alloc)?,
-        why: if explains {
-            what.lines(alloc)?
-        } else {
-            Vec::new(alloc)
-        },
+        line,
+        why,
         stop: None,
         followed: None,
         run: None,
         rows: Vec::new(alloc),
         begun: Vec::new(alloc),
     })
+}
+
+/// A refusal as the answer to a trace.
+fn answer_of(alloc: Global, refusal: Refusal, explains: bool) -> Result<TraceAnswer, AllocError>
+    ensures least { IfOk result (λ answer. 2 ≤ kind_status answer.kind) }
+    ensures run { IfOk result (λ answer. answer.run ≡ None) }
+{
+    let what = What::Refused(refusal);
+    answer_with(alloc, &what, explains)
 }
 
 /// The answer to the trace in a file, or why there is none, as an answer too.

@@ -1,18 +1,20 @@
 // The answers to traces as they are printed.
 ghost use Rattle.std.specs.Prelude.{◌≡◌, ◌≤◌, ◌++◌, ◌∷◌, [], IfErr, IfOk, None, Some, codes, false, map, option_map, string_bytes, true};
+ghost use Rattle.std.specs.Io.KnownBytes.{Appends};
+ghost use Rattle.fr_formats.specs.Answers.{status_of as kind_status};
 ghost use Rattle.fr_report.specs.Lines.{lines_text};
 ghost use Rattle.fr_answer.specs.Checked.{fault_status};
-ghost use Rattle.fr_answer.specs.Each.{Each};
+ghost use Rattle.fr_answer.specs.Each.{Each, IsAdded};
 ghost use Rattle.fr_answer.specs.Inputs.{Reads};
-ghost use Rattle.fr_answer.specs.Traces.{AreTraces, AreTracesPrinted, ShowsTrace, answered_at};
+ghost use Rattle.fr_answer.specs.Traces.{AreTraces, AreTracesPrinted, ShowsTrace, answered_at, text_at};
 
 use super::answers::answer_shown;
 use crate::answer::copied;
 use crate::commands::list::heading;
 use crate::fault::CheckFault;
 use crate::files::Files;
-use crate::printing::put;
-use fr_formats::{AnswerShown, Command, Source, TraceShown, answers_text};
+use crate::printing::{put, put_report};
+use fr_formats::{AnswerShown, Command, Source, TraceShown};
 use fr_program::App;
 use fr_report::text_of;
 use fr_request::{FollowRequest, Format};
@@ -46,12 +48,14 @@ fn trace_shown(
         application: asked.app,
         certificate: None,
     };
-    let mut shown = AnswerShown::new(alloc, source, answer.kind, answer.line.clone()?)?;
-    shown.trace = Some(TraceShown {
+    let trace = TraceShown {
         file: String::from_str(alloc, path)?,
         line: answer.stop,
-    });
-    shown.lines = copied(alloc, &answer.why)?;
+    };
+    let lines = copied(alloc, &answer.why)?;
+    let mut shown = AnswerShown::new(alloc, source, answer.kind, answer.line.clone()?)?;
+    shown.trace = Some(trace);
+    shown.lines = lines;
     Ok(shown)
 }
 
@@ -69,7 +73,7 @@ fn report_one<O: Write>(
     ensures fault { IfErr result (λ fault. fault_status fault ≡ 3) }
 {
     let shown = trace_shown(alloc, path, answer, asked)?;
-    put(&answers_text(alloc, format, slice::from_ref(&shown))?, out)
+    put_report(alloc, format, slice::from_ref(&shown), out)
 }
 
 /// Prints the answer to the trace in this file: its text, or a report of it.
@@ -90,6 +94,26 @@ pub(super) fn print_one<O: Write>(
     }
 }
 
+/// Prints an answer after the path of its trace, and adds what its run has shown; gives its exit status.
+fn print_after<O: Write>(
+    alloc: Global,
+    app: &App,
+    path: &str,
+    answer: &TraceAnswer,
+    coverage: &mut Coverage,
+    out: &mut O,
+) -> Result<u8, CheckFault>
+    ensures printed { IfOk result
+        (λ _. Appends (O.contents out.old) (O.contents out.new) (text_at true (answered_at path.now answer.now))) }
+    ensures status { IfOk result (λ status. status ≡ kind_status answer.now.kind) }
+    ensures fault { IfErr result (λ fault. fault_status fault ≡ 3) }
+{
+    let (heading, text) = (heading(alloc, path)?, answer_text(alloc, answer)?);
+    put(&format!(in alloc; "{heading}{text}")?, out)?;
+    coverage.add(alloc, app, answer)?;
+    Ok(answer.kind.status())
+}
+
 /// Answers each trace and prints that when it is answered; gives the greatest exit status.
 fn print_each<F: Files, O: Write>(
     alloc: Global,
@@ -108,12 +132,26 @@ fn print_each<F: Files, O: Write>(
     let mut greatest = 0u8;
     for path in paths {
         let answer = answer_shown(alloc, app, *path, asked, files)?;
-        let (heading, text) = (heading(alloc, *path)?, answer_text(alloc, &answer)?);
-        put(&format!(in alloc; "{heading}{text}")?, out)?;
-        coverage.add(alloc, app, &answer)?;
-        greatest = greatest.max(answer.kind.status());
+        let status = print_after(alloc, app, *path, &answer, coverage, out)?;
+        greatest = greatest.max(status);
     }
     Ok(greatest)
+}
+
+/// Adds the answer to the trace in this file as reports show it, and gives its exit status.
+fn add_trace(
+    alloc: Global,
+    path: &str,
+    answer: &TraceAnswer,
+    asked: &FollowRequest,
+    answers: &mut Vec<AnswerShown>,
+) -> Result<u8, AllocError>
+    ensures added { IfOk result
+        (λ _. IsAdded (ShowsTrace asked.now.app.now (answered_at path.now answer.now)) answers.old.items answers.new.items) }
+    ensures status { IfOk result (λ status. status ≡ kind_status answer.now.kind) }
+{
+    answers.push(trace_shown(alloc, path, answer, asked)?)?;
+    Ok(answer.kind.status())
 }
 
 /// The answers to all traces as reports show them, and the greatest exit status.
@@ -131,8 +169,8 @@ fn shown_each<F: Files>(
     let (mut answers, mut greatest) = (Vec::new(alloc), 0u8);
     for path in paths {
         let answer = answer_shown(alloc, app, *path, asked, files)?;
-        answers.push(trace_shown(alloc, *path, &answer, asked)?)?;
-        greatest = greatest.max(answer.kind.status());
+        let status = add_trace(alloc, *path, &answer, asked, &mut answers)?;
+        greatest = greatest.max(status);
     }
     Ok((answers, greatest))
 }
@@ -153,7 +191,7 @@ fn report_each<F: Files, O: Write>(
     ensures fault { IfErr result (λ fault. fault_status fault ≡ 3) }
 {
     let (answers, status) = shown_each(alloc, app, paths, asked, files)?;
-    put(&answers_text(alloc, format, &answers)?, out)?;
+    put_report(alloc, format, &answers, out)?;
     Ok(status)
 }
 

@@ -1,5 +1,5 @@
 -- One line more is answered and printed.
-use Rattle.std.proofs.Common.{◌≡◌, ◌≤◌, ◌∙◌, [], ap, arith, map, max, refl, string_bytes, subst, take}
+use Rattle.std.proofs.Common.{◌≡◌, ◌≤◌, ◌∙◌, [], ap, arith, map, max, refl, take}
 use Rattle.std.proofs.KnownBytes.{Appends-nil}
 use Rattle.std.proofs.lemmas.List.{map-append, take_more}
 use Rattle.std.proofs.lemmas.List.Elements.{All-nil}
@@ -7,7 +7,7 @@ use Rattle.std.specs.Option.{is_some}
 use Rattle.fr_list.specs.Means.{shown}
 use Rattle.fr_answer.specs.Answers.{kind_of, what_status}
 use Rattle.fr_answer.specs.Inputs.{Reads}
-use Rattle.fr_answer.specs.Commands.{IsLineAnswer, IsLineText}
+use Rattle.fr_answer.specs.Commands.{IsLineAnswer}
 use Rattle.fr_answer.proofs.Listing.{answered-at, printed-line}
 use Rattle.fr_answer.proofs.Safe.{status-most}
 use Rattle.fr_answer.proofs.commands.list.print_each.Goals as goal
@@ -23,13 +23,11 @@ loop-entry-preserved g c =
     let list = c.args.list.now in
     let explains = is_some c.args.ways.detail in
     let before = take c.loop-entry.entry-index c.args.entries.now in
-    let what = c.in_ok-answer.answer.what in
-    let so = c.in_ok-print_line.ensures.text in
-    let here = subst (λ b. IsLineText b (string_bytes c.in_ok-answer.answer.application) what so.0) c.is_some.ensures so.1 in
-    let told = subst (λ path. IsLineText explains path what so.0) c.in_ok-answer.ensures.path here in
-    let more = printed-line reads c.args.ways.deadlock explains list (map shown before) c.loop-entry.greatest _ so.0 _ _ _ c.loop-entry.invariant.0 c.in_ok-answer.ensures.by told so.2 in
+    let one = c.in_ok-status.ensures.printed in
+    let what = one.0 in
+    let more = printed-line reads c.args.ways.deadlock explains list (map shown before) c.loop-entry.greatest _ one.1 _ _ _ c.loop-entry.invariant.0 one.2 one.3 one.4 in
     let on = ap (map shown) (take_more c.args.entries.now c.loop-entry.entry-index _ c.loop-entry-test.true) ∙ map-append shown before _ in
-    let next : c.max-greatest.result ≡ max c.loop-entry.greatest (what_status what) = c.max-greatest.ensures ∙ ap (max c.loop-entry.greatest) c.status.ensures in
+    let next : c.max-greatest.result ≡ max c.loop-entry.greatest (what_status what) = c.max-greatest.ensures ∙ ap (max c.loop-entry.greatest) one.5 in
     let least : what_status what ≤ 3 = status-most (kind_of what) in
     let was : c.loop-entry.greatest ≤ 3 = c.loop-entry.invariant.1 in
     (answered-at reads c.args.ways.deadlock list _ _ _ _ _ on next more, omega (arith, next, least, was))

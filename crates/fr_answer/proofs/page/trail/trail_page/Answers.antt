@@ -1,5 +1,5 @@
 -- The page has the heading and the line.
-use Rattle.std.proofs.Common.{◌≡◌, ◌++◌, ℕ, List, Result, Ok, Err, IfOk, String, string_bytes}
+use Rattle.std.proofs.Common.{◌≡◌, ◌++◌, ◌∙◌, ℕ, List, Result, Ok, Err, IfOk, String, ap, rules, string_bytes}
 use Rattle.std.specs.declared.alloc.Global.{Global}
 use Rattle.fr_formats.specs.declared.answer.AnswerKind.{AnswerKind}
 use Rattle.fr_page.specs.declared.page.Page.{Page}
@@ -13,4 +13,6 @@ written kind line page (Ok text) is said h = (page, is, said, h.0, h.1)
 written kind line page (Err e) is said h = tt
 
 pub returns : goal.returns
-returns c = written c.args.answer.now.kind (string_bytes c.args.answer.now.line) c.in_ok-page.page c.page_text.result c.in_ok-page.ensures.kind c.in_ok-page.ensures.line c.page_text.ensures
+returns c =
+    written c.args.answer.now.kind (string_bytes c.args.answer.now.line) c.page_with-page.result c.page_text.result (c.page_with-page.ensures.kind ∙ c.page_kind.ensures)
+    (ap string_bytes c.page_with-page.ensures.line ∙ search rules) c.page_text.ensures

@@ -1,6 +1,5 @@
 -- The report shows the answer.
-use Rattle.std.proofs.Common.{string_bytes, subst}
-use Rattle.fr_formats.specs.Reports.{IsReport}
+use Rattle.std.proofs.Common.{string_bytes}
 use Rattle.fr_report.specs.Lines.{lines_text}
 use Rattle.fr_answer.specs.Traces.{ShowsTrace, TraceAnswerAt}
 use Rattle.fr_answer.proofs.Following.{reported-of}
@@ -11,7 +10,5 @@ returns-clause-printed g c =
     let answer = c.args.answer.now in
     let t : TraceAnswerAt = record { path = c.args.path.now; kind = answer.kind; line = string_bytes answer.line; more = lines_text answer.why.items } in
     let shown = c.in_ok-shown.shown in
-    let text = c.in_ok-answers_text.field-0 in
     let shows : ShowsTrace c.args.asked.now.app.now t shown = record { application = c.in_ok-shown.ensures.application; trace = c.in_ok-shown.ensures.trace; kind = c.in_ok-shown.ensures.kind; line = c.in_ok-shown.ensures.line } in
-    let report = subst (λ answers. IsReport c.args.format answers (string_bytes text)) c.from_ref.ensures.value c.in_ok-answers_text.ensures in
-    reported-of c.args.format _ _ _ t shown (string_bytes text) c.deref.result.now c.put.result c.deref.ensures shows report c.put.ensures.put
+    reported-of c.args.format _ _ _ t shown _ c.put_report.result c.from_ref.ensures.value shows c.put_report.ensures.report

@@ -1,5 +1,5 @@
 -- One trace more is answered and shown.
-use Rattle.std.proofs.Common.{◌≡◌, ◌≤◌, ◌++◌, ◌∙◌, [], ◌∷◌, ap, arith, map, max, rules, string_bytes, take}
+use Rattle.std.proofs.Common.{◌≡◌, ◌≤◌, ◌∙◌, ap, arith, map, max, string_bytes, take}
 use Rattle.std.proofs.lemmas.List.{map-append, take_more}
 use Rattle.fr_formats.specs.Answers.{status_of as kind_status}
 use Rattle.fr_report.specs.Lines.{lines_text}
@@ -21,12 +21,10 @@ loop-path-preserved g c =
     let before = take c.loop-path.path-index c.args.paths.now in
     let answer = c.in_ok-answer.answer in
     let t : TraceAnswerAt = record { path = _; kind = answer.kind; line = string_bytes answer.line; more = lines_text answer.why.items } in
-    let s = c.in_ok-trace_shown.field-0 in
-    let shows : ShowsTrace c.args.asked.now.app.now t s = record { application = c.in_ok-trace_shown.ensures.application; trace = c.in_ok-trace_shown.ensures.trace; kind = c.in_ok-trace_shown.ensures.kind; line = c.in_ok-trace_shown.ensures.line } in
-    let pushed : c.push.new.self.items ≡ c.loop-path.answers.items ++ s ∷ [] = search rules in
-    let more = shown-trace reads c.args.asked.now c.args.app.now (map (λ s. s.now) before) c.loop-path.greatest t c.loop-path.answers.items c.push.new.self.items s pushed c.loop-path.invariant.0 c.in_ok-answer.ensures.by shows in
+    let s = c.in_ok-status.ensures.added in
+    let more = shown-trace reads c.args.asked.now c.args.app.now (map (λ s. s.now) before) c.loop-path.greatest t c.loop-path.answers.items _ s.0 s.2 c.loop-path.invariant.0 c.in_ok-answer.ensures.by s.1 in
     let on = ap (map (λ s. s.now)) (take_more c.args.paths.now c.loop-path.path-index _ c.loop-path-test.true) ∙ map-append (λ s. s.now) before _ in
-    let next : c.max-greatest.result ≡ max c.loop-path.greatest (kind_status answer.kind) = c.max-greatest.ensures ∙ ap (max c.loop-path.greatest) c.status.ensures in
+    let next : c.max-greatest.result ≡ max c.loop-path.greatest (kind_status answer.kind) = c.max-greatest.ensures ∙ ap (max c.loop-path.greatest) c.in_ok-status.ensures.status in
     let least : kind_status answer.kind ≤ 3 = status-most answer.kind in
     let was : c.loop-path.greatest ≤ 3 = c.loop-path.invariant.1 in
     (answers-at reads c.args.asked.now c.args.app.now _ _ _ _ _ on next more, omega (arith, next, least, was))
