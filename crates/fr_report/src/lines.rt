@@ -1,8 +1,30 @@
 // Lists and lines as text.
-ghost use Rattle.std.specs.Prelude.{◌≡◌, IfOk, string_bytes};
+ghost use Rattle.std.specs.Prelude.{◌≡◌, ◌++◌, ◌∷◌, [], IfOk, OnOk, string_bytes};
 ghost use Rattle.fr_report.specs.Lines.{lines_text};
 
 use std::alloc::{AllocError, Global};
+
+/// Adds a line, or another text, to a list.
+pub(crate) fn add_text(texts: &mut Vec<String>, text: String) -> Result<(), AllocError>
+    ensures { OnOk result (texts.new.items ≡ texts.old.items ++ text ∷ []) }
+{
+    Ok(texts.push(text)?)
+}
+
+/// Appends two texts with a blank between them.
+pub(crate) fn put_two(text: &mut String, first: &str, second: &str) -> Result<(), AllocError> {
+    write!(text, "{first} {second}")
+}
+
+/// Appends three texts with a blank between each two.
+pub(crate) fn put_three(
+    text: &mut String,
+    first: &str,
+    second: &str,
+    third: &str,
+) -> Result<(), AllocError> {
+    write!(text, "{first} {second} {third}")
+}
 
 /// Appends the items, with a text between each two; without items what is said then.
 pub(crate) fn put_listed(

@@ -35,6 +35,25 @@ pub fn line_of_code(alloc: Global, app: &App, point: Point) -> Result<String, Al
     code_text(alloc, app, &names, point)
 }
 
+/// Appends the line of a point, with this line of code.
+fn put_code(
+    text: &mut String,
+    app: &App,
+    sources: &Sources,
+    point: Point,
+    code: &str,
+) -> Result<(), AllocError>
+    requires point { IsPoint app.now point }
+    requires code { code.now ≡ code_text app.now point }
+    ensures { OnOk result (string_bytes text.new ≡ string_bytes text.old ++ listed_text sources.now app.now point) }
+{
+    let (number, actor) = (number_of(app, point), actor_name(app, point.actor));
+    let (pc, side) = (point.pc, side_name(point.side));
+    write!(text, "{number} {actor} {pc} {side} {code}")?;
+    put_source(text, sources.at(point))?;
+    text.push_str("\n")
+}
+
 /// Appends the line of a point.
 fn put_point(
     alloc: Global,
@@ -49,11 +68,25 @@ fn put_point(
     ensures { OnOk result (string_bytes text.new ≡ string_bytes text.old ++ listed_text sources.now app.now point) }
 {
     let code = code_text(alloc, app, names, point)?;
-    let (number, actor) = (number_of(app, point), actor_name(app, point.actor));
-    let (pc, side) = (point.pc, side_name(point.side));
-    write!(text, "{number} {actor} {pc} {side} {code}")?;
-    put_source(text, sources.at(point))?;
-    text.push_str("\n")
+    put_code(text, app, sources, point, &code)
+}
+
+/// The lines of all points, with these names.
+fn points_named(
+    alloc: Global,
+    app: &App,
+    sources: &Sources,
+    names: &Names,
+) -> Result<String, AllocError>
+    requires { names.now ≡ names_in app.now }
+    ensures { IfOk result (λ text. string_bytes text ≡ points_text sources.now app.now) }
+{
+    app.recall_numbered();
+    let mut text = String::new(alloc);
+    for number in 0..app.points() {
+        put_point(alloc, &mut text, app, sources, names, app.point(number))?;
+    }
+    Ok(text)
 }
 
 /// The lines of the points of this application, in the order of their numbers, each with its newline:
@@ -65,11 +98,6 @@ fn put_point(
 pub fn points_text(alloc: Global, app: &App, sources: &Sources) -> Result<String, AllocError>
     ensures { IfOk result (λ text. string_bytes text ≡ points_text sources.now app.now) }
 {
-    app.recall_numbered();
     let names = names_of(alloc, app)?;
-    let mut text = String::new(alloc);
-    for number in 0..app.points() {
-        put_point(alloc, &mut text, app, sources, &names, app.point(number))?;
-    }
-    Ok(text)
+    points_named(alloc, app, sources, &names)
 }

@@ -17,24 +17,24 @@ mod steps;
 mod words;
 
 use crate::sources::Sources;
-use crate::told::{Explained, Explanation, ShownState};
+use crate::told::{Explained, Explanation, ShownState, add_item};
 pub use changes::ExplainedStep;
 pub(crate) use changes::step_explained;
 use culprits::{add_deleters, add_lackers, add_set, add_way};
 pub use depths::{Depth, depth_in, depths_of, object_told, state_told};
 use fr_calls::{Rule, State, the_start_is_well_formed};
-use fr_ends::{Certificate, EndName};
+use fr_ends::{Certificate, EndName, Guard};
 use fr_judge::{Part, Verdict};
 use fr_program::{App, Point};
 use fr_request::Detail;
-use fr_witness::{Taken, Witness, witness};
-use guards::{guarded_by, put_guard, put_unguarded};
+use fr_witness::{Subject, Taken, Witness, witness};
+use guards::{guard_text, guarded_by, unguarded_text};
 pub use notes::{never_deleted, note_told};
 use notes::{add_broken, claims_of, rival_of, site_of};
 pub use places::actor_place;
 use places::add_actors;
 pub(crate) use places::standing_in;
-use rules::put_breach;
+use rules::forbidden_text;
 use scene::{Scene, Site};
 use std::alloc::{AllocError, Global};
 use steps::outcome_text;
@@ -49,10 +49,22 @@ fn add_state(
     requires { IsWellFormed scene.now.app.now state.now }
 {
     let facts = scene.shown(state)?;
-    items.push(Explained::State { of, facts })?;
+    add_item(items, Explained::State { of, facts })?;
     match scene.detail {
         Detail::Told => Ok(()),
         Detail::Whole => add_actors(scene.alloc, items, scene.app, state),
+    }
+}
+
+/// Adds what a step changes, if it changes more than the actor's place.
+fn add_changed(items: &mut Vec<Explained>, scene: &Scene, taken: &Taken) -> Result<(), AllocError>
+    requires { IsTold scene.now.app.now taken.now }
+{
+    let facts = scene.changed(taken.actor, &taken.before, &taken.after)?;
+    if facts.is_empty() {
+        Ok(())
+    } else {
+        add_item(items, Explained::Changed(facts))
     }
 }
 
@@ -65,19 +77,19 @@ fn add_step(
 ) -> Result<(), AllocError>
     requires { IsTold scene.now.app.now taken.now }
 {
-    let (actor, choice) = (taken.actor, Some(taken.choice));
-    let outcome = outcome_text(scene.alloc, mover.point.side, mover.instr, taken.choice)?;
-    items.push(Explained::Step {
-        actor,
-        choice,
-        outcome,
-    })?;
-    let facts = scene.changed(actor, &taken.before, &taken.after)?;
-    if !facts.is_empty() {
-        items.push(Explained::Changed(facts))?;
-    }
-    let after = standing_in(scene.alloc, scene.app, scene.sources, actor, &taken.after)?;
-    Ok(items.push(Explained::Then(after))?)
+    let (alloc, actor, choice) = (scene.alloc, taken.actor, Some(taken.choice));
+    let outcome = outcome_text(alloc, mover.point.side, mover.instr, taken.choice)?;
+    add_item(
+        items,
+        Explained::Step {
+            actor,
+            choice,
+            outcome,
+        },
+    )?;
+    add_changed(items, scene, taken)?;
+    let after = standing_in(alloc, scene.app, scene.sources, actor, &taken.after)?;
+    add_item(items, Explained::Then(after))
 }
 
 /// Adds the steps that undo the note of `victim`, one after the other.
@@ -102,16 +114,31 @@ fn add_steps(
         add_step(items, scene, mover, taken)?;
         add_broken(items, scene, of, *victim, &taken.after)?;
     }
-    Ok(items.push(Explained::Allowed(of))?)
+    add_item(items, Explained::Allowed(of))
 }
 
-/// What the note of a site says.
-fn note_of(scene: &Scene, site: Site) -> Result<Explained, AllocError> {
-    Ok(Explained::Says {
-        of: ShownState::OneNote,
-        actor: site.point.actor,
-        claims: claims_of(scene.alloc, scene.app, site, &[])?,
-    })
+/// Adds the steps that undo a note, for a part that is about another point.
+fn add_leaving(
+    items: &mut Vec<Explained>,
+    scene: &Scene,
+    part: Part,
+    steps: &[Taken],
+) -> Result<(), AllocError>
+    requires told { AreTold scene.now.app.now steps.now }
+    requires scene { IsScene scene.now }
+{
+    match (part, &scene.other) {
+        (Part::Goes(_), Some(target)) => add_steps(items, scene, &scene.site, target, steps),
+        (Part::Spoiled(_), Some(other)) => add_steps(items, scene, other, &scene.site, steps),
+        _ => Ok(()),
+    }
+}
+
+/// Adds what the note of a site says.
+fn add_note(items: &mut Vec<Explained>, scene: &Scene, site: Site) -> Result<(), AllocError> {
+    let (of, actor) = (ShownState::OneNote, site.point.actor);
+    let claims = claims_of(scene.alloc, scene.app, site, &[])?;
+    add_item(items, Explained::Says { of, actor, claims })
 }
 
 /// Adds the point of another actor that can be at the same end, with both notes; nothing where there is
@@ -127,9 +154,44 @@ fn add_rival(
     let Some(rival) = rival_of(scene.app, certificate, scene.site.point.actor, end) else {
         return Ok(());
     };
-    items.push(note_of(scene, scene.site)?)?;
-    items.push(Explained::Beside(scene.standing_at(rival.point)?))?;
-    Ok(items.push(note_of(scene, rival)?)?)
+    add_note(items, scene, scene.site)?;
+    add_item(items, Explained::Beside(scene.standing_at(rival.point)?))?;
+    add_note(items, scene, rival)
+}
+
+/// Adds whose the guard of an end is, and that it isn't the actor's.
+fn add_guard(
+    items: &mut Vec<Explained>,
+    scene: &Scene,
+    end: EndName,
+    guard: &Guard,
+    state: &State,
+) -> Result<(), AllocError>
+    requires { IsWellFormed scene.now.app.now state.now }
+{
+    let (alloc, app) = (scene.alloc, scene.app);
+    let who = guard_text(alloc, app, guard)?;
+    add_item(items, Explained::Guard { end, who })?;
+    let so = unguarded_text(alloc, app, guard, scene.site.point.actor, state)?;
+    add_item(items, Explained::But(so))
+}
+
+/// Adds whom the actor can meet at an end whose guard it lacks.
+fn add_met(
+    items: &mut Vec<Explained>,
+    scene: &Scene,
+    certificate: &Certificate,
+    end: EndName,
+    guard: &Guard,
+) -> Result<(), AllocError>
+    requires { CertificateFits scene.now.app.now certificate.now }
+{
+    if !scene.blames {
+        return add_rival(items, scene, certificate, end);
+    }
+    add_way(items, scene, guard, scene.site.point)?;
+    add_rival(items, scene, certificate, end)?;
+    add_lackers(items, scene, certificate, end, guard)
 }
 
 /// Adds that the guard of an end isn't the actor's, and whom it can meet there.
@@ -143,24 +205,33 @@ fn add_lacking(
     requires formed { IsWellFormed scene.now.app.now state.now }
     requires fits { CertificateFits scene.now.app.now certificate.now }
 {
-    let (app, actor) = (scene.app, scene.site.point.actor);
     add_state(items, scene, ShownState::OneNote, state)?;
     let Some(guard) = certificate.ends.guard(end) else {
         return Ok(());
     };
-    let (mut who, mut so) = (String::new(scene.alloc), String::new(scene.alloc));
-    put_guard(&mut who, app, guard)?;
-    put_unguarded(&mut so, app, guard, actor, state)?;
-    items.push(Explained::Guard { end, who })?;
-    items.push(Explained::But(so))?;
-    if scene.blames {
-        add_way(items, scene, guard, scene.site.point)?;
+    add_guard(items, scene, end, guard, state)?;
+    add_met(items, scene, certificate, end, guard)?;
+    add_item(items, Explained::Allowed(ShownState::OneNote))
+}
+
+/// Adds that the guard of an end isn't the actor's, by a state in which it isn't, or that none is listed.
+fn add_unguarded(
+    items: &mut Vec<Explained>,
+    scene: &Scene,
+    certificate: &Certificate,
+    end: EndName,
+    state: Option<&State>,
+) -> Result<(), AllocError>
+    requires formed { IfSome state (λ s. IsWellFormed scene.now.app.now s.now) }
+    requires fits { CertificateFits scene.now.app.now certificate.now }
+{
+    match state {
+        Some(state) => add_lacking(items, scene, certificate, end, state),
+        None => {
+            add_item(items, Explained::Unguarded(end))?;
+            add_rival(items, scene, certificate, end)
+        }
     }
-    add_rival(items, scene, certificate, end)?;
-    if scene.blames {
-        add_lackers(items, scene, certificate, end, guard)?;
-    }
-    Ok(items.push(Explained::Allowed(ShownState::OneNote))?)
 }
 
 /// Adds a state in which the actor breaches a rule, and what it is that the rule forbids.
@@ -174,21 +245,13 @@ fn add_breaking(
     requires formed { IsWellFormed scene.now.app.now state.now }
     requires fits { CertificateFits scene.now.app.now certificate.now }
 {
-    let (site, mut so) = (scene.site, String::new(scene.alloc));
-    put_breach(
-        &mut so,
-        scene.app,
-        site.point.actor,
-        site.instr,
-        state,
-        rule,
-    )?;
     add_state(items, scene, ShownState::OneNote, state)?;
-    items.push(Explained::But(so))?;
+    let so = forbidden_text(scene.alloc, scene.app, &scene.site, state, rule)?;
+    add_item(items, Explained::But(so))?;
     if scene.blames && rule == Rule::IsLive {
         add_deleters(items, scene, certificate)?;
     }
-    Ok(items.push(Explained::Allowed(ShownState::OneNote))?)
+    add_item(items, Explained::Allowed(ShownState::OneNote))
 }
 
 /// Adds a state from which another actor puts a variable out of its declared range, where every range of
@@ -201,22 +264,62 @@ fn add_beyond(
 ) -> Result<(), AllocError>
     requires { IsWellFormed scene.now.app.now state.now }
 {
-    let (actor, mut outcome) = (other.point.actor, String::new(scene.alloc));
-    put_breach(
-        &mut outcome,
-        scene.app,
-        actor,
-        other.instr,
-        state,
-        Rule::InRange,
-    )?;
+    let (actor, choice) = (other.point.actor, None);
     add_state(items, scene, ShownState::BothNotes, state)?;
-    items.push(Explained::Step {
-        actor,
-        choice: None,
-        outcome,
-    })?;
-    Ok(items.push(Explained::Allowed(ShownState::BothNotes))?)
+    let outcome = forbidden_text(scene.alloc, scene.app, other, state, Rule::InRange)?;
+    add_item(
+        items,
+        Explained::Step {
+            actor,
+            choice,
+            outcome,
+        },
+    )?;
+    add_item(items, Explained::Allowed(ShownState::BothNotes))
+}
+
+/// Adds a state in which a rule is breached, by the actor itself or by another one's step.
+fn add_breach(
+    items: &mut Vec<Explained>,
+    scene: &Scene,
+    certificate: &Certificate,
+    part: Part,
+    state: &State,
+) -> Result<(), AllocError>
+    requires formed { IsWellFormed scene.now.app.now state.now }
+    requires fits { CertificateFits scene.now.app.now certificate.now }
+{
+    match (part, &scene.other) {
+        (Part::Rule(rule), _) => add_breaking(items, scene, certificate, rule, state),
+        (_, Some(other)) => add_beyond(items, scene, other, state),
+        _ => Ok(()),
+    }
+}
+
+/// Adds a state with the notes of both points.
+fn add_both(
+    items: &mut Vec<Explained>,
+    scene: &Scene,
+    certificate: &Certificate,
+    state: &State,
+) -> Result<(), AllocError>
+    requires formed { IsWellFormed scene.now.app.now state.now }
+    requires fits { CertificateFits scene.now.app.now certificate.now }
+{
+    add_state(items, scene, ShownState::BothNotes, state)?;
+    if scene.blames {
+        add_deleters(items, scene, certificate)?;
+    }
+    add_item(items, Explained::Allowed(ShownState::BothNotes))
+}
+
+/// Adds the start, and what the note says otherwise.
+fn add_start(items: &mut Vec<Explained>, scene: &Scene, state: &State) -> Result<(), AllocError>
+    requires formed { IsWellFormed scene.now.app.now state.now }
+    requires scene { IsScene scene.now }
+{
+    add_state(items, scene, ShownState::Start, state)?;
+    add_broken(items, scene, ShownState::Start, scene.site, state)
 }
 
 /// Adds what the witness of a part shows.
@@ -231,75 +334,42 @@ fn add_witness(
     requires scene { IsScene scene.now }
     requires fits { CertificateFits scene.now.app.now certificate.now }
 {
-    match (part, witness, scene.other) {
-        (_, Witness::Start(state), _) => {
-            add_state(items, scene, ShownState::Start, state)?;
-            add_broken(items, scene, ShownState::Start, scene.site, state)
+    match (witness, part) {
+        (Witness::Start(state), _) => add_start(items, scene, state),
+        (Witness::Breaks(state), _) => add_breach(items, scene, certificate, part, state),
+        (Witness::Leaves(steps), _) => add_leaving(items, scene, part, steps),
+        (Witness::Unguarded(state), Part::Guard(end)) => {
+            add_unguarded(items, scene, certificate, end, state.as_ref())
         }
-        (Part::Rule(rule), Witness::Breaks(state), _) => {
-            add_breaking(items, scene, certificate, rule, state)
-        }
-        (Part::Guard(end), Witness::Unguarded(Some(state)), _) => {
-            add_lacking(items, scene, certificate, end, state)
-        }
-        (Part::Guard(end), Witness::Unguarded(None), _) => {
-            items.push(Explained::Unguarded(end))?;
-            add_rival(items, scene, certificate, end)
-        }
-        (Part::Goes(_), Witness::Leaves(steps), Some(target)) => {
-            add_steps(items, scene, &scene.site, &target, steps)
-        }
-        (Part::Spoiled(_), Witness::Leaves(steps), Some(other)) => {
-            add_steps(items, scene, &other, &scene.site, steps)
-        }
-        (_, Witness::Breaks(state), Some(other)) => add_beyond(items, scene, &other, state),
-        (_, Witness::Both(state), _) => {
-            add_state(items, scene, ShownState::BothNotes, state)?;
-            if scene.blames {
-                add_deleters(items, scene, certificate)?;
-            }
-            Ok(items.push(Explained::Allowed(ShownState::BothNotes))?)
-        }
+        (Witness::Both(state), _) => add_both(items, scene, certificate, state),
         _ => Ok(()),
     }
 }
 
-/// What a part is explained by: its points, and what the guard of its end names. None where the
-/// application has no such point.
-fn scene_of<'a>(
-    alloc: Global,
-    app: &'a App,
-    certificate: &'a Certificate,
-    sources: &'a Sources,
-    point: Point,
-    part: Part,
-    detail: Detail,
-    blames: bool,
-) -> Option<Scene<'a>>
+/// The other point that a part is about, if it is about one.
+fn other_of<'a>(app: &'a App, certificate: &'a Certificate, part: Part) -> Option<Site<'a>>
     requires { CertificateFits app.now certificate.now }
-    ensures { IfSome result (λ s. (s.app.now ≡ app.now) × IsScene s) }
+    ensures { IfSome result (IsSite app.now) }
 {
-    let site = site_of(app, certificate, point)?;
-    let other = match part {
+    match part {
         Part::Goes(point) | Part::Near(point) | Part::Spoiled(point) => {
             site_of(app, certificate, point)
         }
         _ => None,
-    };
-    let guarded = match part {
-        Part::Guard(end) => certificate.ends.guard(end).and_then(guarded_by),
+    }
+}
+
+/// What the guard names that a part is about, if it is about one.
+fn guarded_in(certificate: &Certificate, part: Part) -> Option<Subject> {
+    match part {
+        Part::Guard(end) => guarded_by(certificate.ends.guard(end)?),
         _ => None,
-    };
-    Some(Scene {
-        alloc,
-        app,
-        sources,
-        detail,
-        blames,
-        site,
-        other,
-        guarded,
-    })
+    }
+}
+
+/// Adds a point, with its line of code.
+fn add_place(items: &mut Vec<Explained>, scene: &Scene, point: Point) -> Result<(), AllocError> {
+    add_item(items, Explained::Place(scene.standing_at(point)?))
 }
 
 /// Adds the points that a part is about, each with its line of code: not the point that it goes to,
@@ -318,13 +388,47 @@ fn add_points(
     {
         add_set(items, scene, certificate, by)?;
     }
-    items.push(Explained::Place(scene.standing_at(point)?))?;
-    match scene.other {
+    add_place(items, scene, point)?;
+    match &scene.other {
         Some(other) if other.point.actor.0 != point.actor.0 => {
-            Ok(items.push(Explained::Place(scene.standing_at(other.point)?))?)
+            add_place(items, scene, other.point)
         }
         _ => Ok(()),
     }
+}
+
+/// Adds a state that shows why the part fails, as `witness` of fr_witness finds it, or that none was found.
+fn add_found(
+    items: &mut Vec<Explained>,
+    scene: &Scene,
+    certificate: &Certificate,
+    part: Part,
+) -> Result<(), AllocError>
+    requires scene { IsScene scene.now }
+    requires fits { CertificateFits scene.now.app.now certificate.now }
+{
+    let (app, point) = (scene.app, scene.site.point);
+    app.recall_faultless();
+    the_start_is_well_formed();
+    match witness(scene.alloc, app, certificate, Verdict::No { point, part })? {
+        Some(found) => add_witness(items, scene, certificate, part, &found),
+        None => add_item(items, Explained::NotFound),
+    }
+}
+
+/// Why a part fails at the scene's point.
+fn explained(
+    scene: &Scene,
+    certificate: &Certificate,
+    part: Part,
+) -> Result<Explanation, AllocError>
+    requires scene { IsScene scene.now }
+    requires fits { CertificateFits scene.now.app.now certificate.now }
+{
+    let mut items = Vec::new(scene.alloc);
+    add_points(&mut items, scene, certificate, part)?;
+    add_found(&mut items, scene, certificate, part)?;
+    Ok(Explanation { items })
 }
 
 /// Why a verdict is no, in the order in which it is told: a state that the notes allow, and where the part is about
@@ -351,26 +455,18 @@ pub fn explain(
     let Verdict::No { point, part } = verdict else {
         return Ok(None);
     };
-    let found = scene_of(
-        alloc,
-        app,
-        certificate,
-        sources,
-        point,
-        part,
-        detail,
-        blames,
-    );
-    let Some(scene) = found else {
+    let Some(site) = site_of(app, certificate, point) else {
         return Ok(None);
     };
-    app.recall_faultless();
-    the_start_is_well_formed();
-    let mut items = Vec::new(alloc);
-    add_points(&mut items, &scene, certificate, part)?;
-    match witness(alloc, app, certificate, verdict)? {
-        Some(found) => add_witness(&mut items, &scene, certificate, part, &found)?,
-        None => items.push(Explained::NotFound)?,
-    }
-    Ok(Some(Explanation { items }))
+    let scene = Scene {
+        alloc,
+        app,
+        sources,
+        detail,
+        blames,
+        site,
+        other: other_of(app, certificate, part),
+        guarded: guarded_in(certificate, part),
+    };
+    Ok(Some(explained(&scene, certificate, part)?))
 }

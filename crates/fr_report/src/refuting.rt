@@ -16,6 +16,7 @@ ghost use Rattle.fr_report.specs.Refuted.{
   IsStepTold,
 };
 
+use crate::lines::add_text;
 use crate::reason::{ExplainedStep, standing_in, step_explained};
 use crate::shown::{actor_name, rule_text};
 use crate::sources::Sources;
@@ -78,32 +79,6 @@ fn explained(
     Ok((steps, state))
 }
 
-/// The run into a breach of the application: each step with where its actor was and what it changed. `sources` says where the
-/// application's lines are in a source.
-///
-/// # Errors
-///
-/// Only where memory is refused.
-pub fn explain_run(
-    alloc: Global,
-    app: &App,
-    sources: &Sources,
-    found: &Refutation,
-) -> Result<ExplainedRun, AllocError>
-    ensures steps { IfOk result (λ run. steps_in run.steps.items ≡ found.now.steps.items) }
-    ensures last { IfOk result (λ run. (last : Standing) × (run.lasts.items ≡ last ∷ []) × IsPlaced app.now found.now.actor last) }
-    ensures shortest { IfOk result (λ run. run.is_shortest ≡ found.now.is_shortest) }
-{
-    let (steps, state) = explained(alloc, app, sources, &found.steps)?;
-    let mut lasts = Vec::new(alloc);
-    lasts.push(standing_in(alloc, app, sources, found.actor, &state)?)?;
-    Ok(ExplainedRun {
-        steps,
-        lasts,
-        is_shortest: found.is_shortest,
-    })
-}
-
 /// Where this actor is in the state, if one is named.
 fn lasts_in(
     alloc: Global,
@@ -125,6 +100,48 @@ fn lasts_in(
     }
 }
 
+/// A run of these steps, with where this actor then is, if one is named.
+fn run_of(
+    alloc: Global,
+    app: &App,
+    sources: &Sources,
+    taken: &[StepTaken],
+    last: Option<ActorId>,
+    is_shortest: bool,
+) -> Result<ExplainedRun, AllocError>
+    ensures steps { IfOk result (λ run. steps_in run.steps.items ≡ taken.now) }
+    ensures last { IfOk result (λ run. IsLast app.now last run.lasts.items) }
+    ensures shortest { IfOk result (λ run. run.is_shortest ≡ is_shortest) }
+{
+    let (steps, state) = explained(alloc, app, sources, taken)?;
+    let lasts = lasts_in(alloc, app, sources, last, &state)?;
+    Ok(ExplainedRun {
+        steps,
+        lasts,
+        is_shortest,
+    })
+}
+
+/// The run into a breach of the application: each step with where its actor was and what it changed. `sources` says where the
+/// application's lines are in a source.
+///
+/// # Errors
+///
+/// Only where memory is refused.
+pub fn explain_run(
+    alloc: Global,
+    app: &App,
+    sources: &Sources,
+    found: &Refutation,
+) -> Result<ExplainedRun, AllocError>
+    ensures steps { IfOk result (λ run. steps_in run.steps.items ≡ found.now.steps.items) }
+    ensures last { IfOk result (λ run. (last : Standing) × (run.lasts.items ≡ last ∷ []) × IsPlaced app.now found.now.actor last) }
+    ensures shortest { IfOk result (λ run. run.is_shortest ≡ found.now.is_shortest) }
+{
+    let last = Some(found.actor);
+    run_of(alloc, app, sources, &found.steps, last, found.is_shortest)
+}
+
 /// A run of the application: each of these steps with where its actor was and what it changed, and where this actor then is, if one is
 /// named. `sources` says where the application's lines are in a source.
 ///
@@ -141,13 +158,7 @@ pub fn explain_steps(
     ensures steps { IfOk result (λ run. steps_in run.steps.items ≡ taken.now) }
     ensures last { IfOk result (λ run. IsLast app.now last run.lasts.items) }
 {
-    let (steps, state) = explained(alloc, app, sources, taken)?;
-    let lasts = lasts_in(alloc, app, sources, last, &state)?;
-    Ok(ExplainedRun {
-        steps,
-        lasts,
-        is_shortest: false,
-    })
+    run_of(alloc, app, sources, taken, last, false)
 }
 
 /// Where the actors of a cycle of waits are in the state.
@@ -234,7 +245,7 @@ fn step_lines(
     let (mut lines, mut line) = (Vec::new(alloc), String::new(alloc));
     let StepTaken { actor, choice } = step.taken;
     put_entry(&mut line, app, Entry::Stepped(actor, choice))?;
-    lines.push(line)?;
+    add_text(&mut lines, line)?;
     if !explains {
         return Ok(lines);
     }
@@ -254,7 +265,7 @@ fn standing_lines(
 {
     let mut lines = Vec::new(alloc);
     for standing in standings {
-        lines.push(standing.text(alloc, app, explains)?)?;
+        add_text(&mut lines, standing.text(alloc, app, explains)?)?;
     }
     Ok(lines)
 }
@@ -267,7 +278,10 @@ impl ExplainedRun {
     {
         let mut lines = standing_lines(alloc, app, &self.lasts, explains)?;
         if explains && !self.is_shortest {
-            lines.push(String::from_str(alloc, "a shorter run may exist")?)?;
+            add_text(
+                &mut lines,
+                String::from_str(alloc, "a shorter run may exist")?,
+            )?;
         }
         Ok(lines)
     }

@@ -6,7 +6,7 @@ ghost use Rattle.fr_report.specs.Report.{point_text, rule_text, side_text};
 ghost use Rattle.fr_report.specs.Shown.{shown_text};
 
 use fr_calls::Rule;
-use fr_program::{ActorId, App, ObjId, Point, Side};
+use fr_program::{ActorId, App, Kind, ObjId, Point, Side, VarId};
 use std::fmt;
 
 /// A point with its number and its actor's name.
@@ -56,6 +56,22 @@ pub fn object_name(app: &App, object: ObjId) -> &str
     match app.objects().get(object.0) {
         Some(object) => object.name.as_str(),
         None => "",
+    }
+}
+
+/// The name of a variable of the application, or no text where there is none.
+pub(crate) fn variable_name(app: &App, variable: VarId) -> &str {
+    match app.variables().get(variable.0) {
+        Some(variable) => variable.name.as_str(),
+        None => "",
+    }
+}
+
+/// Whether the object is a mutex, plain or recursive.
+pub(crate) fn is_mutex(app: &App, object: ObjId) -> bool {
+    match app.objects().get(object.0) {
+        Some(object) => matches!(object.kind, Kind::Mutex | Kind::Recursive),
+        None => false,
     }
 }
 

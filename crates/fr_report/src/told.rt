@@ -1,8 +1,8 @@
 // Why a verdict is no, as values, and the lines that tell it.
-ghost use Rattle.std.specs.Prelude.{◌≡◌, [], IfOk, None, string_bytes};
-ghost use Rattle.fr_report.specs.Refuted.{standing_text};
+ghost use Rattle.std.specs.Prelude.{◌≡◌, ◌++◌, [], IfOk, None, OnOk, string_bytes};
+ghost use Rattle.fr_report.specs.Refuted.{at_text, standing_text};
 
-use crate::lines::{put_listed, text_of};
+use crate::lines::{add_text, put_listed, put_two, text_of};
 use crate::shown::{actor_name, object_name, side_name};
 use crate::sources::put_source;
 use fr_ends::EndName;
@@ -112,6 +112,11 @@ pub enum Explained {
     More(u64),
 }
 
+/// Adds a line that explains.
+pub(crate) fn add_item(items: &mut Vec<Explained>, item: Explained) -> Result<(), AllocError> {
+    Ok(items.push(item)?)
+}
+
 /// Why a verdict is no, in the order in which it is told.
 #[derive(Drop)]
 pub struct Explanation {
@@ -127,17 +132,25 @@ pub struct Line {
 }
 
 impl Standing {
+    /// Appends where the actor is, with the line of code.
+    fn put(&self, text: &mut String, app: &App) -> Result<(), AllocError>
+        ensures { OnOk result (string_bytes text.new ≡ string_bytes text.old ++ at_text app.now self.now) }
+    {
+        let name = actor_name(app, self.actor);
+        match self.point {
+            Some(Point { pc, side, .. }) => {
+                write!(text, "{name} {pc} {}: {}", side_name(side), self.code)
+            }
+            None => write!(text, "{name} is done"),
+        }
+    }
+
     /// The whole line that says it; where it is explained, with the place in the source. An error says that an allocation was refused.
     pub fn text(&self, alloc: Global, app: &App, explains: bool) -> Result<String, AllocError>
         ensures { IfOk result (λ text. string_bytes text ≡ standing_text explains app.now self.now) }
     {
-        let name = actor_name(app, self.actor);
-        let mut text = match self.point {
-            Some(Point { pc, side, .. }) => {
-                format!(in alloc; "{name} {pc} {}: {}", side_name(side), self.code)?
-            }
-            None => format!(in alloc; "{name} is done")?,
-        };
+        let mut text = String::new(alloc);
+        self.put(&mut text, app)?;
         if explains {
             put_source(&mut text, &self.source)?;
         }
@@ -151,30 +164,43 @@ impl Standing {
         Ok(text)
     }
 
-    /// The line that tells it, behind a word. An error says that an allocation was refused.
-    pub fn line(&self, alloc: Global, app: &App, word: &str) -> Result<Line, AllocError> {
+    /// Where the actor is, behind a word, without the line of code.
+    fn place_text(&self, alloc: Global, app: &App, word: &str) -> Result<String, AllocError> {
         let name = actor_name(app, self.actor);
         match self.point {
-            Some(Point { pc, side, .. }) => Ok(Line {
-                of: format!(in alloc; "{word}{name} {pc} {}", side_name(side))?,
-                said: self.code_text(alloc)?,
-            }),
-            None => Ok(Line {
-                of: String::new(alloc),
-                said: format!(in alloc; "{word}{name} is done")?,
-            }),
+            Some(Point { pc, side, .. }) => {
+                format!(in alloc; "{word}{name} {pc} {}", side_name(side))
+            }
+            None => format!(in alloc; "{word}{name} is done"),
         }
+    }
+
+    /// The line that tells it, behind a word. An error says that an allocation was refused.
+    pub fn line(&self, alloc: Global, app: &App, word: &str) -> Result<Line, AllocError> {
+        let place = self.place_text(alloc, app, word)?;
+        let (of, said) = match self.point {
+            Some(_) => (place, self.code_text(alloc)?),
+            None => (String::new(alloc), place),
+        };
+        Ok(Line { of, said })
     }
 }
 
 impl Line {
+    /// Appends the whole line.
+    fn put(&self, text: &mut String) -> Result<(), AllocError> {
+        if !self.of.is_empty() {
+            text.push_str(&self.of)?;
+            text.push_str(": ")?;
+        }
+        text.push_str(&self.said)
+    }
+
     /// The whole line: both parts with a colon between them, or the second one alone.
     pub fn text(&self, alloc: Global) -> Result<String, AllocError> {
-        if self.of.is_empty() {
-            String::from_str(alloc, &self.said)
-        } else {
-            format!(in alloc; "{}: {}", self.of, self.said)
-        }
+        let mut text = String::new(alloc);
+        self.put(&mut text)?;
+        Ok(text)
     }
 }
 
@@ -210,8 +236,7 @@ impl ShownState {
 
 /// Appends an end of a buffer.
 fn put_end(text: &mut String, app: &App, end: EndName) -> Result<(), AllocError> {
-    let (buffer, side) = (object_name(app, end.buffer), end.end.text());
-    write!(text, "{buffer} {side}")
+    put_two(text, object_name(app, end.buffer), end.end.text())
 }
 
 /// Appends a step.
@@ -240,7 +265,7 @@ fn put_claims(
     claims: &[String],
 ) -> Result<(), AllocError> {
     if claims.is_empty() {
-        return write!(text, "{} is never there", actor_name(app, actor));
+        return put_two(text, actor_name(app, actor), "is never there");
     }
     put_listed(text, claims, " or ", "")
 }
@@ -297,17 +322,29 @@ impl Explained {
     ///
     /// Only where memory is refused. The words are this project's own.
     pub fn line(&self, alloc: Global, app: &App) -> Result<Line, AllocError> {
-        let (mut of, mut said) = (String::new(alloc), String::new(alloc));
         match self {
-            Explained::Place(at) => return at.line(alloc, app, ""),
-            Explained::Then(at) => return at.line(alloc, app, "then "),
-            Explained::Beside(at) => return at.line(alloc, app, "beside "),
-            Explained::Named { as_what, at } => return at.line(alloc, app, as_what.words()),
-            _ => {}
+            Explained::Place(at) => at.line(alloc, app, ""),
+            Explained::Then(at) => at.line(alloc, app, "then "),
+            Explained::Beside(at) => at.line(alloc, app, "beside "),
+            Explained::Named { as_what, at } => at.line(alloc, app, as_what.words()),
+            _ => self.sentence(alloc, app),
         }
+    }
+
+    /// The line that tells no place.
+    fn sentence(&self, alloc: Global, app: &App) -> Result<Line, AllocError> {
+        let (mut of, mut said) = (String::new(alloc), String::new(alloc));
         self.put_name(&mut of, app)?;
         self.put_said(&mut said, app)?;
         Ok(Line { of, said })
+    }
+
+    /// The whole line, with its blanks.
+    fn text(&self, alloc: Global, app: &App) -> Result<String, AllocError> {
+        let line = self.line(alloc, app)?;
+        let mut text = String::from_str(alloc, if self.is_apart() { "" } else { "  " })?;
+        line.put(&mut text)?;
+        Ok(text)
     }
 
     /// Whether the line stands by itself: the other lines have blanks before them.
@@ -328,9 +365,7 @@ impl Explanation {
     pub fn lines(&self, alloc: Global, app: &App) -> Result<Vec<String>, AllocError> {
         let mut lines = Vec::new(alloc);
         for item in &self.items {
-            let start = if item.is_apart() { "" } else { "  " };
-            let text = item.line(alloc, app)?.text(alloc)?;
-            lines.push(format!(in alloc; "{start}{text}")?)?;
+            add_text(&mut lines, item.text(alloc, app)?)?;
         }
         Ok(lines)
     }

@@ -2,19 +2,18 @@
 // for long, updates that can be lost, buffers that are used in critical sections, and an application without actors.
 mod critical;
 mod mutexes;
-mod one_way;
-mod unused;
 mod updates;
+mod uses;
 
+use crate::lines::add_text;
 use crate::shown::actor_name;
 pub use critical::buffers_in_critical_sections;
 use fr_notes::Notes;
 use fr_program::{ActorId, App};
 pub use mutexes::{held_while_waiting, never_given};
-pub use one_way::used_one_way;
 use std::alloc::{AllocError, Global};
-pub use unused::never_used;
 pub use updates::lost_updates;
+pub use uses::{never_used, used_one_way};
 
 /// Points of one actor in a row whose notes say that the actor is never there.
 #[derive(Clone, Copy)]
@@ -50,13 +49,12 @@ fn add(
             return Ok(());
         }
     }
-    rows.push(Unreached {
+    Ok(rows.push(Unreached {
         actor,
         first: pc,
         last: pc,
         end,
-    })?;
-    Ok(())
+    })?)
 }
 
 /// The points whose notes say that their actors are never there, in rows.
@@ -90,7 +88,7 @@ pub const NO_ACTORS: &str = "warning: no task or interrupt is in this file";
 pub fn never_reached(alloc: Global, app: &App, notes: &Notes) -> Result<Vec<String>, AllocError> {
     let mut lines = Vec::new(alloc);
     for row in &rows_of(alloc, app, notes)? {
-        lines.push(line_of(alloc, app, *row)?)?;
+        add_text(&mut lines, line_of(alloc, app, *row)?)?;
     }
     Ok(lines)
 }

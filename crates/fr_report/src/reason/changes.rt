@@ -3,11 +3,11 @@ ghost use Rattle.std.specs.Prelude.{◌≡◌, IfOk};
 ghost use Rattle.fr_calls.specs.State.{IsWellFormed};
 
 use super::places::{actor_place, standing_in};
-use super::scene::subjects;
+use super::scene::{subject_at, subject_count};
 use super::steps::outcome_text;
-use super::words::{content_in, fact, put_held, put_stock, value_in, variable_name};
-use crate::lines::put_listed;
-use crate::shown::{actor_name, object_name};
+use super::words::{content_in, fact, has_changed, put_content, put_held, value_in};
+use crate::lines::{add_text, put_listed};
+use crate::shown::{actor_name, object_name, variable_name};
 use crate::sources::Sources;
 use crate::told::Standing;
 use fr_calls::{Content, Place, State, Stock};
@@ -21,8 +21,36 @@ fn is_mutex(content: &Content) -> bool {
     matches!(content.stock(), Stock::Free | Stock::Held { .. })
 }
 
-/// What an object has after a step of this actor: of a mutex that was live before, how often the actor
+/// Appends what an object has after a step of this actor: of a mutex that was live before, how often the actor
 /// holds it.
+fn put_object(
+    text: &mut String,
+    app: &App,
+    actor: ActorId,
+    before: &State,
+    after: &State,
+    object: ObjId,
+) -> Result<(), AllocError>
+    requires before { IsWellFormed app.now before.now }
+    requires after { IsWellFormed app.now after.now }
+{
+    let (name, of) = (actor_name(app, actor), object_name(app, object));
+    match (
+        content_in(app, before, object),
+        content_in(app, after, object),
+    ) {
+        (Some(was), Some(is)) if is_mutex(was) && is_mutex(is) => {
+            put_held(text, name, of, is.count_held(actor))
+        }
+        (_, Some(is)) => {
+            text.push_str(of)?;
+            put_content(text, app, " is ", is)
+        }
+        _ => Ok(()),
+    }
+}
+
+/// What an object has after a step of this actor.
 fn object_text(
     alloc: Global,
     app: &App,
@@ -35,20 +63,7 @@ fn object_text(
     requires after { IsWellFormed app.now after.now }
 {
     let mut text = String::new(alloc);
-    let (name, of) = (actor_name(app, actor), object_name(app, object));
-    match (
-        content_in(app, before, object),
-        content_in(app, after, object),
-    ) {
-        (Some(was), Some(is)) if is_mutex(was) && is_mutex(is) => {
-            put_held(&mut text, name, of, is.count_held(actor))?;
-        }
-        (_, Some(is)) => {
-            write!(text, "{of} is ")?;
-            put_stock(&mut text, app, is.stock())?;
-        }
-        _ => {}
-    }
+    put_object(&mut text, app, actor, before, after, object)?;
     Ok(text)
 }
 
@@ -71,7 +86,7 @@ fn variable_text(
     format!(in alloc; "{name} is {is}, it was {was}")
 }
 
-/// What is so of something after a step of this actor; no text where it is as it was.
+/// What is so of something that a step of this actor changed.
 fn change_text(
     alloc: Global,
     app: &App,
@@ -83,13 +98,8 @@ fn change_text(
     requires before { IsWellFormed app.now before.now }
     requires after { IsWellFormed app.now after.now }
 {
-    let was = fact(alloc, app, actor, before, subject)?;
-    let is = fact(alloc, app, actor, after, subject)?;
-    if was == is {
-        return Ok(String::new(alloc));
-    }
     match subject {
-        Subject::Critical | Subject::Suspended => Ok(is),
+        Subject::Critical | Subject::Suspended => fact(alloc, app, actor, after, subject),
         Subject::Object(object) => object_text(alloc, app, actor, before, after, object),
         Subject::Variable(variable) => variable_text(alloc, app, before, after, variable),
     }
@@ -107,14 +117,16 @@ fn changes_of(
     requires after { IsWellFormed app.now after.now }
 {
     let mut changes = Vec::new(alloc);
-    for subject in &subjects(alloc, app)? {
-        let change = change_text(alloc, app, actor, before, after, *subject)?;
-        if !change.is_empty() {
-            changes.push(change)?;
+    for place in 0..subject_count(app) {
+        let subject = subject_at(app, place);
+        if has_changed(alloc, app, actor, before, after, subject)? {
+            let change = change_text(alloc, app, actor, before, after, subject)?;
+            add_text(&mut changes, change)?;
         }
     }
     if let Place::Done = actor_place(app, after, actor) {
-        changes.push(format!(in alloc; "{} is done", actor_name(app, actor))?)?;
+        let done = format!(in alloc; "{} is done", actor_name(app, actor))?;
+        add_text(&mut changes, done)?;
     }
     Ok(changes)
 }
@@ -127,13 +139,12 @@ fn call_text(
     point: Option<Point>,
     choice: i64,
 ) -> Result<String, AllocError> {
-    let Some(point) = point else {
-        return Ok(String::new(alloc));
-    };
-    match app.instr(point) {
-        Some(instr) => outcome_text(alloc, point.side, instr, choice),
-        None => Ok(String::new(alloc)),
+    if let Some(point) = point
+        && let Some(instr) = app.instr(point)
+    {
+        return outcome_text(alloc, point.side, instr, choice);
     }
+    Ok(String::new(alloc))
 }
 
 /// A step of a run into a breach.

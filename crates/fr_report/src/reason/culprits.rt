@@ -2,9 +2,9 @@
 // out of its range before it spoils a note.
 ghost use Rattle.fr_ends.specs.Fits.{CertificateFits};
 
-use super::notes::{is_inside, site_of};
-use super::scene::{Scene, is_variable};
-use crate::told::{Explained, Named};
+use super::notes::{deletes, is_inside, site_of};
+use super::scene::{Scene, Site, is_variable};
+use crate::told::{Explained, Named, add_item};
 use fr_calls::Rule;
 use fr_ends::{Certificate, EndName, Guard, note_says};
 use fr_judge::{Part, Verdict};
@@ -47,6 +47,17 @@ fn line_for(code: &[Instr], guard: &Guard, pc: usize) -> Option<usize> {
     found
 }
 
+/// Adds a line that a person would change.
+fn add_named(
+    items: &mut Vec<Explained>,
+    scene: &Scene,
+    as_what: Named,
+    point: Point,
+) -> Result<(), AllocError> {
+    let at = scene.standing_at(point)?;
+    add_item(items, Explained::Named { as_what, at })
+}
+
 /// Adds the line at which the actor of a point could have got the guard: one that gives it, or the point's own where it has
 /// none. Nothing where the guard is one actor's alone.
 pub(super) fn add_way(
@@ -55,22 +66,37 @@ pub(super) fn add_way(
     guard: &Guard,
     point: Point,
 ) -> Result<(), AllocError> {
-    let Some(actor) = scene.app.actors().get(point.actor.0) else {
+    let (actor, side) = (point.actor, Side::Before);
+    let Some(owner) = scene.app.actors().get(actor.0) else {
         return Ok(());
     };
     if matches!(guard, Guard::Sole(_)) {
         return Ok(());
     }
-    let (as_what, pc) = match line_for(&actor.code, guard, point.pc) {
+    let (as_what, pc) = match line_for(&owner.code, guard, point.pc) {
         Some(pc) => (Named::GetsAt, pc),
         None => (Named::GetsAhead, point.pc),
     };
-    let at = scene.standing_at(Point {
-        pc,
-        side: Side::Before,
-        ..point
-    })?;
-    Ok(items.push(Explained::Named { as_what, at })?)
+    add_named(items, scene, as_what, Point { actor, pc, side })
+}
+
+/// The point with this number, if it is another one inside the end whose note doesn't say that its actor has the guard.
+fn lacker_at(
+    scene: &Scene,
+    certificate: &Certificate,
+    point: Point,
+    end: EndName,
+    guard: &Guard,
+) -> Option<Point>
+    requires { CertificateFits scene.now.app.now certificate.now }
+{
+    let site = site_of(scene.app, certificate, point)?;
+    let has_guard = note_says(site.note, point.actor, guard);
+    if is_inside(site, end) && point != scene.site.point && !has_guard {
+        Some(point)
+    } else {
+        None
+    }
 }
 
 /// Adds each other point inside the end whose note doesn't say that its actor has the guard, with the line at which it could
@@ -86,31 +112,25 @@ pub(super) fn add_lackers(
 {
     let (app, mut listed) = (scene.app, 0u64);
     for number in 0..app.points() {
-        if let Some(site) = site_of(app, certificate, app.point(number))
-            && is_inside(site, end)
-            && site.point != scene.site.point
-            && !note_says(site.note, site.point.actor, guard)
-        {
+        if let Some(point) = lacker_at(scene, certificate, app.point(number), end, guard) {
             listed = listed.saturating_add(1);
             if listed <= MOST_LISTED {
-                let at = scene.standing_at(site.point)?;
-                let as_what = Named::Lacks;
-                items.push(Explained::Named { as_what, at })?;
-                add_way(items, scene, guard, site.point)?;
+                add_named(items, scene, Named::Lacks, point)?;
+                add_way(items, scene, guard, point)?;
             }
         }
     }
     if listed > MOST_LISTED {
-        items.push(Explained::More(listed - MOST_LISTED))?;
+        return add_item(items, Explained::More(listed - MOST_LISTED));
     }
     Ok(())
 }
 
-/// Whether the line deletes the object.
-fn deletes(instr: &Instr, wanted: ObjId) -> bool {
-    match instr {
-        Instr::Call(Call::Delete { object, .. }) => object.0 == wanted.0,
-        _ => false,
+/// The object of the call at a site, if it is one on an object.
+fn object_of(site: Site) -> Option<ObjId> {
+    match site.instr {
+        Instr::Call(call) => call.object(),
+        _ => None,
     }
 }
 
@@ -122,10 +142,7 @@ pub(super) fn add_deleters(
 ) -> Result<(), AllocError>
     requires { CertificateFits scene.now.app.now certificate.now }
 {
-    let Instr::Call(call) = scene.site.instr else {
-        return Ok(());
-    };
-    let Some(object) = call.object() else {
+    let Some(object) = object_of(scene.site) else {
         return Ok(());
     };
     for number in 0..scene.app.points() {
@@ -133,12 +150,28 @@ pub(super) fn add_deleters(
             && deletes(site.instr, object)
             && !site.note.alternatives().is_empty()
         {
-            let at = scene.standing_at(site.point)?;
-            let as_what = Named::Deletes;
-            items.push(Explained::Named { as_what, at })?;
+            add_named(items, scene, Named::Deletes, site.point)?;
         }
     }
     Ok(())
+}
+
+/// Whether the `set` at this point is out of its range itself.
+fn is_out_of_range(
+    scene: &Scene,
+    certificate: &Certificate,
+    point: Point,
+) -> Result<bool, AllocError>
+    requires { CertificateFits scene.now.app.now certificate.now }
+{
+    let part = Part::Rule(Rule::InRange);
+    let found = witness(
+        scene.alloc,
+        scene.app,
+        certificate,
+        Verdict::No { point, part },
+    )?;
+    Ok(matches!(found, Some(Witness::Breaks(_))))
 }
 
 /// Adds that the `set` at this point is out of its range itself, if it is.
@@ -150,12 +183,9 @@ pub(super) fn add_set(
 ) -> Result<(), AllocError>
     requires { CertificateFits scene.now.app.now certificate.now }
 {
-    let part = Part::Rule(Rule::InRange);
-    let verdict = Verdict::No { point, part };
-    if let Some(Witness::Breaks(_)) = witness(scene.alloc, scene.app, certificate, verdict)? {
-        let at = scene.standing_at(point)?;
-        let as_what = Named::OutOfRange;
-        items.push(Explained::Named { as_what, at })?;
+    if is_out_of_range(scene, certificate, point)? {
+        add_named(items, scene, Named::OutOfRange, point)
+    } else {
+        Ok(())
     }
-    Ok(())
 }

@@ -1,11 +1,12 @@
 // What an actor can be deep in, and what is so of everything else: a state, as a picture of a run shows it.
 ghost use Rattle.fr_calls.specs.State.{IsWellFormed};
 
-use super::scene::subjects;
-use super::words::{content_in, fact, put_stock, suspension_in};
-use crate::shown::object_name;
+use super::scene::{subject_at, subject_count};
+use super::words::{content_in, fact, put_content, suspension_in};
+use crate::lines::add_text;
+use crate::shown::{is_mutex, object_name};
 use fr_calls::State;
-use fr_program::{ActorId, App, Kind, ObjId};
+use fr_program::{ActorId, App, ObjId};
 use fr_witness::Subject;
 use std::alloc::{AllocError, Global};
 
@@ -27,8 +28,8 @@ pub fn depths_of(alloc: Global, app: &App) -> Result<Vec<Depth>, AllocError> {
     let mut depths = Vec::new(alloc);
     depths.push(Depth::Critical)?;
     depths.push(Depth::Suspended)?;
-    for (number, object) in app.objects().iter().enumerate() {
-        if matches!(object.kind, Kind::Mutex | Kind::Recursive) {
+    for number in 0..app.objects().len() {
+        if is_mutex(app, ObjId(number)) {
             depths.push(Depth::Held(ObjId(number)))?;
         }
     }
@@ -58,9 +59,10 @@ pub fn state_told(alloc: Global, app: &App, state: &State) -> Result<Vec<String>
     requires { IsWellFormed app.now state.now }
 {
     let mut told = Vec::new(alloc);
-    for subject in &subjects(alloc, app)? {
-        if matches!(*subject, Subject::Object(_) | Subject::Variable(_)) {
-            told.push(fact(alloc, app, ActorId(0), state, *subject)?)?;
+    for place in 0..subject_count(app) {
+        let subject = subject_at(app, place);
+        if matches!(subject, Subject::Object(_) | Subject::Variable(_)) {
+            add_text(&mut told, fact(alloc, app, ActorId(0), state, subject)?)?;
         }
     }
     Ok(told)
@@ -81,8 +83,8 @@ pub fn object_told(
 {
     let mut text = String::new(alloc);
     if let Some(content) = content_in(app, state, object) {
-        write!(&mut text, "{} is ", object_name(app, object))?;
-        put_stock(&mut text, app, content.stock())?;
+        text.push_str(object_name(app, object))?;
+        put_content(&mut text, app, " is ", content)?;
     }
     Ok(text)
 }

@@ -1,13 +1,14 @@
 // A guard, in words.
 ghost use Rattle.fr_calls.specs.State.{IsWellFormed};
 
-use super::words::{put_critical, value_in, variable_name};
-use crate::shown::{actor_name, object_name};
+use super::words::{put_critical, put_held, value_in};
+use crate::lines::{put_three, put_two};
+use crate::shown::{actor_name, object_name, variable_name};
 use fr_calls::State;
 use fr_ends::Guard;
 use fr_program::{ActorId, App, VarId};
 use fr_witness::Subject;
-use std::alloc::AllocError;
+use std::alloc::{AllocError, Global};
 use std::collections::BTreeMap;
 
 /// What the guard names: its mutex or its variable.
@@ -29,28 +30,32 @@ fn put_turns(
     text.push_str("the actor whose turn it is:")?;
     let (name, mut is_first) = (variable_name(app, variable), true);
     for (actor, value) in values {
-        let who = actor_name(app, *actor);
-        if !is_first {
-            text.push(',')?;
-        }
-        write!(text, " {who} where {name} is {value}")?;
+        let (who, before) = (actor_name(app, *actor), if is_first { "" } else { "," });
+        write!(text, "{before} {who} where {name} is {value}")?;
         is_first = false;
     }
     Ok(())
 }
 
 /// Appends who may be inside a call at the end of a buffer.
-pub(super) fn put_guard(text: &mut String, app: &App, guard: &Guard) -> Result<(), AllocError> {
+fn put_guard(text: &mut String, app: &App, guard: &Guard) -> Result<(), AllocError> {
     match guard {
-        Guard::Sole(actor) => write!(text, "{} alone", actor_name(app, *actor)),
-        Guard::Mutex(mutex) => write!(text, "whoever holds {}", object_name(app, *mutex)),
+        Guard::Sole(actor) => put_two(text, actor_name(app, *actor), "alone"),
+        Guard::Mutex(mutex) => put_two(text, "whoever holds", object_name(app, *mutex)),
         Guard::Critical => text.push_str("whoever is in the critical section"),
         Guard::Turn(variable, values) => put_turns(text, app, *variable, values),
     }
 }
 
+/// Who may be inside a call at the end of a buffer.
+pub(super) fn guard_text(alloc: Global, app: &App, guard: &Guard) -> Result<String, AllocError> {
+    let mut text = String::new(alloc);
+    put_guard(&mut text, app, guard)?;
+    Ok(text)
+}
+
 /// Appends why the actor doesn't have the guard in the state.
-pub(super) fn put_unguarded(
+fn put_unguarded(
     text: &mut String,
     app: &App,
     guard: &Guard,
@@ -61,8 +66,8 @@ pub(super) fn put_unguarded(
 {
     let name = actor_name(app, actor);
     match guard {
-        Guard::Sole(only) => write!(text, "{name} isn't {}", actor_name(app, *only)),
-        Guard::Mutex(mutex) => write!(text, "{name} doesn't hold {}", object_name(app, *mutex)),
+        Guard::Sole(only) => put_three(text, name, "isn't", actor_name(app, *only)),
+        Guard::Mutex(mutex) => put_held(text, name, object_name(app, *mutex), 0),
         Guard::Critical => put_critical(text, name, state.depth(actor)),
         Guard::Turn(variable, _) => {
             let (of, value) = (
@@ -72,4 +77,19 @@ pub(super) fn put_unguarded(
             write!(text, "{of} is {value}, so that it isn't the turn of {name}")
         }
     }
+}
+
+/// Why the actor doesn't have the guard in the state.
+pub(super) fn unguarded_text(
+    alloc: Global,
+    app: &App,
+    guard: &Guard,
+    actor: ActorId,
+    state: &State,
+) -> Result<String, AllocError>
+    requires { IsWellFormed app.now state.now }
+{
+    let mut text = String::new(alloc);
+    put_unguarded(&mut text, app, guard, actor, state)?;
+    Ok(text)
 }

@@ -5,10 +5,10 @@ ghost use Rattle.fr_notes.specs.Fits.{AlternativeFits};
 ghost use Rattle.fr_ends.specs.Fits.{CertificateFits};
 ghost use Rattle.fr_report.specs.Told.{IsSite};
 
-use super::scene::{Scene, Site, says_of, subjects};
-use super::words::{put_otherwise, put_said, put_unheld};
-use crate::lines::put_listed;
-use crate::told::{Explained, ShownState};
+use super::scene::{Scene, Site, says_of, subject_at, subject_count};
+use super::words::{can_hold, otherwise_text, put_claim, put_said, said_text};
+use crate::lines::add_text;
+use crate::told::{Explained, ShownState, add_item};
 use fr_calls::{State, is_at_end};
 use fr_ends::{Certificate, EndName};
 use fr_notes::{Alternative, Claim};
@@ -34,6 +34,19 @@ pub(super) fn site_of<'a>(
     })
 }
 
+/// What an alternative says of the subject, as a list of one claim.
+fn one_claim(
+    alloc: Global,
+    app: &App,
+    actor: ActorId,
+    says: &Alternative,
+    subject: Subject,
+) -> Result<Vec<String>, AllocError> {
+    let mut claims = Vec::new(alloc);
+    add_text(&mut claims, said_text(alloc, app, actor, says, subject)?)?;
+    Ok(claims)
+}
+
 /// Adds what an alternative says that isn't so in the state, and what is.
 fn add_broken_by(
     items: &mut Vec<Explained>,
@@ -51,13 +64,10 @@ fn add_broken_by(
     let Some(subject) = claim_broken(app, says, actor, state) else {
         return Ok(());
     };
-    let (mut claim, mut so) = (String::new(alloc), String::new(alloc));
-    put_said(&mut claim, app, actor, says, subject)?;
-    put_otherwise(&mut so, app, actor, says, state, subject)?;
-    let mut claims = Vec::new(alloc);
-    claims.push(claim)?;
-    items.push(Explained::Says { of, actor, claims })?;
-    Ok(items.push(Explained::But(so))?)
+    let claims = one_claim(alloc, app, actor, says, subject)?;
+    add_item(items, Explained::Says { of, actor, claims })?;
+    let so = otherwise_text(alloc, app, actor, says, state, subject)?;
+    add_item(items, Explained::But(so))
 }
 
 /// Adds for each alternative of the actor's note that doesn't hold in a state of this kind what it says, and
@@ -75,7 +85,7 @@ pub(super) fn add_broken(
     let (actor, alternatives) = (site.point.actor, site.note.alternatives());
     if alternatives.is_empty() {
         let claims = Vec::new(scene.alloc);
-        return Ok(items.push(Explained::Says { of, actor, claims })?);
+        return add_item(items, Explained::Says { of, actor, claims });
     }
     for says in alternatives {
         add_broken_by(items, scene, of, actor, says, state)?;
@@ -88,12 +98,61 @@ fn live_among(says: &Alternative, subject: Subject, live: &[ObjId]) -> Option<Ob
     let Subject::Object(object) = subject else {
         return None;
     };
-    let is_there = live.iter().any(|other| other.0 == object.0);
-    if is_there && says.claim(object) == Claim::Alive {
-        Some(object)
-    } else {
-        None
+    for other in live {
+        if other.0 == object.0 && says.claim(object) == Claim::Alive {
+            return Some(object);
+        }
     }
+    None
+}
+
+/// Whether an alternative says something of the subject, beside that these objects are live.
+fn says_more(
+    app: &App,
+    actor: ActorId,
+    says: &Alternative,
+    subject: Subject,
+    live: &[ObjId],
+) -> bool {
+    match live_among(says, subject, live) {
+        Some(object) => can_hold(app, actor, object),
+        None => says_of(app, says, subject),
+    }
+}
+
+/// Appends what an alternative says of the subject, beside that these objects are live.
+fn put_more(
+    text: &mut String,
+    app: &App,
+    actor: ActorId,
+    says: &Alternative,
+    subject: Subject,
+    live: &[ObjId],
+) -> Result<(), AllocError> {
+    match live_among(says, subject, live) {
+        Some(object) => put_claim(text, app, actor, object, Claim::NotHeld),
+        None => put_said(text, app, actor, says, subject),
+    }
+}
+
+/// Appends what an alternative says, beside what is so of every state, and that these objects are live.
+fn put_alternative(
+    text: &mut String,
+    app: &App,
+    actor: ActorId,
+    says: &Alternative,
+    live: &[ObjId],
+) -> Result<(), AllocError> {
+    let mut before = "";
+    for place in 0..subject_count(app) {
+        let subject = subject_at(app, place);
+        if says_more(app, actor, says, subject, live) {
+            text.push_str(before)?;
+            put_more(text, app, actor, says, subject, live)?;
+            before = "; ";
+        }
+    }
+    text.push_str(if before.is_empty() { "nothing" } else { "" })
 }
 
 /// What an alternative says, beside what is so of every state, and that these objects are live.
@@ -104,21 +163,8 @@ fn alternative_text(
     says: &Alternative,
     live: &[ObjId],
 ) -> Result<String, AllocError> {
-    let (mut text, mut claims) = (String::new(alloc), Vec::new(alloc));
-    for subject in &subjects(alloc, app)? {
-        if !says_of(app, says, *subject) {
-            continue;
-        }
-        let mut claim = String::new(alloc);
-        match live_among(says, *subject, live) {
-            Some(object) => put_unheld(&mut claim, app, actor, object)?,
-            None => put_said(&mut claim, app, actor, says, *subject)?,
-        }
-        if !claim.is_empty() {
-            claims.push(claim)?;
-        }
-    }
-    put_listed(&mut text, &claims, "; ", "nothing")?;
+    let mut text = String::new(alloc);
+    put_alternative(&mut text, app, actor, says, live)?;
     Ok(text)
 }
 
@@ -131,7 +177,8 @@ pub(super) fn claims_of(
 ) -> Result<Vec<String>, AllocError> {
     let mut claims = Vec::new(alloc);
     for says in site.note.alternatives() {
-        claims.push(alternative_text(alloc, app, site.point.actor, says, live)?)?;
+        let claim = alternative_text(alloc, app, site.point.actor, says, live)?;
+        add_text(&mut claims, claim)?;
     }
     Ok(claims)
 }
@@ -160,8 +207,17 @@ pub fn note_told(
 /// Whether some line deletes the object.
 fn is_deleted(app: &App, object: ObjId) -> bool {
     for actor in app.actors() {
-        let deletes = actor.code.iter().any(|instr| deletes(instr, object));
-        if deletes {
+        if code_deletes(&actor.code, object) {
+            return true;
+        }
+    }
+    false
+}
+
+/// Whether one of these lines deletes the object.
+fn code_deletes(code: &[Instr], object: ObjId) -> bool {
+    for instr in code {
+        if deletes(instr, object) {
             return true;
         }
     }
@@ -169,7 +225,7 @@ fn is_deleted(app: &App, object: ObjId) -> bool {
 }
 
 /// Whether the line deletes the object.
-fn deletes(instr: &Instr, object: ObjId) -> bool {
+pub(super) fn deletes(instr: &Instr, object: ObjId) -> bool {
     match instr {
         Instr::Call(Call::Delete { object: other, .. }) => other.0 == object.0,
         _ => false,

@@ -4,10 +4,11 @@ ghost use Rattle.fr_calls.specs.State.{IsWellFormed};
 ghost use Rattle.fr_report.specs.Refuted.{IsPlaced};
 
 use super::words::{put_critical, put_suspended, suspension_in};
+use crate::lines::put_two;
 use crate::listing::line_of_code;
 use crate::shown::{actor_name, side_name};
 use crate::sources::Sources;
-use crate::told::{Explained, Standing};
+use crate::told::{Explained, Standing, add_item};
 use fr_calls::{Place, State};
 use fr_program::{ActorId, App, Point};
 use std::alloc::{AllocError, Global};
@@ -69,7 +70,7 @@ fn put_actor(text: &mut String, app: &App, actor: ActorId, state: &State) -> Res
     let name = actor_name(app, actor);
     match actor_place(app, state, actor) {
         Place::At { pc, side } => write!(text, "{name} {pc} {}", side_name(side))?,
-        Place::Done => write!(text, "{name} is done")?,
+        Place::Done => put_two(text, name, "is done")?,
     }
     let (depth, suspended) = (state.depth(actor), suspension_in(app, state, actor));
     if depth > 0 {
@@ -95,7 +96,7 @@ pub(super) fn add_actors(
     for number in 0..app.actors().len() {
         let mut text = String::new(alloc);
         put_actor(&mut text, app, ActorId(number), state)?;
-        items.push(Explained::Actor(text))?;
+        add_item(items, Explained::Actor(text))?;
     }
     Ok(())
 }

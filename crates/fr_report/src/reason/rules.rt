@@ -1,16 +1,16 @@
 // Why a state breaches a rule, in words.
 ghost use Rattle.fr_calls.specs.State.{IsWellFormed};
 
-use super::words::{
-    content_in, kind_name, put_critical, put_suspended, suspension_in, value_in, variable_name,
-};
+use super::scene::Site;
+use super::words::{content_in, kind_name, put_critical, put_suspended, suspension_in, value_in};
+use crate::lines::{put_three, put_two};
 use crate::shown::{actor_name, object_name};
 use fr_calls::{Rule, State};
 use fr_program::{
     Act, ActorId, App, Attempt, Call, Instr, Kind, ObjId, ObjectCall, Operand, Operator, Range,
     VarId,
 };
-use std::alloc::AllocError;
+use std::alloc::{AllocError, Global};
 
 /// The value of an operand in the state.
 fn operand_in(app: &App, state: &State, operand: Operand) -> i64
@@ -111,11 +111,11 @@ fn put_object(
     };
     let name = object_name(app, object);
     if object.0 < app.objects().len() && rule == Rule::SuitsSemaphore {
-        return write!(text, "{name} is a {}", kind_name(app.kind(object)));
+        return put_three(text, name, "is a", kind_name(app.kind(object)));
     }
     match content_in(app, state, object) {
-        Some(content) if content.is_dead() => write!(text, "{name} is dead"),
-        _ => write!(text, "{name} is live"),
+        Some(content) if content.is_dead() => put_two(text, name, "is dead"),
+        _ => put_two(text, name, "is live"),
     }
 }
 
@@ -127,7 +127,7 @@ fn put_mutex(text: &mut String, app: &App, actor: ActorId, state: &State) -> Res
     for number in 0..app.objects().len() {
         let object = ObjId(number);
         if state.content(object).count_held(actor) > 0 {
-            return write!(text, "{name} holds {}", object_name(app, object));
+            return put_three(text, name, "holds", object_name(app, object));
         }
     }
     Ok(())
@@ -148,7 +148,7 @@ fn put_end(
     if depth > 0 {
         put_critical(text, name, depth)
     } else if matches!(instr, Instr::Return) {
-        write!(text, "{name} is a task")
+        put_two(text, name, "is a task")
     } else if suspended > 0 {
         put_suspended(text, name, suspended)
     } else {
@@ -158,7 +158,7 @@ fn put_end(
 
 /// Appends what it is in this state that the rule forbids, for the actor before or inside this instruction.
 /// Rules 1 and 2 are reported as guards.
-pub(super) fn put_breach(
+fn put_breach(
     text: &mut String,
     app: &App,
     actor: ActorId,
@@ -172,10 +172,10 @@ pub(super) fn put_breach(
     let is_resume = matches!(instr, Instr::Call(Call::ResumeAll));
     match rule {
         Rule::OneWriter | Rule::OneReader => Ok(()),
-        Rule::GivenByHolder => write!(text, "{name} doesn't hold it"),
+        Rule::GivenByHolder => put_two(text, name, "doesn't hold it"),
         Rule::AllowedInCritical => put_critical(text, name, state.depth(actor)),
         Rule::AllowedSuspended => put_suspended(text, name, suspension_in(app, state, actor)),
-        Rule::AllowedInInterrupt => write!(text, "{name} is an interrupt"),
+        Rule::AllowedInInterrupt => put_two(text, name, "is an interrupt"),
         Rule::DepthAboveZero if is_resume => put_suspended(text, name, 0),
         Rule::DepthAboveZero => put_critical(text, name, 0),
         Rule::EndsInOrder => put_end(text, app, actor, instr, state),
@@ -184,4 +184,19 @@ pub(super) fn put_breach(
             put_object(text, app, instr, state, rule)
         }
     }
+}
+
+/// What it is in this state that the rule forbids, for the actor of this site.
+pub(super) fn forbidden_text(
+    alloc: Global,
+    app: &App,
+    site: &Site,
+    state: &State,
+    rule: Rule,
+) -> Result<String, AllocError>
+    requires { IsWellFormed app.now state.now }
+{
+    let mut text = String::new(alloc);
+    put_breach(&mut text, app, site.point.actor, site.instr, state, rule)?;
+    Ok(text)
 }

@@ -3,7 +3,8 @@ ghost use Rattle.std.specs.Prelude.{◌<◌, length};
 ghost use Rattle.fr_calls.specs.State.{IsWellFormed};
 
 use super::places::standing_at;
-use super::words::{fact, suspension_in};
+use super::words::{fact, has_changed, suspension_in};
+use crate::lines::add_text;
 use crate::sources::Sources;
 use crate::told::Standing;
 use fr_calls::State;
@@ -101,6 +102,16 @@ pub(super) fn says_of(app: &App, says: &Alternative, subject: Subject) -> bool {
     }
 }
 
+/// Whether the note says something of the subject.
+fn note_says_of(app: &App, note: &Note, subject: Subject) -> bool {
+    for says in note.alternatives() {
+        if says_of(app, says, subject) {
+            return true;
+        }
+    }
+    false
+}
+
 impl Site<'_> {
     /// Whether the note or the instruction speaks of the subject.
     fn speaks_of(&self, app: &App, subject: Subject) -> bool {
@@ -109,27 +120,25 @@ impl Site<'_> {
             Subject::Object(object) => names_object(self.instr, object),
             Subject::Variable(variable) => names_variable(self.instr, variable),
         };
-        named
-            || self
-                .note
-                .alternatives()
-                .iter()
-                .any(|says| says_of(app, says, subject))
+        named || note_says_of(app, self.note, subject)
     }
 }
 
-/// All things that a state has, for one actor: its depths, the objects and the variables.
-pub(super) fn subjects(alloc: Global, app: &App) -> Result<Vec<Subject>, AllocError> {
-    let mut subjects = Vec::new(alloc);
-    subjects.push(Subject::Critical)?;
-    subjects.push(Subject::Suspended)?;
-    for number in 0..app.objects().len() {
-        subjects.push(Subject::Object(ObjId(number)))?;
+/// How many things a state has, for one actor: its depths, the objects and the variables.
+pub(super) fn subject_count(app: &App) -> usize {
+    let things = app.objects().len().saturating_add(app.variables().len());
+    things.saturating_add(2)
+}
+
+/// The one of these things with this number: the depths come first, and then the objects.
+pub(super) fn subject_at(app: &App, number: usize) -> Subject {
+    let objects = app.objects().len();
+    match number.checked_sub(2) {
+        Some(object) if object < objects => Subject::Object(ObjId(object)),
+        Some(thing) => Subject::Variable(VarId(thing.saturating_sub(objects))),
+        None if number == 0 => Subject::Critical,
+        None => Subject::Suspended,
     }
-    for number in 0..app.variables().len() {
-        subjects.push(Subject::Variable(VarId(number)))?;
-    }
-    Ok(subjects)
 }
 
 impl Scene<'_> {
@@ -168,10 +177,12 @@ impl Scene<'_> {
     ) -> Result<(), AllocError>
         requires { IsWellFormed self.now.app.now state.now }
     {
-        for subject in &subjects(self.alloc, self.app)? {
-            let is_thing = matches!(*subject, Subject::Object(_) | Subject::Variable(_));
-            if (things || !is_thing) && self.shows(site, state, *subject) {
-                facts.push(fact(self.alloc, self.app, site.point.actor, state, *subject)?)?;
+        for place in 0..subject_count(self.app) {
+            let subject = subject_at(self.app, place);
+            let is_thing = matches!(subject, Subject::Object(_) | Subject::Variable(_));
+            if (things || !is_thing) && self.shows(site, state, subject) {
+                let so = fact(self.alloc, self.app, site.point.actor, state, subject)?;
+                add_text(facts, so)?;
             }
         }
         Ok(())
@@ -201,12 +212,12 @@ impl Scene<'_> {
         requires before { IsWellFormed self.now.app.now before.now }
         requires after { IsWellFormed self.now.app.now after.now }
     {
-        let mut facts = Vec::new(self.alloc);
-        for subject in &subjects(self.alloc, self.app)? {
-            let was = fact(self.alloc, self.app, actor, before, *subject)?;
-            let is = fact(self.alloc, self.app, actor, after, *subject)?;
-            if was != is {
-                facts.push(is)?;
+        let (alloc, app) = (self.alloc, self.app);
+        let mut facts = Vec::new(alloc);
+        for place in 0..subject_count(app) {
+            let subject = subject_at(app, place);
+            if has_changed(alloc, app, actor, before, after, subject)? {
+                add_text(&mut facts, fact(alloc, app, actor, after, subject)?)?;
             }
         }
         Ok(facts)

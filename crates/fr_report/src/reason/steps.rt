@@ -33,10 +33,8 @@ fn moved_text(
 
 /// Whether what is tried works.
 fn works_text(alloc: Global, what: &str, choice: i64) -> Result<String, AllocError> {
-    match choice {
-        0 => format!(in alloc; "the {what} fails"),
-        _ => format!(in alloc; "the {what} works"),
-    }
+    let how = if choice == 0 { "fails" } else { "works" };
+    format!(in alloc; "the {what} {how}")
 }
 
 /// What a step by this choice does, where it is a call that can do one thing or another; otherwise no text.

@@ -1,7 +1,8 @@
 // What a note says and what is so in a state, in words.
 ghost use Rattle.fr_calls.specs.State.{IsWellFormed};
 
-use crate::shown::{actor_name, object_name};
+use crate::lines::{put_three, put_two};
+use crate::shown::{actor_name, is_mutex, object_name, variable_name};
 use fr_calls::{Content, State, Stock};
 use fr_notes::{Alternative, Claim};
 use fr_program::{ActorId, ActorKind, App, Kind, ObjId, VarId};
@@ -11,14 +12,6 @@ use std::collections::VecDeque;
 
 /// The most values of a queue that are written out.
 const MOST_VALUES: usize = 8;
-
-/// The name of a variable of the application, or no text where there is none.
-pub(super) fn variable_name(app: &App, variable: VarId) -> &str {
-    match app.variables().get(variable.0) {
-        Some(variable) => variable.name.as_str(),
-        None => "",
-    }
-}
 
 /// The variable's value in the state; 0 where the application has no such variable.
 pub(super) fn value_in(app: &App, state: &State, variable: VarId) -> i64
@@ -74,57 +67,54 @@ pub(super) fn put_held(
     count: u32,
 ) -> Result<(), AllocError> {
     match count {
-        0 => write!(text, "{actor} doesn't hold {object}"),
+        0 => put_three(text, actor, "doesn't hold", object),
         1 => write!(text, "{actor} holds {object} once"),
         _ => write!(text, "{actor} holds {object} {count} times"),
     }
 }
 
+/// Appends how deep an actor is in something: this where the depth is 0, and otherwise that with the depth.
+fn put_depth(
+    text: &mut String,
+    actor: &str,
+    none: &str,
+    some: &str,
+    depth: u32,
+) -> Result<(), AllocError> {
+    match depth {
+        0 => put_two(text, actor, none),
+        _ => write!(text, "{actor} {some} at depth {depth}"),
+    }
+}
+
 /// Appends how deep an actor is in the critical section.
 pub(super) fn put_critical(text: &mut String, actor: &str, depth: u32) -> Result<(), AllocError> {
-    match depth {
-        0 => write!(text, "{actor} isn't in the critical section"),
-        _ => write!(text, "{actor} is in the critical section at depth {depth}"),
-    }
+    let (none, some) = (
+        "isn't in the critical section",
+        "is in the critical section",
+    );
+    put_depth(text, actor, none, some, depth)
 }
 
 /// Appends how deep an actor has suspended the scheduler.
 pub(super) fn put_suspended(text: &mut String, actor: &str, depth: u32) -> Result<(), AllocError> {
-    match depth {
-        0 => write!(text, "{actor} hasn't suspended the scheduler"),
-        _ => write!(text, "{actor} has suspended the scheduler at depth {depth}"),
-    }
+    let (none, some) = (
+        "hasn't suspended the scheduler",
+        "has suspended the scheduler",
+    );
+    put_depth(text, actor, none, some, depth)
 }
 
 /// Whether the actor can hold the object: a task can hold mutexes, and nobody can hold anything else.
-fn can_hold(app: &App, actor: ActorId, object: ObjId) -> bool {
-    let is_mutex = match app.objects().get(object.0) {
-        Some(object) => matches!(object.kind, Kind::Mutex | Kind::Recursive),
+pub(super) fn can_hold(app: &App, actor: ActorId, object: ObjId) -> bool {
+    match app.actors().get(actor.0) {
+        Some(actor) => matches!(actor.kind, ActorKind::Task) && is_mutex(app, object),
         None => false,
-    };
-    let is_task = match app.actors().get(actor.0) {
-        Some(actor) => matches!(actor.kind, ActorKind::Task),
-        None => false,
-    };
-    is_mutex && is_task
-}
-
-/// Appends that the actor doesn't hold the object, if it is one that the actor could hold.
-pub(super) fn put_unheld(
-    text: &mut String,
-    app: &App,
-    actor: ActorId,
-    object: ObjId,
-) -> Result<(), AllocError> {
-    if can_hold(app, actor, object) {
-        put_held(text, actor_name(app, actor), object_name(app, object), 0)
-    } else {
-        Ok(())
     }
 }
 
 /// Appends a claim of an object.
-fn put_claim(
+pub(super) fn put_claim(
     text: &mut String,
     app: &App,
     actor: ActorId,
@@ -137,8 +127,8 @@ fn put_claim(
         Claim::Alive if can_hold(app, actor, object) => {
             write!(text, "{name} is live, and {actor_name} doesn't hold it")
         }
-        Claim::Alive => write!(text, "{name} is live"),
-        Claim::Gone => write!(text, "{name} is dead"),
+        Claim::Alive => put_two(text, name, "is live"),
+        Claim::Gone => put_two(text, name, "is dead"),
         Claim::HeldTimes(count) => put_held(text, actor_name, name, count),
     }
 }
@@ -177,6 +167,19 @@ pub(super) fn put_said(
     }
 }
 
+/// What an alternative of an actor's note says of something.
+pub(super) fn said_text(
+    alloc: Global,
+    app: &App,
+    actor: ActorId,
+    says: &Alternative,
+    subject: Subject,
+) -> Result<String, AllocError> {
+    let mut text = String::new(alloc);
+    put_said(&mut text, app, actor, says, subject)?;
+    Ok(text)
+}
+
 /// Appends what an object has, as an answer to a claim: that it is dead or live, or how often the actor
 /// holds it.
 fn put_against(
@@ -189,16 +192,16 @@ fn put_against(
 ) -> Result<(), AllocError> {
     let count = content.count_held(actor);
     if content.is_dead() {
-        write!(text, "{object} is dead")
+        put_two(text, object, "is dead")
     } else if count == 0 && matches!(claim, Claim::Gone) {
-        write!(text, "{object} is live")
+        put_two(text, object, "is live")
     } else {
         put_held(text, name, object, count)
     }
 }
 
 /// Appends what is so of something, where an alternative of the actor's note says otherwise.
-pub(super) fn put_otherwise(
+fn put_otherwise(
     text: &mut String,
     app: &App,
     actor: ActorId,
@@ -224,6 +227,22 @@ pub(super) fn put_otherwise(
             put_range(text, variable_name(app, variable), value, value)
         }
     }
+}
+
+/// What is so of something, where an alternative of the actor's note says otherwise.
+pub(super) fn otherwise_text(
+    alloc: Global,
+    app: &App,
+    actor: ActorId,
+    says: &Alternative,
+    state: &State,
+    subject: Subject,
+) -> Result<String, AllocError>
+    requires { IsWellFormed app.now state.now }
+{
+    let mut text = String::new(alloc);
+    put_otherwise(&mut text, app, actor, says, state, subject)?;
+    Ok(text)
 }
 
 /// Appends the values of a queue, the first one first, or how many they are where they are many.
@@ -273,6 +292,45 @@ pub(super) fn put_stock(text: &mut String, app: &App, stock: &Stock) -> Result<(
     }
 }
 
+/// Appends a text and, behind it, what an object has.
+pub(super) fn put_content(
+    text: &mut String,
+    app: &App,
+    before: &str,
+    content: &Content,
+) -> Result<(), AllocError> {
+    text.push_str(before)?;
+    put_stock(text, app, content.stock())
+}
+
+/// Appends what is so in the state of something, for this actor.
+fn put_fact(
+    text: &mut String,
+    app: &App,
+    actor: ActorId,
+    state: &State,
+    subject: Subject,
+) -> Result<(), AllocError>
+    requires { IsWellFormed app.now state.now }
+{
+    let name = actor_name(app, actor);
+    match subject {
+        Subject::Critical => put_critical(text, name, state.depth(actor)),
+        Subject::Suspended => put_suspended(text, name, suspension_in(app, state, actor)),
+        Subject::Object(object) => {
+            text.push_str(object_name(app, object))?;
+            match content_in(app, state, object) {
+                Some(content) => put_content(text, app, " ", content),
+                None => text.push_str(" "),
+            }
+        }
+        Subject::Variable(variable) => {
+            let (of, value) = (variable_name(app, variable), value_in(app, state, variable));
+            write!(text, "{of} = {value}")
+        }
+    }
+}
+
 /// What is so in the state of something, for this actor: an item of a list.
 pub(super) fn fact(
     alloc: Global,
@@ -284,20 +342,23 @@ pub(super) fn fact(
     requires { IsWellFormed app.now state.now }
 {
     let mut text = String::new(alloc);
-    let name = actor_name(app, actor);
-    match subject {
-        Subject::Critical => put_critical(&mut text, name, state.depth(actor))?,
-        Subject::Suspended => put_suspended(&mut text, name, suspension_in(app, state, actor))?,
-        Subject::Object(object) => {
-            write!(&mut text, "{} ", object_name(app, object))?;
-            if let Some(content) = content_in(app, state, object) {
-                put_stock(&mut text, app, content.stock())?;
-            }
-        }
-        Subject::Variable(variable) => {
-            let (of, value) = (variable_name(app, variable), value_in(app, state, variable));
-            write!(&mut text, "{of} = {value}")?;
-        }
-    }
+    put_fact(&mut text, app, actor, state, subject)?;
     Ok(text)
+}
+
+/// Whether something is otherwise after a step of this actor.
+pub(super) fn has_changed(
+    alloc: Global,
+    app: &App,
+    actor: ActorId,
+    before: &State,
+    after: &State,
+    subject: Subject,
+) -> Result<bool, AllocError>
+    requires before { IsWellFormed app.now before.now }
+    requires after { IsWellFormed app.now after.now }
+{
+    let was = fact(alloc, app, actor, before, subject)?;
+    let is = fact(alloc, app, actor, after, subject)?;
+    Ok(was != is)
 }

@@ -1,5 +1,6 @@
 // Sends and receives of stream and message buffers in critical sections.
 use super::mutexes::call_at;
+use crate::lines::add_text;
 use crate::shown::{actor_name, object_name};
 use fr_notes::Notes;
 use fr_program::{Act, App, BlockTime, End, ObjId, Point, Side, Timing};
@@ -7,13 +8,15 @@ use std::alloc::{AllocError, Global};
 
 /// Whether the actor can be in a critical section at the point with this number.
 fn can_be_critical(notes: &Notes, number: usize) -> bool {
-    match notes.get(number) {
-        Some(note) => note
-            .alternatives()
-            .iter()
-            .any(|alternative| alternative.critical() > 0),
-        None => false,
+    let Some(note) = notes.get(number) else {
+        return false;
+    };
+    for alternative in note.alternatives() {
+        if alternative.critical() > 0 {
+            return true;
+        }
     }
+    false
 }
 
 /// The buffer of which the line sends or receives in the form for tasks with block time 0, and at which end, where the actor is
@@ -62,7 +65,7 @@ pub fn buffers_in_critical_sections(
             && warned != Some(point.actor)
             && can_be_critical(notes, number)
         {
-            lines.push(line_of(alloc, app, point, moved)?)?;
+            add_text(&mut lines, line_of(alloc, app, point, moved)?)?;
             warned = Some(point.actor);
         }
     }

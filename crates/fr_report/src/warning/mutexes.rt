@@ -1,29 +1,24 @@
 // Mutexes that are held for long: while a task waits without limit for something else, and where a task takes one that it holds.
-use crate::shown::{actor_name, object_name};
+use crate::lines::add_text;
+use crate::shown::{actor_name, is_mutex, object_name};
 use fr_notes::{Claim, Notes};
 use fr_program::{
-    Act, ActorId, App, Attempt, BlockTime, Call, Instr, Kind, ObjId, ObjectCall, Point,
-    SemaphoreForm, Side, Timing,
+    Act, ActorId, App, Attempt, BlockTime, Call, Instr, ObjId, ObjectCall, Point, SemaphoreForm,
+    Side, Timing,
 };
 use std::alloc::{AllocError, Global};
 
-/// Whether the object is a mutex, plain or recursive.
-fn is_mutex(app: &App, object: ObjId) -> bool {
-    match app.objects().get(object.0) {
-        Some(object) => matches!(object.kind, Kind::Mutex | Kind::Recursive),
-        None => false,
-    }
-}
-
 /// Whether the actor can hold the mutex at the point with this number.
 fn can_hold(notes: &Notes, number: usize, mutex: ObjId) -> bool {
-    match notes.get(number) {
-        Some(note) => note.alternatives().iter().any(|alternative| matches!(
-            alternative.claim(mutex),
-            Claim::HeldTimes(_)
-        )),
-        None => false,
+    let Some(note) = notes.get(number) else {
+        return false;
+    };
+    for alternative in note.alternatives() {
+        if matches!(alternative.claim(mutex), Claim::HeldTimes(_)) {
+            return true;
+        }
     }
+    false
 }
 
 /// The object call of the point's line.
@@ -45,6 +40,21 @@ fn waited_for(app: &App, point: Point) -> Option<ObjId> {
     }
 }
 
+/// The line of a mutex that the actor can hold at the point while it waits for the object.
+fn held_line(
+    alloc: Global,
+    app: &App,
+    point: Point,
+    mutex: ObjId,
+    awaited: ObjId,
+) -> Result<String, AllocError> {
+    let (actor, pc) = (actor_name(app, point.actor), point.pc);
+    let (held, awaited) = (object_name(app, mutex), object_name(app, awaited));
+    format!(in alloc;
+        "warning: {actor} {pc} holds {held} while it waits without limit for {awaited}"
+    )
+}
+
 /// Adds a line for each mutex that the actor can hold at the point while it waits for the object.
 fn add_held(
     alloc: Global,
@@ -54,15 +64,10 @@ fn add_held(
     (number, point): (usize, Point),
     awaited: ObjId,
 ) -> Result<(), AllocError> {
-    let (actor, pc) = (actor_name(app, point.actor), point.pc);
-    let awaited = object_name(app, awaited);
     for place in 0..app.objects().len() {
         let mutex = ObjId(place);
         if is_mutex(app, mutex) && can_hold(notes, number, mutex) {
-            let held = object_name(app, mutex);
-            lines.push(format!(in alloc;
-                "warning: {actor} {pc} holds {held} while it waits without limit for {awaited}"
-            )?)?;
+            add_text(lines, held_line(alloc, app, point, mutex, awaited)?)?;
         }
     }
     Ok(())
@@ -100,18 +105,13 @@ fn mutex_taken(app: &App, point: Point) -> Option<ObjId> {
 
 /// The first line of the actor that takes the mutex.
 fn first_take(app: &App, actor: ActorId, mutex: ObjId) -> Option<usize> {
-    let code = &app.actors().get(actor.0)?.code;
-    (0..code.len()).find(|pc| {
-        let side = Side::Before;
-        mutex_taken(
-            app,
-            Point {
-                actor,
-                pc: *pc,
-                side,
-            },
-        ) == Some(mutex)
-    })
+    let side = Side::Before;
+    for pc in 0..app.actors().get(actor.0)?.code.len() {
+        if mutex_taken(app, Point { actor, pc, side }) == Some(mutex) {
+            return Some(pc);
+        }
+    }
+    None
 }
 
 /// The line of a take of a mutex that the actor can hold there.
@@ -140,7 +140,7 @@ pub fn never_given(alloc: Global, app: &App, notes: &Notes) -> Result<Vec<String
             && point.side == Side::Before
             && can_hold(notes, number, mutex)
         {
-            lines.push(taken_line(alloc, app, point, mutex)?)?;
+            add_text(&mut lines, taken_line(alloc, app, point, mutex)?)?;
         }
     }
     Ok(lines)

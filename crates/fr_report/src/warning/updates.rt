@@ -1,5 +1,6 @@
 // Updates of shared variables that can be lost: an actor copies the variable and then sets it from the copy, and another actor can set it
 // in between.
+use crate::lines::add_text;
 use crate::shown::actor_name;
 use fr_notes::{Alternative, Note, Notes, can_meet};
 use fr_program::{Act, ActorId, App, Call, Instr, Operand, Point, Side, VarId};
@@ -137,6 +138,19 @@ struct Walk {
 }
 
 impl Walk {
+    /// A walk through code of this length that hasn't begun.
+    fn none(alloc: Global, length: usize) -> Result<Walk, AllocError> {
+        let seen = vec![in alloc; false; length]?;
+        let leads = vec![in alloc; false; length]?;
+        Ok(Walk {
+            next: Vec::new(alloc),
+            seen,
+            visited: Vec::new(alloc),
+            leads,
+            store: None,
+        })
+    }
+
     /// Goes on from the line.
     fn follow(&mut self, instr: &Instr, pc: usize) -> Result<(), AllocError> {
         let (one, other) = lines_after(instr, pc);
@@ -208,6 +222,45 @@ impl Walk {
         has_marked
     }
 
+    /// Walks from this copy on.
+    fn walk(&mut self, code: &[Instr], copied: Copied) -> Result<(), AllocError> {
+        if let Some(instr) = code.get(copied.pc) {
+            self.follow(instr, copied.pc)?;
+        }
+        // Each line is visited once, and leads to two at the most.
+        for _ in 0..code.len().saturating_mul(2).saturating_add(2) {
+            let Some(pc) = self.next.pop() else {
+                break;
+            };
+            self.visit(code, pc, copied)?;
+        }
+        Ok(())
+    }
+
+    /// Walks from this copy on, and says what update begins with it, if one does.
+    fn update(
+        &mut self,
+        alloc: Global,
+        code: &[Instr],
+        copied: Copied,
+    ) -> Result<Option<Update>, AllocError> {
+        self.walk(code, copied)?;
+        let Some(pc) = self.store else {
+            return Ok(None);
+        };
+        for _ in 0..code.len() {
+            if !self.mark(code) {
+                break;
+            }
+        }
+        let between = self.leading(alloc)?;
+        Ok(Some(Update {
+            copied,
+            pc,
+            between,
+        }))
+    }
+
     /// The lines that lead to one that sets the variable, that line with them.
     fn leading(&self, alloc: Global) -> Result<Vec<usize>, AllocError> {
         let mut leading = Vec::new(alloc);
@@ -220,56 +273,34 @@ impl Walk {
     }
 }
 
-/// The walk from this copy on.
-fn walk_after(alloc: Global, code: &[Instr], copied: Copied) -> Result<Walk, AllocError> {
-    let mut walk = Walk {
-        next: Vec::new(alloc),
-        seen: vec![in alloc; false; code.len()]?,
-        visited: Vec::new(alloc),
-        leads: vec![in alloc; false; code.len()]?,
-        store: None,
-    };
-    if let Some(instr) = code.get(copied.pc) {
-        walk.follow(instr, copied.pc)?;
-    }
-    // Each line is visited once, and leads to two at the most.
-    for _ in 0..code.len().saturating_mul(2).saturating_add(2) {
-        let Some(pc) = walk.next.pop() else {
-            break;
-        };
-        walk.visit(code, pc, copied)?;
-    }
-    Ok(walk)
-}
-
 /// The update that begins with this copy; None where no line that can follow sets the variable from it.
 fn update_after(
     alloc: Global,
     code: &[Instr],
     copied: Copied,
 ) -> Result<Option<Update>, AllocError> {
-    let mut walk = walk_after(alloc, code, copied)?;
-    let Some(pc) = walk.store else {
-        return Ok(None);
-    };
-    for _ in 0..code.len() {
-        if !walk.mark(code) {
-            break;
-        }
-    }
-    let between = walk.leading(alloc)?;
-    Ok(Some(Update {
-        copied,
-        pc,
-        between,
-    }))
+    let mut walk = Walk::none(alloc, code.len())?;
+    walk.update(alloc, code, copied)
 }
 
 /// Whether the alternative can hold beside one of the note's.
 fn meets_some(alternative: &Alternative, note: &Note) -> bool {
-    note.alternatives()
-        .iter()
-        .any(|other| can_meet(alternative, other))
+    for other in note.alternatives() {
+        if can_meet(alternative, other) {
+            return true;
+        }
+    }
+    false
+}
+
+/// Whether two actors can be at the points of these two notes at the same time.
+fn can_be_with(note: &Note, other: &Note) -> bool {
+    for alternative in note.alternatives() {
+        if meets_some(alternative, other) {
+            return true;
+        }
+    }
+    false
 }
 
 /// Whether two actors can be at these two points at the same time, by what their notes say.
@@ -278,10 +309,7 @@ fn can_both_be_at(app: &App, notes: &Notes, one: Point, number: usize) -> bool {
         return false;
     };
     match (notes.get(own), notes.get(number)) {
-        (Some(note), Some(other)) => note
-            .alternatives()
-            .iter()
-            .any(|alternative| meets_some(alternative, other)),
+        (Some(note), Some(other)) => can_be_with(note, other),
         _ => false,
     }
 }
@@ -289,9 +317,9 @@ fn can_both_be_at(app: &App, notes: &Notes, one: Point, number: usize) -> bool {
 /// Whether another actor can be at the point with this number while the actor is at one of the lines of the update.
 fn is_between(app: &App, notes: &Notes, update: &Update, number: usize) -> bool {
     let actor = update.copied.actor;
-    update.between.iter().any(|pc| {
-        let (pc, before, inside) = (*pc, Side::Before, Side::Inside);
-        can_both_be_at(
+    for place in &update.between {
+        let (pc, before, inside) = (*place, Side::Before, Side::Inside);
+        if can_both_be_at(
             app,
             notes,
             Point {
@@ -309,8 +337,11 @@ fn is_between(app: &App, notes: &Notes, update: &Update, number: usize) -> bool 
                 side: inside,
             },
             number,
-        )
-    })
+        ) {
+            return true;
+        }
+    }
+    false
 }
 
 /// Whether another actor sets the update's variable at the point.
@@ -354,6 +385,20 @@ fn line_of(alloc: Global, app: &App, update: &Update, by: Point) -> Result<Strin
     )
 }
 
+/// Adds the warning for an update, if it can be lost.
+fn add_update(
+    alloc: Global,
+    lines: &mut Vec<String>,
+    app: &App,
+    notes: &Notes,
+    update: &Update,
+) -> Result<(), AllocError> {
+    match loser_of(app, notes, update) {
+        Some(by) => add_text(lines, line_of(alloc, app, update, by)?),
+        None => Ok(()),
+    }
+}
+
 /// Adds the warnings for the updates in an actor's code.
 fn add_updates(
     alloc: Global,
@@ -365,9 +410,8 @@ fn add_updates(
     for (pc, instr) in code.iter().enumerate() {
         if let Some(copied) = copied_at(app, actor, pc, instr)
             && let Some(update) = update_after(alloc, code, copied)?
-            && let Some(by) = loser_of(app, notes, &update)
         {
-            lines.push(line_of(alloc, app, &update, by)?)?;
+            add_update(alloc, lines, app, notes, &update)?;
         }
     }
     Ok(())

@@ -3,7 +3,7 @@ use Rattle.std.proofs.Common.{◌∙◌}
 use Rattle.fr_program.specs.Points.{points_of}
 use Rattle.fr_report.specs.Listing.{listed_text}
 use Rattle.fr_report.proofs.ListingLemmas.{one-more}
-use Rattle.fr_report.proofs.listing.points_text.Goals as goal
+use Rattle.fr_report.proofs.listing.points_named.Goals as goal
 
 pub put_point-requires-clause-point : goal.put_point-requires-clause-point
 put_point-requires-clause-point c = (c.recall_numbered.ensures.listed c.loop-number.number c.point.result c.point.ensures).0

@@ -2,7 +2,7 @@ use Rattle.std.proofs.Common.{◌≡◌, take, string_bytes}
 use Rattle.std.specs.List.{flat_map}
 use Rattle.fr_program.specs.Points.{points_of}
 use Rattle.fr_report.specs.Listing.{listed_text}
-use Rattle.fr_report.proofs.listing.points_text.Given as goal
+use Rattle.fr_report.proofs.listing.points_named.Given as goal
 
 -- the lines so far are those of the points so far
 abbrev pub invariant-loop-number : goal.invariant-loop-number
