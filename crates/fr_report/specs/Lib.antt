@@ -2,7 +2,6 @@ pub mod Lines
 pub mod Listing
 pub mod Refuted
 pub mod Report
-pub mod Shown
 pub mod Sources
 pub mod Told
 pub mod Trace

@@ -9,6 +9,7 @@ use crate::sources::{Sources, put_source};
 use fr_instr::{Names, names_of, write_line};
 use fr_program::{App, Point};
 use std::alloc::{AllocError, Global};
+use std::mem::drop;
 
 /// The line of code at a point.
 pub(crate) fn code_text(
@@ -32,7 +33,9 @@ pub fn line_of_code(alloc: Global, app: &App, point: Point) -> Result<String, Al
     ensures { IfOk result (λ text. string_bytes text ≡ code_text app.now point) }
 {
     let names = names_of(alloc, app)?;
-    code_text(alloc, app, &names, point)
+    let code = code_text(alloc, app, &names, point);
+    drop(names);
+    code
 }
 
 /// Appends the line of a point, with this line of code.
@@ -99,5 +102,7 @@ pub fn points_text(alloc: Global, app: &App, sources: &Sources) -> Result<String
     ensures { IfOk result (λ text. string_bytes text ≡ points_text sources.now app.now) }
 {
     let names = names_of(alloc, app)?;
-    points_named(alloc, app, sources, &names)
+    let text = points_named(alloc, app, sources, &names);
+    drop(names);
+    text
 }

@@ -37,6 +37,7 @@ pub(crate) use places::standing_in;
 use rules::forbidden_text;
 use scene::{Scene, Site};
 use std::alloc::{AllocError, Global};
+use std::mem::drop;
 use steps::outcome_text;
 
 /// Adds a state, and where each actor is in it if all is asked for.
@@ -411,7 +412,11 @@ fn add_found(
     app.recall_faultless();
     the_start_is_well_formed();
     match witness(scene.alloc, app, certificate, Verdict::No { point, part })? {
-        Some(found) => add_witness(items, scene, certificate, part, &found),
+        Some(found) => {
+            let added = add_witness(items, scene, certificate, part, &found);
+            drop(found);
+            added
+        }
         None => add_item(items, Explained::NotFound),
     }
 }

@@ -1,36 +1,11 @@
 // Points and rules as reports show them.
-ghost use Rattle.std.specs.Prelude.{◌≡◌, ◌≤◌, Some};
+ghost use Rattle.std.specs.Prelude.{◌≡◌};
 ghost use Rattle.fr_program.specs.Lookup.{IsPoint, actor_at, object_at};
 ghost use Rattle.fr_program.specs.Points.{point_number};
-ghost use Rattle.fr_report.specs.Report.{point_text, rule_text, side_text};
-ghost use Rattle.fr_report.specs.Shown.{shown_text};
+ghost use Rattle.fr_report.specs.Report.{rule_text, side_text};
 
 use fr_calls::Rule;
 use fr_program::{ActorId, App, Kind, ObjId, Point, Side, VarId};
-use std::fmt;
-
-/// A point with its number and its actor's name.
-#[derive(Clone, Copy)]
-pub struct ShownPoint<'a> {
-    number: usize,
-    actor: &'a str,
-    pc: usize,
-    side: Side,
-}
-
-impl<'a> ShownPoint<'a> {
-    /// The point; one that isn't this application's has the number 0.
-    pub fn of(app: &'a App, point: Point) -> ShownPoint<'a>
-        ensures { IsPoint app.now point → shown_text result ≡ point_text app.now point }
-    {
-        ShownPoint {
-            number: number_of(app, point),
-            actor: actor_name(app, point.actor),
-            pc: point.pc,
-            side: point.side,
-        }
-    }
-}
 
 /// The number of a point of the application; 0 of another one.
 pub(crate) fn number_of(app: &App, point: Point) -> usize
@@ -82,17 +57,6 @@ pub fn side_name(side: Side) -> &'static str
     match side {
         Side::Before => "before",
         Side::Inside => "inside",
-    }
-}
-
-impl fmt::Display for ShownPoint<'_> {
-    ghost use Rattle.fr_report.specs.Shown.{shown_text};
-
-    ghost output = { λ point. Some (shown_text point) };
-
-    fn fmt<W: fmt::Write>(&self, f: &mut fmt::Formatter<W>) -> fmt::Result {
-        let (number, actor, pc, side) = (self.number, self.actor, self.pc, side_name(self.side));
-        write!(f, "point {number} ({actor} {pc} {side})")
     }
 }
 

@@ -1,12 +1,12 @@
 // The report of a verdict.
-ghost use Rattle.std.specs.Prelude.{◌≡◌, IfOk, string_bytes};
+ghost use Rattle.std.specs.Prelude.{◌≡◌, ◌++◌, IfOk, OnOk, string_bytes};
+ghost use Rattle.fr_program.specs.Lookup.{IsPoint};
 ghost use Rattle.fr_judge.specs.Told.{Speaks, IsPartOf};
-ghost use Rattle.fr_report.specs.Report.{part_text, report_text, verdict_text};
+ghost use Rattle.fr_report.specs.Report.{part_text, point_text, report_text, verdict_text};
 
-use crate::shown::{ShownPoint, object_name, rule_text};
-use fr_ends::EndName;
+use crate::shown::{actor_name, number_of, object_name, rule_text, side_name};
 use fr_judge::{Part, Verdict};
-use fr_program::App;
+use fr_program::{App, Point};
 use std::alloc::{AllocError, Global};
 
 /// The line of the verdict, with its newline: `yes`, or `no`, the first failing point and
@@ -29,12 +29,20 @@ pub fn verdict_line(alloc: Global, app: &App, verdict: Verdict) -> Result<String
 {
     match verdict {
         Verdict::Yes => String::from_str(alloc, "yes"),
-        Verdict::No { point, part } => {
-            let at = ShownPoint::of(app, point);
-            let why = part_text(alloc, app, part)?;
-            format!(in alloc; "no: {at}: {why}")
-        }
+        Verdict::No { point, part } => no_line(alloc, app, point, part),
     }
+}
+
+/// The line of a verdict that is no.
+fn no_line(alloc: Global, app: &App, point: Point, part: Part) -> Result<String, AllocError>
+    ensures { Speaks app.now (Verdict.No point part) → IfOk result
+        (λ line. string_bytes line ≡ verdict_text app.now (Verdict.No point part)) }
+{
+    let mut text = String::new(alloc);
+    put_point(&mut text, app, "no: ", point)?;
+    text.push_str(": ")?;
+    put_part(&mut text, app, part)?;
+    Ok(text)
 }
 
 /// The text of a part that fails. It is the one that a report has where the part is one on this application. An error
@@ -43,32 +51,39 @@ pub fn part_text(alloc: Global, app: &App, part: Part) -> Result<String, AllocEr
     ensures { IsPartOf app.now part → IfOk result
         (λ text. string_bytes text ≡ part_text app.now part) }
 {
+    let mut text = String::new(alloc);
+    put_part(&mut text, app, part)?;
+    Ok(text)
+}
+
+/// Appends the text of a part that fails.
+fn put_part(text: &mut String, app: &App, part: Part) -> Result<(), AllocError>
+    ensures { IsPartOf app.now part → OnOk result
+        (string_bytes text.new ≡ string_bytes text.old ++ part_text app.now part) }
+{
     match part {
-        Part::Entry => String::from_str(alloc, "entry"),
+        Part::Entry => text.push_str("entry"),
         Part::Rule(rule) => {
-            let (number, text) = (rule.number(), rule_text(rule));
-            format!(in alloc; "rule {number}: {text}")
+            let (number, said) = (rule.number(), rule_text(rule));
+            write!(text, "rule {number}: {said}")
         }
-        Part::Goes(point) => {
-            let to = ShownPoint::of(app, point);
-            format!(in alloc; "goes to {to}")
+        Part::Goes(point) => put_point(text, app, "goes to ", point),
+        Part::Guard(end) => {
+            let (buffer, side) = (object_name(app, end.buffer), end.end.text());
+            write!(text, "guard {buffer} {side}")
         }
-        Part::Guard(end) => guard_text(alloc, app, end),
-        Part::Near(point) => {
-            let near = ShownPoint::of(app, point);
-            format!(in alloc; "near {near}")
-        }
-        Part::Spoiled(point) => {
-            let by = ShownPoint::of(app, point);
-            format!(in alloc; "spoiled by {by}")
-        }
+        Part::Near(point) => put_point(text, app, "near ", point),
+        Part::Spoiled(point) => put_point(text, app, "spoiled by ", point),
     }
 }
 
-/// The text of a guard that fails.
-fn guard_text(alloc: Global, app: &App, end: EndName) -> Result<String, AllocError>
-    ensures { IfOk result (λ text. string_bytes text ≡ part_text app.now (Part.Guard end)) }
+/// Appends a text, and behind it a point with its number and its actor's name; a point that isn't this application's has the
+/// number 0.
+fn put_point(text: &mut String, app: &App, before: &str, point: Point) -> Result<(), AllocError>
+    ensures { IsPoint app.now point → OnOk result
+        (string_bytes text.new ≡ string_bytes text.old ++ (before.now ++ point_text app.now point)) }
 {
-    let (buffer, side) = (object_name(app, end.buffer), end.end.text());
-    format!(in alloc; "guard {buffer} {side}")
+    let (number, actor) = (number_of(app, point), actor_name(app, point.actor));
+    let (pc, side) = (point.pc, side_name(point.side));
+    write!(text, "{before}point {number} ({actor} {pc} {side})")
 }

@@ -105,6 +105,27 @@ fn change_text(
     }
 }
 
+/// Adds what is so of something, if a step of this actor changed it.
+fn add_change(
+    alloc: Global,
+    changes: &mut Vec<String>,
+    app: &App,
+    actor: ActorId,
+    before: &State,
+    after: &State,
+    subject: Subject,
+) -> Result<(), AllocError>
+    requires before { IsWellFormed app.now before.now }
+    requires after { IsWellFormed app.now after.now }
+{
+    if has_changed(alloc, app, actor, before, after, subject)? {
+        let change = change_text(alloc, app, actor, before, after, subject)?;
+        add_text(changes, change)
+    } else {
+        Ok(())
+    }
+}
+
 /// What a step of this actor changed, an item each; no item where it changed nothing but the actor's place.
 fn changes_of(
     alloc: Global,
@@ -119,10 +140,7 @@ fn changes_of(
     let mut changes = Vec::new(alloc);
     for place in 0..subject_count(app) {
         let subject = subject_at(app, place);
-        if has_changed(alloc, app, actor, before, after, subject)? {
-            let change = change_text(alloc, app, actor, before, after, subject)?;
-            add_text(&mut changes, change)?;
-        }
+        add_change(alloc, &mut changes, app, actor, before, after, subject)?;
     }
     if let Place::Done = actor_place(app, after, actor) {
         let done = format!(in alloc; "{} is done", actor_name(app, actor))?;

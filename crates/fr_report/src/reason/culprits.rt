@@ -11,6 +11,7 @@ use fr_judge::{Part, Verdict};
 use fr_program::{Act, Attempt, Call, Instr, ObjId, Point, Side};
 use fr_witness::{Witness, witness};
 use std::alloc::AllocError;
+use std::mem::drop;
 
 /// The most points that are listed.
 const MOST_LISTED: u64 = 20;
@@ -171,7 +172,9 @@ fn is_out_of_range(
         certificate,
         Verdict::No { point, part },
     )?;
-    Ok(matches!(found, Some(Witness::Breaks(_))))
+    let is_out = matches!(found, Some(Witness::Breaks(_)));
+    drop(found);
+    Ok(is_out)
 }
 
 /// Adds that the `set` at this point is out of its range itself, if it is.

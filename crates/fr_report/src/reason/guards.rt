@@ -20,6 +20,11 @@ pub(super) fn guarded_by(guard: &Guard) -> Option<Subject> {
     }
 }
 
+/// Appends that an actor has its turn at this value of a variable.
+fn put_turn(text: &mut String, actor: &str, variable: &str, value: i64) -> Result<(), AllocError> {
+    write!(text, " {actor} where {variable} is {value}")
+}
+
 /// Appends who has a turn at which value.
 fn put_turns(
     text: &mut String,
@@ -30,8 +35,8 @@ fn put_turns(
     text.push_str("the actor whose turn it is:")?;
     let (name, mut is_first) = (variable_name(app, variable), true);
     for (actor, value) in values {
-        let (who, before) = (actor_name(app, *actor), if is_first { "" } else { "," });
-        write!(text, "{before} {who} where {name} is {value}")?;
+        text.push_str(if is_first { "" } else { "," })?;
+        put_turn(text, actor_name(app, *actor), name, *value)?;
         is_first = false;
     }
     Ok(())

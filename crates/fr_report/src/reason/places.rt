@@ -63,6 +63,24 @@ pub(crate) fn standing_in(
     }
 }
 
+/// Appends the depths of an actor where they aren't 0, each behind a semicolon.
+fn put_depths(
+    text: &mut String,
+    actor: &str,
+    depth: u32,
+    suspended: u32,
+) -> Result<(), AllocError> {
+    if depth > 0 {
+        text.push_str("; ")?;
+        put_critical(text, actor, depth)?;
+    }
+    if suspended > 0 {
+        text.push_str("; ")?;
+        put_suspended(text, actor, suspended)?;
+    }
+    Ok(())
+}
+
 /// Appends where an actor stands, and its depths where they aren't 0.
 fn put_actor(text: &mut String, app: &App, actor: ActorId, state: &State) -> Result<(), AllocError>
     requires { IsWellFormed app.now state.now }
@@ -73,15 +91,7 @@ fn put_actor(text: &mut String, app: &App, actor: ActorId, state: &State) -> Res
         Place::Done => put_two(text, name, "is done")?,
     }
     let (depth, suspended) = (state.depth(actor), suspension_in(app, state, actor));
-    if depth > 0 {
-        text.push_str("; ")?;
-        put_critical(text, name, depth)?;
-    }
-    if suspended > 0 {
-        text.push_str("; ")?;
-        put_suspended(text, name, suspended)?;
-    }
-    Ok(())
+    put_depths(text, name, depth, suspended)
 }
 
 /// Adds where each actor stands, with its depths, an item for each.

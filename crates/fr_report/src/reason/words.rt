@@ -9,6 +9,7 @@ use fr_program::{ActorId, ActorKind, App, Kind, ObjId, VarId};
 use fr_witness::Subject;
 use std::alloc::{AllocError, Global};
 use std::collections::VecDeque;
+use std::fmt;
 
 /// The most values of a queue that are written out.
 const MOST_VALUES: usize = 8;
@@ -245,32 +246,38 @@ pub(super) fn otherwise_text(
     Ok(text)
 }
 
-/// Appends the values of a queue, the first one first, or how many they are where they are many.
-fn put_values(text: &mut String, values: &VecDeque<i64>) -> Result<(), AllocError> {
-    let count = values.len();
-    match count {
-        0 => return text.push_str("live, empty"),
-        1..=MOST_VALUES => text.push_str("live, with")?,
-        _ => return write!(text, "live, with {count} values"),
-    }
-    for value in values {
-        write!(text, " {value}")?;
+/// Appends a text, and behind it each of the items with a blank before it.
+fn put_each<T: fmt::Display>(
+    text: &mut String,
+    before: &str,
+    items: &VecDeque<T>,
+) -> Result<(), AllocError> {
+    text.push_str(before)?;
+    for item in items {
+        write!(text, " {item}")?;
     }
     Ok(())
 }
 
+/// Appends the values of a queue, the first one first, or how many they are where they are many.
+fn put_values(text: &mut String, values: &VecDeque<i64>) -> Result<(), AllocError> {
+    match values.len() {
+        0 => text.push_str("live, empty"),
+        1..=MOST_VALUES => put_each(text, "live, with", values),
+        count => write!(text, "live, with {count} values"),
+    }
+}
+
 /// Appends the lengths of the messages of a buffer, or how many they are where they are many.
 fn put_lengths(text: &mut String, lengths: &VecDeque<u32>) -> Result<(), AllocError> {
-    let count = lengths.len();
-    match count {
-        0 => return text.push_str("live, empty"),
-        1..=MOST_VALUES => text.push_str("live, with messages of")?,
-        _ => return write!(text, "live, with {count} messages"),
+    match lengths.len() {
+        0 => text.push_str("live, empty"),
+        1..=MOST_VALUES => {
+            put_each(text, "live, with messages of", lengths)?;
+            text.push_str(" bytes")
+        }
+        count => write!(text, "live, with {count} messages"),
     }
-    for length in lengths {
-        write!(text, " {length}")?;
-    }
-    text.push_str(" bytes")
 }
 
 /// Appends what an object has.

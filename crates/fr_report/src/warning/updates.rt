@@ -5,6 +5,7 @@ use crate::shown::actor_name;
 use fr_notes::{Alternative, Note, Notes, can_meet};
 use fr_program::{Act, ActorId, App, Call, Instr, Operand, Point, Side, VarId};
 use std::alloc::{AllocError, Global};
+use std::mem::replace;
 
 /// A line that copies a shared variable into one of the actor's own.
 #[derive(Clone, Copy)]
@@ -163,13 +164,20 @@ impl Walk {
         Ok(())
     }
 
+    /// Whether the line wasn't looked at before; from now on it was.
+    fn is_first_look(&mut self, pc: usize) -> bool {
+        match self.seen.get_mut(pc) {
+            Some(seen) => !replace(seen, true),
+            None => false,
+        }
+    }
+
     /// Looks at the line, and goes on from it unless it sets the variable, or gives the copy another number.
     fn visit(&mut self, code: &[Instr], pc: usize, copied: Copied) -> Result<(), AllocError> {
-        let (Some(instr), Some(false)) = (code.get(pc), self.seen.get(pc).copied()) else {
+        let Some(instr) = code.get(pc) else {
             return Ok(());
         };
-        self.seen[pc] = true;
-        if overwrites(instr, copied.copy) {
+        if !self.is_first_look(pc) || overwrites(instr, copied.copy) {
             return Ok(());
         }
         self.visited.push(pc)?;

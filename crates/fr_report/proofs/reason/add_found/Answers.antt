@@ -5,8 +5,8 @@ use Rattle.fr_witness.specs.Witness.{IsWitness}
 use Rattle.fr_report.proofs.Formed.{formed_of}
 use Rattle.fr_report.proofs.reason.add_found.Goals as goal
 
-pub add_witness-requires-clause-formed : goal.add_witness-requires-clause-formed
-add_witness-requires-clause-formed c =
+pub add_witness-added-requires-clause-formed : goal.add_witness-added-requires-clause-formed
+add_witness-added-requires-clause-formed c =
     let P = c.args.scene.now.app.now in
     let C = c.args.certificate.now in
     let point = c.args.scene.now.site.point in
