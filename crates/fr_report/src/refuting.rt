@@ -30,6 +30,7 @@ use fr_refuter::{Deadlocked, Finding, Refutation, StepTaken, take_step};
 use fr_runner::Entry;
 use fr_waits::Wait;
 use std::alloc::{AllocError, Global};
+use std::mem::drop;
 
 /// A run into a breach or a deadlock.
 #[derive(Drop)]
@@ -114,10 +115,11 @@ fn run_of(
     ensures shortest { IfOk result (λ run. run.is_shortest ≡ is_shortest) }
 {
     let (steps, state) = explained(alloc, app, sources, taken)?;
-    let lasts = lasts_in(alloc, app, sources, last, &state)?;
+    let lasts = lasts_in(alloc, app, sources, last, &state);
+    drop(state);
     Ok(ExplainedRun {
         steps,
-        lasts,
+        lasts: lasts?,
         is_shortest,
     })
 }
@@ -196,10 +198,11 @@ pub fn explain_deadlock(
     ensures shortest { IfOk result (λ run. run.is_shortest ≡ found.now.is_shortest) }
 {
     let (steps, state) = explained(alloc, app, sources, &found.steps)?;
-    let lasts = standings_in(alloc, app, sources, &found.cycle, &state)?;
+    let lasts = standings_in(alloc, app, sources, &found.cycle, &state);
+    drop(state);
     Ok(ExplainedRun {
         steps,
-        lasts,
+        lasts: lasts?,
         is_shortest: found.is_shortest,
     })
 }

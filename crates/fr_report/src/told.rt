@@ -8,6 +8,7 @@ use crate::sources::put_source;
 use fr_ends::EndName;
 use fr_program::{ActorId, App, Point};
 use std::alloc::{AllocError, Global};
+use std::mem::drop;
 
 /// What is said below a state or a step of one note.
 const ALLOWED: &str =
@@ -196,11 +197,16 @@ impl Line {
         text.push_str(&self.said)
     }
 
-    /// The whole line: both parts with a colon between them, or the second one alone.
-    pub fn text(&self, alloc: Global) -> Result<String, AllocError> {
-        let mut text = String::new(alloc);
+    /// The whole line behind a text.
+    fn behind(&self, alloc: Global, before: &str) -> Result<String, AllocError> {
+        let mut text = String::from_str(alloc, before)?;
         self.put(&mut text)?;
         Ok(text)
+    }
+
+    /// The whole line: both parts with a colon between them, or the second one alone.
+    pub fn text(&self, alloc: Global) -> Result<String, AllocError> {
+        self.behind(alloc, "")
     }
 }
 
@@ -342,9 +348,9 @@ impl Explained {
     /// The whole line, with its blanks.
     fn text(&self, alloc: Global, app: &App) -> Result<String, AllocError> {
         let line = self.line(alloc, app)?;
-        let mut text = String::from_str(alloc, if self.is_apart() { "" } else { "  " })?;
-        line.put(&mut text)?;
-        Ok(text)
+        let text = line.behind(alloc, if self.is_apart() { "" } else { "  " });
+        drop(line);
+        text
     }
 
     /// Whether the line stands by itself: the other lines have blanks before them.

@@ -30,12 +30,18 @@ fn put_wait(text: &mut String, app: &App, wait: Wait) -> Result<(), AllocError>
     write!(text, "{actor} waits for {mutex}")
 }
 
+/// Appends a text and a name behind it.
+fn put_behind(text: &mut String, before: &str, name: &str) -> Result<(), AllocError>
+    ensures { OnOk result (string_bytes text.new ≡ string_bytes text.old ++ (before.now ++ name.now)) }
+{
+    write!(text, "{before}{name}")
+}
+
 /// Appends that the actor is the holder.
 fn put_holder(text: &mut String, app: &App, wait: Wait) -> Result<(), AllocError>
     ensures { OnOk result (string_bytes text.new ≡ string_bytes text.old ++ holder_text app.now wait) }
 {
-    let actor = actor_name(app, wait.actor);
-    write!(text, ", held by {actor}")
+    put_behind(text, ", held by ", actor_name(app, wait.actor))
 }
 
 /// Appends one wait more, whose actor holds what the one before waits for.
@@ -95,8 +101,7 @@ fn put_names(
         (string_bytes text.new ≡ string_bytes text.old ++ flat_map (name_after between.now app.now) mutexes.now) }
 {
     for mutex in mutexes {
-        let name = object_name(app, *mutex);
-        write!(text, "{between}{name}")?;
+        put_behind(text, between, object_name(app, *mutex))?;
     }
     Ok(())
 }
@@ -109,8 +114,7 @@ fn put_order(text: &mut String, app: &App, mutexes: &[ObjId]) -> Result<(), Allo
     let Some((first, others)) = mutexes.split_first() else {
         return Ok(());
     };
-    let name = object_name(app, *first);
-    write!(text, ": {name}")?;
+    put_behind(text, ": ", object_name(app, *first))?;
     put_names(text, app, " < ", others)
 }
 
@@ -129,8 +133,7 @@ fn put_held(text: &mut String, app: &App, edges: &[Edge]) -> Result<(), AllocErr
     ensures { OnOk result (string_bytes text.new ≡ string_bytes text.old ++ flat_map (held_after app.now) edges.now) }
 {
     for edge in edges {
-        let held = object_name(app, edge.held);
-        write!(text, ", {held}")?;
+        put_behind(text, ", ", object_name(app, edge.held))?;
     }
     Ok(())
 }
@@ -155,8 +158,7 @@ fn put_edges(text: &mut String, app: &App, edges: &[Edge]) -> Result<(), AllocEr
     let Some((first, others)) = edges.split_first() else {
         return Ok(());
     };
-    let name = object_name(app, first.held);
-    write!(text, ": {name}")?;
+    put_behind(text, ": ", object_name(app, first.held))?;
     put_held(text, app, others)?;
     text.push_str(": ")?;
     put_edge(text, app, *first)?;

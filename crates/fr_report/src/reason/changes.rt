@@ -126,6 +126,25 @@ fn add_change(
     }
 }
 
+/// Adds that the actor is done, if it is.
+fn add_end(
+    alloc: Global,
+    changes: &mut Vec<String>,
+    app: &App,
+    actor: ActorId,
+    after: &State,
+) -> Result<(), AllocError>
+    requires { IsWellFormed app.now after.now }
+{
+    match actor_place(app, after, actor) {
+        Place::Done => add_text(
+            changes,
+            format!(in alloc; "{} is done", actor_name(app, actor))?,
+        ),
+        Place::At { .. } => Ok(()),
+    }
+}
+
 /// What a step of this actor changed, an item each; no item where it changed nothing but the actor's place.
 fn changes_of(
     alloc: Global,
@@ -142,10 +161,7 @@ fn changes_of(
         let subject = subject_at(app, place);
         add_change(alloc, &mut changes, app, actor, before, after, subject)?;
     }
-    if let Place::Done = actor_place(app, after, actor) {
-        let done = format!(in alloc; "{} is done", actor_name(app, actor))?;
-        add_text(&mut changes, done)?;
-    }
+    add_end(alloc, &mut changes, app, actor, after)?;
     Ok(changes)
 }
 

@@ -280,21 +280,26 @@ fn put_lengths(text: &mut String, lengths: &VecDeque<u32>) -> Result<(), AllocEr
     }
 }
 
+/// Appends that an object is live, with a number between two texts.
+fn put_amount(text: &mut String, before: &str, amount: u32, after: &str) -> Result<(), AllocError> {
+    write!(text, "live, {before} {amount}{after}")
+}
+
 /// Appends what an object has.
 pub(super) fn put_stock(text: &mut String, app: &App, stock: &Stock) -> Result<(), AllocError> {
     match stock {
         Stock::Dead => text.push_str("dead"),
         Stock::Values(values) => put_values(text, values),
-        Stock::Count(count) => write!(text, "live, at {count}"),
+        Stock::Count(count) => put_amount(text, "at", *count, ""),
         Stock::Free => text.push_str("live, free"),
         Stock::Held { holder, count } => {
-            let (name, count) = (actor_name(app, *holder), *count);
-            match count {
-                1 => write!(text, "live, held by {name}"),
-                _ => write!(text, "live, held by {name} {count} times"),
+            let name = actor_name(app, *holder);
+            match *count {
+                1 => put_two(text, "live, held by", name),
+                count => write!(text, "live, held by {name} {count} times"),
             }
         }
-        Stock::Bytes(bytes) => write!(text, "live, with {bytes} bytes"),
+        Stock::Bytes(bytes) => put_amount(text, "with", *bytes, " bytes"),
         Stock::Lengths(messages) => put_lengths(text, messages.lengths()),
     }
 }

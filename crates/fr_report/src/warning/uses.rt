@@ -92,10 +92,13 @@ impl Uses {
 
 /// What the lines of an application use.
 fn uses_in(alloc: Global, app: &App) -> Result<Uses, AllocError> {
+    let read = vec![in alloc; false; app.variables().len()]?;
+    let written = vec![in alloc; false; app.variables().len()]?;
+    let named = vec![in alloc; false; app.objects().len()]?;
     let mut uses = Uses {
-        read: vec![in alloc; false; app.variables().len()]?,
-        written: vec![in alloc; false; app.variables().len()]?,
-        named: vec![in alloc; false; app.objects().len()]?,
+        read,
+        written,
+        named,
     };
     for actor in app.actors() {
         uses.add_all(&actor.code);
