@@ -216,6 +216,19 @@ fn line_below(alloc: Global, text: &str) -> Result<String, AllocError>
     Ok(line)
 }
 
+/// These texts as lines below a step, the second one only where it says something.
+fn lines_below(alloc: Global, at: &str, change: &str) -> Result<Vec<String>, AllocError>
+    ensures { IfOk result (λ lines. All (λ line. IsBelow (string_bytes line)) lines.items) }
+{
+    let mut lines = Vec::new(alloc);
+    lines.push(line_below(alloc, at)?)?;
+    if change.is_empty() {
+        return Ok(lines);
+    }
+    lines.push(line_below(alloc, change)?)?;
+    Ok(lines)
+}
+
 /// The lines that explain a step: where its actor was before it, with the line of code, and what it changed;
 /// where it changed nothing but the actor's place, how the call went, if it is a step of one.
 fn explaining_lines(
@@ -226,13 +239,7 @@ fn explaining_lines(
     ensures { IfOk result (λ lines. All (λ line. IsBelow (string_bytes line)) lines.items) }
 {
     let (at, change) = (step.before.text(alloc, app, true)?, step.change(alloc)?);
-    let mut lines = Vec::new(alloc);
-    lines.push(line_below(alloc, &at)?)?;
-    if change.is_empty() {
-        return Ok(lines);
-    }
-    lines.push(line_below(alloc, &change)?)?;
-    Ok(lines)
+    lines_below(alloc, &at, &change)
 }
 
 /// The line of a step, as one of a run, with lines that explain it where that is asked for.

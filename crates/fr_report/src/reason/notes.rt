@@ -232,6 +232,14 @@ pub(super) fn deletes(instr: &Instr, object: ObjId) -> bool {
     }
 }
 
+/// Whether the object is live from the start on and deleted by no line.
+fn is_lasting(app: &App, object: ObjId) -> bool {
+    match app.objects().get(object.0) {
+        Some(declared) => declared.live && !is_deleted(app, object),
+        None => false,
+    }
+}
+
 /// The objects that are live from the start on and deleted by no line, so that a page says once that they are live.
 ///
 /// # Errors
@@ -239,8 +247,8 @@ pub(super) fn deletes(instr: &Instr, object: ObjId) -> bool {
 /// Only where memory is refused.
 pub fn never_deleted(alloc: Global, app: &App) -> Result<Vec<ObjId>, AllocError> {
     let mut live = Vec::new(alloc);
-    for (number, object) in app.objects().iter().enumerate() {
-        if object.live && !is_deleted(app, ObjId(number)) {
+    for number in 0..app.objects().len() {
+        if is_lasting(app, ObjId(number)) {
             live.push(ObjId(number))?;
         }
     }

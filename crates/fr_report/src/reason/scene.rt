@@ -147,6 +147,11 @@ impl Scene<'_> {
         standing_at(self.alloc, self.app, self.sources, point)
     }
 
+    /// Whether the subject is shown whatever is so of it.
+    fn is_asked(&self, subject: Subject) -> bool {
+        self.detail == Detail::Whole || self.guarded == Some(subject)
+    }
+
     /// Whether the subject is shown, for the actor of this site.
     fn shows(&self, site: Site, state: &State, subject: Subject) -> bool
         requires { IsWellFormed self.now.app.now state.now }
@@ -160,10 +165,7 @@ impl Scene<'_> {
                 None => false,
             },
         };
-        spoken
-            || self.detail == Detail::Whole
-            || self.guarded == Some(subject)
-            || site.speaks_of(app, subject)
+        spoken || self.is_asked(subject) || site.speaks_of(app, subject)
     }
 
     /// Adds what is shown of a state for the actor of this site: its depths, and where `things` says so

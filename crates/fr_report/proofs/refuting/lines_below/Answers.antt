@@ -3,7 +3,7 @@ use Rattle.std.proofs.Common.{◌≡◌, ◌∷◌, [], All, String, rules, stri
 use Rattle.std.proofs.lemmas.List.Elements.{All-cons, All-nil}
 use Rattle.std.specs.declared.alloc.Global.{Global}
 use Rattle.fr_report.specs.Refuted.{IsBelow}
-use Rattle.fr_report.proofs.refuting.explaining_lines.Goals as goal
+use Rattle.fr_report.proofs.refuting.lines_below.Goals as goal
 
 abbrev IsLow : String Global → Type 0
 IsLow line = IsBelow (string_bytes line)
