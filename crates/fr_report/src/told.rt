@@ -2,7 +2,7 @@
 ghost use Rattle.std.specs.Prelude.{◌≡◌, ◌++◌, [], IfOk, None, OnOk, string_bytes};
 ghost use Rattle.fr_report.specs.Refuted.{at_text, standing_text};
 
-use crate::lines::{add_text, put_listed, put_two, text_of};
+use crate::lines::{add_text, put_listed, put_three, put_two, text_of};
 use crate::shown::{actor_name, object_name, side_name};
 use crate::sources::put_source;
 use fr_ends::EndName;
@@ -224,25 +224,36 @@ impl Named {
 }
 
 impl ShownState {
-    /// What is shown, whose note isn't so then, and what is known of the state.
-    fn words(self) -> (&'static str, &'static str, &'static str) {
+    /// What is shown.
+    fn title(self) -> &'static str {
         match self {
-            ShownState::Start => ("the start", "its note says", ""),
-            ShownState::OneNote => ("a state with its note", "its note says", ALLOWED),
-            ShownState::BothNotes => {
-                (
-                    "a state with both notes",
-                    "the first note says",
-                    BOTH_ALLOWED,
-                )
-            }
+            ShownState::Start => "the start",
+            ShownState::OneNote => "a state with its note",
+            ShownState::BothNotes => "a state with both notes",
+        }
+    }
+
+    /// Whose note isn't so then.
+    fn whose(self) -> &'static str {
+        match self {
+            ShownState::Start | ShownState::OneNote => "its note says",
+            ShownState::BothNotes => "the first note says",
+        }
+    }
+
+    /// What is known of the state.
+    fn known(self) -> &'static str {
+        match self {
+            ShownState::Start => "",
+            ShownState::OneNote => ALLOWED,
+            ShownState::BothNotes => BOTH_ALLOWED,
         }
     }
 }
 
-/// Appends an end of a buffer.
-fn put_end(text: &mut String, app: &App, end: EndName) -> Result<(), AllocError> {
-    put_two(text, object_name(app, end.buffer), end.end.text())
+/// Appends a text and an end of a buffer behind it.
+fn put_end(text: &mut String, app: &App, before: &str, end: EndName) -> Result<(), AllocError> {
+    put_three(text, before, object_name(app, end.buffer), end.end.text())
 }
 
 /// Appends a step.
@@ -280,15 +291,12 @@ impl Explained {
     /// What the line tells of, where it has a name.
     fn put_name(&self, text: &mut String, app: &App) -> Result<(), AllocError> {
         match self {
-            Explained::State { of, .. } => text.push_str(of.words().0),
-            Explained::Says { of, .. } => text.push_str(of.words().1),
+            Explained::State { of, .. } => text.push_str(of.title()),
+            Explained::Says { of, .. } => text.push_str(of.whose()),
             Explained::Step { .. } => text.push_str("step"),
             Explained::Changed(_) => text.push_str("after it"),
             Explained::But(_) => text.push_str("but"),
-            Explained::Guard { end, .. } => {
-                text.push_str("the guard of ")?;
-                put_end(text, app, *end)
-            }
+            Explained::Guard { end, .. } => put_end(text, app, "the guard of", *end),
             _ => Ok(()),
         }
     }
@@ -308,11 +316,8 @@ impl Explained {
             | Explained::But(said)
             | Explained::Guard { who: said, .. }
             | Explained::Other { report: said, .. } => text.push_str(said),
-            Explained::Unguarded(end) => {
-                text.push_str("no guard is listed for ")?;
-                put_end(text, app, *end)
-            }
-            Explained::Allowed(of) => text.push_str(of.words().2),
+            Explained::Unguarded(end) => put_end(text, app, "no guard is listed for", *end),
+            Explained::Allowed(of) => text.push_str(of.known()),
             Explained::NotFound => text.push_str("no state that shows it was found"),
             Explained::More(count) => write!(text, "and {count} more"),
             Explained::Place(_)

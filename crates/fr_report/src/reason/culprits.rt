@@ -92,8 +92,8 @@ fn lacker_at(
     requires { CertificateFits scene.now.app.now certificate.now }
 {
     let site = site_of(scene.app, certificate, point)?;
-    let has_guard = note_says(site.note, point.actor, guard);
-    if is_inside(site, end) && point != scene.site.point && !has_guard {
+    let is_other = is_inside(site, end) && point != scene.site.point;
+    if is_other && !note_says(site.note, point.actor, guard) {
         Some(point)
     } else {
         None

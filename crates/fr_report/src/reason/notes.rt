@@ -6,7 +6,7 @@ ghost use Rattle.fr_ends.specs.Fits.{CertificateFits};
 ghost use Rattle.fr_report.specs.Told.{IsSite};
 
 use super::scene::{Scene, Site, says_of, subject_at, subject_count};
-use super::words::{can_hold, otherwise_text, put_claim, put_said, said_text};
+use super::words::{can_hold, otherwise_text, put_claim, put_said};
 use crate::lines::add_text;
 use crate::told::{Explained, ShownState, add_item};
 use fr_calls::{State, is_at_end};
@@ -42,8 +42,9 @@ fn one_claim(
     says: &Alternative,
     subject: Subject,
 ) -> Result<Vec<String>, AllocError> {
-    let mut claims = Vec::new(alloc);
-    add_text(&mut claims, said_text(alloc, app, actor, says, subject)?)?;
+    let (mut claim, mut claims) = (String::new(alloc), Vec::new(alloc));
+    put_said(&mut claim, app, actor, says, subject)?;
+    add_text(&mut claims, claim)?;
     Ok(claims)
 }
 

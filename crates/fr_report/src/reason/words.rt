@@ -168,19 +168,6 @@ pub(super) fn put_said(
     }
 }
 
-/// What an alternative of an actor's note says of something.
-pub(super) fn said_text(
-    alloc: Global,
-    app: &App,
-    actor: ActorId,
-    says: &Alternative,
-    subject: Subject,
-) -> Result<String, AllocError> {
-    let mut text = String::new(alloc);
-    put_said(&mut text, app, actor, says, subject)?;
-    Ok(text)
-}
-
 /// Appends what an object has, as an answer to a claim: that it is dead or live, or how often the actor
 /// holds it.
 fn put_against(
