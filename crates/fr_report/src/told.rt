@@ -312,18 +312,20 @@ impl Explained {
             } => put_step(text, app, *actor, *choice, outcome),
             Explained::Changed(facts) => put_listed(text, facts, "; ", ""),
             Explained::Says { actor, claims, .. } => put_claims(text, app, *actor, claims),
-            Explained::Actor(said)
-            | Explained::But(said)
-            | Explained::Guard { who: said, .. }
-            | Explained::Other { report: said, .. } => text.push_str(said),
+            Explained::But(said) | Explained::Guard { who: said, .. } => text.push_str(said),
+            _ => self.put_alone(text, app),
+        }
+    }
+
+    /// What a line says that has no name.
+    fn put_alone(&self, text: &mut String, app: &App) -> Result<(), AllocError> {
+        match self {
+            Explained::Actor(said) | Explained::Other { report: said, .. } => text.push_str(said),
             Explained::Unguarded(end) => put_end(text, app, "no guard is listed for", *end),
             Explained::Allowed(of) => text.push_str(of.known()),
             Explained::NotFound => text.push_str("no state that shows it was found"),
             Explained::More(count) => write!(text, "and {count} more"),
-            Explained::Place(_)
-            | Explained::Then(_)
-            | Explained::Beside(_)
-            | Explained::Named { .. } => Ok(()),
+            _ => Ok(()),
         }
     }
 

@@ -79,6 +79,15 @@ fn line_of(alloc: Global, app: &App, row: Unreached) -> Result<String, AllocErro
     }
 }
 
+/// The lines of these rows.
+fn lines_of(alloc: Global, app: &App, rows: &[Unreached]) -> Result<Vec<String>, AllocError> {
+    let mut lines = Vec::new(alloc);
+    for row in rows {
+        add_text(&mut lines, line_of(alloc, app, *row)?)?;
+    }
+    Ok(lines)
+}
+
 /// The warning for an application without actors.
 pub const NO_ACTORS: &str = "warning: no task or interrupt is in this file";
 
@@ -86,9 +95,6 @@ pub const NO_ACTORS: &str = "warning: no task or interrupt is in this file";
 /// there, with the actor and its lines of code. Nothing is asked at such points, and a wrong target can be the cause. An
 /// error says that an allocation was refused. The lines' form is this project's own.
 pub fn never_reached(alloc: Global, app: &App, notes: &Notes) -> Result<Vec<String>, AllocError> {
-    let mut lines = Vec::new(alloc);
-    for row in &rows_of(alloc, app, notes)? {
-        add_text(&mut lines, line_of(alloc, app, *row)?)?;
-    }
-    Ok(lines)
+    let rows = rows_of(alloc, app, notes)?;
+    lines_of(alloc, app, &rows)
 }

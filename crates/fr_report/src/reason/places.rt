@@ -63,6 +63,14 @@ pub(crate) fn standing_in(
     }
 }
 
+/// Appends where an actor stands.
+fn put_place(text: &mut String, actor: &str, place: Place) -> Result<(), AllocError> {
+    match place {
+        Place::At { pc, side } => write!(text, "{actor} {pc} {}", side_name(side)),
+        Place::Done => put_two(text, actor, "is done"),
+    }
+}
+
 /// Appends the depths of an actor where they aren't 0, each behind a semicolon.
 fn put_depths(
     text: &mut String,
@@ -86,10 +94,7 @@ fn put_actor(text: &mut String, app: &App, actor: ActorId, state: &State) -> Res
     requires { IsWellFormed app.now state.now }
 {
     let name = actor_name(app, actor);
-    match actor_place(app, state, actor) {
-        Place::At { pc, side } => write!(text, "{name} {pc} {}", side_name(side))?,
-        Place::Done => put_two(text, name, "is done")?,
-    }
+    put_place(text, name, actor_place(app, state, actor))?;
     let (depth, suspended) = (state.depth(actor), suspension_in(app, state, actor));
     put_depths(text, name, depth, suspended)
 }

@@ -204,6 +204,25 @@ impl Scene<'_> {
         Ok(facts)
     }
 
+    /// Adds what is so of something after a step of this actor, if it is otherwise than before it.
+    fn add_changed(
+        &self,
+        facts: &mut Vec<String>,
+        actor: ActorId,
+        before: &State,
+        after: &State,
+        subject: Subject,
+    ) -> Result<(), AllocError>
+        requires before { IsWellFormed self.now.app.now before.now }
+        requires after { IsWellFormed self.now.app.now after.now }
+    {
+        if has_changed(self.alloc, self.app, actor, before, after, subject)? {
+            add_text(facts, fact(self.alloc, self.app, actor, after, subject)?)
+        } else {
+            Ok(())
+        }
+    }
+
     /// What is otherwise after a step of this actor; no fact where it changed nothing but the actor's place.
     pub(super) fn changed(
         &self,
@@ -214,13 +233,10 @@ impl Scene<'_> {
         requires before { IsWellFormed self.now.app.now before.now }
         requires after { IsWellFormed self.now.app.now after.now }
     {
-        let (alloc, app) = (self.alloc, self.app);
-        let mut facts = Vec::new(alloc);
-        for place in 0..subject_count(app) {
-            let subject = subject_at(app, place);
-            if has_changed(alloc, app, actor, before, after, subject)? {
-                add_text(&mut facts, fact(alloc, app, actor, after, subject)?)?;
-            }
+        let mut facts = Vec::new(self.alloc);
+        for place in 0..subject_count(self.app) {
+            let subject = subject_at(self.app, place);
+            self.add_changed(&mut facts, actor, before, after, subject)?;
         }
         Ok(facts)
     }

@@ -272,6 +272,14 @@ fn put_amount(text: &mut String, before: &str, amount: u32, after: &str) -> Resu
     write!(text, "live, {before} {amount}{after}")
 }
 
+/// Appends that a mutex is held by an actor, so often.
+fn put_holder(text: &mut String, actor: &str, count: u32) -> Result<(), AllocError> {
+    match count {
+        1 => put_two(text, "live, held by", actor),
+        _ => write!(text, "live, held by {actor} {count} times"),
+    }
+}
+
 /// Appends what an object has.
 pub(super) fn put_stock(text: &mut String, app: &App, stock: &Stock) -> Result<(), AllocError> {
     match stock {
@@ -279,13 +287,7 @@ pub(super) fn put_stock(text: &mut String, app: &App, stock: &Stock) -> Result<(
         Stock::Values(values) => put_values(text, values),
         Stock::Count(count) => put_amount(text, "at", *count, ""),
         Stock::Free => text.push_str("live, free"),
-        Stock::Held { holder, count } => {
-            let name = actor_name(app, *holder);
-            match *count {
-                1 => put_two(text, "live, held by", name),
-                count => write!(text, "live, held by {name} {count} times"),
-            }
-        }
+        Stock::Held { holder, count } => put_holder(text, actor_name(app, *holder), *count),
         Stock::Bytes(bytes) => put_amount(text, "with", *bytes, " bytes"),
         Stock::Lengths(messages) => put_lengths(text, messages.lengths()),
     }
@@ -302,6 +304,17 @@ pub(super) fn put_content(
     put_stock(text, app, content.stock())
 }
 
+/// Appends an object with what it has in the state.
+fn put_object(text: &mut String, app: &App, state: &State, object: ObjId) -> Result<(), AllocError>
+    requires { IsWellFormed app.now state.now }
+{
+    text.push_str(object_name(app, object))?;
+    match content_in(app, state, object) {
+        Some(content) => put_content(text, app, " ", content),
+        None => text.push_str(" "),
+    }
+}
+
 /// Appends what is so in the state of something, for this actor.
 fn put_fact(
     text: &mut String,
@@ -316,13 +329,7 @@ fn put_fact(
     match subject {
         Subject::Critical => put_critical(text, name, state.depth(actor)),
         Subject::Suspended => put_suspended(text, name, suspension_in(app, state, actor)),
-        Subject::Object(object) => {
-            text.push_str(object_name(app, object))?;
-            match content_in(app, state, object) {
-                Some(content) => put_content(text, app, " ", content),
-                None => text.push_str(" "),
-            }
-        }
+        Subject::Object(object) => put_object(text, app, state, object),
         Subject::Variable(variable) => {
             let (of, value) = (variable_name(app, variable), value_in(app, state, variable));
             write!(text, "{of} = {value}")
