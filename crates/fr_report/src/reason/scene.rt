@@ -168,6 +168,19 @@ impl Scene<'_> {
         spoken || self.is_asked(subject) || site.speaks_of(app, subject)
     }
 
+    /// Adds what is so of something in the state, for this actor.
+    fn add_fact(
+        &self,
+        facts: &mut Vec<String>,
+        actor: ActorId,
+        state: &State,
+        subject: Subject,
+    ) -> Result<(), AllocError>
+        requires { IsWellFormed self.now.app.now state.now }
+    {
+        add_text(facts, fact(self.alloc, self.app, actor, state, subject)?)
+    }
+
     /// Adds what is shown of a state for the actor of this site: its depths, and where `things` says so
     /// objects and variables.
     fn add_shown(
@@ -183,8 +196,7 @@ impl Scene<'_> {
             let subject = subject_at(self.app, place);
             let is_thing = matches!(subject, Subject::Object(_) | Subject::Variable(_));
             if (things || !is_thing) && self.shows(site, state, subject) {
-                let so = fact(self.alloc, self.app, site.point.actor, state, subject)?;
-                add_text(facts, so)?;
+                self.add_fact(facts, site.point.actor, state, subject)?;
             }
         }
         Ok(())
@@ -217,7 +229,7 @@ impl Scene<'_> {
         requires after { IsWellFormed self.now.app.now after.now }
     {
         if has_changed(self.alloc, self.app, actor, before, after, subject)? {
-            add_text(facts, fact(self.alloc, self.app, actor, after, subject)?)
+            self.add_fact(facts, actor, after, subject)
         } else {
             Ok(())
         }
