@@ -20,9 +20,15 @@ pub(super) fn guarded_by(guard: &Guard) -> Option<Subject> {
     }
 }
 
-/// Appends that an actor has its turn at this value of a variable.
-fn put_turn(text: &mut String, actor: &str, variable: &str, value: i64) -> Result<(), AllocError> {
-    write!(text, " {actor} where {variable} is {value}")
+/// Appends a text and, behind it, that an actor has its turn at this value of a variable.
+fn put_turn(
+    text: &mut String,
+    before: &str,
+    actor: &str,
+    variable: &str,
+    value: i64,
+) -> Result<(), AllocError> {
+    write!(text, "{before} {actor} where {variable} is {value}")
 }
 
 /// Appends who has a turn at which value.
@@ -35,8 +41,8 @@ fn put_turns(
     text.push_str("the actor whose turn it is:")?;
     let (name, mut is_first) = (variable_name(app, variable), true);
     for (actor, value) in values {
-        text.push_str(if is_first { "" } else { "," })?;
-        put_turn(text, actor_name(app, *actor), name, *value)?;
+        let before = if is_first { "" } else { "," };
+        put_turn(text, before, actor_name(app, *actor), name, *value)?;
         is_first = false;
     }
     Ok(())
