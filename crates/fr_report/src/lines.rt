@@ -1,5 +1,5 @@
 // Lists and lines as text.
-ghost use Rattle.std.specs.Prelude.{◌≡◌, ◌++◌, ◌∷◌, [], IfOk, OnOk, codes, string_bytes};
+ghost use Rattle.std.specs.Prelude.{◌≡◌, ◌++◌, ◌∷◌, [], IfOk, OnOk, string_bytes};
 ghost use Rattle.fr_report.specs.Lines.{lines_text};
 
 use std::alloc::{AllocError, Global};
@@ -45,21 +45,14 @@ pub(crate) fn put_listed(
     Ok(())
 }
 
-/// Appends a line, with its newline.
-fn put_line(text: &mut String, line: &str) -> Result<(), AllocError>
-    ensures { OnOk result (string_bytes text.new ≡ string_bytes text.old ++ (line.now ++ codes "\n")) }
-{
-    text.push_str(line)?;
-    text.push('\n')
-}
-
 /// The lines, each with its newline. An error says that an allocation was refused.
 pub fn text_of(alloc: Global, lines: &[String]) -> Result<String, AllocError>
     ensures { IfOk result (λ text. string_bytes text ≡ lines_text lines.now) }
 {
     let mut text = String::new(alloc);
     for line in lines {
-        put_line(&mut text, line)?;
+        text.push_str(line)?;
+        text.push('\n')?;
     }
     Ok(text)
 }

@@ -1,5 +1,5 @@
 // What is found of an application that is searched for a breach, or for a deadlock too.
-ghost use Rattle.std.specs.Prelude.{◌≡◌, ◌++◌, ◌∷◌, [], ℕ, List, All, IfOk, codes, decimal, string_bytes};
+ghost use Rattle.std.specs.Prelude.{◌≡◌, ◌++◌, ◌∷◌, [], ℕ, List, All, IfOk, codes, string_bytes};
 ghost use Rattle.fr_calls.specs.State.{IsWellFormed};
 ghost use Rattle.fr_report.specs.Lines.{lines_text};
 ghost use Rattle.fr_report.specs.Refuted.{
@@ -328,18 +328,6 @@ pub fn breach_text(alloc: Global, app: &App, found: &Refutation) -> Result<Strin
     format!(in alloc; "rule {number}: {rule}: {actor}, after {steps} steps")
 }
 
-/// A line that says how many states were seen, between two texts.
-fn states_line(
-    alloc: Global,
-    before: &str,
-    states: usize,
-    after: &str,
-) -> Result<String, AllocError>
-    ensures { IfOk result (λ line. string_bytes line ≡ before.now ++ (decimal states ++ after.now)) }
-{
-    format!(in alloc; "{before}{states}{after}")
-}
-
 /// The first line that reports what was found, without its newline. An error says that an allocation was refused.
 pub fn finding_line(alloc: Global, app: &App, found: &Finding) -> Result<String, AllocError>
     ensures { IfOk result (λ line. string_bytes line ≡ found_line app.now found.now) }
@@ -353,12 +341,12 @@ pub fn finding_line(alloc: Global, app: &App, found: &Finding) -> Result<String,
             let told = deadlock_text(alloc, app, deadlocked)?;
             format!(in alloc; "deadlock: {told}")
         }
-        Finding::Safe { states } => states_line(alloc, "no breach in ", *states, " states"),
+        Finding::Safe { states } => format!(in alloc; "no breach in {states} states"),
         Finding::Free { states } => {
-            states_line(alloc, "no breach and no deadlock in ", *states, " states")
+            format!(in alloc; "no breach and no deadlock in {states} states")
         }
         Finding::Unknown { states, .. } => {
-            states_line(alloc, "no breach in ", *states, " states, more are left")
+            format!(in alloc; "no breach in {states} states, more are left")
         }
     }
 }

@@ -24,14 +24,6 @@ pub(crate) fn put_entry(text: &mut String, app: &App, entry: Entry) -> Result<()
     }
 }
 
-/// Appends the line of an entry, with its newline.
-fn put_entry_line(text: &mut String, app: &App, entry: Entry) -> Result<(), AllocError>
-    ensures { OnOk result (string_bytes text.new ≡ string_bytes text.old ++ entry_text app.now entry) }
-{
-    put_entry(text, app, entry)?;
-    text.push('\n')
-}
-
 /// The lines of a trace of this application, one an entry, each with its newline: `<actor> step
 /// <choice>` or `<actor> blocked`. An error says that an allocation was refused. The lines' form is
 /// this project's own.
@@ -40,7 +32,8 @@ pub fn trace_text(alloc: Global, app: &App, trace: &Trace) -> Result<String, All
 {
     let mut text = String::new(alloc);
     for entry in &trace.entries {
-        put_entry_line(&mut text, app, *entry)?;
+        put_entry(&mut text, app, *entry)?;
+        text.push('\n')?;
     }
     Ok(text)
 }

@@ -105,46 +105,6 @@ fn change_text(
     }
 }
 
-/// Adds what is so of something, if a step of this actor changed it.
-fn add_change(
-    alloc: Global,
-    changes: &mut Vec<String>,
-    app: &App,
-    actor: ActorId,
-    before: &State,
-    after: &State,
-    subject: Subject,
-) -> Result<(), AllocError>
-    requires before { IsWellFormed app.now before.now }
-    requires after { IsWellFormed app.now after.now }
-{
-    if has_changed(alloc, app, actor, before, after, subject)? {
-        let change = change_text(alloc, app, actor, before, after, subject)?;
-        add_text(changes, change)
-    } else {
-        Ok(())
-    }
-}
-
-/// Adds that the actor is done, if it is.
-fn add_end(
-    alloc: Global,
-    changes: &mut Vec<String>,
-    app: &App,
-    actor: ActorId,
-    after: &State,
-) -> Result<(), AllocError>
-    requires { IsWellFormed app.now after.now }
-{
-    match actor_place(app, after, actor) {
-        Place::Done => add_text(
-            changes,
-            format!(in alloc; "{} is done", actor_name(app, actor))?,
-        ),
-        Place::At { .. } => Ok(()),
-    }
-}
-
 /// What a step of this actor changed, an item each; no item where it changed nothing but the actor's place.
 fn changes_of(
     alloc: Global,
@@ -159,9 +119,15 @@ fn changes_of(
     let mut changes = Vec::new(alloc);
     for place in 0..subject_count(app) {
         let subject = subject_at(app, place);
-        add_change(alloc, &mut changes, app, actor, before, after, subject)?;
+        if has_changed(alloc, app, actor, before, after, subject)? {
+            let change = change_text(alloc, app, actor, before, after, subject)?;
+            add_text(&mut changes, change)?;
+        }
     }
-    add_end(alloc, &mut changes, app, actor, after)?;
+    if let Place::Done = actor_place(app, after, actor) {
+        let done = format!(in alloc; "{} is done", actor_name(app, actor))?;
+        add_text(&mut changes, done)?;
+    }
     Ok(changes)
 }
 

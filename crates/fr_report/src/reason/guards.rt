@@ -20,17 +20,6 @@ pub(super) fn guarded_by(guard: &Guard) -> Option<Subject> {
     }
 }
 
-/// Appends a text and, behind it, that an actor has its turn at this value of a variable.
-fn put_turn(
-    text: &mut String,
-    before: &str,
-    actor: &str,
-    variable: &str,
-    value: i64,
-) -> Result<(), AllocError> {
-    write!(text, "{before} {actor} where {variable} is {value}")
-}
-
 /// Appends who has a turn at which value.
 fn put_turns(
     text: &mut String,
@@ -41,8 +30,8 @@ fn put_turns(
     text.push_str("the actor whose turn it is:")?;
     let (name, mut is_first) = (variable_name(app, variable), true);
     for (actor, value) in values {
-        let before = if is_first { "" } else { "," };
-        put_turn(text, before, actor_name(app, *actor), name, *value)?;
+        let (who, before) = (actor_name(app, *actor), if is_first { "" } else { "," });
+        write!(text, "{before} {who} where {name} is {value}")?;
         is_first = false;
     }
     Ok(())

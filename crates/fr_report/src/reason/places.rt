@@ -63,40 +63,25 @@ pub(crate) fn standing_in(
     }
 }
 
-/// Appends where an actor stands.
-fn put_place(text: &mut String, actor: &str, place: Place) -> Result<(), AllocError> {
-    match place {
-        Place::At { pc, side } => write!(text, "{actor} {pc} {}", side_name(side)),
-        Place::Done => put_two(text, actor, "is done"),
-    }
-}
-
-/// Appends the depths of an actor where they aren't 0, each behind a semicolon.
-fn put_depths(
-    text: &mut String,
-    actor: &str,
-    depth: u32,
-    suspended: u32,
-) -> Result<(), AllocError> {
-    if depth > 0 {
-        text.push_str("; ")?;
-        put_critical(text, actor, depth)?;
-    }
-    if suspended > 0 {
-        text.push_str("; ")?;
-        put_suspended(text, actor, suspended)?;
-    }
-    Ok(())
-}
-
 /// Appends where an actor stands, and its depths where they aren't 0.
 fn put_actor(text: &mut String, app: &App, actor: ActorId, state: &State) -> Result<(), AllocError>
     requires { IsWellFormed app.now state.now }
 {
     let name = actor_name(app, actor);
-    put_place(text, name, actor_place(app, state, actor))?;
+    match actor_place(app, state, actor) {
+        Place::At { pc, side } => write!(text, "{name} {pc} {}", side_name(side))?,
+        Place::Done => put_two(text, name, "is done")?,
+    }
     let (depth, suspended) = (state.depth(actor), suspension_in(app, state, actor));
-    put_depths(text, name, depth, suspended)
+    if depth > 0 {
+        text.push_str("; ")?;
+        put_critical(text, name, depth)?;
+    }
+    if suspended > 0 {
+        text.push_str("; ")?;
+        put_suspended(text, name, suspended)?;
+    }
+    Ok(())
 }
 
 /// Adds where each actor stands, with its depths, an item for each.

@@ -43,24 +43,21 @@ fn put_set(text: &mut String, app: &App, variable: VarId, value: Range) -> Resul
     )
 }
 
-/// The range of a queue's values; None of any other object.
-fn range_of_queue(app: &App, object: ObjId) -> Option<(i64, i64)> {
-    match app.objects().get(object.0)?.kind {
-        Kind::Queue { lo, hi, .. } => Some((lo, hi)),
-        _ => None,
-    }
-}
-
 /// Appends the value that is sent to a queue, and the range that it isn't in.
 fn put_sent(text: &mut String, app: &App, object: ObjId, value: i64) -> Result<(), AllocError> {
-    let Some((lo, hi)) = range_of_queue(app, object) else {
+    let Some(declared) = app.objects().get(object.0) else {
         return Ok(());
     };
-    let name = object_name(app, object);
-    write!(
-        text,
-        "the value is {value}, and the range of {name} is {lo} to {hi}"
-    )
+    let name = &declared.name;
+    match declared.kind {
+        Kind::Queue { lo, hi, .. } => {
+            write!(
+                text,
+                "the value is {value}, and the range of {name} is {lo} to {hi}"
+            )
+        }
+        _ => Ok(()),
+    }
 }
 
 /// Appends which value is out of which range.

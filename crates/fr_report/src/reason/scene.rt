@@ -147,11 +147,6 @@ impl Scene<'_> {
         standing_at(self.alloc, self.app, self.sources, point)
     }
 
-    /// Whether the subject is shown whatever is so of it.
-    fn is_asked(&self, subject: Subject) -> bool {
-        self.detail == Detail::Whole || self.guarded == Some(subject)
-    }
-
     /// Whether the subject is shown, for the actor of this site.
     fn shows(&self, site: Site, state: &State, subject: Subject) -> bool
         requires { IsWellFormed self.now.app.now state.now }
@@ -165,20 +160,10 @@ impl Scene<'_> {
                 None => false,
             },
         };
-        spoken || self.is_asked(subject) || site.speaks_of(app, subject)
-    }
-
-    /// Adds what is so of something in the state, for this actor.
-    fn add_fact(
-        &self,
-        facts: &mut Vec<String>,
-        actor: ActorId,
-        state: &State,
-        subject: Subject,
-    ) -> Result<(), AllocError>
-        requires { IsWellFormed self.now.app.now state.now }
-    {
-        add_text(facts, fact(self.alloc, self.app, actor, state, subject)?)
+        spoken
+            || self.detail == Detail::Whole
+            || self.guarded == Some(subject)
+            || site.speaks_of(app, subject)
     }
 
     /// Adds what is shown of a state for the actor of this site: its depths, and where `things` says so
@@ -196,7 +181,8 @@ impl Scene<'_> {
             let subject = subject_at(self.app, place);
             let is_thing = matches!(subject, Subject::Object(_) | Subject::Variable(_));
             if (things || !is_thing) && self.shows(site, state, subject) {
-                self.add_fact(facts, site.point.actor, state, subject)?;
+                let so = fact(self.alloc, self.app, site.point.actor, state, subject)?;
+                add_text(facts, so)?;
             }
         }
         Ok(())
@@ -216,25 +202,6 @@ impl Scene<'_> {
         Ok(facts)
     }
 
-    /// Adds what is so of something after a step of this actor, if it is otherwise than before it.
-    fn add_changed(
-        &self,
-        facts: &mut Vec<String>,
-        actor: ActorId,
-        before: &State,
-        after: &State,
-        subject: Subject,
-    ) -> Result<(), AllocError>
-        requires before { IsWellFormed self.now.app.now before.now }
-        requires after { IsWellFormed self.now.app.now after.now }
-    {
-        if has_changed(self.alloc, self.app, actor, before, after, subject)? {
-            self.add_fact(facts, actor, after, subject)
-        } else {
-            Ok(())
-        }
-    }
-
     /// What is otherwise after a step of this actor; no fact where it changed nothing but the actor's place.
     pub(super) fn changed(
         &self,
@@ -245,10 +212,13 @@ impl Scene<'_> {
         requires before { IsWellFormed self.now.app.now before.now }
         requires after { IsWellFormed self.now.app.now after.now }
     {
-        let mut facts = Vec::new(self.alloc);
-        for place in 0..subject_count(self.app) {
-            let subject = subject_at(self.app, place);
-            self.add_changed(&mut facts, actor, before, after, subject)?;
+        let (alloc, app) = (self.alloc, self.app);
+        let mut facts = Vec::new(alloc);
+        for place in 0..subject_count(app) {
+            let subject = subject_at(app, place);
+            if has_changed(alloc, app, actor, before, after, subject)? {
+                add_text(&mut facts, fact(alloc, app, actor, after, subject)?)?;
+            }
         }
         Ok(facts)
     }

@@ -24,13 +24,10 @@ fn moved_text(
         End::Writer => "sent",
         End::Reader => "received",
     };
-    let (before, are) = match kind {
-        BufferKind::Stream => ("", "are"),
-        BufferKind::Message => ("a message of ", "is"),
-    };
-    match choice {
-        0 => format!(in alloc; "nothing is {verb}"),
-        _ => format!(in alloc; "{before}{choice} bytes {are} {verb}"),
+    match (choice, kind) {
+        (0, _) => format!(in alloc; "nothing is {verb}"),
+        (_, BufferKind::Stream) => format!(in alloc; "{choice} bytes are {verb}"),
+        (_, BufferKind::Message) => format!(in alloc; "a message of {choice} bytes is {verb}"),
     }
 }
 

@@ -267,28 +267,21 @@ fn put_lengths(text: &mut String, lengths: &VecDeque<u32>) -> Result<(), AllocEr
     }
 }
 
-/// Appends that an object is live, with a number between two texts.
-fn put_amount(text: &mut String, before: &str, amount: u32, after: &str) -> Result<(), AllocError> {
-    write!(text, "live, {before} {amount}{after}")
-}
-
-/// Appends that a mutex is held by an actor, so often.
-fn put_holder(text: &mut String, actor: &str, count: u32) -> Result<(), AllocError> {
-    match count {
-        1 => put_two(text, "live, held by", actor),
-        _ => write!(text, "live, held by {actor} {count} times"),
-    }
-}
-
 /// Appends what an object has.
 pub(super) fn put_stock(text: &mut String, app: &App, stock: &Stock) -> Result<(), AllocError> {
     match stock {
         Stock::Dead => text.push_str("dead"),
         Stock::Values(values) => put_values(text, values),
-        Stock::Count(count) => put_amount(text, "at", *count, ""),
+        Stock::Count(count) => write!(text, "live, at {count}"),
         Stock::Free => text.push_str("live, free"),
-        Stock::Held { holder, count } => put_holder(text, actor_name(app, *holder), *count),
-        Stock::Bytes(bytes) => put_amount(text, "with", *bytes, " bytes"),
+        Stock::Held { holder, count } => {
+            let name = actor_name(app, *holder);
+            match *count {
+                1 => put_two(text, "live, held by", name),
+                count => write!(text, "live, held by {name} {count} times"),
+            }
+        }
+        Stock::Bytes(bytes) => write!(text, "live, with {bytes} bytes"),
         Stock::Lengths(messages) => put_lengths(text, messages.lengths()),
     }
 }
@@ -302,17 +295,6 @@ pub(super) fn put_content(
 ) -> Result<(), AllocError> {
     text.push_str(before)?;
     put_stock(text, app, content.stock())
-}
-
-/// Appends an object with what it has in the state.
-fn put_object(text: &mut String, app: &App, state: &State, object: ObjId) -> Result<(), AllocError>
-    requires { IsWellFormed app.now state.now }
-{
-    text.push_str(object_name(app, object))?;
-    match content_in(app, state, object) {
-        Some(content) => put_content(text, app, " ", content),
-        None => text.push_str(" "),
-    }
 }
 
 /// Appends what is so in the state of something, for this actor.
@@ -329,7 +311,13 @@ fn put_fact(
     match subject {
         Subject::Critical => put_critical(text, name, state.depth(actor)),
         Subject::Suspended => put_suspended(text, name, suspension_in(app, state, actor)),
-        Subject::Object(object) => put_object(text, app, state, object),
+        Subject::Object(object) => {
+            text.push_str(object_name(app, object))?;
+            match content_in(app, state, object) {
+                Some(content) => put_content(text, app, " ", content),
+                None => text.push_str(" "),
+            }
+        }
         Subject::Variable(variable) => {
             let (of, value) = (variable_name(app, variable), value_in(app, state, variable));
             write!(text, "{of} = {value}")

@@ -30,16 +30,6 @@ fn moved_at(app: &App, point: Point) -> Option<(End, ObjId)> {
     }
 }
 
-/// The same, where the actor can be in a critical section at the point with this number.
-fn moved_critically(app: &App, notes: &Notes, number: usize, point: Point) -> Option<(End, ObjId)> {
-    let moved = moved_at(app, point)?;
-    if can_be_critical(notes, number) {
-        Some(moved)
-    } else {
-        None
-    }
-}
-
 /// The line of a send or a receive in a critical section.
 fn line_of(
     alloc: Global,
@@ -71,8 +61,9 @@ pub fn buffers_in_critical_sections(
     let mut warned = None;
     for number in 0..app.points() {
         let point = app.point(number);
-        if warned != Some(point.actor)
-            && let Some(moved) = moved_critically(app, notes, number, point)
+        if let Some(moved) = moved_at(app, point)
+            && warned != Some(point.actor)
+            && can_be_critical(notes, number)
         {
             add_text(&mut lines, line_of(alloc, app, point, moved)?)?;
             warned = Some(point.actor);

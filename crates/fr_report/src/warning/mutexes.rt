@@ -103,16 +103,6 @@ fn mutex_taken(app: &App, point: Point) -> Option<ObjId> {
     }
 }
 
-/// The plain mutex that the actor takes at the point with this number, where it can hold it there.
-fn retaken_at(app: &App, notes: &Notes, number: usize, point: Point) -> Option<ObjId> {
-    let mutex = mutex_taken(app, point)?;
-    if point.side == Side::Before && can_hold(notes, number, mutex) {
-        Some(mutex)
-    } else {
-        None
-    }
-}
-
 /// The first line of the actor that takes the mutex.
 fn first_take(app: &App, actor: ActorId, mutex: ObjId) -> Option<usize> {
     let side = Side::Before;
@@ -146,7 +136,10 @@ pub fn never_given(alloc: Global, app: &App, notes: &Notes) -> Result<Vec<String
     let mut lines = Vec::new(alloc);
     for number in 0..app.points() {
         let point = app.point(number);
-        if let Some(mutex) = retaken_at(app, notes, number, point) {
+        if let Some(mutex) = mutex_taken(app, point)
+            && point.side == Side::Before
+            && can_hold(notes, number, mutex)
+        {
             add_text(&mut lines, taken_line(alloc, app, point, mutex)?)?;
         }
     }

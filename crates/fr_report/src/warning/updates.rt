@@ -393,21 +393,6 @@ fn line_of(alloc: Global, app: &App, update: &Update, by: Point) -> Result<Strin
     )
 }
 
-/// Adds the warning for the update that begins with this copy, if there is one that can be lost.
-fn add_copied(
-    alloc: Global,
-    lines: &mut Vec<String>,
-    app: &App,
-    notes: &Notes,
-    code: &[Instr],
-    copied: Copied,
-) -> Result<(), AllocError> {
-    match update_after(alloc, code, copied)? {
-        Some(update) => add_update(alloc, lines, app, notes, &update),
-        None => Ok(()),
-    }
-}
-
 /// Adds the warning for an update, if it can be lost.
 fn add_update(
     alloc: Global,
@@ -431,8 +416,10 @@ fn add_updates(
     (actor, code): (ActorId, &[Instr]),
 ) -> Result<(), AllocError> {
     for (pc, instr) in code.iter().enumerate() {
-        if let Some(copied) = copied_at(app, actor, pc, instr) {
-            add_copied(alloc, lines, app, notes, code, copied)?;
+        if let Some(copied) = copied_at(app, actor, pc, instr)
+            && let Some(update) = update_after(alloc, code, copied)?
+        {
+            add_update(alloc, lines, app, notes, &update)?;
         }
     }
     Ok(())

@@ -35,23 +35,6 @@ fn is_marked(list: &[bool], place: usize) -> bool {
 }
 
 impl Uses {
-    /// Nothing yet.
-    fn none(alloc: Global, app: &App) -> Result<Uses, AllocError> {
-        let read = vec![in alloc; false; app.variables().len()]?;
-        let written = vec![in alloc; false; app.variables().len()]?;
-        let named = vec![in alloc; false; app.objects().len()]?;
-        Ok(Uses {
-            read,
-            written,
-            named,
-        })
-    }
-
-    /// Whether the variable is read or written.
-    fn has_variable(&self, x: VarId) -> bool {
-        is_marked(&self.read, x.0) || is_marked(&self.written, x.0)
-    }
-
     /// Adds what an act reads and writes.
     fn add_act(&mut self, act: Act) {
         if let Act::Try {
@@ -109,7 +92,14 @@ impl Uses {
 
 /// What the lines of an application use.
 fn uses_in(alloc: Global, app: &App) -> Result<Uses, AllocError> {
-    let mut uses = Uses::none(alloc, app)?;
+    let read = vec![in alloc; false; app.variables().len()]?;
+    let written = vec![in alloc; false; app.variables().len()]?;
+    let named = vec![in alloc; false; app.objects().len()]?;
+    let mut uses = Uses {
+        read,
+        written,
+        named,
+    };
     for actor in app.actors() {
         uses.add_all(&actor.code);
     }
@@ -138,21 +128,11 @@ fn add_unused(
     uses: &Uses,
 ) -> Result<(), AllocError> {
     for place in 0..app.variables().len() {
-        if !uses.has_variable(VarId(place)) {
+        if !is_marked(&uses.read, place) && !is_marked(&uses.written, place) {
             let name = variable_name(app, VarId(place));
             warn(alloc, lines, "variable", name, "never used")?;
         }
     }
-    add_unnamed(alloc, lines, app, uses)
-}
-
-/// Adds the warnings for objects that no line names.
-fn add_unnamed(
-    alloc: Global,
-    lines: &mut Vec<String>,
-    app: &App,
-    uses: &Uses,
-) -> Result<(), AllocError> {
     for place in 0..app.objects().len() {
         if !is_marked(&uses.named, place) {
             let name = object_name(app, ObjId(place));
