@@ -1,13 +1,13 @@
 // Divisions that are worth a try, by the points at which a certificate fails.
-use crate::division::{Division, Split, actors_of};
+use crate::division::{Division, Split};
+use crate::lists::{add_once, insert_inside, is_marked, list_at, mark};
 use crate::measure::Failure;
 use crate::place::{changed_life, place_at};
-use crate::plan::{Plan, Tested};
+use crate::plan::Plan;
 use fr_judge::Part;
 use fr_notes::MOST_ALTERNATIVES;
-use fr_program::{App, Call, Instr, Point};
+use fr_program::{App, Instr, Point, Range, VarId};
 use std::alloc::{AllocError, Global};
-use std::collections::BTreeSet;
 
 /// A variable's range is cut at most so often.
 const MOST_CUTS: usize = 15;
@@ -23,7 +23,8 @@ const SINGLE_NUMBERS: usize = 6;
 struct Concern {
     /// In the order in which they were heard of.
     actors: Vec<usize>,
-    objects: BTreeSet<usize>,
+    /// By object: whether it was heard of.
+    objects: Vec<bool>,
 }
 
 /// The object of the call at a point, if there is one.
@@ -48,20 +49,11 @@ fn is_of_life(part: Part) -> bool {
 }
 
 impl Concern {
-    /// Adds an actor.
-    fn hear(&mut self, actor: usize) -> Result<(), AllocError> {
-        if !self.actors.contains(&actor) {
-            self.actors.push(actor)?;
-        }
-        Ok(())
-    }
-
     /// Adds an object, if there is one.
-    fn add_object(&mut self, object: Option<usize>) -> Result<(), AllocError> {
+    fn add_object(&mut self, object: Option<usize>) {
         if let Some(object) = object {
-            self.objects.insert(object)?;
+            mark(&mut self.objects, object);
         }
-        Ok(())
     }
 
     /// Adds what a failure has to do with.
@@ -69,13 +61,13 @@ impl Concern {
         let Some(place) = place_at(app, failure.number) else {
             return Ok(());
         };
-        self.hear(place.point.actor.0)?;
+        add_once(&mut self.actors, place.point.actor.0)?;
         if is_of_life(failure.part) {
-            self.add_object(object_at(app, place.point))?;
+            self.add_object(object_at(app, place.point));
         }
         if let Part::Spoiled(other) | Part::Near(other) = failure.part {
-            self.hear(other.actor.0)?;
-            self.add_object(life_at(app, other))?;
+            add_once(&mut self.actors, other.actor.0)?;
+            self.add_object(life_at(app, other));
         }
         Ok(())
     }
@@ -83,9 +75,10 @@ impl Concern {
     /// Adds the actors that create or delete one of the objects.
     fn add_makers(&mut self, app: &App) -> Result<(), AllocError> {
         for number in 0..app.points() {
-            if let Some(place) = place_at(app, number) {
-                if changed_life(place.instr).is_some_and(|object| self.objects.contains(&object)) {
-                    self.hear(place.point.actor.0)?;
+            let point = app.point(number);
+            if let Some(object) = life_at(app, point) {
+                if is_marked(&self.objects, object) {
+                    add_once(&mut self.actors, point.actor.0)?;
                 }
             }
         }
@@ -97,7 +90,7 @@ impl Concern {
 fn concern_of(alloc: Global, app: &App, failures: &[Failure]) -> Result<Concern, AllocError> {
     let mut concern = Concern {
         actors: Vec::new(alloc),
-        objects: BTreeSet::new(alloc),
+        objects: vec![in alloc; false; app.objects().len()]?,
     };
     for failure in failures.iter().take(LOOKED_AT) {
         concern.add(app, *failure)?;
@@ -107,42 +100,38 @@ fn concern_of(alloc: Global, app: &App, failures: &[Failure]) -> Result<Concern,
 }
 
 /// The numbers from the second one of a range to its last; none where they are too many.
-fn each_number(alloc: Global, lo: i128, hi: i128) -> Result<Vec<i128>, AllocError> {
+fn each_number(alloc: Global, range: Range) -> Result<Vec<i128>, AllocError> {
     let mut cuts = Vec::new(alloc);
-    let mut cut = lo;
+    let mut cut = range.lo;
     for _ in 0..MOST_CUTS {
         cut = cut.saturating_add(1);
-        if cut <= hi {
+        if cut <= range.hi {
             cuts.push(cut)?;
         }
     }
-    if cut < hi {
+    if cut < range.hi {
         cuts.clear();
     }
     Ok(cuts)
 }
 
 /// Adds a cut, if it divides the range.
-fn add_cut(cuts: &mut BTreeSet<i128>, lo: i128, hi: i128, cut: i128) -> Result<(), AllocError> {
-    if lo < cut && cut <= hi {
-        cuts.insert(cut)?;
+fn add_cut(cuts: &mut Vec<i128>, range: Range, cut: i128) -> Result<(), AllocError> {
+    if cut == range.lo {
+        Ok(())
+    } else {
+        insert_inside(cuts, range, cut)
     }
-    Ok(())
 }
 
-/// The cuts around these numbers.
-fn cuts_around(
-    alloc: Global,
-    lo: i128,
-    hi: i128,
-    numbers: &[i128],
-) -> Result<Vec<i128>, AllocError> {
-    let mut cuts = BTreeSet::new(alloc);
+/// The cuts around these numbers, each of which divides the range.
+fn cuts_around(alloc: Global, range: Range, numbers: &[i128]) -> Result<Vec<i128>, AllocError> {
+    let mut cuts = Vec::new(alloc);
     for number in numbers {
-        add_cut(&mut cuts, lo, hi, *number)?;
-        add_cut(&mut cuts, lo, hi, number.saturating_add(1))?;
+        add_cut(&mut cuts, range, *number)?;
+        add_cut(&mut cuts, range, number.saturating_add(1))?;
     }
-    Ok(cuts.iter().copied().collect(alloc)?)
+    Ok(cuts)
 }
 
 /// Divisions in the order in which they are tried.
@@ -155,7 +144,7 @@ struct Candidates<'a> {
 impl<'a> Candidates<'a> {
     /// Adds a division, unless it is there.
     fn add(&mut self, division: Division) -> Result<(), AllocError> {
-        if !self.list.iter().any(|other| *other == division) {
+        if !self.list.contains(&division) {
             self.list.push(division)?;
         }
         Ok(())
@@ -171,31 +160,11 @@ impl<'a> Candidates<'a> {
         if cuts.is_empty() {
             return Ok(());
         }
+        let actors = Vec::from_slice(alloc, self.plan.users.row(variable))?;
         self.add(Division {
             split: Split::Cuts(variable, cuts),
-            actors: actors_of(alloc, &self.plan.users, variable)?,
+            actors,
         })
-    }
-
-    /// The numbers of its declared range that the variable is tested with, rising.
-    fn tested(
-        &self,
-        alloc: Global,
-        variable: usize,
-        lo: i128,
-        hi: i128,
-    ) -> Result<Vec<i128>, AllocError> {
-        let mut numbers = BTreeSet::new(alloc);
-        for tests in &self.plan.tests {
-            if let Some(tested) = tests.iter().find(|tested| tested.variable == variable) {
-                for number in tested.numbers.iter() {
-                    if lo <= *number && *number <= hi {
-                        numbers.insert(*number)?;
-                    }
-                }
-            }
-        }
-        Ok(numbers.iter().copied().collect(alloc)?)
     }
 
     /// Adds cuts around single numbers.
@@ -203,12 +172,11 @@ impl<'a> Candidates<'a> {
         &mut self,
         alloc: Global,
         variable: usize,
-        lo: i128,
-        hi: i128,
+        range: Range,
         numbers: &[i128],
     ) -> Result<(), AllocError> {
         for number in numbers.iter().take(SINGLE_NUMBERS) {
-            let cuts = cuts_around(alloc, lo, hi, &[*number])?;
+            let cuts = cuts_around(alloc, range, &[*number])?;
             self.add_cuts(alloc, variable, cuts)?;
         }
         Ok(())
@@ -216,25 +184,25 @@ impl<'a> Candidates<'a> {
 
     /// Adds the ways to cut a variable's numbers, the finest first.
     fn add_variable(&mut self, alloc: Global, variable: usize) -> Result<(), AllocError> {
-        let Some(declared) = self.plan.app.variables().get(variable) else {
+        let plan = self.plan;
+        if variable >= plan.app.variables().len() {
             return Ok(());
-        };
-        let (lo, hi) = (i128::from(declared.lo), i128::from(declared.hi));
-        let numbers = self.tested(alloc, variable, lo, hi)?;
-        let each = each_number(alloc, lo, hi)?;
-        let mut around = cuts_around(alloc, lo, hi, &numbers)?;
+        }
+        let range = plan.app.range(VarId(variable));
+        let numbers = list_at(&plan.compared, variable);
+        let each = each_number(alloc, range)?;
+        let mut finest = each.len();
+        self.add_cuts(alloc, variable, each)?;
+        let mut around = cuts_around(alloc, range, numbers)?;
         if around.len() > MOST_CUTS {
             around.clear();
         }
-        let finest = if each.is_empty() {
-            around.len()
-        } else {
-            each.len()
-        };
-        self.add_cuts(alloc, variable, each)?;
+        if finest == 0 {
+            finest = around.len();
+        }
         self.add_cuts(alloc, variable, around)?;
         if finest == 0 || finest >= MOST_ALTERNATIVES {
-            self.add_singles(alloc, variable, lo, hi, &numbers)?;
+            self.add_singles(alloc, variable, range, numbers)?;
         }
         Ok(())
     }
@@ -243,12 +211,12 @@ impl<'a> Candidates<'a> {
     fn add_tested(
         &mut self,
         alloc: Global,
-        tests: &[Tested],
+        tests: &[usize],
         shared: bool,
     ) -> Result<(), AllocError> {
-        for tested in tests {
-            if (self.plan.users.count(tested.variable) != 1) == shared {
-                self.add_variable(alloc, tested.variable)?;
+        for variable in tests {
+            if (self.plan.users.count(*variable) != 1) == shared {
+                self.add_variable(alloc, *variable)?;
             }
         }
         Ok(())
@@ -258,37 +226,26 @@ impl<'a> Candidates<'a> {
     fn add_all_tested(&mut self, alloc: Global, actors: &[usize]) -> Result<(), AllocError> {
         let plan = self.plan;
         for actor in actors {
-            if let Some(tests) = plan.tests.get(*actor) {
-                self.add_tested(alloc, tests, true)?;
-                self.add_tested(alloc, tests, false)?;
-            }
+            let tests = list_at(&plan.tests, *actor);
+            self.add_tested(alloc, tests, true)?;
+            self.add_tested(alloc, tests, false)?;
         }
         Ok(())
     }
 
-    /// Adds a division by the object's life, for the actors that the failures have to do with.
-    fn add_object(
-        &mut self,
-        alloc: Global,
-        object: usize,
-        actors: &[usize],
-    ) -> Result<(), AllocError> {
-        let mut marks = vec![in alloc; false; self.plan.app.actors().len()]?;
-        for actor in actors {
-            if let Some(mark) = marks.get_mut(*actor) {
-                *mark = true;
-            }
-        }
-        self.add(Division {
-            split: Split::Life(object),
-            actors: marks,
-        })
-    }
-
-    /// Adds divisions by the lives of the objects.
+    /// Adds divisions by the lives of the objects, for the actors that the failures have to do with.
     fn add_objects(&mut self, alloc: Global, concern: &Concern) -> Result<(), AllocError> {
-        for object in concern.objects.iter() {
-            self.add_object(alloc, *object, &concern.actors)?;
+        let mut actors = vec![in alloc; false; self.plan.app.actors().len()]?;
+        for actor in &concern.actors {
+            mark(&mut actors, *actor);
+        }
+        for object in 0..concern.objects.len() {
+            if is_marked(&concern.objects, object) {
+                self.add(Division {
+                    split: Split::Life(object),
+                    actors: Vec::from_slice(alloc, &actors)?,
+                })?;
+            }
         }
         Ok(())
     }

@@ -23,6 +23,25 @@ fn add_felt(
     Ok(())
 }
 
+/// The other actor's steps that write the variable.
+fn effects_on(others: &[Effects], other: usize, variable: usize) -> &[Effect] {
+    match others.get(other) {
+        Some(effects) => match effects.writes.get(variable) {
+            Some(written) => &written.effects,
+            None => &[],
+        },
+        None => &[],
+    }
+}
+
+/// Whether all numbers that are written are in the range, where there are both.
+fn is_inside(written: Option<Range>, range: Option<Range>) -> bool {
+    match (written, range) {
+        (Some(written), Some(range)) => written.within(range),
+        (_, _) => false,
+    }
+}
+
 impl<'a> Trial<'a> {
     /// Merges what a step of another actor leaves of an alternative of the point. Whether the note changed.
     fn meet(
@@ -44,35 +63,20 @@ impl<'a> Trial<'a> {
         Ok(changed)
     }
 
-    /// The same for each of these steps that writes a number outside the range.
-    fn meet_writes(
+    /// The same for each of these steps, but those that write only numbers in the range.
+    fn meet_each(
         &mut self,
         alloc: Global,
         actor: usize,
         item: Item,
         effects: &[Effect],
-        range: Range,
+        range: Option<Range>,
     ) -> Result<bool, AllocError> {
         let mut changed = false;
         for effect in effects {
-            if effect.range.is_some_and(|written| !written.within(range)) {
+            if !is_inside(effect.range, range) {
                 changed |= self.meet(alloc, actor, item, *effect)?;
             }
-        }
-        Ok(changed)
-    }
-
-    /// The same for each of these steps, which create or delete an object.
-    fn meet_lives(
-        &mut self,
-        alloc: Global,
-        actor: usize,
-        item: Item,
-        effects: &[Effect],
-    ) -> Result<bool, AllocError> {
-        let mut changed = false;
-        for effect in effects {
-            changed |= self.meet(alloc, actor, item, *effect)?;
         }
         Ok(changed)
     }
@@ -111,13 +115,11 @@ impl<'a> Trial<'a> {
         others: &[Effects],
     ) -> Result<bool, AllocError> {
         let mut changed = false;
-        for (other, variable) in self.writers_felt(alloc, actor, item.facts, others)? {
-            let written = others
-                .get(other)
-                .and_then(|effects| effects.writes.get(variable));
-            if let (Some(written), Some(range)) = (written, self.range_in(item.facts, variable)) {
-                changed |= self.meet_writes(alloc, actor, item, &written.effects, range)?;
-            }
+        let felt = self.writers_felt(alloc, actor, item.facts, others)?;
+        for (other, variable) in felt.iter() {
+            let effects = effects_on(others, *other, *variable);
+            let range = self.range_in(item.facts, *variable);
+            changed |= self.meet_each(alloc, actor, item, effects, range)?;
         }
         Ok(changed)
     }
@@ -141,7 +143,7 @@ impl<'a> Trial<'a> {
         let mut changed = false;
         for (object, makers) in effects.lives.iter().enumerate() {
             if !makers.is_empty() && self.speaks_of(item.facts, object) {
-                changed |= self.meet_lives(alloc, actor, item, makers)?;
+                changed |= self.meet_each(alloc, actor, item, makers, None)?;
             }
         }
         Ok(changed)
@@ -164,6 +166,18 @@ impl<'a> Trial<'a> {
         Ok(changed)
     }
 
+    /// Merges what the steps of all other actors leave of an alternative of the point.
+    fn meet_all(
+        &mut self,
+        alloc: Global,
+        actor: usize,
+        item: Item,
+        others: &[Effects],
+    ) -> Result<bool, AllocError> {
+        let is_written = self.meet_writers(alloc, actor, item, others)?;
+        Ok(self.meet_makers(alloc, actor, item, others)? || is_written)
+    }
+
     /// Merges once what the steps of all other actors leave of the note of the actor's point.
     fn close_once(
         &mut self,
@@ -179,8 +193,7 @@ impl<'a> Trial<'a> {
                 number,
                 facts: *facts,
             };
-            changed |= self.meet_writers(alloc, actor, item, others)?;
-            changed |= self.meet_makers(alloc, actor, item, others)?;
+            changed |= self.meet_all(alloc, actor, item, others)?;
         }
         Ok(changed)
     }

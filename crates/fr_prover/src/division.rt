@@ -1,5 +1,5 @@
 // Divisions: what keeps a note's alternatives apart.
-use crate::table::Table;
+use crate::lists::is_marked;
 use fr_notes::{Alternative, Claim};
 use fr_program::{ObjId, Range, VarId};
 use std::alloc::{AllocError, Global};
@@ -31,7 +31,13 @@ pub fn count_of(claim: Claim) -> u32 {
 
 /// How many of the cuts are at most this number.
 fn part_of(cuts: &[i128], number: i128) -> usize {
-    cuts.iter().filter(|cut| **cut <= number).count()
+    let mut part: usize = 0;
+    for cut in cuts {
+        if *cut <= number {
+            part = part.saturating_add(1);
+        }
+    }
+    part
 }
 
 /// The first and the last part that a range touches.
@@ -72,7 +78,7 @@ impl Split {
 impl Division {
     /// Whether it divides the notes of this actor.
     pub fn is_of(&self, actor: usize) -> bool {
-        self.actors.get(actor).copied() == Some(true)
+        is_marked(&self.actors, actor)
     }
 
     /// The same division once more.
@@ -102,18 +108,20 @@ pub fn copied_all(alloc: Global, divisions: &[Division]) -> Result<Vec<Division>
 }
 
 /// Whether both alternatives have the same held mutexes.
-fn hold_the_same(claims: &[Claim], others: &[Claim]) -> bool {
-    claims
-        .iter()
-        .zip(others)
-        .all(|(claim, other)| count_of(*claim) == count_of(*other))
+fn hold_the_same(one: &Alternative, other: &Alternative) -> bool {
+    for (object, claim) in one.claims().iter().enumerate() {
+        if count_of(*claim) != count_of(other.claim(ObjId(object))) {
+            return false;
+        }
+    }
+    true
 }
 
 /// Whether both alternatives have the same depths and held mutexes: only then they can be one.
 pub fn can_be_one(one: &Alternative, other: &Alternative) -> bool {
     one.critical() == other.critical()
         && one.suspended() == other.suspended()
-        && hold_the_same(one.claims(), other.claims())
+        && hold_the_same(one, other)
 }
 
 /// Whether the divisions keep the two alternatives of the actor together.
@@ -123,10 +131,15 @@ pub fn are_alike(
     one: &Alternative,
     other: &Alternative,
 ) -> bool {
-    can_be_one(one, other)
-        && divisions.iter().all(|division| {
-            !division.is_of(actor) || division.split.parts(one) == division.split.parts(other)
-        })
+    if !can_be_one(one, other) {
+        return false;
+    }
+    for division in divisions {
+        if division.is_of(actor) && division.split.parts(one) != division.split.parts(other) {
+            return false;
+        }
+    }
+    true
 }
 
 /// Feeds what the actor holds to a hash.
@@ -177,14 +190,4 @@ fn add_each(numbers: &mut Vec<i128>, cuts: &[i128]) -> Result<(), AllocError> {
         numbers.push(*cut)?;
     }
     Ok(())
-}
-
-/// Whether the two divisions divide the same notes in the same way.
-pub fn has_division(divisions: &[Division], wanted: &Division) -> bool {
-    divisions.iter().any(|division| division == wanted)
-}
-
-/// The actors that are marked in the row.
-pub fn actors_of(alloc: Global, table: &Table, row: usize) -> Result<Vec<bool>, AllocError> {
-    Vec::from_slice(alloc, table.row(row))
 }

@@ -2,11 +2,12 @@
 ghost use Rattle.fr_notes.specs.Fits.{AlternativeFits};
 ghost use Rattle.fr_finder.specs.Spots.{IsPlaced};
 
+use crate::lists::empty_lists;
 use crate::place::{Place, changed_life, place_at};
 use crate::trial::{Item, Trial};
 use fr_calls::Way;
 use fr_notes::{Alternative, Claim, Known, change_by};
-use fr_program::{App, Instr, Operand, Operator, Range, VarId};
+use fr_program::{App, Instr, ObjId, Operand, Operator, Range, VarId};
 use std::alloc::{AllocError, Global};
 use std::collections::HashMap;
 use std::hash::{FoldHasher, Hash, Hasher};
@@ -31,8 +32,6 @@ pub struct Effects {
 /// The steps that write a variable.
 #[derive(Drop)]
 pub struct Written {
-    /// The least range that has all that they write.
-    reach: Option<Range>,
     /// What is so wherever one of them is made.
     common: Option<Common>,
     pub effects: Vec<Effect>,
@@ -45,8 +44,18 @@ pub struct Written {
 struct Common {
     /// Whether the actor is in the critical section by all of them.
     critical: bool,
+    /// The least range that has all that is written where they hold.
+    reach: Range,
     claims: Vec<Claim>,
     ranges: Vec<Range>,
+}
+
+/// The least range that has both.
+fn hull(one: Range, other: Range) -> Range {
+    Range {
+        lo: one.lo.min(other.lo),
+        hi: one.hi.max(other.hi),
+    }
 }
 
 /// Leaves of the claims what the others say, too.
@@ -64,24 +73,46 @@ fn weaken(claims: &mut Vec<Claim>, others: &[Claim]) {
 fn widen(ranges: &mut Vec<Range>, others: &[Range]) {
     for (variable, other) in others.iter().enumerate() {
         if let Some(range) = ranges.get_mut(variable) {
-            *range = hull(Some(*range), *other);
+            *range = hull(*range, *other);
         }
     }
 }
 
+/// Whether one of the claims can't hold together with what the alternative says of the same object.
+fn is_denied(claims: &[Claim], other: &Alternative) -> bool {
+    for (object, claim) in claims.iter().enumerate() {
+        if !claim.meets(other.claim(ObjId(object))) {
+            return true;
+        }
+    }
+    false
+}
+
+/// Whether one of the ranges has no number in common with the alternative's range of the same variable.
+fn is_apart(ranges: &[Range], other: &Alternative) -> bool {
+    for (variable, range) in ranges.iter().enumerate() {
+        if !range.meets(other.range(VarId(variable))) {
+            return true;
+        }
+    }
+    false
+}
+
 impl Common {
-    /// What one alternative says.
-    fn of(alloc: Global, facts: &Alternative) -> Result<Common, AllocError> {
+    /// What one alternative says, where these numbers are written.
+    fn of(alloc: Global, facts: &Alternative, range: Range) -> Result<Common, AllocError> {
         Ok(Common {
             critical: facts.critical() > 0,
+            reach: range,
             claims: Vec::from_slice(alloc, facts.claims())?,
             ranges: Vec::from_slice(alloc, facts.ranges())?,
         })
     }
 
-    /// Takes one more alternative.
-    fn take(&mut self, facts: &Alternative) {
+    /// Takes one more alternative, where these numbers are written.
+    fn take(&mut self, facts: &Alternative, range: Range) {
         self.critical = self.critical && facts.critical() > 0;
+        self.reach = hull(self.reach, range);
         weaken(&mut self.claims, facts.claims());
         widen(&mut self.ranges, facts.ranges());
     }
@@ -89,16 +120,8 @@ impl Common {
     /// Whether an alternative of another actor can hold together with none of them.
     fn excludes(&self, other: &Alternative) -> bool {
         self.critical && other.critical() > 0
-            || !self
-                .claims
-                .iter()
-                .zip(other.claims())
-                .all(|(one, other)| one.meets(*other))
-            || !self
-                .ranges
-                .iter()
-                .zip(other.ranges())
-                .all(|(one, other)| one.meets(*other))
+            || is_denied(&self.claims, other)
+            || is_apart(&self.ranges, other)
     }
 }
 
@@ -141,11 +164,11 @@ impl Written {
     /// Whether one of the steps may be made where the alternative of another actor holds, and write what
     /// that excludes of the variable.
     pub fn is_felt(&self, variable: usize, other: &Alternative) -> bool {
-        match (self.reach, &self.common) {
-            (Some(reach), Some(common)) => {
-                !reach.within(other.range(VarId(variable))) && !common.excludes(other)
+        match &self.common {
+            Some(common) => {
+                !common.reach.within(other.range(VarId(variable))) && !common.excludes(other)
             }
-            (_, _) => false,
+            None => false,
         }
     }
 
@@ -161,35 +184,24 @@ impl Written {
         Ok(false)
     }
 
-    /// Adds a step that writes these numbers.
+    /// Adds a step by this instruction that writes these numbers, unless there is one that leaves the same.
     fn add(
         &mut self,
         alloc: Global,
         mover: Item,
+        instr: &Instr,
         facts: &Alternative,
         range: Range,
     ) -> Result<(), AllocError> {
-        self.reach = Some(hull(self.reach, range));
-        match &mut self.common {
-            Some(common) => common.take(facts),
-            None => self.common = Some(Common::of(alloc, facts)?),
+        if self.has_set(mover, instr)? {
+            return Ok(());
         }
-        self.effects.push(Effect {
-            mover,
-            range: Some(range),
-        })?;
-        Ok(())
-    }
-}
-
-/// The least range that has both.
-fn hull(one: Option<Range>, other: Range) -> Range {
-    match one {
-        Some(one) => Range {
-            lo: one.lo.min(other.lo),
-            hi: one.hi.max(other.hi),
-        },
-        None => other,
+        match &mut self.common {
+            Some(common) => common.take(facts, range),
+            None => self.common = Some(Common::of(alloc, facts, range)?),
+        }
+        let range = Some(range);
+        Ok(self.effects.push(Effect { mover, range })?)
     }
 }
 
@@ -198,22 +210,12 @@ fn no_writes(alloc: Global, count: usize) -> Result<Vec<Written>, AllocError> {
     let mut writes = Vec::with_capacity(alloc, count)?;
     for _ in 0..count {
         writes.push(Written {
-            reach: None,
             common: None,
             effects: Vec::new(alloc),
             sets: HashMap::new(alloc),
         })?;
     }
     Ok(writes)
-}
-
-/// So many empty lists.
-fn no_lives(alloc: Global, count: usize) -> Result<Vec<Vec<Effect>>, AllocError> {
-    let mut lives = Vec::with_capacity(alloc, count)?;
-    for _ in 0..count {
-        lives.push(Vec::new(alloc))?;
-    }
-    Ok(lives)
 }
 
 /// The variable that a step by the first row writes, with what it can get of the declared range.
@@ -238,7 +240,7 @@ impl Effects {
     pub fn none(alloc: Global, app: &App) -> Result<Effects, AllocError> {
         Ok(Effects {
             writes: no_writes(alloc, app.variables().len())?,
-            lives: no_lives(alloc, app.objects().len())?,
+            lives: empty_lists(alloc, app.objects().len())?,
         })
     }
 
@@ -250,27 +252,40 @@ impl Effects {
         Ok(())
     }
 
-    /// Adds what the step from the point does, where this alternative holds.
-    fn add(&mut self, alloc: Global, trial: &Trial, mover: Item) -> Result<(), AllocError> {
-        let app = trial.pool.app();
-        let place = place_at(app, mover.number);
-        let (Some(place), Some(facts)) = (place, trial.pool.get(mover.facts)) else {
-            return Ok(());
-        };
-        if let Some(object) = changed_life(place.instr) {
-            return self.add_life(object, Effect { mover, range: None });
-        }
-        let Some((variable, range)) = written_by(app, place, facts) else {
+    /// Adds what the step from this place writes, where the alternative holds.
+    fn add_write(
+        &mut self,
+        alloc: Global,
+        trial: &Trial,
+        place: Place,
+        mover: Item,
+        facts: &Alternative,
+    ) -> Result<(), AllocError>
+        requires placed { IsPlaced trial.now.pool.app.now place.point place.instr.now }
+        requires fits { AlternativeFits trial.now.pool.app.now facts.now }
+    {
+        let Some((variable, range)) = written_by(trial.pool.app(), place, facts) else {
             return Ok(());
         };
         match self.writes.get_mut(variable.0) {
             Some(written) if trial.is_felt(variable.0) => {
-                if written.has_set(mover, place.instr)? {
-                    return Ok(());
-                }
-                written.add(alloc, mover, facts, range)
+                written.add(alloc, mover, place.instr, facts, range)
             }
             _ => Ok(()),
+        }
+    }
+
+    /// Adds what the step from the point does, where this alternative holds.
+    fn add(&mut self, alloc: Global, trial: &Trial, mover: Item) -> Result<(), AllocError> {
+        let Some(place) = place_at(trial.pool.app(), mover.number) else {
+            return Ok(());
+        };
+        let Some(facts) = trial.pool.get(mover.facts) else {
+            return Ok(());
+        };
+        match changed_life(place.instr) {
+            Some(object) => self.add_life(object, Effect { mover, range: None }),
+            None => self.add_write(alloc, trial, place, mover, facts),
         }
     }
 

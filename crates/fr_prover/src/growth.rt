@@ -17,28 +17,26 @@ pub enum Growth {
 /// The greatest threshold that is at most this number, and the number itself where there is none. The
 /// thresholds need no order.
 fn rest_below(thresholds: &[i128], number: i128) -> i128 {
-    match thresholds
-        .iter()
-        .copied()
-        .filter(|rest| *rest <= number)
-        .max()
-    {
-        Some(rest) => rest,
-        None => number,
+    let (mut best, mut is_there) = (number, false);
+    for rest in thresholds {
+        if *rest <= number && (!is_there || best < *rest) {
+            best = *rest;
+            is_there = true;
+        }
     }
+    best
 }
 
 /// The least threshold that is at least this number, and the number itself where there is none.
 fn rest_above(thresholds: &[i128], number: i128) -> i128 {
-    match thresholds
-        .iter()
-        .copied()
-        .filter(|rest| number <= *rest)
-        .min()
-    {
-        Some(rest) => rest,
-        None => number,
+    let (mut best, mut is_there) = (number, false);
+    for rest in thresholds {
+        if number <= *rest && (!is_there || *rest < best) {
+            best = *rest;
+            is_there = true;
+        }
     }
+    best
 }
 
 /// The lower end, moved down at least to what is needed.

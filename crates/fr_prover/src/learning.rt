@@ -2,6 +2,7 @@
 ghost use Rattle.fr_notes.specs.Fits.{AlternativeFits};
 ghost use Rattle.fr_finder.specs.Spots.{IsPlaced};
 
+use crate::lists::insert;
 use crate::place::{Place, place_at};
 use crate::thresholds::Kin;
 use crate::trial::Trial;
@@ -9,7 +10,6 @@ use fr_calls::Way;
 use fr_notes::{Alternative, Known, change_by};
 use fr_program::{App, Instr, Range, VarId};
 use std::alloc::{AllocError, Global};
-use std::collections::BTreeSet;
 
 /// The most thresholds that a variable has after learning.
 const MOST_THRESHOLDS: usize = 200;
@@ -63,20 +63,20 @@ pub fn lessons(alloc: Global, trial: &Trial) -> Result<Vec<Lesson>, AllocError> 
 /// Adds the number to the variable's thresholds, if it is in the declared range and there is room.
 /// Whether it is new.
 fn learn_number(
-    thresholds: &mut BTreeSet<i128>,
+    thresholds: &mut Vec<i128>,
     declared: Range,
     number: i128,
 ) -> Result<bool, AllocError> {
     if number < declared.lo || declared.hi < number || thresholds.len() >= MOST_THRESHOLDS {
         return Ok(false);
     }
-    Ok(thresholds.insert(number)?)
+    insert(thresholds, number)
 }
 
 /// Adds both ends to the thresholds of a variable.
 fn learn_ends(
     app: &App,
-    thresholds: &mut Vec<BTreeSet<i128>>,
+    thresholds: &mut Vec<Vec<i128>>,
     variable: usize,
     range: Range,
 ) -> Result<bool, AllocError> {
@@ -97,7 +97,7 @@ fn learn_ends(
 fn learn_one(
     app: &App,
     kin: &Kin,
-    thresholds: &mut Vec<BTreeSet<i128>>,
+    thresholds: &mut Vec<Vec<i128>>,
     lesson: Lesson,
 ) -> Result<bool, AllocError> {
     let name = kin.name(lesson.variable.0);
@@ -114,7 +114,7 @@ fn learn_one(
 pub fn learn(
     app: &App,
     kin: &Kin,
-    thresholds: &mut Vec<BTreeSet<i128>>,
+    thresholds: &mut Vec<Vec<i128>>,
     lessons: &[Lesson],
 ) -> Result<bool, AllocError> {
     let mut learned = false;

@@ -9,6 +9,7 @@ mod division;
 mod effect;
 mod growth;
 mod learning;
+mod lists;
 mod measure;
 mod merging;
 mod needs;

@@ -4,6 +4,8 @@ ghost use Rattle.fr_program.specs.Points.{points_of};
 ghost use Rattle.fr_notes.specs.Fits.{AlternativeFits, NoteFits, NotesFit};
 ghost use Rattle.fr_ends.specs.Fits.{CertificateFits};
 
+use crate::division::{Division, copied_all};
+use crate::lists::list_at;
 use crate::pool::Pool;
 use crate::trial::Trial;
 use fr_ends::{Certificate, Ends};
@@ -11,6 +13,7 @@ use fr_finder::{add, all_ends, ends_of_most};
 use fr_judge::{Judging, Lists, Part};
 use fr_notes::{Alternative, Note, Notes};
 use fr_program::App;
+use fr_progress::Meter;
 use std::alloc::{AllocError, Global};
 
 /// A point at which a certificate fails, by its number, with the first part that fails there.
@@ -20,11 +23,21 @@ pub struct Failure {
     pub part: Part,
 }
 
-/// A certificate that was tried, with the points at which it fails.
+/// A certificate that was tried, with the divisions of the try and the points at which it fails.
 #[derive(Drop)]
 pub struct Measured {
     pub certificate: Certificate,
+    pub divisions: Vec<Division>,
     pub failures: Vec<Failure>,
+}
+
+impl Measured {
+    /// Notes the try in the meter, if there is one.
+    pub fn note(&self, meter: Option<&Meter>) {
+        if let Some(meter) = meter {
+            meter.note_try(self.divisions.len(), self.failures.len());
+        }
+    }
 }
 
 /// Adds a copy of the alternative with this number.
@@ -55,14 +68,6 @@ fn note_of(alloc: Global, pool: &Pool, list: &[usize]) -> Result<Note, AllocErro
         add_copy(alloc, pool, &mut note, *facts)?;
     }
     Ok(Note::of(note))
-}
-
-/// The list of the point; an empty one where there is none.
-fn list_at(lists: &[Vec<usize>], number: usize) -> &[usize] {
-    match lists.get(number) {
-        Some(list) => list,
-        None => &[],
-    }
 }
 
 /// The notes of all points, with the alternatives of these lists.
@@ -141,18 +146,16 @@ fn fail_again(judging: &Judging, app: &App, bar: &[Failure]) -> bool
     !bar.is_empty()
 }
 
-/// The points at which the certificate fails; only those of `bar` where it fails at all of them.
-fn failures(
+/// The points at which a certificate fails; only those of `bar` where it fails at all of them.
+fn failing(
     alloc: Global,
     app: &App,
-    certificate: &Certificate,
+    judging: &Judging,
     bar: &[Failure],
 ) -> Result<Vec<Failure>, AllocError>
-    requires { CertificateFits app.now certificate.now }
+    requires { judging.now.app ≡ app.now }
 {
-    let lists = Lists::build(alloc, app, certificate)?;
-    let judging = Judging::with(app, certificate, &lists);
-    if fail_again(&judging, app, bar) {
+    if fail_again(judging, app, bar) {
         return Vec::from_slice(alloc, bar);
     }
     let mut failures = Vec::new(alloc);
@@ -164,16 +167,32 @@ fn failures(
     Ok(failures)
 }
 
+/// The points at which this certificate fails; only those of `bar` where it fails at all of them.
+fn failures(
+    alloc: Global,
+    app: &App,
+    certificate: &Certificate,
+    bar: &[Failure],
+) -> Result<Vec<Failure>, AllocError>
+    requires { CertificateFits app.now certificate.now }
+{
+    let lists = Lists::build(alloc, app, certificate)?;
+    failing(alloc, app, &Judging::with(app, certificate, &lists), bar)
+}
+
 /// The certificate of a try, with guards for all ends of buffers, and the points at which it fails; only those of `bar` where it
 /// fails at all of them, since it isn't better then than the try that failed there.
-pub fn measure(alloc: Global, trial: &Trial, bar: &[Failure]) -> Result<Measured, AllocError>
-    ensures { IfOk result (λ m. CertificateFits trial.now.pool.app.now m.certificate) }
+pub fn measure(alloc: Global, trial: &Trial, bar: &[Failure]) -> Result<Box<Measured>, AllocError>
+    ensures { IfOk result (λ m. CertificateFits trial.now.pool.app.now m.value.certificate) }
 {
     let app = trial.pool.app();
+    let divisions = copied_all(alloc, trial.divisions)?;
     let certificate = certificate_of(alloc, &trial.pool, &trial.notes)?;
     let failures = failures(alloc, app, &certificate, bar)?;
-    Ok(Measured {
+    let measured = Measured {
         certificate,
+        divisions,
         failures,
-    })
+    };
+    Ok(Box::new(alloc, measured)?)
 }

@@ -3,7 +3,7 @@ use crate::division::{can_be_one, part_print};
 use crate::growth::{Growth, touch};
 use crate::trial::Trial;
 use fr_notes::{Alternative, Claim, MOST_ALTERNATIVES};
-use fr_program::VarId;
+use fr_program::{ObjId, VarId};
 use std::alloc::{AllocError, Global};
 
 /// So often an alternative of a point grows as little as it has to.
@@ -37,20 +37,31 @@ fn lives_lost(claim: Claim, other: Claim) -> u32 {
 }
 
 /// How many lives are lost where the claims become one.
-fn all_lives_lost(claims: &[Claim], others: &[Claim]) -> u32 {
+fn all_lives_lost(one: &Alternative, other: &Alternative) -> u32 {
     let mut lost: u32 = 0;
-    for (claim, other) in claims.iter().zip(others) {
-        lost = lost.saturating_add(lives_lost(*claim, *other));
+    for (object, claim) in one.claims().iter().enumerate() {
+        lost = lost.saturating_add(lives_lost(*claim, other.claim(ObjId(object))));
     }
     lost
+}
+
+/// The cheaper pair, the first one where both cost the same.
+fn cheaper(best: Option<Pair>, pair: Pair) -> Pair {
+    match best {
+        Some(best) if best.cost <= pair.cost => best,
+        _ => pair,
+    }
 }
 
 impl<'a> Trial<'a> {
     /// Whether a division cuts the variable's numbers for this actor.
     fn is_cut(&self, actor: usize, variable: usize) -> bool {
-        self.divisions
-            .iter()
-            .any(|division| division.cuts_variable(actor, variable))
+        for division in self.divisions {
+            if division.cuts_variable(actor, variable) {
+                return true;
+            }
+        }
+        false
     }
 
     /// What is lost of a variable where the two alternatives become one.
@@ -88,7 +99,7 @@ impl<'a> Trial<'a> {
         if !can_be_one(one, other) {
             return None;
         }
-        let lives = all_lives_lost(one.claims(), other.claims()).saturating_mul(8);
+        let lives = all_lives_lost(one, other).saturating_mul(8);
         Some(lives.saturating_add(self.ranges_lost(actor, one, other)))
     }
 
@@ -103,13 +114,12 @@ impl<'a> Trial<'a> {
     ) -> Option<Pair> {
         for (before, other) in every.iter().take(place).enumerate() {
             if let Some(cost) = self.cost(actor, facts, *other) {
-                if best.is_none_or(|pair| cost < pair.cost) {
-                    best = Some(Pair {
-                        cost,
-                        one: place,
-                        other: before,
-                    });
-                }
+                let pair = Pair {
+                    cost,
+                    one: place,
+                    other: before,
+                };
+                best = Some(cheaper(best, pair));
             }
         }
         best
@@ -135,10 +145,9 @@ impl<'a> Trial<'a> {
     ) -> Result<Vec<usize>, AllocError> {
         let mut rest = Vec::with_capacity(alloc, MOST_ALTERNATIVES)?;
         for (at, facts) in list.iter().enumerate() {
-            if at == place {
-                rest.push(new)?;
-            } else if !self.implies(*facts, new) {
-                rest.push(*facts)?;
+            let facts = if at == place { new } else { *facts };
+            if at == place || !self.implies(facts, new) {
+                rest.push(facts)?;
             }
         }
         if place >= list.len() {
@@ -217,18 +226,35 @@ impl<'a> Trial<'a> {
         facts: usize,
         widen: bool,
     ) -> Result<Growth, AllocError> {
-        let Some(print) = self
-            .pool
-            .get(facts)
-            .map(|facts| part_print(self.divisions, actor, number, facts))
-        else {
+        let Some(facts) = self.pool.get(facts) else {
             return Ok(Growth::Whole);
         };
+        let print = part_print(self.divisions, actor, number, facts);
         match self.count_growth(print)? {
             count if count > MOST_GROWTHS => Ok(Growth::Whole),
             count if count > EXACT && widen => Ok(Growth::Threshold),
             _ => Ok(Growth::Exact),
         }
+    }
+
+    /// Whether the alternative is in the point's note, or implies one that is.
+    fn is_noted(&self, number: usize, facts: usize) -> bool {
+        for other in self.note(number) {
+            if *other == facts || self.implies(facts, *other) {
+                return true;
+            }
+        }
+        false
+    }
+
+    /// The place in the point's note of the alternative that the divisions keep together with this one.
+    fn place_alike(&self, actor: usize, number: usize, facts: usize) -> Option<usize> {
+        for (place, other) in self.note(number).iter().enumerate() {
+            if self.are_alike(actor, *other, facts) {
+                return Some(place);
+            }
+        }
+        None
     }
 
     /// Merges an alternative into the note of the actor's point: nothing changes where it implies one
@@ -242,17 +268,10 @@ impl<'a> Trial<'a> {
         facts: usize,
         widen: bool,
     ) -> Result<bool, AllocError> {
-        let note = self.note(number);
-        if note
-            .iter()
-            .any(|other| *other == facts || self.implies(facts, *other))
-        {
+        if self.is_noted(number, facts) {
             return Ok(false);
         }
-        let Some(place) = note
-            .iter()
-            .position(|other| self.are_alike(actor, *other, facts))
-        else {
+        let Some(place) = self.place_alike(actor, number, facts) else {
             return self.add(alloc, actor, number, facts);
         };
         let growth = self.growth_of(actor, number, facts, widen)?;

@@ -1,5 +1,6 @@
 // What of each note the rest of an actor's code may need: the variables that it reads and the objects that it names, and
 // those by which actors may keep out of each other's way.
+use crate::lists::{list_at, mark};
 use crate::place::{Place, changed_life, place_at, read, tested};
 use crate::table::Table;
 use fr_finder::points_before;
@@ -31,13 +32,6 @@ fn overwritten(instr: &Instr) -> Option<usize> {
     }
 }
 
-/// Makes it true in this place, if the list has it.
-fn mark(list: &mut Vec<bool>, place: usize) {
-    if let Some(cell) = list.get_mut(place) {
-        *cell = true;
-    }
-}
-
 /// Marks the variables that the instruction tests.
 fn mark_tested(list: &mut Vec<bool>, instr: &Instr) {
     for variable in tested(instr) {
@@ -47,26 +41,28 @@ fn mark_tested(list: &mut Vec<bool>, instr: &Instr) {
     }
 }
 
-/// By variable: whether some line tests it.
-fn tested_somewhere(alloc: Global, app: &App) -> Result<Vec<bool>, AllocError> {
+/// By point and variable: whether some line tests the variable.
+fn tested_somewhere(alloc: Global, app: &App) -> Result<Table, AllocError> {
     let mut list = vec![in alloc; false; app.variables().len()]?;
     for number in 0..app.points() {
         if let Some(place) = place_at(app, number) {
             mark_tested(&mut list, place.instr);
         }
     }
-    Ok(list)
+    Table::repeated(alloc, app.points(), &list)
 }
 
-/// By object: whether some line creates or deletes it.
-fn changed_somewhere(alloc: Global, app: &App) -> Result<Vec<bool>, AllocError> {
+/// By point and object: whether some line creates or deletes the object.
+fn changed_somewhere(alloc: Global, app: &App) -> Result<Table, AllocError> {
     let mut list = vec![in alloc; false; app.objects().len()]?;
     for number in 0..app.points() {
-        if let Some(object) = place_at(app, number).and_then(|place| changed_life(place.instr)) {
-            mark(&mut list, object);
+        if let Some(place) = place_at(app, number) {
+            if let Some(object) = changed_life(place.instr) {
+                mark(&mut list, object);
+            }
         }
     }
-    Ok(list)
+    Table::repeated(alloc, app.points(), &list)
 }
 
 impl Needs {
@@ -97,8 +93,8 @@ impl Needs {
     /// What the instructions need by themselves, and at all points what may keep actors apart.
     fn own(alloc: Global, app: &App) -> Result<Needs, AllocError> {
         let mut needs = Needs {
-            variables: Table::repeated(alloc, app.points(), &tested_somewhere(alloc, app)?)?,
-            objects: Table::repeated(alloc, app.points(), &changed_somewhere(alloc, app)?)?,
+            variables: tested_somewhere(alloc, app)?,
+            objects: changed_somewhere(alloc, app)?,
         };
         for number in 0..app.points() {
             if let Some(place) = place_at(app, number) {
@@ -134,9 +130,7 @@ impl Needs {
             let Some(number) = waiting.pop() else {
                 break;
             };
-            if let Some(sources) = sources.get(number) {
-                needs.hand_back_to_all(app, sources, number, &mut waiting)?;
-            }
+            needs.hand_back_to_all(app, list_at(&sources, number), number, &mut waiting)?;
         }
         Ok(needs)
     }

@@ -1,4 +1,5 @@
 // The order in which an actor's points are worked through, and the points that loops come back to.
+use crate::lists::mark;
 use fr_program::{ActorId, App, Call, Instr, Point, Side};
 use std::alloc::{AllocError, Global};
 
@@ -22,16 +23,14 @@ fn next(pc: usize, instr: &Instr) -> Option<usize> {
 }
 
 /// Marks the point before this instruction.
-fn mark(app: &App, marks: &mut Vec<bool>, actor: usize, pc: usize) {
+fn mark_before(app: &App, marks: &mut Vec<bool>, actor: usize, pc: usize) {
     let point = Point {
         actor: ActorId(actor),
         pc,
         side: Side::Before,
     };
     if let Some(number) = app.number(point) {
-        if let Some(mark) = marks.get_mut(number) {
-            *mark = true;
-        }
+        mark(marks, number);
     }
 }
 
@@ -40,7 +39,7 @@ fn mark_heads(app: &App, marks: &mut Vec<bool>, actor: usize, code: &[Instr]) {
     for (pc, instr) in code.iter().enumerate() {
         if let Some(target) = jump(instr) {
             if target <= pc {
-                mark(app, marks, actor, target);
+                mark_before(app, marks, actor, target);
             }
         }
     }
@@ -99,17 +98,16 @@ impl<'a> Walk<'a> {
         let Some(instr) = self.code.get(pc) else {
             return Ok(true);
         };
-        match stage {
-            Stage::New => {
-                self.open.push((pc, Stage::Next))?;
-                self.enter(next(pc, instr))?;
+        let (stage, follower) = match stage {
+            Stage::New => (Stage::Next, next(pc, instr)),
+            Stage::Next => (Stage::Both, jump(instr)),
+            Stage::Both => {
+                self.done.push(pc)?;
+                return Ok(true);
             }
-            Stage::Next => {
-                self.open.push((pc, Stage::Both))?;
-                self.enter(jump(instr))?;
-            }
-            Stage::Both => self.done.push(pc)?,
-        }
+        };
+        self.open.push((pc, stage))?;
+        self.enter(follower)?;
         Ok(true)
     }
 }

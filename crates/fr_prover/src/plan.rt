@@ -1,18 +1,11 @@
 // What is looked up of an application once, before the search.
+use crate::lists::{add_once, empty_lists, insert_inside};
 use crate::order::{heads, places_in_order};
-use crate::place::{Place, named, number_of, place_at, variable_of};
+use crate::place::{Place, named, number_of, place_at, tested, variable_of};
 use crate::table::Table;
 use crate::thresholds::{Kin, kin_of};
 use fr_program::{App, Instr, Operand};
 use std::alloc::{AllocError, Global};
-use std::collections::BTreeSet;
-
-/// A variable that an actor's code tests, with the numbers that it is compared with.
-#[derive(Drop)]
-pub struct Tested {
-    pub variable: usize,
-    pub numbers: BTreeSet<i128>,
-}
 
 /// The points of an actor: from `first` up to `end`, without it.
 #[derive(Clone, Copy)]
@@ -28,7 +21,9 @@ pub struct Plan<'a> {
     /// By variable and actor: whether the actor's code names the variable.
     pub users: Table,
     /// By actor: the variables that its code tests.
-    pub tests: Vec<Vec<Tested>>,
+    pub tests: Vec<Vec<usize>>,
+    /// By variable: the numbers of its declared range that it is compared with, rising.
+    pub compared: Vec<Vec<i128>>,
     /// Which variables are copied, computed or compared with one another.
     pub kin: Kin,
     /// By point: whether a backward step of its own actor leads to it.
@@ -59,55 +54,57 @@ fn users(alloc: Global, app: &App) -> Result<Table, AllocError> {
     Ok(users)
 }
 
-/// The place of the variable in the list, where it is added if it isn't there.
-fn place_of(alloc: Global, tests: &mut Vec<Tested>, variable: usize) -> Result<usize, AllocError> {
-    if let Some(place) = tests.iter().position(|tested| tested.variable == variable) {
-        return Ok(place);
-    }
-    let place = tests.len();
-    tests.push(Tested {
-        variable,
-        numbers: BTreeSet::new(alloc),
-    })?;
-    Ok(place)
-}
-
-/// Adds that the operand, if it is a variable, is compared with the other one.
-fn add_test(
-    alloc: Global,
-    tests: &mut Vec<Tested>,
-    operand: Operand,
-    other: Operand,
-) -> Result<(), AllocError> {
-    let Some(variable) = variable_of(operand) else {
-        return Ok(());
-    };
-    let place = place_of(alloc, tests, variable.0)?;
-    if let (Some(tested), Some(number)) = (tests.get_mut(place), number_of(other)) {
-        tested.numbers.insert(number)?;
+/// Adds the variables that this code tests, each once.
+fn add_tests(tests: &mut Vec<usize>, code: &[Instr]) -> Result<(), AllocError> {
+    for instr in code {
+        for variable in tested(instr) {
+            if let Some(variable) = variable {
+                add_once(tests, variable.0)?;
+            }
+        }
     }
     Ok(())
 }
 
-/// The variables that this code tests.
-fn tests_in(alloc: Global, code: &[Instr]) -> Result<Vec<Tested>, AllocError> {
-    let mut tests = Vec::new(alloc);
-    for instr in code {
-        if let Instr::If { left, right, .. } = instr {
-            add_test(alloc, &mut tests, *left, *right)?;
-            add_test(alloc, &mut tests, *right, *left)?;
+/// By actor: the variables that its code tests.
+fn tests(alloc: Global, app: &App) -> Result<Vec<Vec<usize>>, AllocError> {
+    let mut tests = empty_lists(alloc, app.actors().len())?;
+    for (actor, listed) in app.actors().iter().enumerate() {
+        if let Some(list) = tests.get_mut(actor) {
+            add_tests(list, &listed.code)?;
         }
     }
     Ok(tests)
 }
 
-/// By actor: the variables that its code tests.
-fn tests(alloc: Global, app: &App) -> Result<Vec<Vec<Tested>>, AllocError> {
-    let mut tests = Vec::with_capacity(alloc, app.actors().len())?;
-    for actor in app.actors() {
-        tests.push(tests_in(alloc, &actor.code)?)?;
+/// Adds the other operand to what this one is compared with, if it is a variable and the other one a number that it can have.
+fn add_compared(
+    app: &App,
+    lists: &mut Vec<Vec<i128>>,
+    operand: Operand,
+    other: Operand,
+) -> Result<(), AllocError> {
+    match (variable_of(operand), number_of(other)) {
+        (Some(variable), Some(number)) if variable.0 < app.variables().len() => {
+            match lists.get_mut(variable.0) {
+                Some(list) => insert_inside(list, app.range(variable), number),
+                None => Ok(()),
+            }
+        }
+        _ => Ok(()),
     }
-    Ok(tests)
+}
+
+/// By variable: the numbers of its declared range that it is compared with, rising.
+fn compared(alloc: Global, app: &App) -> Result<Vec<Vec<i128>>, AllocError> {
+    let mut lists = empty_lists(alloc, app.variables().len())?;
+    for number in 0..app.points() {
+        if let Some(Instr::If { left, right, .. }) = app.instr(app.point(number)) {
+            add_compared(app, &mut lists, *left, *right)?;
+            add_compared(app, &mut lists, *right, *left)?;
+        }
+    }
+    Ok(lists)
 }
 
 /// By actor: its points.
@@ -133,6 +130,7 @@ impl<'a> Plan<'a> {
             app,
             users: users(alloc, app)?,
             tests: tests(alloc, app)?,
+            compared: compared(alloc, app)?,
             kin: kin_of(alloc, app)?,
             heads: heads(alloc, app)?,
             order: places_in_order(alloc, app)?,

@@ -113,4 +113,14 @@ impl<'a> Pool<'a> {
         self.numbers.insert(print, number)?;
         Ok(number)
     }
+
+    /// The number of the alternative, if there is one.
+    pub fn kept(&mut self, facts: Option<Alternative>) -> Result<Option<usize>, AllocError>
+        requires { IfSome facts (λ n. AlternativeFits self.old.app.now n) }
+    {
+        match facts {
+            Some(facts) => Ok(Some(self.number(facts)?)),
+            None => Ok(None),
+        }
+    }
 }

@@ -1,5 +1,6 @@
 // Working through all actors in turn until the notes of all are stable.
 use crate::effect::Effects;
+use crate::lists::is_marked;
 use crate::settling::settle;
 use crate::trial::Trial;
 use fr_finder::claims_at_start;
@@ -17,11 +18,12 @@ fn ranges_at_start(alloc: Global, app: &App, said: &[bool]) -> Result<Vec<Range>
     let mut ranges = Vec::with_capacity(alloc, variables)?;
     for variable in 0..variables {
         let name = VarId(variable);
-        if said.get(variable).copied() == Some(true) {
-            ranges.push(Range::only(app.variable(name).init))?;
+        let range = if is_marked(said, variable) {
+            Range::only(app.variable(name).init)
         } else {
-            ranges.push(app.range(name))?;
-        }
+            app.range(name)
+        };
+        ranges.push(range)?;
     }
     Ok(ranges)
 }
@@ -32,17 +34,15 @@ impl<'a> Trial<'a> {
         let app = self.pool.app();
         let claims = claims_at_start(alloc, app)?;
         let ranges = ranges_at_start(alloc, app, self.kept.row(actor))?;
-        let Some(start) = Alternative::fitting(app, 0, 0, claims, ranges) else {
-            return Ok(());
-        };
-        let facts = self.pool.number(start)?;
+        let start = Alternative::fitting(app, 0, 0, claims, ranges);
         let point = Point {
             actor: ActorId(actor),
             pc: 0,
             side: Side::Before,
         };
-        if let Some(number) = self.plan.app.number(point) {
-            self.set_note(number, vec![in alloc; facts]?);
+        if let (Some(facts), Some(number)) = (self.pool.kept(start)?, app.number(point)) {
+            let note = Vec::from_slice(alloc, &[facts])?;
+            self.set_note(number, note);
         }
         Ok(())
     }
@@ -133,23 +133,22 @@ fn turn(
     }
 }
 
-/// Works through all actors, from their starts, until no note changes. Whether that point was reached
-/// before no more steps may be looked at.
-pub fn rise(alloc: Global, trial: &mut Trial) -> Result<bool, AllocError> {
+/// Works through all actors, from their starts, until no note changes or no more steps may be looked at.
+pub fn rise(alloc: Global, trial: &mut Trial) -> Result<(), AllocError> {
     let app = trial.plan.app;
     trial.begin(alloc)?;
     let mut effects = no_effects(alloc, app)?;
     let mut queue = everyone(alloc, app.actors().len())?;
     for _ in 0..app.actors().len().saturating_mul(MOST_TURNS) {
         let Some(actor) = queue.next() else {
-            return Ok(true);
+            break;
         };
         if turn(alloc, trial, &mut effects, actor)? {
             queue.add_others(actor)?;
         }
         if trial.left == 0 {
-            return Ok(false);
+            break;
         }
     }
-    Ok(queue.actors.is_empty())
+    Ok(())
 }

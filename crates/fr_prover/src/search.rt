@@ -3,7 +3,7 @@ ghost use Rattle.std.specs.Prelude.{IfOk};
 ghost use Rattle.fr_ends.specs.Fits.{CertificateFits};
 
 use crate::candidates::worth_trying;
-use crate::division::{Division, copied_all, has_division};
+use crate::division::{Division, copied_all};
 use crate::learning::{Lesson, learn, lessons};
 use crate::measure::{Failure, Measured, fitting, measure};
 use crate::place::place_at;
@@ -16,7 +16,6 @@ use fr_ends::Certificate;
 use fr_program::App;
 use fr_progress::Meter;
 use std::alloc::{AllocError, Global};
-use std::collections::BTreeSet;
 
 /// The most steps that a search looks at.
 pub const MOST_STEPS: u64 = 40_000_000;
@@ -34,44 +33,39 @@ const MOST_ACTORS: usize = 32;
 /// So often a search learns thresholds.
 const MOST_LESSONS: u32 = 3;
 
-/// So often a try is made again with what it taught.
-const RETRIES: usize = 2;
-
-/// A try with its divisions.
-#[derive(Drop)]
-struct Tried {
-    measured: Measured,
-    divisions: Vec<Division>,
-}
-
-impl Tried {
-    /// Notes the try in the meter, if there is one.
-    fn note(&self, meter: Option<&Meter>) {
-        if let Some(meter) = meter {
-            meter.note_try(self.divisions.len(), self.measured.failures.len());
-        }
-    }
-}
-
 /// A search with notes that speak of certain variables.
 #[derive(Drop)]
 struct Search<'a> {
     plan: &'a Plan<'a>,
     kept: Table,
-    thresholds: Vec<BTreeSet<i128>>,
+    thresholds: Vec<Vec<i128>>,
+    /// What the last try taught.
+    lessons: Vec<Lesson>,
     learned: u32,
     /// How many steps may still be looked at.
     left: u64,
 }
 
+/// What comes of the try, and what it teaches.
+fn tried(
+    alloc: Global,
+    trial: &mut Trial,
+    bar: &[Failure],
+    taught: &mut Vec<Lesson>,
+) -> Result<Box<Measured>, AllocError> {
+    rise(alloc, trial)?;
+    *taught = lessons(alloc, trial)?;
+    measure(alloc, trial, bar)
+}
+
 impl<'a> Search<'a> {
-    /// One try with these divisions, and what it teaches. Where it fails at all points of `bar`, no others are looked for.
+    /// One try with these divisions. Where it fails at all points of `bar`, no others are looked for.
     fn try_once(
         &mut self,
         alloc: Global,
         divisions: &[Division],
         bar: &[Failure],
-    ) -> Result<(Measured, Vec<Lesson>), AllocError> {
+    ) -> Result<Box<Measured>, AllocError> {
         let mut trial = Trial::new(
             alloc,
             self.plan,
@@ -80,43 +74,39 @@ impl<'a> Search<'a> {
             &self.kept,
             self.left,
         )?;
-        rise(alloc, &mut trial)?;
+        let measured = tried(alloc, &mut trial, bar, &mut self.lessons);
         self.left = trial.left;
-        let measured = measure(alloc, &trial, bar)?;
-        let lessons = lessons(alloc, &trial)?;
-        Ok((measured, lessons))
+        measured
     }
 
-    /// Learns what a try taught, if the search may still learn. Whether anything is new.
-    fn learn(&mut self, lessons: &[Lesson]) -> Result<bool, AllocError> {
-        if self.learned >= MOST_LESSONS {
+    /// Learns what the last try taught, if it failed and the search may still learn. Whether anything is new.
+    fn learn(&mut self, tried: &Measured) -> Result<bool, AllocError> {
+        if tried.failures.is_empty() || self.left == 0 || self.learned >= MOST_LESSONS {
             return Ok(false);
         }
-        let learned = learn(self.plan.app, &self.plan.kin, &mut self.thresholds, lessons)?;
-        if learned {
-            self.learned = self.learned.saturating_add(1);
-        }
+        let (app, kin) = (self.plan.app, &self.plan.kin);
+        let learned = learn(app, kin, &mut self.thresholds, &self.lessons)?;
+        self.learned = self.learned.saturating_add(u32::from(learned));
         Ok(learned)
     }
 
-    /// The best of a try with these divisions, and of others with what the first teaches.
+    /// The better one of a try with these divisions, and of another with what the first teaches.
     fn solve(
         &mut self,
         alloc: Global,
         divisions: &[Division],
         bar: &[Failure],
-    ) -> Result<Measured, AllocError> {
-        let (mut best, lessons) = self.try_once(alloc, divisions, bar)?;
-        for _ in 0..RETRIES {
-            if best.failures.is_empty() || self.left == 0 || !self.learn(&lessons)? {
-                break;
-            }
-            let (now, _) = self.try_once(alloc, divisions, bar)?;
-            if self.left > 0 && now.failures.len() < best.failures.len() {
-                best = now;
-            }
+    ) -> Result<Box<Measured>, AllocError> {
+        let first = self.try_once(alloc, divisions, bar)?;
+        if !self.learn(&first)? {
+            return Ok(first);
         }
-        Ok(best)
+        let second = self.try_once(alloc, divisions, bar)?;
+        if self.left > 0 && second.failures.len() < first.failures.len() {
+            Ok(second)
+        } else {
+            Ok(first)
+        }
     }
 
     /// The try with one division more.
@@ -126,14 +116,10 @@ impl<'a> Search<'a> {
         divisions: &[Division],
         division: &Division,
         bar: &[Failure],
-    ) -> Result<Tried, AllocError> {
+    ) -> Result<Box<Measured>, AllocError> {
         let mut divisions = copied_all(alloc, divisions)?;
         divisions.push(division.copied(alloc)?)?;
-        let measured = self.solve(alloc, &divisions, bar)?;
-        Ok(Tried {
-            measured,
-            divisions,
-        })
+        self.solve(alloc, &divisions, bar)
     }
 
     /// The actor of the first point that fails.
@@ -150,38 +136,42 @@ impl<'a> Search<'a> {
         }
     }
 
+    /// Tries one division more, and keeps the try where it is better than the best so far. Whether no others are worth a try.
+    fn try_division(
+        &mut self,
+        alloc: Global,
+        old: &Measured,
+        division: &Division,
+        better: &mut Option<Box<Measured>>,
+        meter: Option<&Meter>,
+    ) -> Result<bool, AllocError> {
+        if self.left == 0 || old.divisions.contains(division) {
+            return Ok(self.left == 0);
+        }
+        let failures = &old.failures;
+        let tried = self.with(alloc, &old.divisions, division, bar_of(failures, better))?;
+        tried.note(meter);
+        if self.left == 0 {
+            return Ok(true);
+        }
+        let new = &tried.failures;
+        let is_over = new.is_empty() || self.is_over_with_first(new, failures);
+        if is_over || is_better(new, failures, better) {
+            *better = Some(tried);
+        }
+        Ok(is_over)
+    }
+
     /// The best try with one division more than these failures have, if one is better.
     fn improved(
         &mut self,
         alloc: Global,
-        best: &Tried,
+        best: &Measured,
         meter: Option<&Meter>,
-    ) -> Result<Option<Tried>, AllocError> {
-        let failures = &best.measured.failures;
-        let mut better: Option<Tried> = None;
-        for division in &worth_trying(alloc, self.plan, failures)? {
-            if self.left == 0 {
-                break;
-            }
-            if has_division(&best.divisions, division) {
-                continue;
-            }
-            let tried = self.with(
-                alloc,
-                &best.divisions,
-                division,
-                bar_of(failures, better.as_ref()),
-            )?;
-            tried.note(meter);
-            if self.left == 0 {
-                break;
-            }
-            let new = &tried.measured.failures;
-            let is_over = new.is_empty() || self.is_over_with_first(new, failures);
-            if is_over || is_better(new, failures, better.as_ref()) {
-                better = Some(tried);
-            }
-            if is_over {
+    ) -> Result<Option<Box<Measured>>, AllocError> {
+        let mut better = None;
+        for division in &worth_trying(alloc, self.plan, &best.failures)? {
+            if self.try_division(alloc, best, division, &mut better, meter)? {
                 break;
             }
         }
@@ -193,19 +183,18 @@ impl<'a> Search<'a> {
     fn divided(
         &mut self,
         alloc: Global,
-        first: Tried,
+        first: Box<Measured>,
         meter: Option<&Meter>,
-    ) -> Result<Tried, AllocError> {
+    ) -> Result<Box<Measured>, AllocError> {
         let (mut best, mut count) = (first, 0usize);
         for _ in 0..MOST_DIVISIONS * MOST_ACTORS {
-            if best.measured.failures.is_empty() || count >= MOST_DIVISIONS {
+            if best.failures.is_empty() || count >= MOST_DIVISIONS {
                 break;
             }
             let Some(better) = self.improved(alloc, &best, meter)? else {
                 break;
             };
-            let (now, before) = (&better.measured.failures, &best.measured.failures);
-            count = if self.is_over_with_first(now, before) {
+            count = if self.is_over_with_first(&better.failures, &best.failures) {
                 0
             } else {
                 count.saturating_add(1)
@@ -216,13 +205,8 @@ impl<'a> Search<'a> {
     }
 
     /// The best try that is found: without divisions, and with them as far as their share of the steps lasts.
-    fn run(&mut self, alloc: Global, meter: Option<&Meter>) -> Result<Tried, AllocError> {
-        let divisions = Vec::new(alloc);
-        let measured = self.solve(alloc, &divisions, &[])?;
-        let first = Tried {
-            measured,
-            divisions,
-        };
+    fn run(&mut self, alloc: Global, meter: Option<&Meter>) -> Result<Box<Measured>, AllocError> {
+        let first = self.solve(alloc, &[], &[])?;
         first.note(meter);
         let rest = self.left.saturating_sub(MOST_DIVIDED);
         self.left = self.left.min(MOST_DIVIDED);
@@ -233,17 +217,17 @@ impl<'a> Search<'a> {
 }
 
 /// The failures all of which a try has that is no better: those without its division. None where the best so far has more.
-fn bar_of<'a>(old: &'a [Failure], better: Option<&Tried>) -> &'a [Failure] {
+fn bar_of<'a>(old: &'a [Failure], better: &Option<Box<Measured>>) -> &'a [Failure] {
     match better {
-        Some(better) if better.measured.failures.len() > old.len() => &[],
+        Some(better) if better.failures.len() > old.len() => &[],
         _ => old,
     }
 }
 
 /// Whether a try is better than the best so far, where these were the failures without its division.
-fn is_better(new: &[Failure], old: &[Failure], better: Option<&Tried>) -> bool {
+fn is_better(new: &[Failure], old: &[Failure], better: &Option<Box<Measured>>) -> bool {
     match (better, new.first(), old.first()) {
-        (Some(better), _, _) => new.len() < better.measured.failures.len(),
+        (Some(better), _, _) => new.len() < better.failures.len(),
         (None, Some(first), Some(before)) => {
             new.len() < old.len() || first.number > before.number
         }
@@ -251,38 +235,47 @@ fn is_better(new: &[Failure], old: &[Failure], better: Option<&Tried>) -> bool {
     }
 }
 
-/// A search in which notes speak of all variables, or of all but those that one other actor alone names.
+/// A search in which notes speak of all variables, or of all but those that one other actor alone names. It takes the steps that it
+/// looks at from `left`.
 fn searched(
     alloc: Global,
     plan: &Plan,
     everything: bool,
-    left: u64,
+    left: &mut u64,
     meter: Option<&Meter>,
-) -> Result<(Measured, u64), AllocError> {
+) -> Result<Box<Measured>, AllocError> {
     let mut search = Search {
         plan,
         kept: plan.kept(alloc, everything)?,
         thresholds: thresholds(alloc, plan.app, &plan.kin)?,
+        lessons: Vec::new(alloc),
         learned: 0,
-        left,
+        left: *left,
     };
-    let found = search.run(alloc, meter)?;
-    Ok((found.measured, search.left))
+    let found = search.run(alloc, meter);
+    *left = search.left;
+    found
 }
 
-/// The best certificate that is found.
-fn best(alloc: Global, app: &App, meter: Option<&Meter>) -> Result<Certificate, AllocError> {
-    let plan = Plan::new(alloc, app)?;
-    let (first, left) = searched(alloc, &plan, false, MOST_STEPS, meter)?;
+/// The best try of both searches, where the second one is needed.
+fn best(alloc: Global, plan: &Plan, meter: Option<&Meter>) -> Result<Box<Measured>, AllocError> {
+    let mut left = MOST_STEPS;
+    let first = searched(alloc, plan, false, &mut left, meter)?;
     if first.failures.is_empty() || plan.keeps_everything() {
-        return Ok(first.certificate);
+        return Ok(first);
     }
-    let (second, _) = searched(alloc, &plan, true, left, meter)?;
+    let second = searched(alloc, plan, true, &mut left, meter)?;
     if second.failures.len() < first.failures.len() {
-        Ok(second.certificate)
+        Ok(second)
     } else {
-        Ok(first.certificate)
+        Ok(first)
     }
+}
+
+/// The best try that is found for the application.
+fn found(alloc: Global, app: &App, meter: Option<&Meter>) -> Result<Box<Measured>, AllocError> {
+    let plan = Plan::new(alloc, app)?;
+    best(alloc, &plan, meter)
 }
 
 /// A certificate for the application, the best that is found. Whether it passes is for the judge to say.
@@ -304,6 +297,6 @@ pub fn best_certificate(
 ) -> Result<Certificate, AllocError>
     ensures fits { IfOk result (λ certificate. CertificateFits app.now certificate) }
 {
-    let found = best(alloc, app, meter)?;
-    fitting(alloc, app, found)
+    let found = found(alloc, app, meter)?;
+    fitting(alloc, app, Box::into_inner(found).certificate)
 }

@@ -1,5 +1,6 @@
 // Working through one actor until its notes are stable under its own steps.
 use crate::effect::Effects;
+use crate::lists::is_marked;
 use crate::trial::{Item, Trial};
 use std::alloc::{AllocError, Global};
 use std::collections::{BTreeMap, HashMap};
@@ -45,36 +46,41 @@ impl<'a> Work<'a> {
         Ok(())
     }
 
-    /// Keeps what the point's note became, for what it was and for what it is.
-    fn keep_closed(
+    /// Keeps what a note with this print became.
+    fn keep(&mut self, alloc: Global, print: u64, note: &[usize]) -> Result<(), AllocError> {
+        let note = Vec::from_slice(alloc, note)?;
+        self.closed.insert(print, note)?;
+        Ok(())
+    }
+
+    /// Closes the point's note, which has this print, under the others' steps, and keeps what it became, for
+    /// what it was and for what it is.
+    fn close_new(
         &mut self,
         alloc: Global,
-        trial: &Trial,
+        trial: &mut Trial,
         number: usize,
         print: u64,
     ) -> Result<(), AllocError> {
+        trial.close(alloc, self.actor, number, self.others)?;
         let note = trial.note(number);
-        self.closed.insert(print, Vec::from_slice(alloc, note)?)?;
-        self.closed
-            .insert(print_of(note), Vec::from_slice(alloc, note)?)?;
-        Ok(())
+        self.keep(alloc, print, note)?;
+        self.keep(alloc, print_of(note), note)
     }
 
     /// Closes the point's note under the others' steps; a list that was closed before isn't closed again.
     fn close(&mut self, alloc: Global, trial: &mut Trial, number: usize) -> Result<(), AllocError> {
         let print = print_of(trial.note(number));
-        if let Some(list) = self.closed.get(&print) {
-            let list = Vec::from_slice(alloc, list)?;
-            trial.set_note(number, list);
-            return Ok(());
-        }
-        trial.close(alloc, self.actor, number, self.others)?;
-        self.keep_closed(alloc, trial, number, print)
+        let Some(list) = self.closed.get(&print) else {
+            return self.close_new(alloc, trial, number, print);
+        };
+        trial.set_note(number, Vec::from_slice(alloc, list)?);
+        Ok(())
     }
 
     /// Merges what a step leaves into the point that it leads to, which waits if its note changed.
     fn arrive(&mut self, alloc: Global, trial: &mut Trial, left: Item) -> Result<(), AllocError> {
-        let widen = trial.plan.heads.get(left.number).copied() == Some(true);
+        let widen = is_marked(&trial.plan.heads, left.number);
         if trial.merge(alloc, self.actor, left.number, left.facts, widen)? {
             self.wait(trial, left.number)?;
         }

@@ -11,13 +11,6 @@ use fr_finder::{left_to_mover, left_to_other, target};
 use fr_notes::{Alternative, Change, Known, can_meet, change_by, keeps, spares};
 use std::alloc::{AllocError, Global};
 
-/// Where a step leads, and what it leaves there.
-#[derive(Drop)]
-struct Left {
-    target: usize,
-    facts: Alternative,
-}
-
 impl<'a> Trial<'a> {
     /// Whether the note of the point holds of the mover after each step that makes this change.
     fn is_kept(&self, known: &Known, change: &Change, number: usize) -> bool
@@ -48,36 +41,31 @@ impl<'a> Trial<'a> {
         false
     }
 
-    /// Where a step of the actor by this row leads, and what it leaves of an alternative of its note, as
-    /// far as its notes speak of the variables. None where there is no such step, where nothing is left
-    /// that a note can say, and where the note there holds after it.
+    /// What a step of the actor by this row, which leads to the target, leaves of an alternative of its
+    /// note, as far as its notes speak of the variables. None where there is no such step, where nothing is
+    /// left that a note can say, and where the target's note holds after it.
     fn left(
         &self,
         alloc: Global,
         place: Place,
         facts: &Alternative,
         way: Way,
-    ) -> Result<Option<Left>, AllocError>
+        target: usize,
+    ) -> Result<Option<Alternative>, AllocError>
         requires placed { IsPlaced self.now.pool.app.now place.point place.instr.now }
         requires fits { AlternativeFits self.now.pool.app.now facts.now }
-        ensures { IfOk result (λ left. IfSome left (λ l. AlternativeFits self.now.pool.app.now l.facts)) }
+        ensures { IfOk result (λ left. IfSome left (λ n. AlternativeFits self.now.pool.app.now n)) }
     {
         let app = self.pool.app();
         let known = Known::alone(facts);
         let Some(change) = change_by(app, &known, place.point, place.instr, way) else {
             return Ok(None);
         };
-        let Some(target) = target(app, place.point, place.instr, way) else {
-            return Ok(None);
-        };
         if self.is_kept(&known, &change, target) {
             return Ok(None);
         }
         let said = self.kept.row(place.point.actor.0);
-        match left_to_mover(alloc, app, &known, &change, Some(said))? {
-            Some(facts) => Ok(Some(Left { target, facts })),
-            None => Ok(None),
-        }
+        left_to_mover(alloc, app, &known, &change, Some(said))
     }
 
     /// What a step of the mover by this row leaves of another actor's alternative at its point. None where
@@ -124,10 +112,14 @@ impl<'a> Trial<'a> {
         let (Some(place), Some(facts)) = (place, self.pool.get(from.facts)) else {
             return Ok(None);
         };
-        match self.left(alloc, place, facts, way)? {
-            Some(left) => Ok(Some(Item {
-                number: left.target,
-                facts: self.pool.number(left.facts)?,
+        let Some(target) = target(app, place.point, place.instr, way) else {
+            return Ok(None);
+        };
+        let left = self.left(alloc, place, facts, way, target)?;
+        match self.pool.kept(left)? {
+            Some(facts) => Ok(Some(Item {
+                number: target,
+                facts,
             })),
             None => Ok(None),
         }
@@ -166,9 +158,7 @@ impl<'a> Trial<'a> {
         other: Item,
         way: Way,
     ) -> Result<Option<usize>, AllocError> {
-        match self.left_by(alloc, mover, actor, other, way)? {
-            Some(left) => Ok(Some(self.pool.number(left)?)),
-            None => Ok(None),
-        }
+        let left = self.left_by(alloc, mover, actor, other, way)?;
+        self.pool.kept(left)
     }
 }

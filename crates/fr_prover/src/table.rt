@@ -1,4 +1,5 @@
 // Tables of truth values.
+use crate::lists::{is_marked, list_at, mark};
 use std::alloc::{AllocError, Global};
 
 /// Truth values in rows and columns, by their numbers from 0.
@@ -33,23 +34,18 @@ impl Table {
 
     /// The row; an empty one where the table has none with this number.
     pub fn row(&self, row: usize) -> &[bool] {
-        match self.rows.get(row) {
-            Some(row) => row,
-            None => &[],
-        }
+        list_at(&self.rows, row)
     }
 
     /// Whether it is true there. Outside the table nothing is.
     pub fn has(&self, row: usize, column: usize) -> bool {
-        self.row(row).get(column).copied() == Some(true)
+        is_marked(self.row(row), column)
     }
 
     /// Makes it true there. Outside the table nothing changes.
     pub fn mark(&mut self, row: usize, column: usize) {
         if let Some(cells) = self.rows.get_mut(row) {
-            if let Some(cell) = cells.get_mut(column) {
-                *cell = true;
-            }
+            mark(cells, column);
         }
     }
 
@@ -67,14 +63,19 @@ impl Table {
 
     /// How many of the column are true.
     pub fn count_column(&self, column: usize) -> usize {
-        self.rows
-            .iter()
-            .filter(|row| row.get(column).copied() == Some(true))
-            .count()
+        let mut count: usize = 0;
+        for row in &self.rows {
+            count = count.saturating_add(usize::from(is_marked(row, column)));
+        }
+        count
     }
 
     /// How many of the row are true.
     pub fn count(&self, row: usize) -> usize {
-        self.row(row).iter().filter(|cell| **cell).count()
+        let mut count: usize = 0;
+        for cell in self.row(row) {
+            count = count.saturating_add(usize::from(*cell));
+        }
+        count
     }
 }

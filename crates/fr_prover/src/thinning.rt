@@ -3,24 +3,28 @@ ghost use Rattle.std.specs.Prelude.{IfOk, IfSome};
 ghost use Rattle.fr_notes.specs.Fits.{AlternativeFits};
 ghost use Rattle.fr_ends.specs.Fits.{CertificateFits};
 
+use crate::lists::{add_once, empty_lists, is_marked};
 use crate::measure::{certificate_of, fitting};
 use crate::needs::Needs;
 use crate::pool::Pool;
 use fr_ends::Certificate;
-use fr_notes::{Alternative, Claim, Note};
+use fr_notes::{Alternative, Claim, Note, Notes};
 use fr_program::{App, Range, VarId};
 use std::alloc::{AllocError, Global};
+
+/// The claim, without the life of an object that isn't needed.
+fn thin_claim(claim: Claim, is_needed: bool) -> Claim {
+    match claim {
+        Claim::Alive | Claim::Gone if !is_needed => Claim::NotHeld,
+        claim => claim,
+    }
+}
 
 /// The claims, without the lives of objects that aren't needed.
 fn thin_claims(alloc: Global, claims: &[Claim], needed: &[bool]) -> Result<Vec<Claim>, AllocError> {
     let mut thin = Vec::with_capacity(alloc, claims.len())?;
     for (object, claim) in claims.iter().enumerate() {
-        match claim {
-            Claim::Alive | Claim::Gone if needed.get(object).copied() != Some(true) => {
-                thin.push(Claim::NotHeld)?;
-            }
-            claim => thin.push(*claim)?,
-        }
+        thin.push(thin_claim(*claim, is_marked(needed, object)))?;
     }
     Ok(thin)
 }
@@ -36,11 +40,12 @@ fn thin_ranges(
     let mut thin = Vec::with_capacity(alloc, variables)?;
     for variable in 0..variables {
         let name = VarId(variable);
-        if needed.get(variable).copied() == Some(true) {
-            thin.push(facts.range(name))?;
+        let range = if is_marked(needed, variable) {
+            facts.range(name)
         } else {
-            thin.push(app.range(name))?;
-        }
+            app.range(name)
+        };
+        thin.push(range)?;
     }
     Ok(thin)
 }
@@ -75,11 +80,26 @@ fn thin_note(
             continue;
         };
         let facts = pool.number(thin)?;
-        if !list.contains(&facts) {
-            list.push(facts)?;
-        }
+        add_once(&mut list, facts)?;
     }
     Ok(list)
+}
+
+/// By point: the numbers of what its note says of what is needed there.
+fn thin_lists(
+    alloc: Global,
+    pool: &mut Pool,
+    notes: &Notes,
+) -> Result<Vec<Vec<usize>>, AllocError> {
+    let app = pool.app();
+    let needs = Needs::of(alloc, app)?;
+    let mut lists = empty_lists(alloc, app.points())?;
+    for number in 0..app.points() {
+        if let (Some(list), Some(note)) = (lists.get_mut(number), notes.get(number)) {
+            *list = thin_note(alloc, pool, note, &needs, number)?;
+        }
+    }
+    Ok(lists)
 }
 
 /// The same certificate, but that a note says nothing of the numbers of variables and of the lives of
@@ -98,16 +118,8 @@ pub fn thinned(
 ) -> Result<Certificate, AllocError>
     ensures fits { IfOk result (λ thin. CertificateFits app.now thin) }
 {
-    let needs = Needs::of(alloc, app)?;
     let mut pool = Pool::new(alloc, app);
-    let mut lists = Vec::with_capacity(alloc, app.points())?;
-    for number in 0..app.points() {
-        let list = match certificate.notes.get(number) {
-            Some(note) => thin_note(alloc, &mut pool, note, &needs, number)?,
-            None => Vec::new(alloc),
-        };
-        lists.push(list)?;
-    }
+    let lists = thin_lists(alloc, &mut pool, &certificate.notes)?;
     let thin = certificate_of(alloc, &pool, &lists)?;
     fitting(alloc, app, thin)
 }

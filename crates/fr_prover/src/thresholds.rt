@@ -1,8 +1,10 @@
 // The numbers at which a range that grows may rest: those that the code tests, sets, picks or receives.
+use crate::lists::{empty_lists, insert, insert_inside, list_at};
 use crate::place::{named, number_of, place_at, variable_of};
-use fr_program::{Act, App, Attempt, Call, Instr, Kind, ObjectCall, Operand, Operator, VarId};
+use fr_program::{
+    Act, App, Attempt, Call, Instr, Kind, ObjectCall, Operand, Operator, Range, VarId,
+};
 use std::alloc::{AllocError, Global};
-use std::collections::BTreeSet;
 
 /// Which variables are copied, computed or compared with one another: each with the name of its kin,
 /// which is one of their numbers.
@@ -64,31 +66,28 @@ pub fn kin_of(alloc: Global, app: &App) -> Result<Kin, AllocError> {
     Ok(kin)
 }
 
-/// Sets of numbers, by the name of the variables' kin.
+/// Rising lists of numbers, by the name of the variables' kin.
 #[derive(Drop)]
 struct Gathering<'a> {
     app: &'a App,
     kin: &'a Kin,
-    sets: Vec<BTreeSet<i128>>,
-}
-
-/// So many empty sets.
-fn empty_sets(alloc: Global, count: usize) -> Result<Vec<BTreeSet<i128>>, AllocError> {
-    let mut sets = Vec::with_capacity(alloc, count)?;
-    for _ in 0..count {
-        sets.push(BTreeSet::new(alloc))?;
-    }
-    Ok(sets)
+    lists: Vec<Vec<i128>>,
 }
 
 impl<'a> Gathering<'a> {
     /// Adds a number for the variable's kin.
     fn add(&mut self, variable: VarId, number: i128) -> Result<(), AllocError> {
         let name = self.kin.name(variable.0);
-        if let Some(set) = self.sets.get_mut(name) {
-            set.insert(number)?;
+        if let Some(list) = self.lists.get_mut(name) {
+            insert(list, number)?;
         }
         Ok(())
+    }
+
+    /// Adds two numbers for the variable's kin.
+    fn add_both(&mut self, variable: VarId, one: i128, other: i128) -> Result<(), AllocError> {
+        self.add(variable, one)?;
+        self.add(variable, other)
     }
 
     /// Adds the number that the operand is, if it is one.
@@ -107,8 +106,7 @@ impl<'a> Gathering<'a> {
             return Ok(());
         };
         let (lo, hi) = (i128::from(declared.lo), i128::from(declared.hi));
-        self.add(variable, lo + i128::from(by))?;
-        self.add(variable, hi - i128::from(by))
+        self.add_both(variable, lo + i128::from(by), hi - i128::from(by))
     }
 
     /// Adds what a `set` tells of its variable.
@@ -148,24 +146,18 @@ impl<'a> Gathering<'a> {
         let Some(variable) = variable else {
             return Ok(());
         };
-        match self
-            .app
-            .objects()
-            .get(call.object.0)
-            .map(|object| object.kind)
-        {
-            Some(Kind::Queue { lo, hi, .. }) => {
-                self.add(variable, i128::from(lo))?;
-                self.add(variable, i128::from(hi))
-            }
+        let Some(object) = self.app.objects().get(call.object.0) else {
+            return Ok(());
+        };
+        match object.kind {
+            Kind::Queue { lo, hi, .. } => self.add_both(variable, i128::from(lo), i128::from(hi)),
             _ => Ok(()),
         }
     }
 
     /// Adds what a call's result can be: nothing, one byte, or all of its length.
     fn add_result(&mut self, variable: VarId, length: u32) -> Result<(), AllocError> {
-        self.add(variable, 0)?;
-        self.add(variable, 1)?;
+        self.add_both(variable, 0, 1)?;
         self.add(variable, i128::from(length))
     }
 
@@ -203,8 +195,7 @@ impl<'a> Gathering<'a> {
                 self.add_test(*right, *left)
             }
             Instr::Pick { target, lo, hi } => {
-                self.add(*target, i128::from(*lo))?;
-                self.add(*target, i128::from(*hi))
+                self.add_both(*target, i128::from(*lo), i128::from(*hi))
             }
             Instr::Call(Call::On(call)) => self.add_call(call),
             _ => Ok(()),
@@ -230,51 +221,36 @@ impl<'a> Gathering<'a> {
     }
 }
 
-/// Adds a number, if it is in the declared range.
-fn add_inside(
-    thresholds: &mut BTreeSet<i128>,
-    declared: (i128, i128),
-    number: i128,
-) -> Result<(), AllocError> {
-    if declared.0 <= number && number <= declared.1 {
-        thresholds.insert(number)?;
-    }
-    Ok(())
-}
-
 /// The declared ends, and of the numbers each that lies between them, with the ones beside it.
-fn inside(
-    alloc: Global,
-    declared: (i128, i128),
-    numbers: &BTreeSet<i128>,
-) -> Result<BTreeSet<i128>, AllocError> {
-    let mut thresholds = BTreeSet::new(alloc);
-    thresholds.insert(declared.0)?;
-    thresholds.insert(declared.1)?;
-    for number in numbers.iter() {
-        add_inside(&mut thresholds, declared, number.saturating_sub(1))?;
-        add_inside(&mut thresholds, declared, *number)?;
-        add_inside(&mut thresholds, declared, number.saturating_add(1))?;
+fn inside(alloc: Global, declared: Range, numbers: &[i128]) -> Result<Vec<i128>, AllocError> {
+    let mut thresholds = Vec::new(alloc);
+    insert(&mut thresholds, declared.lo)?;
+    insert(&mut thresholds, declared.hi)?;
+    for number in numbers {
+        insert_inside(&mut thresholds, declared, number.saturating_sub(1))?;
+        insert_inside(&mut thresholds, declared, *number)?;
+        insert_inside(&mut thresholds, declared, number.saturating_add(1))?;
     }
     Ok(thresholds)
 }
 
-/// By variable: the numbers at which a range that grows may rest.
-pub fn thresholds(alloc: Global, app: &App, kin: &Kin) -> Result<Vec<BTreeSet<i128>>, AllocError> {
-    let variables = app.variables();
-    let mut gathering = Gathering {
-        app,
-        kin,
-        sets: empty_sets(alloc, variables.len())?,
-    };
+/// By the name of the variables' kin: the numbers that the application tells of, rising.
+fn gathered(alloc: Global, app: &App, kin: &Kin) -> Result<Vec<Vec<i128>>, AllocError> {
+    let lists = empty_lists(alloc, app.variables().len())?;
+    let mut gathering = Gathering { app, kin, lists };
     gathering.add_starts()?;
     gathering.add_instrs()?;
-    let none = BTreeSet::new(alloc);
-    let mut thresholds = Vec::with_capacity(alloc, variables.len())?;
-    for (variable, declared) in variables.iter().enumerate() {
-        let ends = (i128::from(declared.lo), i128::from(declared.hi));
-        let numbers = gathering.sets.get(kin.name(variable)).unwrap_or(&none);
-        thresholds.push(inside(alloc, ends, numbers)?)?;
+    Ok(gathering.lists)
+}
+
+/// By variable: the numbers at which a range that grows may rest, rising.
+pub fn thresholds(alloc: Global, app: &App, kin: &Kin) -> Result<Vec<Vec<i128>>, AllocError> {
+    let gathered = gathered(alloc, app, kin)?;
+    let variables = app.variables().len();
+    let mut thresholds = Vec::with_capacity(alloc, variables)?;
+    for variable in 0..variables {
+        let numbers = list_at(&gathered, kin.name(variable));
+        thresholds.push(inside(alloc, app.range(VarId(variable)), numbers)?)?;
     }
     Ok(thresholds)
 }

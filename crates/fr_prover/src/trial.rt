@@ -4,15 +4,16 @@ ghost use Rattle.fr_notes.specs.Fits.{AlternativeFits};
 
 use crate::division::{Division, add_cuts, are_alike};
 use crate::growth::{Growth, grown};
+use crate::lists::{empty_lists, is_marked, list_at};
 use crate::place::{place_at, ways};
 use crate::plan::Plan;
 use crate::pool::Pool;
 use crate::table::Table;
 use fr_calls::Way;
 use fr_notes::{Alternative, Claim, Known, keeps};
-use fr_program::{App, Range, VarId};
+use fr_program::{App, ObjId, Range, VarId};
 use std::alloc::{AllocError, Global};
-use std::collections::{BTreeSet, HashMap};
+use std::collections::HashMap;
 
 /// An alternative of a point's note, by the numbers of both.
 #[derive(Clone, Copy)]
@@ -45,25 +46,15 @@ pub struct Trial<'a> {
 /// By variable: these thresholds, and those that the divisions ask for.
 fn thresholds_for(
     alloc: Global,
-    sets: &[BTreeSet<i128>],
+    lists: &[Vec<i128>],
     divisions: &[Division],
 ) -> Result<Vec<Vec<i128>>, AllocError> {
-    let mut thresholds = Vec::with_capacity(alloc, sets.len())?;
-    for numbers in sets {
-        let numbers: Vec<i128> = numbers.iter().copied().collect(alloc)?;
-        thresholds.push(numbers)?;
+    let mut thresholds = Vec::with_capacity(alloc, lists.len())?;
+    for numbers in lists {
+        thresholds.push(Vec::from_slice(alloc, numbers)?)?;
     }
     add_cuts(&mut thresholds, divisions)?;
     Ok(thresholds)
-}
-
-/// For each point no alternative.
-fn no_notes(alloc: Global, app: &App) -> Result<Vec<Vec<usize>>, AllocError> {
-    let mut notes = Vec::with_capacity(alloc, app.points())?;
-    for _ in 0..app.points() {
-        notes.push(Vec::new(alloc))?;
-    }
-    Ok(notes)
 }
 
 /// By variable: whether the notes of several actors speak of it.
@@ -87,14 +78,14 @@ fn common_claim(claim: Claim, other: Claim) -> Claim {
 /// What both alternatives say of the objects.
 fn common_claims(
     alloc: Global,
-    claims: &[Claim],
-    others: &[Claim],
+    one: &Alternative,
+    other: &Alternative,
 ) -> Result<Vec<Claim>, AllocError> {
-    let mut claims_of_both = Vec::with_capacity(alloc, claims.len())?;
-    for (claim, other) in claims.iter().zip(others) {
-        claims_of_both.push(common_claim(*claim, *other))?;
+    let mut claims = Vec::with_capacity(alloc, one.claims().len())?;
+    for (object, claim) in one.claims().iter().enumerate() {
+        claims.push(common_claim(*claim, other.claim(ObjId(object))))?;
     }
-    Ok(claims_of_both)
+    Ok(claims)
 }
 
 impl<'a> Trial<'a> {
@@ -102,7 +93,7 @@ impl<'a> Trial<'a> {
     pub fn new(
         alloc: Global,
         plan: &'a Plan<'a>,
-        thresholds: &[BTreeSet<i128>],
+        thresholds: &[Vec<i128>],
         divisions: &'a [Division],
         kept: &'a Table,
         left: u64,
@@ -113,8 +104,8 @@ impl<'a> Trial<'a> {
             kept,
             felt: felt_in(alloc, plan.app, kept)?,
             thresholds: thresholds_for(alloc, thresholds, divisions)?,
+            notes: empty_lists(alloc, plan.app.points())?,
             pool: Pool::new(alloc, plan.app),
-            notes: no_notes(alloc, plan.app)?,
             growths: HashMap::new(alloc),
             left,
         })
@@ -122,15 +113,12 @@ impl<'a> Trial<'a> {
 
     /// The numbers of the alternatives of a point's note so far.
     pub fn note(&self, number: usize) -> &[usize] {
-        match self.notes.get(number) {
-            Some(note) => note,
-            None => &[],
-        }
+        list_at(&self.notes, number)
     }
 
     /// Whether the notes of several actors speak of the variable.
     pub fn is_felt(&self, variable: usize) -> bool {
-        self.felt.get(variable).copied() == Some(true)
+        is_marked(&self.felt, variable)
     }
 
     /// The rows by which the point's instruction can have a step.
@@ -145,14 +133,6 @@ impl<'a> Trial<'a> {
     pub fn spend(&mut self) -> bool {
         self.left = self.left.saturating_sub(1);
         self.left > 0
-    }
-
-    /// The numbers at which a range of the variable that grows may rest.
-    fn rests(&self, variable: usize) -> &[i128] {
-        match self.thresholds.get(variable) {
-            Some(rests) => rests,
-            None => &[],
-        }
     }
 
     /// Whether the first alternative implies the second one, by their numbers.
@@ -186,7 +166,7 @@ impl<'a> Trial<'a> {
         let variables = app.variables().len();
         let mut ranges = Vec::with_capacity(alloc, variables)?;
         for variable in 0..variables {
-            let (name, rests) = (VarId(variable), self.rests(variable));
+            let (name, rests) = (VarId(variable), list_at(&self.thresholds, variable));
             let (range, more, declared) = (one.range(name), other.range(name), app.range(name));
             ranges.push(grown(range, more, declared, rests, growth))?;
         }
@@ -207,7 +187,7 @@ impl<'a> Trial<'a> {
         let (Some(one), Some(other)) = (self.pool.get(one), self.pool.get(other)) else {
             return Ok(None);
         };
-        let claims = common_claims(alloc, one.claims(), other.claims())?;
+        let claims = common_claims(alloc, one, other)?;
         let ranges = self.grown_ranges(alloc, one, other, growth)?;
         let (app, crit, susp) = (self.pool.app(), one.critical(), one.suspended());
         Ok(Alternative::fitting(app, crit, susp, claims, ranges))
@@ -221,10 +201,8 @@ impl<'a> Trial<'a> {
         other: usize,
         growth: Growth,
     ) -> Result<Option<usize>, AllocError> {
-        match self.common(alloc, one, other, growth)? {
-            Some(both) => Ok(Some(self.pool.number(both)?)),
-            None => Ok(None),
-        }
+        let both = self.common(alloc, one, other, growth)?;
+        self.pool.kept(both)
     }
 
     /// How often this alternative of the point has grown, one more with this time.
