@@ -88,9 +88,10 @@ impl Concern {
 
 /// What the first failures have to do with.
 fn concern_of(alloc: Global, app: &App, failures: &[Failure]) -> Result<Concern, AllocError> {
+    let objects = vec![in alloc; false; app.objects().len()]?;
     let mut concern = Concern {
         actors: Vec::new(alloc),
-        objects: vec![in alloc; false; app.objects().len()]?,
+        objects,
     };
     for failure in failures.iter().take(LOOKED_AT) {
         concern.add(app, *failure)?;
@@ -235,26 +236,15 @@ impl<'a> Candidates<'a> {
 
     /// Adds divisions by the lives of the objects, for the actors that the failures have to do with.
     fn add_objects(&mut self, alloc: Global, concern: &Concern) -> Result<(), AllocError> {
-        let mut actors = vec![in alloc; false; self.plan.app.actors().len()]?;
+        let mut marks = vec![in alloc; false; self.plan.app.actors().len()]?;
         for actor in &concern.actors {
-            mark(&mut actors, *actor);
+            mark(&mut marks, *actor);
         }
         for object in 0..concern.objects.len() {
             if is_marked(&concern.objects, object) {
-                self.add(Division {
-                    split: Split::Life(object),
-                    actors: Vec::from_slice(alloc, &actors)?,
-                })?;
-            }
-        }
-        Ok(())
-    }
-
-    /// Adds the variables that the actor names.
-    fn add_named(&mut self, alloc: Global, actor: usize) -> Result<(), AllocError> {
-        for variable in 0..self.plan.app.variables().len() {
-            if self.plan.users.has(variable, actor) {
-                self.add_variable(alloc, variable)?;
+                let actors = Vec::from_slice(alloc, &marks)?;
+                let split = Split::Life(object);
+                self.add(Division { split, actors })?;
             }
         }
         Ok(())
@@ -263,7 +253,11 @@ impl<'a> Candidates<'a> {
     /// Adds the variables that the actors name.
     fn add_all_named(&mut self, alloc: Global, actors: &[usize]) -> Result<(), AllocError> {
         for actor in actors {
-            self.add_named(alloc, *actor)?;
+            for variable in 0..self.plan.app.variables().len() {
+                if self.plan.users.has(variable, *actor) {
+                    self.add_variable(alloc, variable)?;
+                }
+            }
         }
         Ok(())
     }

@@ -1,27 +1,12 @@
 // Closing a point's note under the steps of other actors.
 use crate::effect::{Effect, Effects};
 use crate::trial::{Item, Trial};
-use fr_notes::{Alternative, Claim};
+use fr_notes::Claim;
 use fr_program::{ObjId, Range, VarId};
 use std::alloc::{AllocError, Global};
 
 /// So often a note is closed at most: it has grown to the declared ends long before.
 const MOST_TURNS: usize = 10_000;
-
-/// Adds the variables of which the other actor's steps may write what the alternative excludes.
-fn add_felt(
-    felt: &mut Vec<(usize, usize)>,
-    other: usize,
-    effects: &Effects,
-    facts: &Alternative,
-) -> Result<(), AllocError> {
-    for (variable, written) in effects.writes.iter().enumerate() {
-        if written.is_felt(variable, facts) {
-            felt.push((other, variable))?;
-        }
-    }
-    Ok(())
-}
 
 /// The other actor's steps that write the variable.
 fn effects_on(others: &[Effects], other: usize, variable: usize) -> &[Effect] {
@@ -99,8 +84,10 @@ impl<'a> Trial<'a> {
             return Ok(felt);
         };
         for (other, effects) in others.iter().enumerate() {
-            if other != actor {
-                add_felt(&mut felt, other, effects, facts)?;
+            for (variable, written) in effects.writes.iter().enumerate() {
+                if other != actor && written.is_felt(variable, facts) {
+                    felt.push((other, variable))?;
+                }
             }
         }
         Ok(felt)

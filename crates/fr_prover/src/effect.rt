@@ -218,6 +218,15 @@ fn no_writes(alloc: Global, count: usize) -> Result<Vec<Written>, AllocError> {
     Ok(writes)
 }
 
+/// The variable to which the step by the first row gives numbers, with these numbers.
+pub fn given_by(app: &App, place: Place, facts: &Alternative) -> Option<(VarId, Range)>
+    requires placed { IsPlaced app.now place.point place.instr.now }
+    requires fits { AlternativeFits app.now facts.now }
+{
+    let known = Known::alone(facts);
+    change_by(app, &known, place.point, place.instr, Way::Then)?.first
+}
+
 /// The variable that a step by the first row writes, with what it can get of the declared range.
 fn written_by(app: &App, place: Place, facts: &Alternative) -> Option<(VarId, Range)>
     requires placed { IsPlaced app.now place.point place.instr.now }
@@ -226,9 +235,7 @@ fn written_by(app: &App, place: Place, facts: &Alternative) -> Option<(VarId, Ra
     if matches!(place.instr, Instr::If { .. }) {
         return None;
     }
-    let known = Known::alone(facts);
-    let change = change_by(app, &known, place.point, place.instr, Way::Then)?;
-    let (variable, range) = change.first?;
+    let (variable, range) = given_by(app, place, facts)?;
     if variable.0 >= app.variables().len() {
         return None;
     }
@@ -289,27 +296,15 @@ impl Effects {
         }
     }
 
-    /// Adds what the step from the point does, by each alternative of its note.
-    fn add_each(&mut self, alloc: Global, trial: &Trial, number: usize) -> Result<(), AllocError> {
-        for facts in trial.note(number) {
-            self.add(
-                alloc,
-                trial,
-                Item {
-                    number,
-                    facts: *facts,
-                },
-            )?;
-        }
-        Ok(())
-    }
-
     /// What the steps of an actor do, by its notes so far.
     pub fn of(alloc: Global, trial: &Trial, actor: usize) -> Result<Effects, AllocError> {
         let mut effects = Effects::none(alloc, trial.plan.app)?;
         let span = trial.plan.span(actor);
         for number in span.first..span.end {
-            effects.add_each(alloc, trial, number)?;
+            for facts in trial.note(number) {
+                let facts = *facts;
+                effects.add(alloc, trial, Item { number, facts })?;
+            }
         }
         Ok(effects)
     }

@@ -32,21 +32,16 @@ fn overwritten(instr: &Instr) -> Option<usize> {
     }
 }
 
-/// Marks the variables that the instruction tests.
-fn mark_tested(list: &mut Vec<bool>, instr: &Instr) {
-    for variable in tested(instr) {
-        if let Some(variable) = variable {
-            mark(list, variable.0);
-        }
-    }
-}
-
 /// By point and variable: whether some line tests the variable.
 fn tested_somewhere(alloc: Global, app: &App) -> Result<Table, AllocError> {
     let mut list = vec![in alloc; false; app.variables().len()]?;
     for number in 0..app.points() {
         if let Some(place) = place_at(app, number) {
-            mark_tested(&mut list, place.instr);
+            for variable in tested(place.instr) {
+                if let Some(variable) = variable {
+                    mark(&mut list, variable.0);
+                }
+            }
         }
     }
     Table::repeated(alloc, app.points(), &list)

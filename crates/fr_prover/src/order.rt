@@ -129,21 +129,11 @@ fn postorder(alloc: Global, code: &[Instr]) -> Result<Vec<usize>, AllocError> {
     Ok(walk.done)
 }
 
-/// Gives both points of an instruction their places.
-fn set_places(app: &App, places: &mut Vec<usize>, actor: usize, pc: usize, place: usize) {
-    for side in [Side::Before, Side::Inside] {
-        let point = Point {
-            actor: ActorId(actor),
-            pc,
-            side,
-        };
-        if let Some(number) = app.number(point) {
-            if let Some(cell) = places.get_mut(number) {
-                *cell = match side {
-                    Side::Before => place,
-                    Side::Inside => place.saturating_add(1),
-                };
-            }
+/// Gives the point of an instruction its place.
+fn set_place(app: &App, places: &mut Vec<usize>, point: Point, place: usize) {
+    if let Some(number) = app.number(point) {
+        if let Some(cell) = places.get_mut(number) {
+            *cell = place;
         }
     }
 }
@@ -153,13 +143,21 @@ fn set_all_places(
     alloc: Global,
     app: &App,
     places: &mut Vec<usize>,
-    actor: usize,
+    actor: ActorId,
     code: &[Instr],
 ) -> Result<(), AllocError> {
     let order = postorder(alloc, code)?;
     let mut place: usize = 0;
     for pc in order.iter().rev() {
-        set_places(app, places, actor, *pc, place);
+        let (pc, side) = (*pc, Side::Before);
+        set_place(app, places, Point { actor, pc, side }, place);
+        let side = Side::Inside;
+        set_place(
+            app,
+            places,
+            Point { actor, pc, side },
+            place.saturating_add(1),
+        );
         place = place.saturating_add(2);
     }
     Ok(())
@@ -170,7 +168,7 @@ fn set_all_places(
 pub fn places_in_order(alloc: Global, app: &App) -> Result<Vec<usize>, AllocError> {
     let mut places = vec![in alloc; usize::MAX; app.points()]?;
     for (actor, listed) in app.actors().iter().enumerate() {
-        set_all_places(alloc, app, &mut places, actor, &listed.code)?;
+        set_all_places(alloc, app, &mut places, ActorId(actor), &listed.code)?;
     }
     Ok(places)
 }

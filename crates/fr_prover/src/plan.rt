@@ -1,7 +1,7 @@
 // What is looked up of an application once, before the search.
 use crate::lists::{add_once, empty_lists, insert_inside};
 use crate::order::{heads, places_in_order};
-use crate::place::{Place, named, number_of, place_at, tested, variable_of};
+use crate::place::{named, number_of, place_at, tested, variable_of};
 use crate::table::Table;
 use crate::thresholds::{Kin, kin_of};
 use fr_program::{App, Instr, Operand};
@@ -34,21 +34,16 @@ pub struct Plan<'a> {
     pub spans: Vec<Span>,
 }
 
-/// Marks the variables that the point's instruction names as used by its actor.
-fn mark_named(users: &mut Table, place: Place) {
-    for variable in named(place.instr) {
-        if let Some(variable) = variable {
-            users.mark(variable.0, place.point.actor.0);
-        }
-    }
-}
-
 /// Which actor's code names which variable.
 fn users(alloc: Global, app: &App) -> Result<Table, AllocError> {
     let mut users = Table::new(alloc, app.variables().len(), app.actors().len(), false)?;
     for number in 0..app.points() {
         if let Some(place) = place_at(app, number) {
-            mark_named(&mut users, place);
+            for variable in named(place.instr) {
+                if let Some(variable) = variable {
+                    users.mark(variable.0, place.point.actor.0);
+                }
+            }
         }
     }
     Ok(users)
@@ -152,7 +147,12 @@ impl<'a> Plan<'a> {
         let (actors, variables) = (self.app.actors().len(), self.app.variables().len());
         let mut kept = Table::new(alloc, actors, variables, everything)?;
         for variable in 0..variables {
-            self.keep_for_all(&mut kept, variable);
+            let shared = self.users.count(variable) != 1;
+            for actor in 0..actors {
+                if shared || self.users.has(variable, actor) {
+                    kept.mark(actor, variable);
+                }
+            }
         }
         Ok(kept)
     }
@@ -166,15 +166,5 @@ impl<'a> Plan<'a> {
             }
         }
         true
-    }
-
-    /// Marks the variable as kept for each actor that names it, and for all where not one alone does.
-    fn keep_for_all(&self, kept: &mut Table, variable: usize) {
-        let shared = self.users.count(variable) != 1;
-        for actor in 0..self.app.actors().len() {
-            if shared || self.users.has(variable, actor) {
-                kept.mark(actor, variable);
-            }
-        }
     }
 }

@@ -32,15 +32,18 @@ impl<'a> Trial<'a> {
     /// Gives the actor's first point the note of the start.
     fn begin_actor(&mut self, alloc: Global, actor: usize) -> Result<(), AllocError> {
         let app = self.pool.app();
-        let claims = claims_at_start(alloc, app)?;
-        let ranges = ranges_at_start(alloc, app, self.kept.row(actor))?;
-        let start = Alternative::fitting(app, 0, 0, claims, ranges);
         let point = Point {
             actor: ActorId(actor),
             pc: 0,
             side: Side::Before,
         };
-        if let (Some(facts), Some(number)) = (self.pool.kept(start)?, app.number(point)) {
+        let Some(number) = app.number(point) else {
+            return Ok(());
+        };
+        let claims = claims_at_start(alloc, app)?;
+        let ranges = ranges_at_start(alloc, app, self.kept.row(actor))?;
+        let start = Alternative::fitting(app, 0, 0, claims, ranges);
+        if let Some(facts) = self.pool.kept(start)? {
             let note = Vec::from_slice(alloc, &[facts])?;
             self.set_note(number, note);
         }

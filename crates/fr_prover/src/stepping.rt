@@ -108,8 +108,10 @@ impl<'a> Trial<'a> {
         way: Way,
     ) -> Result<Option<Item>, AllocError> {
         let app = self.pool.app();
-        let place = place_at(app, from.number);
-        let (Some(place), Some(facts)) = (place, self.pool.get(from.facts)) else {
+        let Some(place) = place_at(app, from.number) else {
+            return Ok(None);
+        };
+        let Some(facts) = self.pool.get(from.facts) else {
             return Ok(None);
         };
         let Some(target) = target(app, place.point, place.instr, way) else {

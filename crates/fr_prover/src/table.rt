@@ -16,11 +16,8 @@ impl Table {
         columns: usize,
         value: bool,
     ) -> Result<Table, AllocError> {
-        let mut lists = Vec::with_capacity(alloc, rows)?;
-        for _ in 0..rows {
-            lists.push(vec![in alloc; value; columns]?)?;
-        }
-        Ok(Table { rows: lists })
+        let row = vec![in alloc; value; columns]?;
+        Table::repeated(alloc, rows, &row)
     }
 
     /// A table of so many rows that are all like this one.
