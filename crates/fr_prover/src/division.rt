@@ -142,32 +142,22 @@ pub fn are_alike(
     true
 }
 
-/// Feeds what the actor holds to a hash.
-fn feed_held(claims: &[Claim], hasher: &mut FoldHasher) {
-    for claim in claims {
-        count_of(*claim).hash(hasher);
-    }
-}
-
-/// Feeds where the divisions put an alternative of the actor to a hash.
-fn feed_parts(divisions: &[Division], actor: usize, facts: &Alternative, hasher: &mut FoldHasher) {
-    for division in divisions {
-        if division.is_of(actor) {
-            let (first, last) = division.split.parts(facts);
-            first.hash(hasher);
-            last.hash(hasher);
-        }
-    }
-}
-
 /// A number that the alternatives of a point have in common which the divisions keep together.
 pub fn part_print(divisions: &[Division], actor: usize, number: usize, facts: &Alternative) -> u64 {
     let mut hasher = FoldHasher::default();
     number.hash(&mut hasher);
     facts.critical().hash(&mut hasher);
     facts.suspended().hash(&mut hasher);
-    feed_held(facts.claims(), &mut hasher);
-    feed_parts(divisions, actor, facts, &mut hasher);
+    for claim in facts.claims() {
+        count_of(*claim).hash(&mut hasher);
+    }
+    for division in divisions {
+        if division.is_of(actor) {
+            let (first, last) = division.split.parts(facts);
+            first.hash(&mut hasher);
+            last.hash(&mut hasher);
+        }
+    }
     hasher.finish()
 }
 

@@ -20,29 +20,13 @@ pub struct Pool<'a> {
     ghost fit: { All (λ n. AlternativeFits app.now n) items.items } by { Prim.hlevel fact_props },
 }
 
-/// Feeds a claim to a hash.
-fn feed_claim(claim: Claim, hasher: &mut FoldHasher) {
-    let word: u32 = match claim {
+/// A number that tells claims apart.
+fn word_of(claim: Claim) -> u32 {
+    match claim {
         Claim::NotHeld => 0,
         Claim::Alive => 1,
         Claim::Gone => 2,
         Claim::HeldTimes(count) => count.saturating_add(3),
-    };
-    word.hash(hasher);
-}
-
-/// Feeds the claims to a hash.
-fn feed_claims(claims: &[Claim], hasher: &mut FoldHasher) {
-    for claim in claims {
-        feed_claim(*claim, hasher);
-    }
-}
-
-/// Feeds the ranges to a hash.
-fn feed_ranges(ranges: &[Range], hasher: &mut FoldHasher) {
-    for range in ranges {
-        range.lo.hash(hasher);
-        range.hi.hash(hasher);
     }
 }
 
@@ -51,8 +35,13 @@ fn fingerprint(facts: &Alternative) -> u64 {
     let mut hasher = FoldHasher::default();
     facts.critical().hash(&mut hasher);
     facts.suspended().hash(&mut hasher);
-    feed_claims(facts.claims(), &mut hasher);
-    feed_ranges(facts.ranges(), &mut hasher);
+    for claim in facts.claims() {
+        word_of(*claim).hash(&mut hasher);
+    }
+    for range in facts.ranges() {
+        range.lo.hash(&mut hasher);
+        range.hi.hash(&mut hasher);
+    }
     hasher.finish()
 }
 
@@ -100,18 +89,25 @@ impl<'a> Pool<'a> {
         }
     }
 
+    /// Keeps an alternative with this fingerprint. Its number.
+    fn add(&mut self, print: u64, facts: Alternative) -> Result<usize, AllocError>
+        requires { AlternativeFits self.old.app.now facts }
+    {
+        let number = self.items.len();
+        self.items.push(facts)?;
+        self.numbers.insert(print, number)?;
+        Ok(number)
+    }
+
     /// The alternative's number. It is kept unless one that says the same is.
     pub fn number(&mut self, facts: Alternative) -> Result<usize, AllocError>
         requires { AlternativeFits self.old.app.now facts }
     {
         let print = fingerprint(&facts);
-        if let Some(number) = self.found(print, &facts) {
-            return Ok(number);
+        match self.found(print, &facts) {
+            Some(number) => Ok(number),
+            None => self.add(print, facts),
         }
-        let number = self.items.len();
-        self.items.push(facts)?;
-        self.numbers.insert(print, number)?;
-        Ok(number)
     }
 
     /// The number of the alternative, if there is one.
