@@ -88,10 +88,10 @@ fn is_denied(claims: &[Claim], other: &Alternative) -> bool {
     false
 }
 
-/// Whether one of the ranges has no number in common with the alternative's range of the same variable.
-fn is_apart(ranges: &[Range], other: &Alternative) -> bool {
-    for (variable, range) in ranges.iter().enumerate() {
-        if !range.meets(other.range(VarId(variable))) {
+/// Whether one of the ranges has no number in common with the other's range of the same variable.
+fn are_apart(ranges: &[Range], others: &[Range]) -> bool {
+    for (range, other) in ranges.iter().zip(others) {
+        if range.hi < other.lo || other.hi < range.lo {
             return true;
         }
     }
@@ -121,7 +121,7 @@ impl Common {
     fn excludes(&self, other: &Alternative) -> bool {
         self.critical && other.critical() > 0
             || is_denied(&self.claims, other)
-            || is_apart(&self.ranges, other)
+            || are_apart(&self.ranges, other.ranges())
     }
 }
 
