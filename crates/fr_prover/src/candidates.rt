@@ -125,12 +125,15 @@ fn add_cut(cuts: &mut Vec<i128>, range: Range, cut: i128) -> Result<(), AllocErr
     }
 }
 
-/// The cuts around these numbers, each of which divides the range.
+/// The cuts around these numbers, each of which divides the range; none where they are too many.
 fn cuts_around(alloc: Global, range: Range, numbers: &[i128]) -> Result<Vec<i128>, AllocError> {
     let mut cuts = Vec::new(alloc);
     for number in numbers {
         add_cut(&mut cuts, range, *number)?;
         add_cut(&mut cuts, range, number.saturating_add(1))?;
+    }
+    if cuts.len() > MOST_CUTS {
+        cuts.clear();
     }
     Ok(cuts)
 }
@@ -192,15 +195,10 @@ impl<'a> Candidates<'a> {
         let range = plan.app.range(VarId(variable));
         let numbers = list_at(&plan.compared, variable);
         let each = each_number(alloc, range)?;
-        let mut finest = each.len();
+        let count = each.len();
         self.add_cuts(alloc, variable, each)?;
-        let mut around = cuts_around(alloc, range, numbers)?;
-        if around.len() > MOST_CUTS {
-            around.clear();
-        }
-        if finest == 0 {
-            finest = around.len();
-        }
+        let around = cuts_around(alloc, range, numbers)?;
+        let finest = if count == 0 { around.len() } else { count };
         self.add_cuts(alloc, variable, around)?;
         if finest == 0 || finest >= MOST_ALTERNATIVES {
             self.add_singles(alloc, variable, range, numbers)?;

@@ -19,14 +19,6 @@ fn effects_on(others: &[Effects], other: usize, variable: usize) -> &[Effect] {
     }
 }
 
-/// Whether all numbers that are written are in the range, where there are both.
-fn is_inside(written: Option<Range>, range: Option<Range>) -> bool {
-    match (written, range) {
-        (Some(written), Some(range)) => written.within(range),
-        (_, _) => false,
-    }
-}
-
 impl<'a> Trial<'a> {
     /// Merges what a step of another actor leaves of an alternative of the point. Whether the note changed.
     fn meet(
@@ -59,8 +51,9 @@ impl<'a> Trial<'a> {
     ) -> Result<bool, AllocError> {
         let mut changed = false;
         for effect in effects {
-            if !is_inside(effect.range, range) {
-                changed |= self.meet(alloc, actor, item, *effect)?;
+            match (effect.range, range) {
+                (Some(written), Some(range)) if written.within(range) => {}
+                (_, _) => changed |= self.meet(alloc, actor, item, *effect)?,
             }
         }
         Ok(changed)

@@ -1,7 +1,7 @@
 // Divisions: what keeps a note's alternatives apart.
 use crate::lists::is_marked;
 use fr_notes::{Alternative, Claim};
-use fr_program::{ObjId, Range, VarId};
+use fr_program::{ObjId, VarId};
 use std::alloc::{AllocError, Global};
 use std::hash::{FoldHasher, Hash, Hasher};
 
@@ -40,11 +40,6 @@ fn part_of(cuts: &[i128], number: i128) -> usize {
     part
 }
 
-/// The first and the last part that a range touches.
-fn parts_of(cuts: &[i128], range: Range) -> (usize, usize) {
-    (part_of(cuts, range.lo), part_of(cuts, range.hi))
-}
-
 /// Whether an object is known to be live, known to be dead, or neither.
 fn life_of(claim: Claim) -> u32 {
     match claim {
@@ -55,10 +50,13 @@ fn life_of(claim: Claim) -> u32 {
 }
 
 impl Split {
-    /// Where the split puts an alternative.
+    /// Where the split puts an alternative: by cuts the first and the last part that its range touches.
     fn parts(&self, facts: &Alternative) -> (usize, usize) {
         match self {
-            Split::Cuts(variable, cuts) => parts_of(cuts, facts.range(VarId(*variable))),
+            Split::Cuts(variable, cuts) => {
+                let range = facts.range(VarId(*variable));
+                (part_of(cuts, range.lo), part_of(cuts, range.hi))
+            }
             Split::Life(object) => (life_of(facts.claim(ObjId(*object))) as usize, 0),
         }
     }

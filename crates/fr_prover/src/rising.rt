@@ -59,20 +59,40 @@ impl<'a> Trial<'a> {
     }
 }
 
-/// The actors that have to be worked through, each once, the first one first.
+/// The actors that have to be worked through, and what the steps of all actors do so far.
 #[derive(Drop)]
-struct Queue {
-    actors: VecDeque<usize>,
+struct Round {
+    /// By actor: what its steps do to others.
+    effects: Vec<Effects>,
+    /// The actors that wait, each once, the first one first.
+    queue: VecDeque<usize>,
+    /// By actor: whether it waits.
     waits: Vec<bool>,
 }
 
-impl Queue {
+impl Round {
+    /// All actors, waiting in their order, whose steps do nothing yet.
+    fn new(alloc: Global, app: &App) -> Result<Round, AllocError> {
+        let actors = app.actors().len();
+        let waits = vec![in alloc; false; actors]?;
+        let mut round = Round {
+            effects: Vec::new(alloc),
+            queue: VecDeque::new(alloc),
+            waits,
+        };
+        for actor in 0..actors {
+            round.effects.push(Effects::none(alloc, app)?)?;
+            round.add(actor)?;
+        }
+        Ok(round)
+    }
+
     /// Has the actor wait, unless it does already.
     fn add(&mut self, actor: usize) -> Result<(), AllocError> {
         if let Some(waits) = self.waits.get_mut(actor) {
             if !*waits {
                 *waits = true;
-                self.actors.push_back(actor)?;
+                self.queue.push_back(actor)?;
             }
         }
         Ok(())
@@ -90,49 +110,37 @@ impl Queue {
 
     /// The actor that waits longest, which waits no more.
     fn next(&mut self) -> Option<usize> {
-        let actor = self.actors.pop_front()?;
+        let actor = self.queue.pop_front()?;
         if let Some(waits) = self.waits.get_mut(actor) {
             *waits = false;
         }
         Some(actor)
     }
-}
 
-/// All actors, waiting in their order.
-fn everyone(alloc: Global, actors: usize) -> Result<Queue, AllocError> {
-    let mut queue = Queue {
-        actors: VecDeque::new(alloc),
-        waits: vec![in alloc; false; actors]?,
-    };
-    queue.add_others(usize::MAX)?;
-    Ok(queue)
-}
-
-/// For each actor that its steps do nothing yet.
-fn no_effects(alloc: Global, app: &App) -> Result<Vec<Effects>, AllocError> {
-    let mut effects = Vec::with_capacity(alloc, app.actors().len())?;
-    for _ in 0..app.actors().len() {
-        effects.push(Effects::none(alloc, app)?)?;
-    }
-    Ok(effects)
-}
-
-/// Works through one actor. Whether its steps do something else to others than before.
-fn turn(
-    alloc: Global,
-    trial: &mut Trial,
-    effects: &mut Vec<Effects>,
-    actor: usize,
-) -> Result<bool, AllocError> {
-    settle(alloc, trial, actor, effects)?;
-    let new = Effects::of(alloc, trial, actor)?;
-    match effects.get_mut(actor) {
-        Some(old) => {
-            let differs = old.print() != new.print();
-            *old = new;
-            Ok(differs)
+    /// Finds out what the actor's steps do by its notes now. Whether they do something else than before.
+    fn renew(&mut self, alloc: Global, trial: &Trial, actor: usize) -> Result<bool, AllocError> {
+        let new = Effects::of(alloc, trial, actor)?;
+        match self.effects.get_mut(actor) {
+            Some(old) => {
+                let differs = old.print() != new.print();
+                *old = new;
+                Ok(differs)
+            }
+            None => Ok(false),
         }
-        None => Ok(false),
+    }
+
+    /// Works through the actor that waits longest; all others wait where its steps now do something else to
+    /// them. Whether an actor was waiting and more steps may be looked at.
+    fn turn(&mut self, alloc: Global, trial: &mut Trial) -> Result<bool, AllocError> {
+        let Some(actor) = self.next() else {
+            return Ok(false);
+        };
+        settle(alloc, trial, actor, &self.effects)?;
+        if self.renew(alloc, trial, actor)? {
+            self.add_others(actor)?;
+        }
+        Ok(trial.left > 0)
     }
 }
 
@@ -140,16 +148,9 @@ fn turn(
 pub fn rise(alloc: Global, trial: &mut Trial) -> Result<(), AllocError> {
     let app = trial.plan.app;
     trial.begin(alloc)?;
-    let mut effects = no_effects(alloc, app)?;
-    let mut queue = everyone(alloc, app.actors().len())?;
+    let mut round = Round::new(alloc, app)?;
     for _ in 0..app.actors().len().saturating_mul(MOST_TURNS) {
-        let Some(actor) = queue.next() else {
-            break;
-        };
-        if turn(alloc, trial, &mut effects, actor)? {
-            queue.add_others(actor)?;
-        }
-        if trial.left == 0 {
+        if !round.turn(alloc, trial)? {
             break;
         }
     }

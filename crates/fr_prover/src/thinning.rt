@@ -3,12 +3,12 @@ ghost use Rattle.std.specs.Prelude.{IfOk, IfSome};
 ghost use Rattle.fr_notes.specs.Fits.{AlternativeFits};
 ghost use Rattle.fr_ends.specs.Fits.{CertificateFits};
 
-use crate::lists::{add_once, empty_lists, is_marked};
+use crate::lists::{add_once, is_marked};
 use crate::measure::{certificate_of, fitting};
 use crate::needs::Needs;
 use crate::pool::Pool;
 use fr_ends::Certificate;
-use fr_notes::{Alternative, Claim, Note, Notes};
+use fr_notes::{Alternative, Claim, Notes};
 use fr_program::{App, Range, VarId};
 use std::alloc::{AllocError, Global};
 
@@ -70,11 +70,14 @@ fn thin_facts(
 fn thin_note(
     alloc: Global,
     pool: &mut Pool,
-    note: &Note,
+    notes: &Notes,
     needs: &Needs,
     number: usize,
 ) -> Result<Vec<usize>, AllocError> {
     let mut list = Vec::new(alloc);
+    let Some(note) = notes.get(number) else {
+        return Ok(list);
+    };
     for facts in note.alternatives() {
         let Some(thin) = thin_facts(alloc, pool.app(), facts, needs, number)? else {
             continue;
@@ -93,11 +96,9 @@ fn thin_lists(
 ) -> Result<Vec<Vec<usize>>, AllocError> {
     let app = pool.app();
     let needs = Needs::of(alloc, app)?;
-    let mut lists = empty_lists(alloc, app.points())?;
+    let mut lists = Vec::with_capacity(alloc, app.points())?;
     for number in 0..app.points() {
-        if let (Some(list), Some(note)) = (lists.get_mut(number), notes.get(number)) {
-            *list = thin_note(alloc, pool, note, &needs, number)?;
-        }
+        lists.push(thin_note(alloc, pool, notes, &needs, number)?)?;
     }
     Ok(lists)
 }
