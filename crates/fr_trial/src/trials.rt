@@ -52,6 +52,22 @@ const CUT: Told<'static> = (2, "", "refused: app 2 Toml\n", 1);
 
 const KEPT: Told<'static> = (2, "", "refused: out\n", 0);
 
+const NO: Told<'static> = (
+    1,
+    "no: point 0 (t 0 before): rule 7: handle is not live\n",
+    "",
+    2,
+);
+
+const BROKEN_RUN: Told<'static> = (1, BREACH, "", 1);
+
+/// What is printed of the list.
+const LINES: &str = "safe.toml: yes\nother.toml: yes\ncut.toml: refused: app 2 Toml\n";
+
+/// The points of the application that is safe.
+const POINT_LINES: &str =
+    "0 t 0 before xQueueSend(q, 1, 0)\n1 t 0 inside xQueueSend(q, 1, 0)\n2 t 1 before goto 0\n";
+
 /// How a page begins.
 const PAGE: &str = "<!DOCTYPE html>";
 
@@ -105,71 +121,95 @@ fn check_one<'a>(app: &'a str, certificate: &'a str) -> Request<'a> {
     check(Judged::One { app, certificate }, None, None)
 }
 
+/// Applications, certificates, and what `check` gives for them.
+const CHECKS: &[(&str, &str, Told)] = &[
+    ("safe.toml", "safe.json", YES),
+    ("safe.toml", "wrong.json", NO),
+    ("safe.frc", "safe.json", YES),
+    ("safe.frc", "wrong.json", NO),
+    ("cut.toml", "safe.json", (2, "", "refused: app 2 Toml\n", 2)),
+    ("none.toml", "safe.json", (3, "", "machine: file\n", 1)),
+];
+
 #[test]
 fn checks(rt: HostRuntime) -> Result<(), AllocError> {
     let files = &mut some_files(&rt)?;
-    let no = "no: point 0 (t 0 before): rule 7: handle is not live\n";
-    for (app, certificate, told) in [
-        ("safe.toml", "safe.json", YES),
-        ("safe.toml", "wrong.json", (1, no, "", 2)),
-        ("safe.frc", "safe.json", YES),
-        ("safe.frc", "wrong.json", (1, no, "", 2)),
-        ("cut.toml", "safe.json", (2, "", "refused: app 2 Toml\n", 2)),
-        ("none.toml", "safe.json", (3, "", "machine: file\n", 1)),
-    ] {
+    for (app, certificate, told) in CHECKS {
         let asked = check_one(app, certificate);
-        assert!(rt; gives(&rt, files, asked, told), "{app} {certificate}");
-    }
-    let (app, certificate) = ("safe.toml", "safe.json");
-    let (safe, all) = (Judged::One { app, certificate }, Judged::Listed("all.list"));
-    let lines = "safe.toml: yes\nother.toml: yes\ncut.toml: refused: app 2 Toml\n";
-    for format in [None, Some(Format::Json)] {
-        assert!(rt; gives(&rt, files, check(all, format, None), (2, lines, "", 5)));
-        assert!(rt; gives(&rt, files, check(safe, format, Some("new.html")), YES));
-        assert!(rt; gives(&rt, files, check(safe, format, Some("page.html")), KEPT));
-        assert!(rt; gives(&rt, files, check(safe, format, Some("safe.json")), KEPT));
-        assert!(rt; begins(files, "page.html", "a letter") && begins(files, "safe.json", "{"));
-        assert!(rt; begins(files, "new.html", PAGE));
+        assert!(rt; gives(&rt, files, asked, *told), "{app} {certificate}");
     }
     Ok(())
 }
 
+/// The application that is safe, with its certificate.
+const ONE: Judged<'static> = Judged::One {
+    app: "safe.toml",
+    certificate: "safe.json",
+};
+
+/// What is judged, where its page goes, and what `check` gives.
+const FORMED: &[(Judged, Option<&str>, Told)] = &[
+    (Judged::Listed("all.list"), None, (2, LINES, "", 5)),
+    (ONE, Some("new.html"), YES),
+    (ONE, Some("page.html"), KEPT),
+    (ONE, Some("safe.json"), KEPT),
+];
+
+const FORMATS: &[Option<Format>] = &[None, Some(Format::Json)];
+
+#[test]
+fn checks_in_each_format(rt: HostRuntime) -> Result<(), AllocError> {
+    let files = &mut some_files(&rt)?;
+    for format in FORMATS {
+        for (judged, html, told) in FORMED {
+            assert!(rt; gives(&rt, files, check(*judged, *format, *html), *told));
+        }
+    }
+    assert!(rt; begins(files, "page.html", "a letter") && begins(files, "safe.json", "{"));
+    assert!(rt; begins(files, "new.html", PAGE));
+    Ok(())
+}
+
+fn prove<'a>(app: &'a str, out: &'a str, html: Option<&'a str>) -> Request<'a> {
+    Request::Prove(ProveRequest {
+        app,
+        out: Some(out),
+        workers: 1,
+        warns: false,
+        deadlock: false,
+        detail: None,
+        searches: true,
+        states: 1000,
+        memory: 64,
+        progress: false,
+        format: None,
+        html,
+    })
+}
+
+/// Applications, where their certificate and their page go, and what `prove` gives.
+const PROOFS: &[(&str, &str, Option<&str>, Told)] = &[
+    ("broken.toml", "no.json", Some("no.html"), BROKEN_RUN),
+    ("cut.toml", "no.json", None, CUT),
+    ("safe.toml", "safe.toml", None, KEPT),
+    ("safe.toml", "no.json", Some("no.json"), KEPT),
+    ("safe.toml", "no.json", Some("page.html"), KEPT),
+    (
+        "safe.toml",
+        "new.json",
+        Some("new.html"),
+        (0, "yes\n", "", 1),
+    ),
+];
+
 #[test]
 fn proves(rt: HostRuntime) -> Result<(), AllocError> {
     let files = &mut some_files(&rt)?;
-    for (app, out, html, told) in [
-        (
-            "broken.toml",
-            "no.json",
-            Some("no.html"),
-            (1, BREACH, "", 1),
-        ),
-        ("cut.toml", "no.json", None, CUT),
-        ("safe.toml", "safe.toml", None, KEPT),
-        ("safe.toml", "no.json", Some("no.json"), KEPT),
-        ("safe.toml", "no.json", Some("page.html"), KEPT),
-        (
-            "safe.toml",
-            "new.json",
-            Some("new.html"),
-            (0, "yes\n", "", 1),
-        ),
-    ] {
-        let asked = Request::Prove(ProveRequest {
-            app,
-            out: Some(out),
-            workers: 1,
-            warns: false,
-            deadlock: false,
-            detail: None,
-            searches: true,
-            states: 1000,
-            memory: 64,
-            progress: false,
-            format: None,
-            html,
-        });
-        assert!(rt; gives(&rt, files, asked, told), "{app} {out}");
+    for (app, out, html, told) in PROOFS {
+        assert!(rt;
+            gives(&rt, files, prove(app, out, *html), *told),
+            "{app} {out}"
+        );
     }
     assert!(rt; files.bytes("no.json").is_none() && begins(files, "page.html", "a letter"));
     assert!(rt; begins(files, "no.html", PAGE) && begins(files, "new.html", PAGE));
@@ -191,56 +231,63 @@ fn refutes(rt: HostRuntime) -> Result<(), AllocError> {
         format: None,
         html: Some("new.html"),
     });
-    assert!(rt; gives(&rt, files, asked, (1, BREACH, "", 1)));
-    assert!(rt; begins(files, "new.html", PAGE));
+    assert!(rt; gives(&rt, files, asked, BROKEN_RUN) && begins(files, "new.html", PAGE));
     Ok(())
 }
+
+/// Applications, and what `points` gives for them.
+const POINTS: &[(&str, Told)] = &[("safe.toml", (0, POINT_LINES, "", 1)), ("cut.toml", CUT)];
 
 #[test]
 fn tells_points(rt: HostRuntime) -> Result<(), AllocError> {
     let files = &mut some_files(&rt)?;
-    let lines =
-        "0 t 0 before xQueueSend(q, 1, 0)\n1 t 0 inside xQueueSend(q, 1, 0)\n2 t 1 before goto 0\n";
-    for (app, told) in [("safe.toml", (0, lines, "", 1)), ("cut.toml", CUT)] {
+    for (app, told) in POINTS {
         let explains = false;
-        assert!(rt;
-            gives(&rt, files, Request::Points { app, explains }, told),
-            "{app}"
-        );
+        let asked = Request::Points { app, explains };
+        assert!(rt; gives(&rt, files, asked, *told), "{app}");
     }
     Ok(())
 }
 
+fn run_by(words: &str) -> Request<'_> {
+    Request::Run(RunRequest {
+        app: "safe.toml",
+        certificate: "safe.json",
+        polls: 3,
+        words: Some(words),
+        detail: None,
+    })
+}
+
+/// Words that pick choices, and what `run` gives for them.
+const RUNS: &[(&str, Told)] = &[
+    ("0", (0, "t step 0\nt step 0\nt step 0\n", "", 2)),
+    ("0,", (2, "", "refused: words\n", 0)),
+];
+
 #[test]
 fn runs_by_words(rt: HostRuntime) -> Result<(), AllocError> {
     let files = &mut some_files(&rt)?;
-    let steps = (0, "t step 0\nt step 0\nt step 0\n", "", 2);
-    let bad = (2, "", "refused: words\n", 0);
-    for (words, told) in [("0", steps), ("0,", bad)] {
-        let asked = Request::Run(RunRequest {
-            app: "safe.toml",
-            certificate: "safe.json",
-            polls: 3,
-            words: Some(words),
-            detail: None,
-        });
-        assert!(rt; gives(&rt, files, asked, told), "{words}");
+    for (words, told) in RUNS {
+        assert!(rt; gives(&rt, files, run_by(words), *told), "{words}");
     }
     Ok(())
+}
+
+fn find(out: &str) -> Request<'_> {
+    Request::Find(FindRequest {
+        app: "safe.toml",
+        out,
+        rounds: 64,
+        explains: false,
+    })
 }
 
 #[test]
 fn finds(rt: HostRuntime) -> Result<(), AllocError> {
     let files = &mut some_files(&rt)?;
-    for (out, told) in [("new.json", (0, "found\n", "", 1)), ("page.html", KEPT)] {
-        let asked = Request::Find(FindRequest {
-            app: "safe.toml",
-            out,
-            rounds: 64,
-            explains: false,
-        });
-        assert!(rt; gives(&rt, files, asked, told), "{out}");
-    }
+    assert!(rt; gives(&rt, files, find("new.json"), (0, "found\n", "", 1)));
+    assert!(rt; gives(&rt, files, find("page.html"), KEPT));
     assert!(rt; gives(&rt, files, check_one("safe.toml", "new.json"), YES));
     Ok(())
 }
