@@ -10,7 +10,8 @@ use crate::ways::Ways;
 use fr_parallel::is_crew;
 use fr_progress::Meter;
 use fr_reader::read_app;
-use fr_refuter::{ActorSet, Search, refute};
+use fr_refuter::{Search, refute};
+use fr_states::ActorSet;
 use std::alloc::Global;
 use std::thread::Threads;
 

@@ -4,7 +4,7 @@ use Rattle.std.specs.declared.string.String.{String}
 use Rattle.std.proofs.lemmas.List.{append_assoc, append-nil, map-append, take_more}
 use Rattle.std.proofs.lemmas.Grind.{flat_map-append}
 use Rattle.fr_program.specs.Program.{Program}
-use Rattle.fr_refuter.specs.declared.step.StepTaken.{StepTaken}
+use Rattle.fr_states.specs.declared.step.StepTaken.{StepTaken}
 use Rattle.fr_report.specs.declared.reason.changes.ExplainedStep.{ExplainedStep}
 use Rattle.fr_report.specs.Lines.{lines_text}
 use Rattle.fr_report.specs.Refuted.{steps_in, AreStepLines, IsStepTold}

@@ -12,7 +12,7 @@ use Rattle.std.specs.Fmt.{signed_decimal}
 use Rattle.fr_program.specs.Program.{Program}
 use Rattle.fr_program.specs.Lookup.{actor_at}
 use Rattle.fr_instr.specs.AppNames.{names_in}
-use Rattle.fr_refuter.specs.declared.step.StepTaken.{StepTaken}
+use Rattle.fr_states.specs.declared.step.StepTaken.{StepTaken}
 use Rattle.fr_trace.specs.Means.{TraceMeans, said_in}
 use Rattle.fr_trace.specs.declared.trace.Trace.{Trace}
 use Rattle.fr_follower.specs.Follows.{IsFollowed}

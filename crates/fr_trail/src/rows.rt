@@ -5,7 +5,7 @@ use crate::texts::line_shown;
 use fr_escape::push_plain;
 use fr_follower::{Followed, Item};
 use fr_program::ActorId;
-use fr_refuter::StepTaken;
+use fr_states::StepTaken;
 use fr_trace::{Event, Trace};
 use std::alloc::{AllocError, Global};
 

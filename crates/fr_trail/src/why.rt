@@ -8,8 +8,8 @@ use crate::texts::{event_shown, events_before};
 use fr_calls::{Moves, Place, State};
 use fr_follower::{Followed, Item};
 use fr_program::{ActorId, ActorKind, App, Call, Instr, Point, Side};
-use fr_refuter::{StepTaken, take_step};
 use fr_report::{actor_name, actor_place, line_of_code, object_told};
+use fr_states::{StepTaken, take_step};
 use fr_trace::{Event, Happening, Trace};
 use std::alloc::{AllocError, Global};
 

@@ -8,11 +8,12 @@ use super::code::Code;
 use fr_calls::{Place, Rule, State, the_start_is_well_formed};
 use fr_page::{ActorAfter, Doing, Moved, PointShown, StepShown, Track, TrackKind, WaitShown};
 use fr_program::{ActorId, App, Point, Side};
-use fr_refuter::{Deadlocked, Refutation, take_step};
+use fr_refuter::{Deadlocked, Refutation};
 use fr_report::{
     Depth, ExplainedRun, ExplainedStep, Standing, actor_place, depth_in, depths_of,
     explain_deadlock, explain_run, object_name, rule_text, side_name, state_told,
 };
+use fr_states::take_step;
 use fr_waits::Wait;
 use std::alloc::{AllocError, Global};
 

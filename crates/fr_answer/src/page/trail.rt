@@ -13,8 +13,8 @@ use fr_calls::{Rule, State};
 use fr_follower::Followed;
 use fr_page::{Doing, Moved, page_text};
 use fr_program::{ActorId, App};
-use fr_refuter::StepTaken;
 use fr_report::{Depth, ExplainedRun, depths_of, explain_steps};
+use fr_states::StepTaken;
 use fr_trail::{TraceAnswer, TrailRow};
 use std::alloc::{AllocError, Global};
 

@@ -12,7 +12,7 @@ use crate::sources::Sources;
 use crate::told::Standing;
 use fr_calls::{Content, Place, State, Stock};
 use fr_program::{ActorId, App, ObjId, Point, VarId};
-use fr_refuter::StepTaken;
+use fr_states::StepTaken;
 use fr_witness::Subject;
 use std::alloc::{AllocError, Global};
 
