@@ -211,12 +211,13 @@ fn push_version(out: &mut Lines, tree: &Value) {
     }
 }
 
-/// Appends how many notes and how many points there are.
+/// Appends how many notes and how many points there are, and what to do.
 fn push_point_count(out: &mut Lines, app: &App, tree: &Value) {
     if let Some(Value::Array(notes)) = tree.get("notes") {
         out.number("notes: ", notes.len() as i128);
         out.number("; points of the application: ", app.points() as i128);
         out.end();
+        out.say("if the code has changed since, let prove write a new certificate");
     }
 }
 
