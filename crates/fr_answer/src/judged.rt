@@ -8,8 +8,8 @@ use fr_ends::Certificate;
 use fr_judge::Verdict;
 use fr_order::Order;
 use fr_program::App;
+use fr_reasons::Explanation;
 use fr_refuter::Left;
-use fr_report::Explanation;
 use std::marker::Model;
 
 /// A search for a run into a breach, or for one into a deadlock, that found none.

@@ -6,11 +6,11 @@ use fr_formats::{Command, Source, WarningKind, WarningShown};
 use fr_judge::Verdict;
 use fr_notes::Notes;
 use fr_program::App;
-use fr_refuter::{Finding, Left};
-use fr_report::{
+use fr_reasons::{
     NO_ACTORS, buffers_in_critical_sections, held_while_waiting, lost_updates, never_given,
     never_reached, never_used, used_one_way,
 };
+use fr_refuter::{Finding, Left};
 use fr_source::Message;
 use std::alloc::{AllocError, Global};
 

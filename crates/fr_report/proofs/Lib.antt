@@ -1,3 +1,2 @@
-pub mod Formed
 pub mod ListingLemmas
 pub mod RunLemmas

@@ -5,7 +5,7 @@ use Rattle.std.proofs.lemmas.List.{append_assoc, append-nil, map-append, take_mo
 use Rattle.std.proofs.lemmas.Grind.{flat_map-append}
 use Rattle.fr_program.specs.Program.{Program}
 use Rattle.fr_states.specs.declared.step.StepTaken.{StepTaken}
-use Rattle.fr_report.specs.declared.reason.changes.ExplainedStep.{ExplainedStep}
+use Rattle.fr_report.specs.declared.changes.ExplainedStep.{ExplainedStep}
 use Rattle.fr_report.specs.Lines.{lines_text}
 use Rattle.fr_report.specs.Refuted.{steps_in, AreStepLines, IsStepTold}
 

@@ -3,6 +3,5 @@ pub mod Listing
 pub mod Refuted
 pub mod Report
 pub mod Sources
-pub mod Told
 pub mod Trace
 pub mod Waits

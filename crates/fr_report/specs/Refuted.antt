@@ -26,8 +26,8 @@ use Rattle.fr_refuter.specs.declared.replay.Refutation.{Refutation}
 use Rattle.fr_refuter.specs.declared.answer.Finding.{Finding}
 use Rattle.fr_refuter.specs.declared.replay.Deadlocked.{Deadlocked}
 use Rattle.fr_refuter.specs.declared.answer.Finding.TheVariants.{Breach, Deadlock, Safe, Free, Unknown}
-use Rattle.fr_report.specs.declared.reason.changes.ExplainedStep.{ExplainedStep}
-use Rattle.fr_report.specs.declared.told.Standing.{Standing}
+use Rattle.fr_report.specs.declared.changes.ExplainedStep.{ExplainedStep}
+use Rattle.fr_report.specs.declared.standing.Standing.{Standing}
 use Rattle.fr_report.specs.Lines.{lines_text}
 use Rattle.fr_report.specs.Listing.{code_text}
 use Rattle.fr_report.specs.Report.{rule_text, side_text}

@@ -1,41 +1,43 @@
-// What a person reads, first as values and then as texts. Why a verdict is no is an `Explanation` (`explain`), and a run
-// into a breach an `ExplainedRun` (`explain_run`): pages and reports for machines are made from these, and no text is read
-// again. The texts are the report of a verdict (`report`) with its explanation (`explanation_text`), the lines of a trace
-// (`trace_text`), the listing of an application's points (`points_text`), what a search found (`finding_line` and
-// the lines of an `ExplainedRun`), and warnings (`never_reached`, `never_used`). What a page shows of a note and a state is `note_told` and `state_told`. Below it are
-// verdicts (fr_judge), states that show why (fr_witness), traces (fr_runner), runs into a breach (fr_refuter) and the
-// writing of a line (fr_instr). The crate above, fr_answer, prints what these give; but for the explanations and the warnings
-// their contracts say the text to the letter.
+// What a person reads, first as values and then as texts. A run into a breach is an `ExplainedRun` (`explain_run`): pages and reports for
+// machines are made from it, and no text is read again. The texts are the report of a verdict (`report`), the lines of a trace
+// (`trace_text`), the listing of an application's points (`points_text`), and what a search found (`finding_line` and the lines of an
+// `ExplainedRun`); their contracts say each to the letter. What a page shows of a state is `state_told`. Below it are verdicts (fr_judge),
+// traces (fr_runner), runs into a breach (fr_refuter) and the writing of a line (fr_instr). The crate above, fr_reasons, tells why a
+// verdict is no, in the words that are here for names, lists and what is so in a state.
 #![tactic(auto)]
 
+mod changes;
+mod depths;
+mod facts;
 mod lines;
 mod listing;
-mod reason;
+mod places;
 mod refuting;
 mod shown;
 mod sources;
+mod standing;
+mod steps;
+mod subjects;
 mod text;
-mod told;
 mod trace;
 mod waits;
-mod warning;
 
-pub use lines::text_of;
-pub use listing::{line_of_code, points_text};
-pub use reason::{
-    Depth, ExplainedStep, actor_place, depth_in, depths_of, explain, never_deleted, note_told,
-    object_told, state_told,
+pub use changes::ExplainedStep;
+pub use depths::{Depth, depth_in, depths_of, object_told, state_told};
+pub use facts::{
+    content_in, fact, has_changed, put_critical, put_held, put_suspended, suspension_in, value_in,
 };
+pub use lines::{add_text, put_listed, put_three, put_two, text_of};
+pub use listing::{line_of_code, points_text};
+pub use places::{actor_place, standing_at, standing_in};
 pub use refuting::{
     ExplainedRun, breach_text, explain_deadlock, explain_run, explain_steps, finding_line,
 };
-pub use shown::{actor_name, object_name, rule_text, side_name};
+pub use shown::{actor_name, is_mutex, object_name, rule_text, side_name, variable_name};
 pub use sources::Sources;
+pub use standing::{Line, Standing};
+pub use steps::outcome_text;
+pub use subjects::{Subject, subject_at, subject_count};
 pub use text::{part_text, report, verdict_line};
-pub use told::{Explained, Explanation, Line, Named, ShownState, Standing, explanation_text};
 pub use trace::trace_text;
 pub use waits::{deadlock_text, order_line};
-pub use warning::{
-    NO_ACTORS, buffers_in_critical_sections, held_while_waiting, lost_updates, never_given,
-    never_reached, never_used, used_one_way,
-};

@@ -4,20 +4,20 @@ ghost use Rattle.fr_report.specs.Lines.{lines_text};
 
 use std::alloc::{AllocError, Global};
 
-/// Adds a line, or another text, to a list.
-pub(crate) fn add_text(texts: &mut Vec<String>, text: String) -> Result<(), AllocError>
+/// Adds a line, or another text, to a list. An error says that an allocation was refused.
+pub fn add_text(texts: &mut Vec<String>, text: String) -> Result<(), AllocError>
     ensures { OnOk result (texts.new.items ≡ texts.old.items ++ text ∷ []) }
 {
     Ok(texts.push(text)?)
 }
 
-/// Appends two texts with a blank between them.
-pub(crate) fn put_two(text: &mut String, first: &str, second: &str) -> Result<(), AllocError> {
+/// Appends two texts with a blank between them. An error says that an allocation was refused.
+pub fn put_two(text: &mut String, first: &str, second: &str) -> Result<(), AllocError> {
     write!(text, "{first} {second}")
 }
 
-/// Appends three texts with a blank between each two.
-pub(crate) fn put_three(
+/// Appends three texts with a blank between each two. An error says that an allocation was refused.
+pub fn put_three(
     text: &mut String,
     first: &str,
     second: &str,
@@ -26,8 +26,8 @@ pub(crate) fn put_three(
     write!(text, "{first} {second} {third}")
 }
 
-/// Appends the items, with a text between each two; without items what is said then.
-pub(crate) fn put_listed(
+/// Appends the items, with a text between each two; without items what is said then. An error says that an allocation was refused.
+pub fn put_listed(
     text: &mut String,
     items: &[String],
     between: &str,

@@ -16,11 +16,12 @@ ghost use Rattle.fr_report.specs.Refuted.{
   IsStepTold,
 };
 
+use crate::changes::{ExplainedStep, step_explained};
 use crate::lines::add_text;
-use crate::reason::{ExplainedStep, standing_in, step_explained};
+use crate::places::standing_in;
 use crate::shown::{actor_name, rule_text};
 use crate::sources::Sources;
-use crate::told::Standing;
+use crate::standing::Standing;
 use crate::trace::put_entry;
 use crate::waits::deadlock_text;
 use fr_calls::{State, the_start_is_well_formed};

@@ -35,7 +35,7 @@ pub fn object_name(app: &App, object: ObjId) -> &str
 }
 
 /// The name of a variable of the application, or no text where there is none.
-pub(crate) fn variable_name(app: &App, variable: VarId) -> &str {
+pub fn variable_name(app: &App, variable: VarId) -> &str {
     match app.variables().get(variable.0) {
         Some(variable) => variable.name.as_str(),
         None => "",
@@ -43,7 +43,7 @@ pub(crate) fn variable_name(app: &App, variable: VarId) -> &str {
 }
 
 /// Whether the object is a mutex, plain or recursive.
-pub(crate) fn is_mutex(app: &App, object: ObjId) -> bool {
+pub fn is_mutex(app: &App, object: ObjId) -> bool {
     match app.objects().get(object.0) {
         Some(object) => matches!(object.kind, Kind::Mutex | Kind::Recursive),
         None => false,

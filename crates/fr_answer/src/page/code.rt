@@ -3,7 +3,8 @@ use crate::sources::sources_in;
 use fr_escape::push_plain;
 use fr_place::lines_of_code;
 use fr_program::{App, Point};
-use fr_report::{Explained, Sources, line_of_code};
+use fr_reasons::Explained;
+use fr_report::{Sources, line_of_code};
 use std::alloc::{AllocError, Global};
 
 /// The lines of code of an application.

@@ -11,9 +11,8 @@ use fr_ends::Certificate;
 use fr_judge::{Judging, Lists, Part, Verdict};
 use fr_page::{PointShown, Reason, Standing};
 use fr_program::{App, ObjId, Point};
-use fr_report::{
-    Explained, Line, explain, never_deleted, note_told, object_name, part_text, side_name,
-};
+use fr_reasons::{Explained, explain, never_deleted, note_told};
+use fr_report::{Line, object_name, part_text, side_name};
 use fr_request::Detail;
 use std::alloc::{AllocError, Global};
 

@@ -5,7 +5,8 @@ use fr_formats::{Failure, PlaceShown, part_name};
 use fr_judge::{Part, Verdict};
 use fr_order::{Edge, Order};
 use fr_program::{App, Point};
-use fr_report::{Explained, order_line, part_text};
+use fr_reasons::Explained;
+use fr_report::{order_line, part_text};
 use std::alloc::{AllocError, Global};
 
 /// The point that a part names beside its own.

@@ -6,7 +6,7 @@ use Rattle.fr_refuter.specs.declared.answer.Finding.TheVariants.{Breach, Deadloc
 use Rattle.fr_refuter.specs.declared.replay.Deadlocked.{Deadlocked}
 use Rattle.fr_refuter.specs.declared.replay.Refutation.{Refutation}
 use Rattle.fr_report.specs.declared.refuting.ExplainedRun.{ExplainedRun}
-use Rattle.fr_report.specs.declared.told.Standing.{Standing}
+use Rattle.fr_report.specs.declared.standing.Standing.{Standing}
 use Rattle.fr_report.specs.Lines.{lines_text}
 use Rattle.fr_report.specs.Refuted.{AreRunLines, AreWaiting, IsPlaced, IsRunText, steps_in}
 use Rattle.fr_answer.proofs.answer.run_lines.Goals as goal

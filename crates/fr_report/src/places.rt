@@ -3,18 +3,19 @@ ghost use Rattle.std.specs.Prelude.{IfOk};
 ghost use Rattle.fr_calls.specs.State.{IsWellFormed};
 ghost use Rattle.fr_report.specs.Refuted.{IsPlaced};
 
-use super::words::{put_critical, put_suspended, suspension_in};
-use crate::lines::put_two;
 use crate::listing::line_of_code;
-use crate::shown::{actor_name, side_name};
 use crate::sources::Sources;
-use crate::told::{Explained, Standing, add_item};
+use crate::standing::Standing;
 use fr_calls::{Place, State};
 use fr_program::{ActorId, App, Point};
 use std::alloc::{AllocError, Global};
 
-/// An actor at a point.
-pub(super) fn standing_at(
+/// An actor at a point, with the line of code there.
+///
+/// # Errors
+///
+/// Only where memory is refused.
+pub fn standing_at(
     alloc: Global,
     app: &App,
     sources: &Sources,
@@ -42,7 +43,11 @@ pub fn actor_place(app: &App, state: &State, actor: ActorId) -> Place
 }
 
 /// Where the actor is in the state, with its line of code.
-pub(crate) fn standing_in(
+///
+/// # Errors
+///
+/// Only where memory is refused.
+pub fn standing_in(
     alloc: Global,
     app: &App,
     sources: &Sources,
@@ -61,42 +66,4 @@ pub(crate) fn standing_in(
             source: String::new(alloc),
         }),
     }
-}
-
-/// Appends where an actor stands, and its depths where they aren't 0.
-fn put_actor(text: &mut String, app: &App, actor: ActorId, state: &State) -> Result<(), AllocError>
-    requires { IsWellFormed app.now state.now }
-{
-    let name = actor_name(app, actor);
-    match actor_place(app, state, actor) {
-        Place::At { pc, side } => write!(text, "{name} {pc} {}", side_name(side))?,
-        Place::Done => put_two(text, name, "is done")?,
-    }
-    let (depth, suspended) = (state.depth(actor), suspension_in(app, state, actor));
-    if depth > 0 {
-        text.push_str("; ")?;
-        put_critical(text, name, depth)?;
-    }
-    if suspended > 0 {
-        text.push_str("; ")?;
-        put_suspended(text, name, suspended)?;
-    }
-    Ok(())
-}
-
-/// Adds where each actor stands, with its depths, an item for each.
-pub(super) fn add_actors(
-    alloc: Global,
-    items: &mut Vec<Explained>,
-    app: &App,
-    state: &State,
-) -> Result<(), AllocError>
-    requires { IsWellFormed app.now state.now }
-{
-    for number in 0..app.actors().len() {
-        let mut text = String::new(alloc);
-        put_actor(&mut text, app, ActorId(number), state)?;
-        add_item(items, Explained::Actor(text))?;
-    }
-    Ok(())
 }

@@ -1,9 +1,8 @@
 // Updates of shared variables that can be lost: an actor copies the variable and then sets it from the copy, and another actor can set it
 // in between.
-use crate::lines::add_text;
-use crate::shown::actor_name;
 use fr_notes::{Alternative, Note, Notes, can_meet};
 use fr_program::{Act, ActorId, App, Call, Instr, Operand, Point, Side, VarId};
+use fr_report::{actor_name, add_text};
 use std::alloc::{AllocError, Global};
 use std::mem::replace;
 

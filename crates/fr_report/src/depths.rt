@@ -1,13 +1,12 @@
 // What an actor can be deep in, and what is so of everything else: a state, as a picture of a run shows it.
 ghost use Rattle.fr_calls.specs.State.{IsWellFormed};
 
-use super::scene::{subject_at, subject_count};
-use super::words::{content_in, fact, put_content, suspension_in};
+use crate::facts::{content_in, fact, put_content, suspension_in};
 use crate::lines::add_text;
 use crate::shown::{is_mutex, object_name};
+use crate::subjects::{Subject, subject_at, subject_count};
 use fr_calls::State;
 use fr_program::{ActorId, App, ObjId};
-use fr_witness::Subject;
 use std::alloc::{AllocError, Global};
 
 /// What an actor can be deep in.

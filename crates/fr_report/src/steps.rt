@@ -38,7 +38,11 @@ fn works_text(alloc: Global, what: &str, choice: i64) -> Result<String, AllocErr
 }
 
 /// What a step by this choice does, where it is a call that can do one thing or another; otherwise no text.
-pub(super) fn outcome_text(
+///
+/// # Errors
+///
+/// Only where memory is refused. The words are this project's own.
+pub fn outcome_text(
     alloc: Global,
     side: Side,
     instr: &Instr,

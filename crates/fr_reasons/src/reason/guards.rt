@@ -1,13 +1,13 @@
 // A guard, in words.
 ghost use Rattle.fr_calls.specs.State.{IsWellFormed};
 
-use super::words::{put_critical, put_held, value_in};
-use crate::lines::{put_three, put_two};
-use crate::shown::{actor_name, object_name, variable_name};
 use fr_calls::State;
 use fr_ends::Guard;
 use fr_program::{ActorId, App, VarId};
-use fr_witness::Subject;
+use fr_report::{
+    Subject, actor_name, object_name, put_critical, put_held, put_three, put_two, value_in,
+    variable_name,
+};
 use std::alloc::{AllocError, Global};
 use std::collections::BTreeMap;
 

@@ -2,18 +2,17 @@
 ghost use Rattle.std.specs.Prelude.{◌≡◌, IfOk};
 ghost use Rattle.fr_calls.specs.State.{IsWellFormed};
 
-use super::places::{actor_place, standing_in};
-use super::scene::{subject_at, subject_count};
-use super::steps::outcome_text;
-use super::words::{content_in, fact, has_changed, put_content, put_held, value_in};
+use crate::facts::{content_in, fact, has_changed, put_content, put_held, value_in};
 use crate::lines::{add_text, put_listed};
+use crate::places::{actor_place, standing_in};
 use crate::shown::{actor_name, object_name, variable_name};
 use crate::sources::Sources;
-use crate::told::Standing;
+use crate::standing::Standing;
+use crate::steps::outcome_text;
+use crate::subjects::{Subject, subject_at, subject_count};
 use fr_calls::{Content, Place, State, Stock};
 use fr_program::{ActorId, App, ObjId, Point, VarId};
 use fr_states::StepTaken;
-use fr_witness::Subject;
 use std::alloc::{AllocError, Global};
 
 /// Whether this is what a live mutex has.

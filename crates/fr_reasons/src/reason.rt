@@ -3,42 +3,33 @@ ghost use Rattle.std.specs.Prelude.{◌≡◌, IfOk, IfSome, None};
 ghost use Rattle.fr_judge.specs.declared.part.Verdict.TheVariants.{Yes};
 ghost use Rattle.fr_calls.specs.State.{IsWellFormed};
 ghost use Rattle.fr_ends.specs.Fits.{CertificateFits};
-ghost use Rattle.fr_report.specs.Told.{IsTold, AreTold, IsFormed, IsScene, IsSite};
+ghost use Rattle.fr_reasons.specs.Told.{IsTold, AreTold, IsFormed, IsScene, IsSite};
 
-mod changes;
 mod culprits;
-mod depths;
 mod guards;
 mod notes;
 mod places;
 mod rules;
 mod scene;
-mod steps;
 mod words;
 
-use crate::sources::Sources;
 use crate::told::{Explained, Explanation, ShownState, add_item};
-pub use changes::ExplainedStep;
-pub(crate) use changes::step_explained;
 use culprits::{add_deleters, add_lackers, add_set, add_way};
-pub use depths::{Depth, depth_in, depths_of, object_told, state_told};
 use fr_calls::{Rule, State, the_start_is_well_formed};
 use fr_ends::{Certificate, EndName, Guard};
 use fr_judge::{Part, Verdict};
 use fr_program::{App, Point};
+use fr_report::{Sources, Subject, outcome_text, standing_in};
 use fr_request::Detail;
-use fr_witness::{Subject, Taken, Witness, witness};
+use fr_witness::{Taken, Witness, witness};
 use guards::{guard_text, guarded_by, unguarded_text};
 pub use notes::{never_deleted, note_told};
 use notes::{add_broken, claims_of, rival_of, site_of};
-pub use places::actor_place;
 use places::add_actors;
-pub(crate) use places::standing_in;
 use rules::forbidden_text;
 use scene::{Scene, Site};
 use std::alloc::{AllocError, Global};
 use std::mem::drop;
-use steps::outcome_text;
 
 /// Adds a state, and where each actor is in it if all is asked for.
 fn add_state(

@@ -5,11 +5,10 @@ mod mutexes;
 mod updates;
 mod uses;
 
-use crate::lines::add_text;
-use crate::shown::actor_name;
 pub use critical::buffers_in_critical_sections;
 use fr_notes::Notes;
 use fr_program::{ActorId, App};
+use fr_report::{actor_name, add_text};
 pub use mutexes::{held_while_waiting, never_given};
 use std::alloc::{AllocError, Global};
 pub use updates::lost_updates;

@@ -1,11 +1,10 @@
 // Mutexes that are held for long: while a task waits without limit for something else, and where a task takes one that it holds.
-use crate::lines::add_text;
-use crate::shown::{actor_name, is_mutex, object_name};
 use fr_notes::{Claim, Notes};
 use fr_program::{
     Act, ActorId, App, Attempt, BlockTime, Call, Instr, ObjId, ObjectCall, Point, SemaphoreForm,
     Side, Timing,
 };
+use fr_report::{actor_name, add_text, is_mutex, object_name};
 use std::alloc::{AllocError, Global};
 
 /// Whether the actor can hold the mutex at the point with this number.

@@ -2,8 +2,8 @@
 use Rattle.std.proofs.Common.{subst}
 use Rattle.fr_judge.specs.declared.part.Verdict.TheVariants.{No}
 use Rattle.fr_witness.specs.Witness.{IsWitness}
-use Rattle.fr_report.proofs.Formed.{formed_of}
-use Rattle.fr_report.proofs.reason.add_found.Goals as goal
+use Rattle.fr_reasons.proofs.Formed.{formed_of}
+use Rattle.fr_reasons.proofs.reason.add_found.Goals as goal
 
 pub add_witness-added-requires-clause-formed : goal.add_witness-added-requires-clause-formed
 add_witness-added-requires-clause-formed c =

@@ -1,9 +1,8 @@
 // Sends and receives of stream and message buffers in critical sections.
 use super::mutexes::call_at;
-use crate::lines::add_text;
-use crate::shown::{actor_name, object_name};
 use fr_notes::Notes;
 use fr_program::{Act, App, BlockTime, End, ObjId, Point, Side, Timing};
+use fr_report::{actor_name, add_text, object_name};
 use std::alloc::{AllocError, Global};
 
 /// Whether the actor can be in a critical section at the point with this number.

@@ -2,18 +2,16 @@
 ghost use Rattle.std.specs.Prelude.{◌<◌, length};
 ghost use Rattle.fr_calls.specs.State.{IsWellFormed};
 
-use super::places::standing_at;
-use super::words::{fact, has_changed, suspension_in};
-use crate::lines::add_text;
-use crate::sources::Sources;
-use crate::told::Standing;
 use fr_calls::State;
 use fr_notes::{Alternative, Claim, Note};
 use fr_program::{
     Act, ActorId, App, Attempt, Call, Instr, ObjId, ObjectCall, Operand, Point, VarId,
 };
+use fr_report::{
+    Sources, Standing, Subject, add_text, fact, has_changed, standing_at, subject_at,
+    subject_count, suspension_in,
+};
 use fr_request::Detail;
-use fr_witness::Subject;
 use std::alloc::{AllocError, Global};
 
 /// A point with its instruction and its note.
@@ -121,23 +119,6 @@ impl Site<'_> {
             Subject::Variable(variable) => names_variable(self.instr, variable),
         };
         named || note_says_of(app, self.note, subject)
-    }
-}
-
-/// How many things a state has, for one actor: its depths, the objects and the variables.
-pub(super) fn subject_count(app: &App) -> usize {
-    let things = app.objects().len().saturating_add(app.variables().len());
-    things.saturating_add(2)
-}
-
-/// The one of these things with this number: the depths come first, and then the objects.
-pub(super) fn subject_at(app: &App, number: usize) -> Subject {
-    let objects = app.objects().len();
-    match number.checked_sub(2) {
-        Some(object) if object < objects => Subject::Object(ObjId(object)),
-        Some(thing) => Subject::Variable(VarId(thing.saturating_sub(objects))),
-        None if number == 0 => Subject::Critical,
-        None => Subject::Suspended,
     }
 }
 

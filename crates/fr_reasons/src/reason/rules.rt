@@ -2,13 +2,15 @@
 ghost use Rattle.fr_calls.specs.State.{IsWellFormed};
 
 use super::scene::Site;
-use super::words::{content_in, kind_name, put_critical, put_suspended, suspension_in, value_in};
-use crate::lines::{put_three, put_two};
-use crate::shown::{actor_name, object_name};
+use super::words::kind_name;
 use fr_calls::{Rule, State};
 use fr_program::{
     Act, ActorId, App, Attempt, Call, Instr, Kind, ObjId, ObjectCall, Operand, Operator, Range,
     VarId,
+};
+use fr_report::{
+    actor_name, content_in, object_name, put_critical, put_suspended, put_three, put_two,
+    suspension_in, value_in,
 };
 use std::alloc::{AllocError, Global};
 
