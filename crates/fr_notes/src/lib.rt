@@ -25,6 +25,7 @@ mod pairs;
 mod parts;
 mod reckoning;
 mod steps;
+mod subject;
 mod worked;
 
 pub use alternatives::{Alts, AltsFault, MOST_ALTERNATIVES};
@@ -42,4 +43,5 @@ pub use note::{Alternative, Note, NoteParts};
 pub use notes::Notes;
 pub use pairs::{can_meet, together};
 pub use steps::{change_by, condition_at};
+pub use subject::Subject;
 pub use worked::{notes_as_worked, parts_as_worked};

@@ -4,8 +4,9 @@ ghost use Rattle.fr_calls.specs.State.{IsWellFormed};
 use crate::facts::{content_in, fact, put_content, suspension_in};
 use crate::lines::add_text;
 use crate::shown::{is_mutex, object_name};
-use crate::subjects::{Subject, subject_at, subject_count};
+use crate::subjects::{subject_at, subject_count};
 use fr_calls::State;
+use fr_notes::Subject;
 use fr_program::{ActorId, App, ObjId};
 use std::alloc::{AllocError, Global};
 

@@ -3,8 +3,8 @@ ghost use Rattle.fr_calls.specs.State.{IsWellFormed};
 
 use crate::lines::{put_three, put_two};
 use crate::shown::{actor_name, object_name, variable_name};
-use crate::subjects::Subject;
 use fr_calls::{Content, State, Stock};
+use fr_notes::Subject;
 use fr_program::{ActorId, App, ObjId, VarId};
 use std::alloc::{AllocError, Global};
 use std::collections::VecDeque;
@@ -152,6 +152,7 @@ fn put_stock(text: &mut String, app: &App, stock: &Stock) -> Result<(), AllocErr
                 count => write!(text, "live, held by {name} {count} times"),
             }
         }
+        Stock::Bytes(1) => text.push_str("live, with 1 byte"),
         Stock::Bytes(bytes) => write!(text, "live, with {bytes} bytes"),
         Stock::Lengths(messages) => put_lengths(text, messages.lengths()),
     }

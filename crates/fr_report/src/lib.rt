@@ -37,7 +37,7 @@ pub use shown::{actor_name, is_mutex, object_name, rule_text, side_name, variabl
 pub use sources::Sources;
 pub use standing::{Line, Standing};
 pub use steps::outcome_text;
-pub use subjects::{Subject, subject_at, subject_count};
+pub use subjects::{subject_at, subject_count};
 pub use text::{part_text, report, verdict_line};
 pub use trace::trace_text;
 pub use waits::{deadlock_text, order_line};

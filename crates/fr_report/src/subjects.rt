@@ -1,15 +1,6 @@
 // What is told of a state, one thing after the other.
+use fr_notes::Subject;
 use fr_program::{App, ObjId, VarId};
-
-/// What is told of a state: how deep an actor is in the critical section, how deep it has suspended the scheduler, what an object
-/// has, and the value of a variable.
-#[derive(Clone, Copy, PartialEq, Eq)]
-pub enum Subject {
-    Critical,
-    Suspended,
-    Object(ObjId),
-    Variable(VarId),
-}
 
 /// How many things a state has, for one actor: its depths, the objects and the variables.
 pub fn subject_count(app: &App) -> usize {

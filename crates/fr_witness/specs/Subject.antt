@@ -7,8 +7,8 @@
 -- | comes_first     | the depths come first, then the objects and the variables, by their numbers          |
 -- | IsFirstBroken   | the first subject of which it isn't so, or none                                      |
 use Rattle.std.specs.Prelude.{◌≡◌, ◌<◌, ℕ, Option, None, Some}
-pub use Rattle.fr_witness.specs.declared.claims.Subject.{Subject}
-pub use Rattle.fr_witness.specs.declared.claims.Subject.TheVariants.{Critical, Suspended, Object, Variable}
+pub use Rattle.fr_notes.specs.declared.subject.Subject.{Subject}
+pub use Rattle.fr_notes.specs.declared.subject.Subject.TheVariants.{Critical, Suspended, Object, Variable}
 use Rattle.fr_calls.specs.State.{State, value_of, content_of, suspension_of, depth_of}
 use Rattle.fr_notes.specs.Note.{Alternative, Meets, Within, HoldsOne, claim_of, range_of}
 

@@ -6,18 +6,8 @@ ghost use Rattle.fr_notes.specs.Note.{Meets, Within, HoldsOne, Holds, claim_of, 
 ghost use Rattle.fr_witness.specs.Subject.{IsFirstBroken};
 
 use fr_calls::{Content, State, Stock};
-use fr_notes::{Alternative, Claim, Note};
+use fr_notes::{Alternative, Claim, Note, Subject};
 use fr_program::{ActorId, App, ObjId, VarId};
-
-/// What a note speaks of: the actor's depth in the critical section, how deep it has suspended the
-/// scheduler, an object that it holds or that is live or dead, the range of a variable.
-#[derive(Clone, Copy, PartialEq, Eq)]
-pub enum Subject {
-    Critical,
-    Suspended,
-    Object(ObjId),
-    Variable(VarId),
-}
 
 /// Whether the claim is true of the object for the actor.
 fn is_met(claim: Claim, actor: ActorId, content: &Content) -> bool

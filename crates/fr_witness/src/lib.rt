@@ -13,7 +13,7 @@ mod showing;
 mod taken;
 mod variants;
 
-pub use claims::{Subject, claim_broken, note_holds};
+pub use claims::{claim_broken, note_holds};
 pub use evidence::Witness;
 pub use laws::what_is_shown_is_not_kept;
 pub use showing::witness;

@@ -10,10 +10,10 @@ use super::words::{can_hold, otherwise_text, put_claim, put_said};
 use crate::told::{Explained, ShownState, add_item};
 use fr_calls::{State, is_at_end};
 use fr_ends::{Certificate, EndName};
-use fr_notes::{Alternative, Claim};
+use fr_notes::{Alternative, Claim, Subject};
 use fr_program::{ActorId, App, Call, Instr, ObjId, Point, Side};
-use fr_report::{Subject, add_text, subject_at, subject_count};
-use fr_witness::{Subject as Claimed, claim_broken};
+use fr_report::{add_text, subject_at, subject_count};
+use fr_witness::claim_broken;
 use std::alloc::{AllocError, Global};
 
 /// The site of a point; None where the application has no such point.
@@ -32,16 +32,6 @@ pub(super) fn site_of<'a>(
         instr,
         note: certificate.notes.at(app, number),
     })
-}
-
-/// What a claim is of, as one of the things that are told of a state.
-fn told_of(claimed: Claimed) -> Subject {
-    match claimed {
-        Claimed::Critical => Subject::Critical,
-        Claimed::Suspended => Subject::Suspended,
-        Claimed::Object(object) => Subject::Object(object),
-        Claimed::Variable(variable) => Subject::Variable(variable),
-    }
 }
 
 /// What an alternative says of the subject, as a list of one claim.
@@ -72,10 +62,9 @@ fn add_broken_by(
     requires actor { actor.0 < length scene.now.app.now.actors }
 {
     let (alloc, app) = (scene.alloc, scene.app);
-    let Some(claimed) = claim_broken(app, says, actor, state) else {
+    let Some(subject) = claim_broken(app, says, actor, state) else {
         return Ok(());
     };
-    let subject = told_of(claimed);
     let claims = one_claim(alloc, app, actor, says, subject)?;
     add_item(items, Explained::Says { of, actor, claims })?;
     let so = otherwise_text(alloc, app, actor, says, state, subject)?;

@@ -3,13 +3,13 @@ ghost use Rattle.std.specs.Prelude.{◌<◌, length};
 ghost use Rattle.fr_calls.specs.State.{IsWellFormed};
 
 use fr_calls::State;
-use fr_notes::{Alternative, Claim, Note};
+use fr_notes::{Alternative, Claim, Note, Subject};
 use fr_program::{
     Act, ActorId, App, Attempt, Call, Instr, ObjId, ObjectCall, Operand, Point, VarId,
 };
 use fr_report::{
-    Sources, Standing, Subject, add_text, fact, has_changed, standing_at, subject_at,
-    subject_count, suspension_in,
+    Sources, Standing, add_text, fact, has_changed, standing_at, subject_at, subject_count,
+    suspension_in,
 };
 use fr_request::Detail;
 use std::alloc::{AllocError, Global};
