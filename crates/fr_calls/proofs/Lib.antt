@@ -12,3 +12,4 @@ pub mod Begins
 pub mod Rows
 pub mod Named
 pub mod Chosen
+pub mod Spanned

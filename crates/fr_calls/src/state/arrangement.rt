@@ -125,9 +125,9 @@ impl State {
         Ok(State {
             places: self.places.clone()?,
             values: self.values.clone()?,
-            objects: copied_contents(self.alloc, &self.objects)?,
             critical: self.critical,
             suspended: self.suspended.clone()?,
+            objects: copied_contents(self.alloc, &self.objects)?,
             alloc: self.alloc,
         })
     }

@@ -1,5 +1,5 @@
-use Rattle.std.proofs.Common.{sym, subst, rules}
-use Rattle.fr_calls.specs.State.{IsWellFormed, CanHave}
+use Rattle.std.proofs.Common.{subst, rules}
+use Rattle.fr_calls.specs.State.{CanHave}
 use Rattle.fr_calls.proofs.Formed.{becomes-mid}
 use Rattle.fr_calls.proofs.state.State.set_content.Goals as goal
 

@@ -1,5 +1,5 @@
 -- Each number is in a range exactly where each is at least its lower and at most its upper end.
-use Rattle.std.proofs.Common.{◌≡◌, sym, subst}
+use Rattle.std.proofs.Common.{sym, subst}
 use Rattle.std.specs.Prelude.{◌≤ℤ◌, ℤ, List, All}
 use Rattle.std.proofs.lemmas.Int.{to_z-of_z}
 use mir.Syntax.{w64}
