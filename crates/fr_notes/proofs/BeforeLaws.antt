@@ -4,6 +4,7 @@ use Rattle.std.specs.Prelude.{◌<◌, ◌⊎◌, All}
 use Rattle.std.proofs.lemmas.List.Elements.{All-head, All-tail}
 use Rattle.fr_program.specs.declared.ids.VarId.{VarId}
 use Rattle.fr_program.specs.declared.ids.Point.{Point}
+use Rattle.fr_program.specs.declared.instr.Instr.{Instr}
 use Rattle.fr_program.specs.declared.instr.Instr.TheVariants.{Set}
 use Rattle.fr_program.specs.declared.instr.Operand.{Operand}
 use Rattle.fr_program.specs.declared.instr.Operand.TheVariants.{Number, Variable}
@@ -17,10 +18,14 @@ use Rattle.fr_calls.specs.declared.way.Way.{Way}
 use Rattle.fr_notes.specs.declared.change.Change.{Change}
 use Rattle.fr_notes.specs.Known.{Known, IsLeft}
 use Rattle.fr_notes.specs.Reckoning.{IsNamed}
-use Rattle.fr_notes.specs.Spot.{unchanged}
+use Rattle.fr_notes.specs.Spot.{LeavesBefore, unchanged}
 
 pub as-made : (P : Program) (k : Known) (p : Point) (way : Way) (change made : Change) → change ≡ made → IsLeft P k p way made → IsLeft P k p way change
 as-made P k p way change made e left = subst (λ x. IsLeft P k p way x) (sym e) left
+
+-- what a row of an instruction leaves, where it is this one
+pub left-here : (P : Program) (k : Known) (i j : Instr) (w v : Way) (change : Option Change) → i ≡ j → w ≡ v → LeavesBefore P k j v change → LeavesBefore P k i w change
+left-here P k i j w v change is by h = subst (λ x. LeavesBefore P k x w change) (sym is) (subst (λ x. LeavesBefore P k j x change) (sym by) h)
 
 pub crit-made : (k : Known) (u : Change) → u ≡ unchanged k → (d e : ℕ) → d ≡ e → record u { crit = d } ≡ record (unchanged k) { crit = e }
 crit-made k u same d e f = ap (λ (v : Change). record v { crit = d }) same ∙ ap (λ (n : ℕ). record (unchanged k) { crit = n }) f

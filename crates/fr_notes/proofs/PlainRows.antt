@@ -16,13 +16,13 @@ use Rattle.fr_calls.specs.declared.way.Way.{Way}
 use Rattle.fr_calls.specs.declared.way.Way.TheVariants.{Then}
 use Rattle.fr_calls.specs.State.{State, Dead, depth_of, depth_in, suspension_of, in_critical, critical_at, suspend_at}
 use Rattle.fr_calls.specs.Rule.{condition_of, first_forbidden, holds_some, GivesUnheld, UsesDead, used_object}
-use Rattle.fr_calls.specs.Step.{Row, IsFree, transition}
+use Rattle.fr_calls.specs.Step.{Row, IsFree, Transition, transition}
 use Rattle.fr_calls.proofs.Free.{before-free, no-use}
 use Rattle.fr_notes.specs.declared.change.Change.{Change}
 use Rattle.fr_notes.specs.Note.{Alternative}
 use Rattle.fr_notes.specs.Known.{Known, IsLeft, NeverSteps, is_other_critical}
 use Rattle.fr_notes.specs.Holding.{Unheld}
-use Rattle.fr_notes.specs.Spot.{IsSpot, IsUnforbidden, condition_known, unchanged}
+use Rattle.fr_notes.specs.Spot.{IsSpot, IsUnforbidden, LeavesBefore, condition_known, unchanged}
 use Rattle.fr_notes.proofs.Shown.{depth_for-same, depth_for-other, held_at-same, held_at-other}
 use Rattle.fr_notes.proofs.Seen.{Site, mover, other, second, second_in, IsKnown, Choice, drawn, IsChosen, drawn-known, usual, usual-chosen, apart, mover-there, holds-known, other-depth, critical_for, second-critical}
 use Rattle.fr_notes.proofs.Rows.{IsRow, row-left, row-never, site}
@@ -110,6 +110,10 @@ module _ (P : Program) (k : Known) (p : Point) where
 
   pub end-left : IsSpot P k p Before (Calls DeleteSelf) → IsUnforbidden P k p (Calls DeleteSelf) → IsLeft P k p Then (unchanged k)
   end-left spot none = still-left (Calls DeleteSelf) spot none (λ S c mid r. r.1) (λ S. (refl, refl)) (λ S b. b) refl
+
+-- no step goes by a row that there isn't
+pub no-row : (P : Program) (k : Known) (i : Instr) (way : Way) → ((t : Transition) → Row P t Before i way → ⊥) → LeavesBefore P k i way None
+no-row P k i way none p spot free = row-never P k p Before i way spot (λ q there S c mid known frees r. none _ r)
 
 -- whoever is in the critical section where the mover alone can be, it isn't another actor
 others-depth : (h : Option (ℕ × ℕ)) (a b : ℕ) → b ≢ a → IfSome h (λ c. c.0 ≡ a) → depth_in h b ≡ 0

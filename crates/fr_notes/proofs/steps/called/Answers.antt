@@ -1,9 +1,10 @@
-use Rattle.std.proofs.Common.{Some, sym, subst}
+-- Each call leaves what the function that has it says.
+use Rattle.std.proofs.Common.{Some, ap, refl, sym, subst}
 use Rattle.fr_program.specs.declared.instr.Instr.TheVariants.{Call as Calls}
 use Rattle.fr_calls.specs.declared.way.Way.TheVariants.{Then}
 use Rattle.fr_notes.specs.Spot.{LeavesBefore}
 use Rattle.fr_notes.proofs.PlainRows.{yield-left, delay-left, end-left}
-use Rattle.fr_notes.proofs.BeforeLaws.{as-made}
+use Rattle.fr_notes.proofs.BeforeLaws.{as-made, left-here}
 use Rattle.fr_notes.proofs.steps.called.Goals as goal
 
 pub returns-in-Yield : goal.returns-in-Yield
@@ -23,3 +24,24 @@ returns-in-DeleteSelf c =
     let P = c.args.app.now in
     let k = c.args.known.now in
     subst (λ x. LeavesBefore P k (Calls x) Then (Some c.unchanged-in-DeleteSelf.result)) (sym c.in-DeleteSelf.is) (λ p spot none. as-made P k p Then _ _ c.unchanged-in-DeleteSelf.ensures.same (end-left P k p spot none))
+
+pub returns-in-EnterCritical : goal.returns-in-EnterCritical
+returns-in-EnterCritical c = left-here c.args.app.now c.args.known.now _ _ _ _ _ (ap (λ x. Calls x) c.in-EnterCritical.is) refl (c.entered.ensures c.args.app.now _)
+
+pub returns-in-ExitCritical : goal.returns-in-ExitCritical
+returns-in-ExitCritical c = left-here c.args.app.now c.args.known.now _ _ _ _ _ (ap (λ x. Calls x) c.in-ExitCritical.is) refl (c.left.ensures c.args.app.now _)
+
+pub returns-in-SuspendAll : goal.returns-in-SuspendAll
+returns-in-SuspendAll c = left-here c.args.app.now c.args.known.now _ _ _ Then (Some c.suspended.result) (ap (λ x. Calls x) c.in-SuspendAll.is) refl (c.suspended.ensures c.args.app.now)
+
+pub returns-in-ResumeAll : goal.returns-in-ResumeAll
+returns-in-ResumeAll c = left-here c.args.app.now c.args.known.now _ _ _ _ _ (ap (λ x. Calls x) c.in-ResumeAll.is) refl (c.resumed.ensures c.args.app.now)
+
+pub returns-in-Create : goal.returns-in-Create
+returns-in-Create c = left-here c.args.app.now c.args.known.now _ _ _ _ _ (ap (λ x. Calls x) c.in-Create.is) refl (c.created.ensures c.args.app.now _ _)
+
+pub returns-in-Delete : goal.returns-in-Delete
+returns-in-Delete c = left-here c.args.app.now c.args.known.now _ _ _ _ _ (ap (λ x. Calls x) c.in-Delete.is) refl (c.deleted.ensures c.args.app.now _)
+
+pub returns-in-On : goal.returns-in-On
+returns-in-On c = left-here c.args.app.now c.args.known.now _ _ _ _ _ (ap (λ x. Calls x) c.in-On.is) refl (c.begun.ensures c.args.app.now (sym c.kind.ensures))
