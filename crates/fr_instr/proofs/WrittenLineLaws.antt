@@ -1,12 +1,13 @@
 -- What is written for a line is the text in the code's pieces, and is read again as the line: each piece means
 -- its part, and each token is one.
-use Rattle.std.proofs.Common.{◌≡◌, ◌<◌, ◌++◌, ℕ, List, [], ◌∷◌, map, length, get_or, Option, Some, None, option_map, refl, sym, ap, ◌∙◌, append_assoc, append-nil, take, ◌+◌}
+use Rattle.std.proofs.Common.{◌≡◌, ◌<◌, ◌++◌, ℕ, List, [], ◌∷◌, Bor, map, length, get_or, Option, Some, None, option_map, refl, sym, ap, ◌∙◌, append_assoc, append-nil, take, ◌+◌}
 use Rattle.fr_instr.specs.Tokens.{word, sign}
 use Rattle.fr_instr.specs.Shapes.{Word, name, numeral, word_tok, more_toks, args_toks, else_toks, into_toks}
 use Rattle.fr_instr.specs.Names.{NamesOf}
 use Rattle.fr_instr.specs.Calls.{row_of, verb_of, given_of}
+use Rattle.fr_instr.specs.Views.{texts}
 use Rattle.fr_instr.specs.Written.{written}
-use Rattle.fr_instr.specs.WrittenLine.{natural, word_text, place_word, more_text, args_text, into_name, into_text, else_text, set_text, if_text, line_text, written_line}
+use Rattle.fr_instr.specs.WrittenLine.{natural, joined, word_text, place_word, more_text, args_text, into_name, into_text, else_text, set_text, if_text, line_text, written_line}
 use Rattle.std.proofs.lemmas.List.{take_more, map-append}
 use Rattle.fr_instr.specs.declared.call.Place.{Place}
 use Rattle.fr_instr.specs.declared.token.Sign.TheVariants.{Open}
@@ -66,13 +67,25 @@ more_push : (ws : List Word) (w : Word) → more_text (ws ++ w ∷ []) ≡ more_
 more_push [] w = ap (λ x. 44 ∷ 32 ∷ x) (append-nil (word_text w))
 more_push (v ∷ ws) w = ap (λ x. 44 ∷ 32 ∷ (word_text v ++ x)) (more_push ws w) ∙ ap (λ x. 44 ∷ 32 ∷ x) (sym (append_assoc (word_text v) (more_text ws) (44 ∷ 32 ∷ word_text w)))
 
-pub more_turn : (f : Place → Word) (bs : List Place) (i : ℕ) (d : Place) (old now mid new : List ℕ) → i < length bs → now ≡ old ++ more_text (map f (take i bs)) → mid ≡ now ++ (44 ∷ 32 ∷ [])
-    → new ≡ mid ++ word_text (f (get_or bs i d)) → new ≡ old ++ more_text (map f (take (i + 1) bs))
-more_turn f bs i d old now mid new within so_far comma one =
+pub more_turn : (f : Place → Word) (bs : List Place) (i : ℕ) (d : Place) (old now new : List ℕ) → i < length bs → now ≡ old ++ more_text (map f (take i bs))
+    → new ≡ now ++ (44 ∷ 32 ∷ word_text (f (get_or bs i d))) → new ≡ old ++ more_text (map f (take (i + 1) bs))
+more_turn f bs i d old now new within so_far one =
     let w = word_text (f (get_or bs i d)) in
     let m = more_text (map f (take i bs)) in
     let grown = ap (λ l. more_text (map f l)) (take_more bs i d within) ∙ ap more_text (map-append f (take i bs) (get_or bs i d ∷ [])) ∙ more_push (map f (take i bs)) (f (get_or bs i d)) in
-    one ∙ ap (λ x. x ++ w) (comma ∙ ap (λ x. x ++ (44 ∷ 32 ∷ [])) so_far) ∙ append_assoc (old ++ m) (44 ∷ 32 ∷ []) w ∙ append_assoc old m (44 ∷ 32 ∷ w) ∙ ap (λ x. old ++ x) (sym grown)
+    one ∙ ap (λ x. x ++ (44 ∷ 32 ∷ w)) so_far ∙ append_assoc old m (44 ∷ 32 ∷ w) ∙ ap (λ x. old ++ x) (sym grown)
+
+joined_more : (ts : List (List ℕ)) (t : List ℕ) → joined (ts ++ t ∷ []) ≡ joined ts ++ t
+joined_more [] t = refl
+joined_more (a ∷ []) t = refl
+joined_more (a ∷ b ∷ ts) t = ap (λ x. a ++ x) (joined_more (b ∷ ts) t) ∙ sym (append_assoc a (joined (b ∷ ts)) t)
+
+pub joined_turn : (ps : List (Bor (List ℕ))) (i : ℕ) (d : Bor (List ℕ)) (old now new : List ℕ) → i < length ps → now ≡ old ++ joined (texts (take i ps)) → new ≡ now ++ (get_or ps i d).now
+    → new ≡ old ++ joined (texts (take (i + 1) ps))
+joined_turn ps i d old now new within so_far one =
+    let p = get_or ps i d in
+    let grown = ap (λ l. joined (texts l)) (take_more ps i d within) ∙ ap joined (map-append (λ (t : Bor (List ℕ)). t.now) (take i ps) (p ∷ [])) ∙ joined_more (texts (take i ps)) p.now in
+    one ∙ ap (λ x. x ++ p.now) so_far ∙ append_assoc old (joined (texts (take i ps))) p.now ∙ ap (λ x. old ++ x) (sym grown)
 
 -- an argument, what follows it, and the end of the call
 more_written : (w : Word) (bs : List Word) (e : Option (List ℕ)) → written (word_tok w ∷ (more_toks bs ++ else_toks e)) ≡ word_text w ++ (more_text bs ++ (41 ∷ else_text e))

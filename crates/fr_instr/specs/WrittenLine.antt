@@ -5,6 +5,7 @@
 -- | operand_word, place_word, .. | the word or number that is written for an operand and so on |
 -- | shape_of                    | the shape of a line, a `set` with its operator              |
 -- | written_line                | its tokens, as they are written                             |
+-- | joined                      | texts, one behind the other                                 |
 -- | .._text                     | the same in the pieces that the code writes                 |
 use Rattle.std.specs.Prelude.{ℕ, ℤ, pos, List, [], ◌∷◌, ◌++◌, Option, None, Some, map, option_map, codes}
 use Rattle.std.specs.Fmt.{signed_decimal}
@@ -73,6 +74,12 @@ abbrev pub written_line : NamesOf → Instr → List ℕ
 written_line N l = written (shape_toks (shape_of N l))
 
 -- ---- the pieces
+
+-- these texts, one behind the other
+abbrev pub joined : List (List ℕ) → List ℕ
+joined [] = []
+joined (t ∷ []) = t
+joined (t ∷ u ∷ more) = t ++ joined (u ∷ more)
 
 -- the text of a word or number
 abbrev pub word_text : Word → List ℕ

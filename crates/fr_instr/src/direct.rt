@@ -130,12 +130,5 @@ pub(crate) fn read_call(names: &Names, text: &[u8]) -> Option<Call>
     let (_, verb, places, tail) = call::row_named(name)?;
     let (given, rest) = args_in(names, places, inside)?;
     let or_else = else_of(tail, rest)?;
-    Some(given::made(
-        verb,
-        Given {
-            or_else,
-            into: None,
-            ..given
-        },
-    ))
+    Some(given::made_beside(verb, given, or_else, None))
 }

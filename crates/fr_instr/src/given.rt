@@ -94,6 +94,25 @@ pub(crate) fn made(verb: Verb, given: Given) -> Call
     }
 }
 
+/// The same, with this target of a failure and this variable for the answer beside it.
+pub(crate) fn made_beside(
+    verb: Verb,
+    given: Given,
+    or_else: Option<usize>,
+    into: Option<VarId>,
+) -> Call
+    ensures { result ≡ made verb (record given { or_else = or_else; into = into }) }
+{
+    made(
+        verb,
+        Given {
+            or_else,
+            into,
+            ..given
+        },
+    )
+}
+
 /// When a call with this timing answers.
 fn when_of(timing: Timing) -> When
     ensures { result ≡ when_of timing }

@@ -1,7 +1,8 @@
 // What words, numbers and arguments mean.
 ghost use Rattle.std.specs.Prelude.{◌≡◌, ◌≢◌, IfOk, IfErr, MatchResult, length as list_length};
 ghost use Rattle.fr_instr.specs.Views.{word_of, words};
-ghost use Rattle.fr_instr.specs.Lines.{IsVariable, IsOperand, IsBlockTime, SaysObject, SaysVariable, SaysLength, SaysTicks, SaysNull, Gives, AreGiven};
+ghost use Rattle.fr_instr.specs.Calls.{put};
+ghost use Rattle.fr_instr.specs.Lines.{IsVariable, IsOperand, IsBlockTime, SaysLength, SaysTicks, SaysNull, Gives, AreGiven};
 ghost use Rattle.fr_instr.specs.Faults.{InVariable, InPlace, InPlain, InArgs, InPlaces};
 
 use crate::call::Place;
@@ -10,7 +11,7 @@ use crate::given::{Given, NOTHING};
 use crate::names::Names;
 use crate::number;
 use crate::shape::Value;
-use fr_program::{BlockTime, ObjId, Operand, VarId};
+use fr_program::{BlockTime, Operand, VarId};
 
 /// The variable with this name.
 pub(crate) fn variable_of(names: &Names, word: &[u8]) -> Result<VarId, LineFault>
@@ -22,26 +23,26 @@ pub(crate) fn variable_of(names: &Names, word: &[u8]) -> Result<VarId, LineFault
     }
 }
 
-/// The variable that this argument names.
-fn variable_at(names: &Names, value: Value<'_>) -> Result<VarId, LineFault>
-    ensures { MatchResult result (SaysVariable names.now (word_of value.entry)) (InPlace names.now Place.Variable (word_of value.entry)) }
+/// What the variable that this argument names gives.
+fn variable_given(names: &Names, value: Value<'_>, given: Given) -> Result<Given, LineFault>
+    ensures { MatchResult result (Gives names.now Place.Variable (word_of value.entry) given) (InPlace names.now Place.Variable (word_of value.entry)) }
 {
     match value {
         Value::Name(word) => match names.variable_named(word) {
-            Some(x) => Ok(x),
+            Some(variable) => Ok(Given { variable, ..given }),
             None => Err(LineFault::UnknownName),
         },
         Value::Number(_) => Err(LineFault::Syntax),
     }
 }
 
-/// The object that this argument names.
-fn object_at(names: &Names, value: Value<'_>) -> Result<ObjId, LineFault>
-    ensures { MatchResult result (SaysObject names.now (word_of value.entry)) (InPlace names.now Place.Object (word_of value.entry)) }
+/// What the object that this argument names gives.
+fn object_given(names: &Names, value: Value<'_>, given: Given) -> Result<Given, LineFault>
+    ensures { MatchResult result (Gives names.now Place.Object (word_of value.entry) given) (InPlace names.now Place.Object (word_of value.entry)) }
 {
     match value {
         Value::Name(word) => match names.object_named(word) {
-            Some(o) => Ok(o),
+            Some(object) => Ok(Given { object, ..given }),
             None => Err(LineFault::UnknownName),
         },
         Value::Number(_) => Err(LineFault::Syntax),
@@ -64,27 +65,37 @@ pub(crate) fn operand_at(names: &Names, value: Value<'_>) -> Result<Operand, Lin
     }
 }
 
-/// The length that this argument is.
-fn length_at(value: Value<'_>) -> Result<u32, LineFault>
-    ensures { MatchResult result (SaysLength (word_of value.entry)) (InPlain Place.Length (word_of value.entry)) }
+/// What the operand that this argument is gives.
+fn operand_given(names: &Names, value: Value<'_>, given: Given) -> Result<Given, LineFault>
+    ensures { MatchResult result (Gives names.now Place.Operand (word_of value.entry) given) (InPlace names.now Place.Operand (word_of value.entry)) }
+{
+    match operand_at(names, value) {
+        Ok(operand) => Ok(Given { operand, ..given }),
+        Err(fault) => Err(fault),
+    }
+}
+
+/// What the length that this argument is gives.
+fn length_given(value: Value<'_>, given: Given) -> Result<Given, LineFault>
+    ensures { MatchResult result (λ h. SaysLength (word_of value.entry) h.bytes × (h ≡ put Place.Length h given)) (InPlain Place.Length (word_of value.entry)) }
 {
     match value {
         Value::Name(_) => Err(LineFault::Syntax),
         Value::Number(text) => match number::length_of(text) {
-            Some(n) => Ok(n),
+            Some(bytes) => Ok(Given { bytes, ..given }),
             None => Err(LineFault::BadNumber),
         },
     }
 }
 
-/// The number of ticks that this argument is.
-fn ticks_at(value: Value<'_>) -> Result<u32, LineFault>
-    ensures { MatchResult result (SaysTicks (word_of value.entry)) (InPlain Place.Ticks (word_of value.entry)) }
+/// What the number of ticks that this argument is gives.
+fn ticks_given(value: Value<'_>, given: Given) -> Result<Given, LineFault>
+    ensures { MatchResult result (λ h. SaysTicks (word_of value.entry) h.ticks × (h ≡ put Place.Ticks h given)) (InPlain Place.Ticks (word_of value.entry)) }
 {
     match value {
         Value::Name(_) => Err(LineFault::Syntax),
         Value::Number(text) => match number::ticks_of(text) {
-            Some(n) => Ok(n),
+            Some(ticks) => Ok(Given { ticks, ..given }),
             None => Err(LineFault::BadNumber),
         },
     }
@@ -109,19 +120,23 @@ fn block_time_at(value: Value<'_>) -> Result<BlockTime, LineFault>
     }
 }
 
-/// Ok where this argument is `NULL`.
-fn null_at(value: Value<'_>) -> Result<(), LineFault>
-    ensures { MatchResult result (λ _. SaysNull (word_of value.entry)) (InPlain Place.Null (word_of value.entry)) }
+/// What the block time that this argument is gives: a number of ticks, or `portMAX_DELAY`.
+fn block_time_given(value: Value<'_>, given: Given) -> Result<Given, LineFault>
+    ensures { MatchResult result (λ h. IsBlockTime (word_of value.entry) h.time × (h ≡ put Place.Time h given)) (InPlain Place.Time (word_of value.entry)) }
+{
+    match block_time_at(value) {
+        Ok(time) => Ok(Given { time, ..given }),
+        Err(fault) => Err(fault),
+    }
+}
+
+/// What is given already, where this argument is `NULL`.
+fn null_given(value: Value<'_>, given: Given) -> Result<Given, LineFault>
+    ensures { MatchResult result (λ h. SaysNull (word_of value.entry) × (h ≡ given)) (InPlain Place.Null (word_of value.entry)) }
 {
     match value {
-        Value::Name(word) => {
-            if word == b"NULL".as_slice() {
-                Ok(())
-            } else {
-                Err(LineFault::Syntax)
-            }
-        }
-        Value::Number(_) => Err(LineFault::Syntax),
+        Value::Name(word) if word == b"NULL".as_slice() => Ok(given),
+        _ => Err(LineFault::Syntax),
     }
 }
 
@@ -134,36 +149,15 @@ pub(crate) fn given_at(
 ) -> Result<Given, LineFault>
     ensures { MatchResult result (Gives names.now place (word_of value.entry) given) (InPlace names.now place (word_of value.entry)) }
 {
-    Ok(match place {
-        Place::Object => Given {
-            object: object_at(names, value)?,
-            ..given
-        },
-        Place::Operand => Given {
-            operand: operand_at(names, value)?,
-            ..given
-        },
-        Place::Variable => Given {
-            variable: variable_at(names, value)?,
-            ..given
-        },
-        Place::Length => Given {
-            bytes: length_at(value)?,
-            ..given
-        },
-        Place::Time => Given {
-            time: block_time_at(value)?,
-            ..given
-        },
-        Place::Ticks => Given {
-            ticks: ticks_at(value)?,
-            ..given
-        },
-        Place::Null => {
-            null_at(value)?;
-            given
-        }
-    })
+    match place {
+        Place::Object => object_given(names, value, given),
+        Place::Operand => operand_given(names, value, given),
+        Place::Variable => variable_given(names, value, given),
+        Place::Length => length_given(value, given),
+        Place::Time => block_time_given(value, given),
+        Place::Ticks => ticks_given(value, given),
+        Place::Null => null_given(value, given),
+    }
 }
 
 /// What these words and numbers give in these places, as many, beside what was given before.

@@ -3,18 +3,17 @@ ghost use Rattle.std.specs.Prelude.{◌≡◌, ◌≢◌, IfOk, IfErr, MatchResu
 ghost use Rattle.fr_instr.specs.Views.{word_of, words, text_in, shape_view};
 ghost use Rattle.fr_instr.specs.Shapes.{set, set_to, branch, jump, pick, call};
 ghost use Rattle.fr_instr.specs.Numbers.{IsInteger, IsTarget};
-ghost use Rattle.fr_instr.specs.Lines.{IsElse, IsInto, IsCall, IsLineOf, IsLine, IsLineIn};
+ghost use Rattle.fr_instr.specs.Lines.{IsElse, IsInto, IsLineOf, IsLine, IsLineIn};
 ghost use Rattle.fr_instr.specs.Faults.{InInteger, InTarget, InElse, InInto, InCall, InShape, Stands};
 ghost use Rattle.fr_instr.specs.declared.fault.LineFault.TheVariants.{Memory};
 ghost use Rattle.fr_program.specs.declared.instr.Instr.{Instr};
 
 use crate::call::{self, Tail};
 use crate::fault::LineFault;
-use crate::given::{self, Given};
 use crate::names::Names;
 use crate::shape::{self, CallShape, Shape, Value};
-use crate::{direct, meaning, number, token};
-use fr_program::{Call, Comparison, Instr as Line, Operand, Operator, VarId};
+use crate::{direct, given, meaning, number, token};
+use fr_program::{Comparison, Instr as Line, Operand, Operator, VarId};
 use std::alloc::Global;
 
 /// The target that the text is.
@@ -43,13 +42,11 @@ fn else_of(tail: Tail, or_else: Option<&[u8]>) -> Result<Option<usize>, LineFaul
 {
     match or_else {
         None => Ok(None),
-        Some(target) => {
-            if tail.may_fail() {
-                Ok(Some(target_at(target)?))
-            } else {
-                Err(LineFault::Syntax)
-            }
-        }
+        Some(text) if tail.may_fail() => match number::target_of(text) {
+            Some(target) => Ok(Some(target)),
+            None => Err(LineFault::BadNumber),
+        },
+        Some(_) => Err(LineFault::Syntax),
     }
 }
 
@@ -59,19 +56,17 @@ fn into_of(names: &Names, tail: Tail, into: Option<&[u8]>) -> Result<Option<VarI
 {
     match into {
         None => Ok(None),
-        Some(word) => {
-            if tail.may_answer() {
-                Ok(Some(meaning::variable_of(names, word)?))
-            } else {
-                Err(LineFault::Syntax)
-            }
-        }
+        Some(word) if tail.may_answer() => match names.variable_named(word) {
+            Some(variable) => Ok(Some(variable)),
+            None => Err(LineFault::UnknownName),
+        },
+        Some(_) => Err(LineFault::Syntax),
     }
 }
 
-/// The call that a name and its arguments mean.
-fn call_of(names: &Names, shape: &CallShape<'_>) -> Result<Call, LineFault>
-    ensures ok { IfOk result (IsCall names.now (text_in shape.now.into) shape.now.name.now (words shape.now.args.items) (text_in shape.now.or_else)) }
+/// The call that a name and its arguments mean, as a line.
+fn call_of(names: &Names, shape: &CallShape<'_>) -> Result<Line, LineFault>
+    ensures ok { IfOk result (IsLineOf names.now (call (text_in shape.now.into) shape.now.name.now (words shape.now.args.items) (text_in shape.now.or_else))) }
     ensures err { IfErr result (InCall names.now (text_in shape.now.into) shape.now.name.now (words shape.now.args.items) (text_in shape.now.or_else)) }
 {
     let Some((_, verb, places, tail)) = call::row_named(shape.name) else {
@@ -80,14 +75,7 @@ fn call_of(names: &Names, shape: &CallShape<'_>) -> Result<Call, LineFault>
     let or_else = else_of(tail, shape.or_else)?;
     let into = into_of(names, tail, shape.into)?;
     let given = meaning::args_given(names, places, shape.args.as_slice())?;
-    Ok(given::made(
-        verb,
-        Given {
-            or_else,
-            into,
-            ..given
-        },
-    ))
+    Ok(Line::Call(given::made_beside(verb, given, or_else, into)))
 }
 
 /// The `set` that these words and numbers mean.
@@ -186,7 +174,7 @@ fn line_of(names: &Names, shape: &Shape<'_>) -> Result<Line, LineFault>
         Shape::Goto(target) => goto_of(names, target),
         Shape::Pick(target, lo, hi) => pick_of(names, target, lo, hi),
         Shape::Return => Ok(Line::Return),
-        Shape::Call(call) => Ok(Line::Call(call_of(names, call)?)),
+        Shape::Call(call) => call_of(names, call),
     }
 }
 

@@ -66,9 +66,8 @@ fn comparison_of(sign: Sign) -> Option<Comparison>
 pub fn take_word<'a, 't>(tokens: &'t [Token<'a>]) -> Option<(&'a [u8], &'t [Token<'a>])>
     ensures { option_map (λ p. (p.0.now, toks p.1.now)) result ≡ take_word (toks tokens.now) }
 {
-    let (first, rest) = tokens.split_first()?;
-    match *first {
-        Token::Word(word) => Some((word, rest)),
+    match tokens.split_first() {
+        Some((Token::Word(word), rest)) => Some((*word, rest)),
         _ => None,
     }
 }
@@ -77,9 +76,8 @@ pub fn take_word<'a, 't>(tokens: &'t [Token<'a>]) -> Option<(&'a [u8], &'t [Toke
 pub fn take_number<'a, 't>(tokens: &'t [Token<'a>]) -> Option<(&'a [u8], &'t [Token<'a>])>
     ensures { option_map (λ p. (p.0.now, toks p.1.now)) result ≡ take_number (toks tokens.now) }
 {
-    let (first, rest) = tokens.split_first()?;
-    match *first {
-        Token::Number(number) => Some((number, rest)),
+    match tokens.split_first() {
+        Some((Token::Number(number), rest)) => Some((*number, rest)),
         _ => None,
     }
 }
@@ -89,11 +87,10 @@ fn take_value<'a, 't>(tokens: &'t [Token<'a>]) -> Option<(Value<'a>, &'t [Token<
     ensures value { option_map (λ p. (word_of p.0, toks p.1.now)) result ≡ take_value (toks tokens.now) }
     ensures shorter { IfSome result (λ p. length p.1.now + 1 ≡ length tokens.now) }
 {
-    let (first, rest) = tokens.split_first()?;
-    match *first {
-        Token::Word(word) => Some((Value::Name(word), rest)),
-        Token::Number(number) => Some((Value::Number(number), rest)),
-        Token::Sign(_) => None,
+    match tokens.split_first() {
+        Some((Token::Word(word), rest)) => Some((Value::Name(*word), rest)),
+        Some((Token::Number(number), rest)) => Some((Value::Number(*number), rest)),
+        _ => None,
     }
 }
 
@@ -102,9 +99,8 @@ fn take_sign<'a, 't>(tokens: &'t [Token<'a>]) -> Option<(Sign, &'t [Token<'a>])>
     ensures value { option_map (λ p. (p.0, toks p.1.now)) result ≡ take_sign (toks tokens.now) }
     ensures shorter { IfSome result (λ p. length p.1.now + 1 ≡ length tokens.now) }
 {
-    let (first, rest) = tokens.split_first()?;
-    match *first {
-        Token::Sign(sign) => Some((sign, rest)),
+    match tokens.split_first() {
+        Some((Token::Sign(sign), rest)) => Some((*sign, rest)),
         _ => None,
     }
 }
@@ -209,9 +205,8 @@ fn arg_before_comma<'a, 't>(tokens: &'t [Token<'a>]) -> Option<(Value<'a>, &'t [
     ensures shorter { IfSome result (λ p. length p.1.now + 2 ≡ length tokens.now) }
 {
     let (value, rest) = take_value(tokens)?;
-    let (sign, rest) = take_sign(rest)?;
-    match sign {
-        Sign::Comma => Some((value, rest)),
+    match take_sign(rest) {
+        Some((Sign::Comma, rest)) => Some((value, rest)),
         _ => None,
     }
 }
@@ -222,9 +217,8 @@ fn arg_before_close<'a, 't>(tokens: &'t [Token<'a>]) -> Option<(Value<'a>, &'t [
     ensures { option_map (λ p. (word_of p.0, toks p.1.now)) result ≡ arg_before_close (toks tokens.now) }
 {
     let (value, rest) = take_value(tokens)?;
-    let (sign, rest) = take_sign(rest)?;
-    match sign {
-        Sign::Close => Some((value, rest)),
+    match take_sign(rest) {
+        Some((Sign::Close, rest)) => Some((value, rest)),
         _ => None,
     }
 }
@@ -235,16 +229,6 @@ fn behind_close<'a, 't>(tokens: &'t [Token<'a>]) -> Option<&'t [Token<'a>]>
 {
     match take_sign(tokens) {
         Some((Sign::Close, rest)) => Some(rest),
-        _ => None,
-    }
-}
-
-/// What follows an opening bracket at the front.
-fn behind_open<'a, 't>(tokens: &'t [Token<'a>]) -> Option<&'t [Token<'a>]>
-    ensures { option_map (λ p. toks p.now) result ≡ behind_open (take_sign (toks tokens.now)) }
-{
-    match take_sign(tokens) {
-        Some((Sign::Open, rest)) => Some(rest),
         _ => None,
     }
 }
@@ -356,8 +340,10 @@ pub fn head_behind<'a, 't>(tokens: &'t [Token<'a>]) -> Option<(&'a [u8], &'t [To
     ensures { option_map (λ p. (p.0.now, toks p.1.now)) result ≡ head_at (toks tokens.now) }
 {
     let (name, rest) = take_word(tokens)?;
-    let inside = behind_open(rest)?;
-    Some((name, inside))
+    match take_sign(rest) {
+        Some((Sign::Open, inside)) => Some((name, inside)),
+        _ => None,
+    }
 }
 
 /// A call behind the variable that takes its answer.

@@ -1,10 +1,10 @@
 // Writing: the text of a line.
 ghost use Rattle.std.specs.Prelude.{◌≡◌, ◌++◌, IfOk, OnOk, map, option_map, string_bytes};
-ghost use Rattle.std.specs.Fmt.{signed_decimal};
 ghost use Rattle.fr_instr.specs.Calls.{row_of, verb_of};
 ghost use Rattle.fr_instr.specs.Lines.{IsLine, IsLineIn};
+ghost use Rattle.fr_instr.specs.Views.{texts};
 ghost use Rattle.fr_program.specs.declared.instr.Instr.TheVariants as line;
-ghost use Rattle.fr_instr.specs.WrittenLine.{natural, operand_text, word_text, time_word, place_word, more_text, args_text, into_name, into_text, else_text, operator_text, comparison_text, set_text, if_text, goto_text, pick_text, call_text, line_text, written_line};
+ghost use Rattle.fr_instr.specs.WrittenLine.{natural, joined, operand_text, word_text, time_word, place_word, more_text, args_text, into_name, into_text, else_text, operator_text, comparison_text, set_text, if_text, pick_text, call_text, line_text, written_line};
 
 use crate::call::{self, Place};
 use crate::given::{self, Given};
@@ -13,63 +13,52 @@ use fr_program::{BlockTime, Call, Comparison, Instr as Line, Operand, Operator, 
 use itoa::Buffer;
 use std::alloc::{AllocError, Global};
 
-/// Appends a number.
-fn push_number(out: &mut String, n: i64) -> Result<(), AllocError>
-    ensures { OnOk result (string_bytes out.new ≡ string_bytes out.old ++ signed_decimal n) }
+/// Appends these texts, one behind the other.
+fn push_all(out: &mut String, pieces: &[&str]) -> Result<(), AllocError>
+    ensures { OnOk result (string_bytes out.new ≡ string_bytes out.old ++ joined (texts pieces.now)) }
 {
-    let mut buffer = Buffer::new();
-    out.push_str(buffer.format(n))
+    for piece in pieces {
+        out.push_str(piece)?;
+    }
+    Ok(())
 }
 
-/// Appends a number that has no sign.
-fn push_natural(out: &mut String, n: u64) -> Result<(), AllocError>
-    ensures { OnOk result (string_bytes out.new ≡ string_bytes out.old ++ natural n) }
-{
-    let mut buffer = Buffer::new();
-    out.push_str(buffer.format(n))
-}
-
-/// Appends an operand.
-fn push_operand(out: &mut String, names: &Names, operand: Operand) -> Result<(), AllocError>
-    ensures { OnOk result (string_bytes out.new ≡ string_bytes out.old ++ operand_text names.now operand) }
+/// The text of an operand. The buffer is for that of a number.
+fn operand_text<'a>(names: &'a Names, operand: Operand, buffer: &'a mut Buffer) -> &'a str
+    ensures { result.now ≡ operand_text names.now operand }
 {
     match operand {
-        Operand::Number(n) => push_number(out, n),
-        Operand::Variable(x) => out.push_str(names.variable_text(x)),
+        Operand::Number(n) => buffer.format(n),
+        Operand::Variable(x) => names.variable_text(x),
     }
 }
 
-/// Appends a block time.
-fn push_block_time(out: &mut String, time: BlockTime) -> Result<(), AllocError>
-    ensures { OnOk result (string_bytes out.new ≡ string_bytes out.old ++ word_text (time_word time)) }
+/// The text of a block time. The buffer is for that of a number.
+fn time_text(time: BlockTime, buffer: &mut Buffer) -> &str
+    ensures { result.now ≡ word_text (time_word time) }
 {
     match time {
-        BlockTime::Ticks(n) => push_natural(out, n as u64),
-        BlockTime::MaxDelay => out.push_str("portMAX_DELAY"),
+        BlockTime::Ticks(n) => buffer.format(n as u64),
+        BlockTime::MaxDelay => "portMAX_DELAY",
     }
 }
 
-/// What is given in a place of this kind.
-fn push_place(
-    out: &mut String,
-    names: &Names,
-    place: Place,
-    given: &Given,
-) -> Result<(), AllocError>
-    ensures { OnOk result (string_bytes out.new ≡ string_bytes out.old ++ word_text (place_word names.now given.now place)) }
+/// The text of what is given in a place of this kind. The buffer is for that of a number.
+fn place_text<'a>(names: &'a Names, place: Place, given: &Given, buffer: &'a mut Buffer) -> &'a str
+    ensures { result.now ≡ word_text (place_word names.now given.now place) }
 {
     match place {
-        Place::Object => out.push_str(names.object_text(given.object)),
-        Place::Operand => push_operand(out, names, given.operand),
-        Place::Variable => out.push_str(names.variable_text(given.variable)),
-        Place::Length => push_natural(out, given.bytes as u64),
-        Place::Time => push_block_time(out, given.time),
-        Place::Ticks => push_natural(out, given.ticks as u64),
-        Place::Null => out.push_str("NULL"),
+        Place::Object => names.object_text(given.object),
+        Place::Operand => operand_text(names, given.operand, buffer),
+        Place::Variable => names.variable_text(given.variable),
+        Place::Length => buffer.format(given.bytes as u64),
+        Place::Time => time_text(given.time, buffer),
+        Place::Ticks => buffer.format(given.ticks as u64),
+        Place::Null => "NULL",
     }
 }
 
-/// What is given in further places, each behind a comma and a space.
+/// Appends what is given in further places, each behind a comma and a space.
 fn push_more_places(
     out: &mut String,
     names: &Names,
@@ -79,8 +68,9 @@ fn push_more_places(
     ensures { OnOk result (string_bytes out.new ≡ string_bytes out.old ++ more_text (map (place_word names.now given.now) places.now)) }
 {
     for place in places {
-        out.push_str(", ")?;
-        push_place(out, names, *place, given)?;
+        let mut buffer = Buffer::new();
+        let text = place_text(names, *place, given, &mut buffer);
+        push_all(out, &[", ", text])?;
     }
     Ok(())
 }
@@ -98,38 +88,45 @@ fn push_places(
     let Some((first, rest)) = places.split_first() else {
         return Ok(());
     };
-    push_place(out, names, *first, given)?;
+    let mut buffer = Buffer::new();
+    out.push_str(place_text(names, *first, given, &mut buffer))?;
     push_more_places(out, names, rest, given)?;
     Ok(())
 }
 
-/// Appends the variable of the result and the sign behind it, if there is one.
-#[tactic(auto, using(std::proofs::Common::append_assoc))]
-fn push_into(out: &mut String, names: &Names, into: Option<VarId>) -> Result<(), AllocError>
-    ensures { OnOk result (string_bytes out.new ≡ string_bytes out.old ++ into_text (into_name names.now into)) }
+/// The variable of the result and the sign behind it, if there is one.
+fn into_texts(names: &Names, into: Option<VarId>) -> (&str, &str)
+    ensures { result.0.now ++ result.1.now ≡ into_text (into_name names.now into) }
 {
     match into {
-        None => Ok(()),
-        Some(x) => {
-            out.push_str(names.variable_text(x))?;
-            out.push_str(" = ")?;
-            Ok(())
-        }
+        None => ("", ""),
+        Some(x) => (names.variable_text(x), " = "),
     }
 }
 
+/// Appends an operand.
+fn push_operand(out: &mut String, names: &Names, operand: Operand) -> Result<(), AllocError>
+    ensures { OnOk result (string_bytes out.new ≡ string_bytes out.old ++ operand_text names.now operand) }
+{
+    let mut buffer = Buffer::new();
+    out.push_str(operand_text(names, operand, &mut buffer))
+}
+
+/// Appends a word and the target behind it.
+fn push_target(out: &mut String, word: &str, target: usize) -> Result<(), AllocError>
+    ensures { OnOk result (string_bytes out.new ≡ string_bytes out.old ++ (word.now ++ natural target)) }
+{
+    let mut buffer = Buffer::new();
+    push_all(out, &[word, buffer.format(target as u64)])
+}
+
 /// Appends the target of a failure, if there is one.
-#[tactic(auto, using(std::proofs::Common::append_assoc))]
 fn push_else(out: &mut String, or_else: Option<usize>) -> Result<(), AllocError>
     ensures { OnOk result (string_bytes out.new ≡ string_bytes out.old ++ else_text (option_map natural or_else)) }
 {
     match or_else {
         None => Ok(()),
-        Some(target) => {
-            out.push_str(" else ")?;
-            push_natural(out, target as u64)?;
-            Ok(())
-        }
+        Some(target) => push_target(out, " else ", target),
     }
 }
 
@@ -144,9 +141,8 @@ fn push_named(
 ) -> Result<(), AllocError>
     ensures { OnOk result (string_bytes out.new ≡ string_bytes out.old ++ call_text names.now name.now places.now given.now) }
 {
-    push_into(out, names, given.into)?;
-    out.push_str(name)?;
-    out.push_str("(")?;
+    let (variable, sign) = into_texts(names, given.into);
+    push_all(out, &[variable, sign, name, "("])?;
     push_places(out, names, places, given)?;
     out.push_str(")")?;
     push_else(out, given.or_else)?;
@@ -210,9 +206,7 @@ fn push_set(
 ) -> Result<(), AllocError>
     ensures { OnOk result (string_bytes out.new ≡ string_bytes out.old ++ set_text names.now target left operator right) }
 {
-    out.push_str("set ")?;
-    out.push_str(names.variable_text(target))?;
-    out.push_str(" = ")?;
+    push_all(out, &["set ", names.variable_text(target), " = "])?;
     push_operand(out, names, left)?;
     out.push_str(operator_text(operator))?;
     push_operand(out, names, right)?;
@@ -235,23 +229,11 @@ fn push_if(
     push_operand(out, names, left)?;
     out.push_str(comparison_text(comparison))?;
     push_operand(out, names, right)?;
-    out.push_str(" goto ")?;
-    push_natural(out, target as u64)?;
-    Ok(())
-}
-
-/// Appends a `goto`.
-#[tactic(auto, using(std::proofs::Common::append_assoc))]
-fn push_goto(out: &mut String, target: usize) -> Result<(), AllocError>
-    ensures { OnOk result (string_bytes out.new ≡ string_bytes out.old ++ goto_text target) }
-{
-    out.push_str("goto ")?;
-    push_natural(out, target as u64)?;
+    push_target(out, " goto ", target)?;
     Ok(())
 }
 
 /// Appends a `pick`.
-#[tactic(auto, using(std::proofs::Common::append_assoc))]
 fn push_pick(
     out: &mut String,
     names: &Names,
@@ -261,13 +243,19 @@ fn push_pick(
 ) -> Result<(), AllocError>
     ensures { OnOk result (string_bytes out.new ≡ string_bytes out.old ++ pick_text names.now target lo hi) }
 {
-    out.push_str("pick ")?;
-    out.push_str(names.variable_text(target))?;
-    out.push_str(" ")?;
-    push_number(out, lo)?;
-    out.push_str(" ")?;
-    push_number(out, hi)?;
-    Ok(())
+    let (mut first, mut second) = (Buffer::new(), Buffer::new());
+    let target = names.variable_text(target);
+    push_all(
+        out,
+        &[
+            "pick ",
+            target,
+            " ",
+            first.format(lo),
+            " ",
+            second.format(hi),
+        ],
+    )
 }
 
 /// Appends a line.
@@ -287,7 +275,7 @@ fn push_line(out: &mut String, names: &Names, line: &Line) -> Result<(), AllocEr
             right,
             target,
         } => push_if(out, names, left, comparison, right, target),
-        Line::Goto { target } => push_goto(out, target),
+        Line::Goto { target } => push_target(out, "goto ", target),
         Line::Pick { target, lo, hi } => push_pick(out, names, target, lo, hi),
         Line::Call(call) => push_call(out, names, call),
         Line::Return => out.push_str("return"),
