@@ -79,18 +79,17 @@ fn are_alike(alloc: Global, app: &[u8], notes: &[u8]) -> Option<bool> {
     is_alike(alloc, &app, &certificate)
 }
 
-const FILES: &[(&[u8], &[u8])] = &[
-    (STREAM, STREAM_NOTES),
-    (QUEUE, QUEUE_NOTES),
-    (CRITICAL, CRITICAL_NOTES),
-    (CRITICAL, SOLE_NOTES),
-    (DELETED, DELETED_NOTES),
-    (LIFE, LIFE_NOTES),
-];
-
 #[test]
 fn small_applications_are_judged_alike(rt: HostRuntime) {
-    for (number, (app, notes)) in FILES.iter().enumerate() {
+    let files = [
+        (STREAM, STREAM_NOTES),
+        (QUEUE, QUEUE_NOTES),
+        (CRITICAL, CRITICAL_NOTES),
+        (CRITICAL, SOLE_NOTES),
+        (DELETED, DELETED_NOTES),
+        (LIFE, LIFE_NOTES),
+    ];
+    for (number, (app, notes)) in files.iter().enumerate() {
         assert!(rt; are_alike(rt.alloc(), app, notes) == Some(true), "{number}");
     }
 }

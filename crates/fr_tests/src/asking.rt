@@ -52,43 +52,6 @@ fn judged(
     point_answer(alloc, asked, app, &certificate, numbers)
 }
 
-/// What is written for the certificate with these texts.
-fn certificate_answer(alloc: Global, table: &Table, texts: &[&str]) -> Option<String> {
-    let (app, certificate) = files(alloc, table, texts)?;
-    written(alloc, &app, &certificate)
-}
-
-/// What the step leads to in the application with this line.
-fn answer_of_step(
-    alloc: Global,
-    table: &Table,
-    line: &[&str],
-    state: &str,
-    step: &str,
-    expected: &str,
-) -> Option<String> {
-    let (app, _) = files(alloc, table, line)?;
-    step_answer(alloc, &app, state, step, expected)
-}
-
-/// The list of the application's index.
-fn list_answer(alloc: Global, table: &Table, list: &str) -> Option<String> {
-    let (app, _) = files(alloc, table, &[])?;
-    list_text(alloc, &app, list)
-}
-
-/// What is judged at these points of the application and the certificate with these texts.
-fn judged_answer(
-    alloc: Global,
-    asked: Asked,
-    table: &Table,
-    numbers: &str,
-    texts: &[&str],
-) -> Option<String> {
-    let (app, certificate) = files(alloc, table, texts)?;
-    judged(alloc, asked, &app, &certificate, numbers)
-}
-
 /// The answer to a question that has this answer by its table; None where the question has a wrong form.
 fn answer(
     alloc: Global,
@@ -99,12 +62,22 @@ fn answer(
 ) -> Option<String> {
     let texts: Vec<&str> = question.split(" | ").collect(alloc).ok()?;
     match (asked, texts.as_slice()) {
-        (Asked::Certificate, texts) => certificate_answer(alloc, table, texts),
-        (Asked::Step, [line, state, step]) => {
-            answer_of_step(alloc, table, &[*line], state, step, expected)
+        (Asked::Certificate, texts) => {
+            let (app, certificate) = files(alloc, table, texts)?;
+            written(alloc, &app, &certificate)
         }
-        (Asked::List, [list]) => list_answer(alloc, table, list),
-        (_, [numbers, texts @ ..]) => judged_answer(alloc, asked, table, numbers, texts),
+        (Asked::Step, [line, state, step]) => {
+            let (app, _) = files(alloc, table, &[*line])?;
+            step_answer(alloc, &app, state, step, expected)
+        }
+        (Asked::List, [list]) => {
+            let (app, _) = files(alloc, table, &[])?;
+            list_text(alloc, &app, list)
+        }
+        (_, [numbers, texts @ ..]) => {
+            let (app, certificate) = files(alloc, table, texts)?;
+            judged(alloc, asked, &app, &certificate, numbers)
+        }
         _ => None,
     }
 }
@@ -150,23 +123,23 @@ pub fn are_kept(rt: &HostRuntime, asked: Asked, tables: &[Table], count: usize) 
     is_good && all == count
 }
 
-/// What is asked, in which tables, and how many cases they have.
-const SUBJECTS: &[(Asked, &[Table], usize)] = &[
-    (Asked::Own, &own::TABLES, 98),
-    (Asked::Guarded, &guards::TABLES, 33),
-    (Asked::Near, &deletes::TABLES, 32),
-    (Asked::Spoiler, &spoilers::TABLES, 62),
-    (Asked::Implies, &implied::TABLES, 19),
-    (Asked::Together, &meeting::TABLES, 13),
-    (Asked::List, &lists::TABLES, 14),
-    (Asked::Certificate, &certificates::TABLES, 37),
-    (Asked::Step, &steps::TABLES, 162),
-];
-
 #[test]
 fn all_tables(rt: HostRuntime) {
-    for (asked, tables, count) in SUBJECTS {
-        let is_kept = are_kept(&rt, *asked, tables, *count);
-        assert!(rt; is_kept, "a table of {count} cases");
+    let subjects: [(Asked, &[Table], usize); 9] = [
+        (Asked::Own, &own::TABLES, 98),
+        (Asked::Guarded, &guards::TABLES, 33),
+        (Asked::Near, &deletes::TABLES, 32),
+        (Asked::Spoiler, &spoilers::TABLES, 62),
+        (Asked::Implies, &implied::TABLES, 19),
+        (Asked::Together, &meeting::TABLES, 13),
+        (Asked::List, &lists::TABLES, 14),
+        (Asked::Certificate, &certificates::TABLES, 37),
+        (Asked::Step, &steps::TABLES, 162),
+    ];
+    for (asked, tables, count) in subjects {
+        assert!(rt;
+            are_kept(&rt, asked, tables, count),
+            "a table of {count} cases"
+        );
     }
 }

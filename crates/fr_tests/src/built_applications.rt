@@ -4,6 +4,7 @@ use fr_program::{
     Instr, Kind, ObjId, Object, ObjectCall, Parts, Timing, VarId, Variable,
 };
 use std::alloc::{AllocError, Global};
+use std::test::Fail;
 
 const BACK: Instr = Instr::Goto { target: 0 };
 
@@ -89,94 +90,40 @@ fn pick(variable: usize) -> Instr {
     }
 }
 
-/// Numbers of objects, lengths of what is sent to them, and the fault.
-const SENDS: &[(usize, u32, Option<BuildFault>)] = &[
-    (0, 0, Some(BuildFault::BadRange(Some(FIRST)))),
-    (0, 65536, Some(BuildFault::BadRange(Some(FIRST)))),
-    (0, 1, None),
-    (0, 65535, None),
-    (1, 8, Some(BuildFault::Names(Some(FIRST)))),
-];
-
 #[test]
-fn sends_that_no_text_has(rt: HostRuntime) {
-    for (object, length, wanted) in SENDS {
-        let got = fault_of(rt.alloc(), send(*object, *length), "x", None);
-        assert!(rt; got == Ok(*wanted), "{object} {length}");
-    }
-}
-
-#[test]
-fn lines_that_no_text_has(rt: HostRuntime) {
-    let alloc = rt.alloc();
-    let stranger = Some(BuildFault::Names(Some(FIRST)));
-    assert!(rt; fault_of(alloc, pick(0), "x", None) == Ok(None));
-    assert!(rt; fault_of(alloc, pick(1), "x", None) == Ok(stranger));
-    assert!(rt; fault_of(alloc, Instr::Call(Call::Yield), "x", None) == Ok(None));
-}
-
-const REFUSED: Option<BuildFault> = Some(BuildFault::Names(None));
-
-/// Names of variables, and the fault.
-const NAMES: &[(&str, Option<BuildFault>)] = &[
-    ("t", REFUSED),
-    ("goto", REFUSED),
-    ("a23456789b123456789c123456789d123", REFUSED),
-    ("1a", REFUSED),
-    ("", REFUSED),
-    ("goto_1", None),
-    ("a23456789b123456789c123456789d12", None),
-    ("_", None),
-];
-
-#[test]
-fn names(rt: HostRuntime) {
-    for (name, wanted) in NAMES {
-        let got = fault_of(rt.alloc(), BACK, name, None);
-        assert!(rt; got == Ok(*wanted), "{name}");
-    }
-}
-
-#[test]
-fn owners(rt: HostRuntime) {
-    assert!(rt; fault_of(rt.alloc(), BACK, "x", Some(ActorId(1))) == Ok(REFUSED));
-    assert!(rt; fault_of(rt.alloc(), BACK, "x", Some(ActorId(0))) == Ok(None));
-}
-
-/// Adds so many variables, each with a name of its own.
-fn add_variables(
-    alloc: Global,
-    variables: &mut Vec<Variable>,
-    count: usize,
-) -> Result<(), AllocError> {
-    for number in 0..count {
-        let name = format!(in alloc; "v{number}")?;
-        variables.push(variable(alloc, &name, None)?)?;
+fn lines_that_no_text_has(rt: HostRuntime) -> Result<(), Fail> {
+    for (instr, wanted) in [
+        (send(0, 0), Some(BuildFault::BadRange(Some(FIRST)))),
+        (send(0, 65536), Some(BuildFault::BadRange(Some(FIRST)))),
+        (send(0, 1), None),
+        (send(0, 65535), None),
+        (send(1, 8), Some(BuildFault::Names(Some(FIRST)))),
+        (pick(0), None),
+        (pick(1), Some(BuildFault::Names(Some(FIRST)))),
+        (Instr::Call(Call::Yield), None),
+    ] {
+        assert_eq!(rt; fault_of(rt.alloc(), instr, "x", None)?, wanted);
     }
     Ok(())
 }
 
-/// Adds so many mutexes.
-fn add_objects(alloc: Global, objects: &mut Vec<Object>, count: usize) -> Result<(), AllocError> {
-    for number in 0..count {
-        let name = format!(in alloc; "o{number}")?;
-        objects.push(object(alloc, &name, Kind::Mutex)?)?;
+#[test]
+fn names_and_owners(rt: HostRuntime) -> Result<(), Fail> {
+    let refused = Some(BuildFault::Names(None));
+    for (name, wanted) in [
+        ("t", refused),
+        ("goto", refused),
+        ("a23456789b123456789c123456789d123", refused),
+        ("1a", refused),
+        ("", refused),
+        ("goto_1", None),
+        ("a23456789b123456789c123456789d12", None),
+        ("_", None),
+    ] {
+        assert_eq!(rt; fault_of(rt.alloc(), BACK, name, None)?, wanted, "{name}");
     }
-    Ok(())
-}
-
-/// Adds so many tasks, each with so many instructions.
-fn add_tasks(
-    alloc: Global,
-    tasks: &mut Vec<Actor>,
-    count: usize,
-    instrs: usize,
-) -> Result<(), AllocError> {
-    let code = vec![in alloc; BACK; instrs]?;
-    for number in 0..count {
-        let name = format!(in alloc; "t{number}")?;
-        tasks.push(task(alloc, &name, &code)?)?;
-    }
+    assert_eq!(rt; fault_of(rt.alloc(), BACK, "x", Some(ActorId(1)))?, refused);
+    assert_eq!(rt; fault_of(rt.alloc(), BACK, "x", Some(ActorId(0)))?, None);
     Ok(())
 }
 
@@ -193,27 +140,36 @@ fn fault_of_sizes(
         objects: Vec::new(alloc),
         actors: Vec::new(alloc),
     };
-    add_variables(alloc, &mut parts.variables, variables)?;
-    add_objects(alloc, &mut parts.objects, objects)?;
-    add_tasks(alloc, &mut parts.actors, tasks, instrs)?;
+    let code = vec![in alloc; BACK; instrs]?;
+    for k in 0..65 {
+        if k < variables {
+            let name = format!(in alloc; "v{k}")?;
+            parts.variables.push(variable(alloc, &name, None)?)?;
+        }
+        if k < objects {
+            let name = format!(in alloc; "o{k}")?;
+            parts.objects.push(object(alloc, &name, Kind::Mutex)?)?;
+        }
+        if k < tasks {
+            let name = format!(in alloc; "t{k}")?;
+            parts.actors.push(task(alloc, &name, &code)?)?;
+        }
+    }
     Ok(fault(alloc, parts))
 }
 
-const TOO_MANY: Option<BuildFault> = Some(BuildFault::TooMany);
-
-/// Numbers of variables, objects, tasks and instructions of each task, and the fault.
-const SIZES: &[(usize, usize, usize, usize, Option<BuildFault>)] = &[
-    (64, 64, 32, 512, None),
-    (65, 0, 1, 1, TOO_MANY),
-    (0, 65, 1, 1, TOO_MANY),
-    (0, 0, 33, 1, TOO_MANY),
-    (0, 0, 1, 513, TOO_MANY),
-];
-
 #[test]
-fn greatest_sizes(rt: HostRuntime) {
-    for (variables, objects, tasks, instrs, wanted) in SIZES {
-        let got = fault_of_sizes(rt.alloc(), *variables, *objects, *tasks, *instrs);
-        assert!(rt; got == Ok(*wanted));
+fn greatest_sizes(rt: HostRuntime) -> Result<(), Fail> {
+    let too_many = Some(BuildFault::TooMany);
+    for (variables, objects, tasks, instrs, wanted) in [
+        (64, 64, 32, 512, None),
+        (65, 0, 1, 1, too_many),
+        (0, 65, 1, 1, too_many),
+        (0, 0, 33, 1, too_many),
+        (0, 0, 1, 513, too_many),
+    ] {
+        let got = fault_of_sizes(rt.alloc(), variables, objects, tasks, instrs)?;
+        assert_eq!(rt; got, wanted);
     }
+    Ok(())
 }

@@ -26,11 +26,13 @@ const NOTHING: Said = Said {
     dead: None,
 };
 
-/// Adds to the parts of a note what it says.
-fn put(parts: &mut NoteParts, said: Said) -> Option<()> {
+fn parts(alloc: Global, said: Said) -> Option<NoteParts> {
+    let mut parts = NoteParts::none(alloc);
     if let Some((variable, lo, hi)) = said.range {
-        let range = Range::new(lo, hi)?;
-        parts.range.push((VarId(variable), range)).ok()?;
+        parts
+            .range
+            .push((VarId(variable), Range::new(lo, hi)?))
+            .ok()?;
     }
     if let Some((object, count)) = said.held {
         parts.held.push((ObjId(object), count)).ok()?;
@@ -41,12 +43,6 @@ fn put(parts: &mut NoteParts, said: Said) -> Option<()> {
     if let Some(object) = said.dead {
         parts.dead.push(ObjId(object)).ok()?;
     }
-    Some(())
-}
-
-fn parts(alloc: Global, said: Said) -> Option<NoteParts> {
-    let mut parts = NoteParts::none(alloc);
-    put(&mut parts, said)?;
     Some(parts)
 }
 
@@ -56,89 +52,72 @@ fn fault(alloc: Global, said: Said) -> Option<Option<NoteFault>> {
     Some(Note::build(alloc, &app, parts(alloc, said)?).err())
 }
 
-const SPAN: Option<NoteFault> = Some(NoteFault::Span);
-
-/// Numbers of variables, their ranges, and the fault.
-const RANGES: &[(usize, i128, i128, Option<NoteFault>)] = &[
-    (0, -1, 3, None),
-    (0, 3, 3, None),
-    (0, -2, 3, SPAN),
-    (0, -1, 4, SPAN),
-    (0, 4, 4, SPAN),
-    (1, 0, 2, None),
-    (1, 0, 3, SPAN),
-    (1, -1, 2, SPAN),
-];
-
 #[test]
 fn ranges_and_the_declared_one(rt: HostRuntime) {
-    for (variable, lo, hi, wanted) in RANGES {
-        let range = Some((*variable, *lo, *hi));
+    for (variable, lo, hi, is_built) in [
+        (0, -1, 3, true),
+        (0, 3, 3, true),
+        (0, -2, 3, false),
+        (0, -1, 4, false),
+        (0, 4, 4, false),
+        (1, 0, 2, true),
+        (1, 0, 3, false),
+        (1, -1, 2, false),
+    ] {
+        let range = Some((variable, lo, hi));
+        let wanted = if is_built {
+            None
+        } else {
+            Some(NoteFault::Span)
+        };
         let got = fault(rt.alloc(), Said { range, ..NOTHING });
-        assert!(rt; got == Some(*wanted), "{lo} {hi}");
+        assert!(rt; got == Some(wanted), "{lo} {hi}");
     }
 }
 
-const COUNT: Option<NoteFault> = Some(NoteFault::Count);
-
-/// Numbers of objects, how often they are held, and the fault: a plain mutex once, a recursive one up to 255 times, and nothing else.
-const COUNTS: &[(usize, u32, Option<NoteFault>)] = &[
-    (0, 1, None),
-    (0, 2, COUNT),
-    (0, 0, COUNT),
-    (1, 255, None),
-    (1, 256, COUNT),
-    (1, 0, COUNT),
-    (2, 1, COUNT),
-    (3, 1, COUNT),
-];
-
+// A plain mutex once, a recursive one up to 255 times, and nothing else.
 #[test]
 fn counts_of_what_is_held(rt: HostRuntime) {
-    for (object, count, wanted) in COUNTS {
-        let held = Some((*object, *count));
+    for (object, count, is_built) in [
+        (0, 1, true),
+        (0, 2, false),
+        (0, 0, false),
+        (1, 255, true),
+        (1, 256, false),
+        (1, 0, false),
+        (2, 1, false),
+        (3, 1, false),
+    ] {
+        let held = Some((object, count));
+        let wanted = if is_built {
+            None
+        } else {
+            Some(NoteFault::Count)
+        };
         let got = fault(rt.alloc(), Said { held, ..NOTHING });
-        assert!(rt; got == Some(*wanted), "{object} {count}");
+        assert!(rt; got == Some(wanted), "{object} {count}");
     }
 }
-
-const LIVES: Option<NoteFault> = Some(NoteFault::Lives);
-
-/// What is live and dead, and held, and the fault.
-const DEATHS: &[(Said, Option<NoteFault>)] = &[
-    (
-        Said {
-            range: None,
-            held: None,
-            live: Some(3),
-            dead: Some(3),
-        },
-        LIVES,
-    ),
-    (
-        Said {
-            range: None,
-            held: Some((0, 1)),
-            live: None,
-            dead: Some(0),
-        },
-        LIVES,
-    ),
-    (
-        Said {
-            range: None,
-            held: Some((0, 1)),
-            live: Some(3),
-            dead: Some(2),
-        },
-        None,
-    ),
-];
 
 #[test]
 fn live_and_dead(rt: HostRuntime) {
-    for (said, wanted) in DEATHS {
-        assert!(rt; fault(rt.alloc(), *said) == Some(*wanted));
+    let torn = Some(NoteFault::Lives);
+    for (held, live, dead, wanted) in [
+        (None, Some(3), Some(3), torn),
+        (Some((0, 1)), None, Some(0), torn),
+        (Some((0, 1)), Some(3), Some(2), None),
+    ] {
+        let range = None;
+        let got = fault(
+            rt.alloc(),
+            Said {
+                range,
+                held,
+                live,
+                dead,
+            },
+        );
+        assert!(rt; got == Some(wanted));
     }
 }
 

@@ -4,9 +4,8 @@ ghost use Rattle.fr_program.specs.Points.{points_of};
 ghost use Rattle.fr_ends.specs.Fits.{CertificateFits};
 
 use crate::table::Asked;
-use fr_calls::Rule;
 use fr_edge::{Own, own};
-use fr_ends::{Certificate, EndName, guarded, near};
+use fr_ends::{Certificate, guarded, near};
 use fr_interfere::spoiler;
 use fr_judge::Part;
 use fr_notes::{implies, together};
@@ -39,38 +38,26 @@ fn point_text(alloc: Global, app: &App, point: Point) -> Option<String> {
     format!(in alloc; "point {number} ({} {} {side})", actor.name, point.pc).ok()
 }
 
-/// The point, after this text.
-fn with_point(alloc: Global, before: &str, app: &App, point: Point) -> Option<String> {
-    let point = point_text(alloc, app, point)?;
-    format!(in alloc; "{before}{point}").ok()
-}
-
-fn rule_text(alloc: Global, rule: Rule) -> Option<String> {
-    let number = rule.number();
-    let text = RULES.get(usize::from(number).checked_sub(1)?)?;
-    format!(in alloc; "rule {number}: {text}").ok()
-}
-
-fn guard_text(alloc: Global, app: &App, end: EndName) -> Option<String> {
-    let buffer = app.objects().get(end.buffer.0)?;
-    format!(in alloc; "guard {} {}", buffer.name, end.end.text()).ok()
-}
-
 fn part_text(alloc: Global, app: &App, part: Part) -> Option<String> {
     match part {
         Part::Entry => String::from_str(alloc, "entry").ok(),
-        Part::Rule(rule) => rule_text(alloc, rule),
-        Part::Guard(end) => guard_text(alloc, app, end),
-        Part::Goes(point) => with_point(alloc, "goes to ", app, point),
-        Part::Near(point) => with_point(alloc, "near ", app, point),
-        Part::Spoiled(point) => with_point(alloc, "spoiled by ", app, point),
+        Part::Rule(rule) => {
+            let number = rule.number();
+            let text = RULES.get(usize::from(number).checked_sub(1)?)?;
+            format!(in alloc; "rule {number}: {text}").ok()
+        }
+        Part::Guard(end) => {
+            let buffer = app.objects().get(end.buffer.0)?;
+            format!(in alloc; "guard {} {}", buffer.name, end.end.text()).ok()
+        }
+        Part::Goes(point) => {
+            format!(in alloc; "goes to {}", point_text(alloc, app, point)?).ok()
+        }
+        Part::Near(point) => format!(in alloc; "near {}", point_text(alloc, app, point)?).ok(),
+        Part::Spoiled(point) => {
+            format!(in alloc; "spoiled by {}", point_text(alloc, app, point)?).ok()
+        }
     }
-}
-
-/// That the part fails at the point.
-fn failure_text(alloc: Global, app: &App, point: Point, part: Part) -> Option<String> {
-    let (at, why) = (point_text(alloc, app, point)?, part_text(alloc, app, part)?);
-    format!(in alloc; "no: {at}: {why}").ok()
 }
 
 /// The part that fails at the first point, of the kind that is asked about, if one does.
@@ -159,10 +146,12 @@ pub fn point_answer(
         Asked::Implies => yes_or_no(alloc, implies(notes.at(app, one), notes.at(app, other))),
         Asked::Together => yes_or_no(alloc, can_meet(app, certificate, one, other)?),
         Asked::Own | Asked::Guarded | Asked::Near | Asked::Spoiler => {
-            match failing(asked, app, certificate, one, other) {
-                Some(part) => failure_text(alloc, app, app.point(one), part),
-                None => yes_or_no(alloc, true),
-            }
+            let Some(part) = failing(asked, app, certificate, one, other) else {
+                return yes_or_no(alloc, true);
+            };
+            let at = point_text(alloc, app, app.point(one))?;
+            let why = part_text(alloc, app, part)?;
+            format!(in alloc; "no: {at}: {why}").ok()
         }
         _ => None,
     }

@@ -34,23 +34,21 @@ fn gives(alloc: Global, app: &[u8], notes: &[u8], words: &[u64], wanted: &[Entry
     Some(machine.into_trace().entries.as_slice() == wanted)
 }
 
-/// What two actors do that take turns.
-const TURNS: &[Entry] = &[
-    Entry::Stepped(ActorId(0), 0),
-    Entry::Stepped(ActorId(1), 0),
-    Entry::Stepped(ActorId(0), 8),
-    Entry::Stepped(ActorId(1), 8),
-    Entry::Stepped(ActorId(0), 0),
-    Entry::Stepped(ActorId(1), 0),
-    Entry::Stepped(ActorId(0), 0),
-    Entry::Stepped(ActorId(1), 0),
-    Entry::Stepped(ActorId(0), 8),
-    Entry::Stepped(ActorId(1), 8),
-];
-
 #[test]
 fn actors_take_turns(rt: HostRuntime) {
-    assert!(rt; gives(rt.alloc(), STREAM, STREAM_NOTES, &[8], TURNS) == Some(true));
+    let wanted = [
+        step(0, 0),
+        step(1, 0),
+        step(0, 8),
+        step(1, 8),
+        step(0, 0),
+        step(1, 0),
+        step(0, 0),
+        step(1, 0),
+        step(0, 8),
+        step(1, 8),
+    ];
+    assert!(rt; gives(rt.alloc(), STREAM, STREAM_NOTES, &[8], &wanted) == Some(true));
 }
 
 #[test]
@@ -81,38 +79,25 @@ fn an_actor_that_is_done_is_blocked(rt: HostRuntime) {
     assert!(rt; ended(rt.alloc()) == Some(true));
 }
 
-/// Whether a machine without polls refuses one, and its trace is empty.
-fn is_spent(alloc: Global, passed: &Passed) -> Option<bool> {
-    let mut none = Machine::new(alloc, passed, 0, &[8]).ok()?;
+/// What is answered where no poll is left, to a number that is no actor, and to a number of polls past the most.
+fn refused(alloc: Global) -> Option<bool> {
+    let passed = passed(alloc, STREAM, STREAM_NOTES)?;
+    let mut none = Machine::new(alloc, &passed, 0, &[8]).ok()?;
     let spent = none.poll(ActorId(0)) == Err(RunFault::Spent);
-    Some(spent && none.into_trace().entries.is_empty())
-}
-
-/// Whether a machine with one poll refuses one of a number that is no actor, and keeps it for an actor.
-fn knows_actors(alloc: Global, passed: &Passed) -> Option<bool> {
-    let mut one = Machine::new(alloc, passed, 1, &[8]).ok()?;
+    let empty = none.into_trace().entries.is_empty();
+    let mut one = Machine::new(alloc, &passed, 1, &[8]).ok()?;
     let stranger = one.poll(ActorId(2)) == Err(RunFault::NoActor);
     let same = one.left() == 1 && !one.done(ActorId(2));
     let polled = one.poll(ActorId(0)) == Ok(Entry::Stepped(ActorId(0), 0));
     let used = one.poll(ActorId(0)) == Err(RunFault::Spent) && one.left() == 0;
-    Some(stranger && same && polled && used)
-}
-
-/// Whether a number of polls past the most is refused.
-fn has_most(alloc: Global, passed: &Passed) -> bool {
-    match Machine::new(alloc, passed, 1_000_001, &[8]) {
+    let too_many = match Machine::new(alloc, &passed, 1_000_001, &[8]) {
         Err(fault) => fault == RunFault::Polls,
         Ok(_) => false,
-    }
+    };
+    Some(spent && empty && stranger && same && polled && used && too_many)
 }
 
 #[test]
 fn polls_that_are_refused(rt: HostRuntime) {
-    let alloc = rt.alloc();
-    let Some(passed) = passed(alloc, STREAM, STREAM_NOTES) else {
-        panic!(rt; "refused")
-    };
-    assert!(rt; is_spent(alloc, &passed) == Some(true));
-    assert!(rt; knows_actors(alloc, &passed) == Some(true));
-    assert!(rt; has_most(alloc, &passed));
+    assert!(rt; refused(rt.alloc()) == Some(true));
 }

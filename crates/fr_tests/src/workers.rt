@@ -1,14 +1,10 @@
 // Whole judgements by workers in threads. A gate that waits gives up after a while, and notes it.
-ghost use Rattle.std.specs.Prelude.{IfSome};
-ghost use Rattle.fr_ends.specs.Fits.{CertificateFits};
-
 use crate::runs::reaches;
 use fr_calls::Rule;
 use fr_cert::read_cert;
-use fr_ends::Certificate;
 use fr_judge::{Part, Verdict};
 use fr_parallel::{Gate, judge_with};
-use fr_program::{ActorId, App, Point, Side};
+use fr_program::{ActorId, Point, Side};
 use fr_reader::read_app;
 use std::alloc::Global;
 use std::sync::Wait;
@@ -35,27 +31,6 @@ fn task(alloc: Global, name: &str, first: usize, line: &str) -> Option<String> {
     ).ok()
 }
 
-/// Two tasks with 800 points. They leave a critical section in which they aren't at points 3 and 700, or nowhere.
-fn application(alloc: Global, fails: bool) -> Option<App> {
-    let line = if fails {
-        "taskEXIT_CRITICAL()"
-    } else {
-        "vTaskDelay(1)"
-    };
-    let (t, u) = (task(alloc, "t", 3, line)?, task(alloc, "u", 300, line)?);
-    let text = format!(in alloc; "actor=[{t},{u}]").ok()?;
-    read_app(alloc, text.as_bytes()).ok()
-}
-
-/// Notes for 800 points that say nothing.
-fn certificate(alloc: Global, app: &App) -> Option<Certificate>
-    ensures { IfSome result (CertificateFits app.now) }
-{
-    let plain = "{},".repeat(alloc, 799).ok()?;
-    let notes = format!(in alloc; "{{\"version\":1,\"ends\":[],\"notes\":[{plain}{{}}]}}").ok()?;
-    read_cert(alloc, app, notes.as_bytes()).ok()
-}
-
 /// The verdict of so many workers on two tasks with 800 points and notes that say nothing. Points 3 and 700 fail, where the
 /// tasks leave a critical section in which they aren't, or none. None where something is refused.
 fn judged<R: Threads + Wait + Sync, G: Gate>(
@@ -65,8 +40,21 @@ fn judged<R: Threads + Wait + Sync, G: Gate>(
     workers: usize,
     gate: &G,
 ) -> Option<Verdict> {
-    let app = application(alloc, fails)?;
-    let certificate = certificate(alloc, &app)?;
+    let line = if fails {
+        "taskEXIT_CRITICAL()"
+    } else {
+        "vTaskDelay(1)"
+    };
+    let (t, u) = (task(alloc, "t", 3, line)?, task(alloc, "u", 300, line)?);
+    let text = format!(in alloc; "actor=[{t},{u}]").ok()?;
+    let plain = "{},".repeat(alloc, 799).ok()?;
+    let notes = format!(in alloc; "{{\"version\":1,\"ends\":[],\"notes\":[{plain}{{}}]}}").ok()?;
+    let Ok(app) = read_app(alloc, text.as_bytes()) else {
+        return None;
+    };
+    let Ok(certificate) = read_cert(alloc, &app, notes.as_bytes()) else {
+        return None;
+    };
     judge_with(rt, alloc, &app, &certificate, workers, gate).ok()
 }
 
