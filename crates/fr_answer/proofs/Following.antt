@@ -24,7 +24,7 @@ use Rattle.fr_request.specs.declared.request.FollowRequest.{FollowRequest}
 use Rattle.fr_answer.specs.Each.{Each}
 use Rattle.fr_answer.specs.Inputs.{Reading, AsTrace}
 use Rattle.fr_answer.specs.Pages.{IsTrailPage}
-use Rattle.fr_answer.specs.Traces.{AreTraces, AreTracesPrinted, IsAnswerAt, IsPageAt, IsReadAs, IsRunAt, PutsAnswer, PutsBoth, ShowsTrace, TraceAnswerAt, greater_of, text_at}
+use Rattle.fr_answer.specs.Traces.{AreTraces, AreTracesPrinted, IsAnswerAt, IsPageAt, IsReadAs, IsRunAt, PutsAnswer, PutsBoth, ShowsTrace, TraceAnswerAt, answered_at, greater_of, text_at}
 use Rattle.fr_answer.proofs.Listing.{each-more}
 
 -- the status of a refusal
@@ -61,6 +61,10 @@ reported-of format app old new t shown all (Ok x) is shows h = (shown ∷ [], h.
 reported-of format app old new t shown all (Err y) is shows h = tt
 
 module _ (reads : Reading → List ℕ → List ℕ → Type 0) (asked : FollowRequest) (P : Program) where
+  -- what is said of an answer is said of the same one
+  pub of-same : (path : List ℕ) (one other : TraceAnswer) → other ≡ one → IsAnswerAt reads asked P (answered_at path one) → IsAnswerAt reads asked P (answered_at path other)
+  of-same path one other same h = subst (λ answer. IsAnswerAt reads asked P (answered_at path answer)) (sym same) h
+
   -- nothing is promised of a refusal
   pub refused-by : (t : TraceAnswerAt) → 2 ≤ kind_status t.kind → IsAnswerAt reads asked P t
   refused-by t least = record { by = λ le. (let no : ⊥ = omega (arith, le, least) in absurd no) }

@@ -35,11 +35,11 @@ use Rattle.fr_request.specs.declared.format.Format.{Format}
 use Rattle.fr_request.specs.declared.request.Judged.{Judged as Named}
 use Rattle.fr_request.specs.declared.request.Judged.TheVariants.{One, Listed}
 use Rattle.fr_answer.specs.Inputs.{Reading}
-use Rattle.fr_answer.specs.declared.answer.What.{What}
-use Rattle.fr_answer.specs.declared.answer.What.TheVariants.{Judged, Searched, Refused}
-use Rattle.fr_answer.specs.Checked.{IsFreeText, IsSafeText}
-use Rattle.fr_answer.specs.Judged.{JudgedOf}
-use Rattle.fr_answer.specs.Answers.{kind_of_judged, kind_of_finding, what_status, IsAnsweredFor, IsProofOf, IsSettledIn, IsSearchOf, IsVerdictOn}
+use Rattle.fr_findings.specs.declared.answer.What.{What}
+use Rattle.fr_findings.specs.declared.answer.What.TheVariants.{Judged, Searched, Refused}
+use Rattle.fr_findings.specs.Checked.{IsFreeText, IsSafeText}
+use Rattle.fr_findings.specs.Judged.{JudgedOf}
+use Rattle.fr_findings.specs.Answers.{kind_of_judged, kind_of_finding, what_status, IsAnsweredFor, IsProofOf, IsSettledIn, IsSearchOf, IsVerdictOn}
 use Rattle.fr_answer.specs.Commands.{AreAnswered, AreEachSafe, AreLinesPrinted, AreNamedSafe, IsAnswerBy, IsCheckAnswered, IsCheckOf, IsLineAnswer, IsProofAt, IsSafeAt, IsSearchAt, IsShown, LineAnswer, greater_status}
 
 -- the status 0 is that of a yes
@@ -95,7 +95,7 @@ verdict-safe asks a c (Judged j) h e =
     let yes = subst (λ v. TellsVerdict j.app j.certificate v) is h.2 in
     let certified = meant-certified a c j.app j.certificate h.0 h.1 yes in
     ((j.app, h.0, (certified-safe j.app j.certificate certified).0), judged-free asks a c j h certified is e)
-verdict-safe asks a c (Searched P found explains) h e = absurd h
+verdict-safe asks a c (Searched s) h e = absurd h
 verdict-safe asks a c (Refused r) h e = absurd h
 
 found-free : (asks : Bool) (a : List ℕ) (P : Program) (found : Finding) → AppMeans a P → IsFound P found → Suits asks found → kind_status (kind_of_finding found) ≡ 0
@@ -105,13 +105,13 @@ found-free false a P found means is suits e t = let no : ⊥ = cc in absurd no
 
 pub search-safe : (asks : Bool) (a : List ℕ) (what : What) → IsSearchOf asks a what → what_status what ≡ 0 → IsGood asks a
 search-safe asks a (Judged j) h e = absurd h
-search-safe asks a (Searched P found explains) h e = ((P, h.0, zero-safe P found h.1 e), found-free asks a P found h.0 h.1 h.2 e)
+search-safe asks a (Searched s) h e = ((s.app, h.0, zero-safe s.app s.found h.1 e), found-free asks a s.app s.found h.0 h.1 h.2 e)
 search-safe asks a (Refused r) h e = absurd h
 
 -- what settles the matter was found
 pub settled-found : (asks : Bool) (a : List ℕ) (what : What) → IsSettledIn asks a what → IsSearchOf asks a what
 settled-found asks a (Judged j) h = absurd h
-settled-found asks a (Searched P found explains) h = (h.0, h.1, h.2)
+settled-found asks a (Searched s) h = (h.0, h.1, h.2)
 settled-found asks a (Refused r) h = absurd h
 
 pub proof-safe : (asks : Bool) (a : List ℕ) (searches : Bool) (c : List ℕ) (what : What) → IsProofOf asks a searches c what → what_status what ≡ 0 → IsGood asks a

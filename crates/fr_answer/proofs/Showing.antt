@@ -12,11 +12,11 @@ use Rattle.fr_text.specs.Texts.{IsJudged}
 use Rattle.fr_list.specs.Beside.{beside}
 use Rattle.fr_request.specs.declared.format.Format.{Format}
 use Rattle.fr_answer.specs.Inputs.{Reading}
-use Rattle.fr_answer.specs.declared.answer.Answer.{Answer}
-use Rattle.fr_answer.specs.declared.answer.Refusal.{Refusal}
-use Rattle.fr_answer.specs.declared.answer.What.{What}
-use Rattle.fr_answer.specs.declared.answer.What.TheVariants.{Judged, Searched, Refused}
-use Rattle.fr_answer.specs.Answers.{HasFound, IsProofOf, IsSettledIn, IsVerdictOn, IsYes, what_status}
+use Rattle.fr_findings.specs.declared.answer.Answer.{Answer}
+use Rattle.fr_findings.specs.declared.answer.Refusal.{Refusal}
+use Rattle.fr_findings.specs.declared.answer.What.{What}
+use Rattle.fr_findings.specs.declared.answer.What.TheVariants.{Judged, Searched, Refused}
+use Rattle.fr_findings.specs.Answers.{HasFound, IsProofOf, IsSettledIn, IsVerdictOn, IsYes, what_status}
 use Rattle.fr_answer.specs.Commands.{IsAnswerBy, IsGiven, IsKept, IsLineAnswer, IsPaged, IsPrinted, IsProofAt, IsShown}
 
 -- what holds of all that is found holds of what was
@@ -54,11 +54,6 @@ pub shown-found : {Y : Type 0} (Has : What → Type 0) (format : Option Format) 
     → (what_status what ≤ 1 → Has what) → IfOk r (λ s. s ≡ what_status what) → IfOk r (λ s. IsPrinted format named what old new) → IfOk r (λ s. IsShown Has format path s old new)
 shown-found Has format named path old new (Ok s) what same has status text = (what, has, status, subst (λ p. IsPrinted format p what old new) same text)
 shown-found Has format named path old new (Err e) what same has status text = tt
-
--- of an answer that isn't there nothing is promised
-pub no-answer : {X E T Y : Type 0} (found : Result X E) (r : Result T Y) (P : T → Type 0) (y : Y) → r ≡ Err y → IfErr found (λ _. IfOk r P)
-no-answer (Ok x) r P y e = tt
-no-answer (Err f) r P y e = subst (λ x. IfOk x P) (sym e) tt
 
 pub refused-found : {X E Y : Type 0} (found : Result X E) (r : Result ℕ Y) (n : ℕ) → IfErr found (λ _. 2 ≤ n) → IfOk r (λ s. s ≡ n) → IfErr found (λ _. IfOk r (λ s. 2 ≤ s))
 refused-found (Ok x) r n h status = tt
@@ -109,12 +104,12 @@ module _ (reads : Reading → List ℕ → List ℕ → Type 0) (asks : Bool) wh
     where
       by-verdict : (a : List ℕ) (what : What) → IsVerdictOn asks a text what → IsYes what → (P : Program) × IsJudged a text P Yes
       by-verdict a (Judged j) h e = (j.app, (h.0, j.certificate, h.1, subst (λ v. TellsVerdict j.app j.certificate v) e h.2))
-      by-verdict a (Searched P found explains) h e = absurd h
+      by-verdict a (Searched s) h e = absurd h
       by-verdict a (Refused r) h e = absurd h
 
       settled : (a : List ℕ) (what : What) → IsSettledIn asks a what → IsYes what → ⊥
       settled a (Judged j) h e = h
-      settled a (Searched P found explains) h e = e
+      settled a (Searched s) h e = e
       settled a (Refused r) h e = h
 
       yes : (a : List ℕ) (what : What) → IsProofOf asks a searches text what → IsYes what → (P : Program) × IsJudged a text P Yes

@@ -11,8 +11,8 @@ use Rattle.fr_formats.specs.declared.answer.AnswerKind.TheVariants.{Yes, No, May
 use Rattle.fr_page.specs.declared.page.Kind.{Kind}
 use Rattle.fr_page.specs.declared.page.Page.{Page}
 use Rattle.fr_page.specs.Whole.{head_of}
-use Rattle.fr_answer.specs.declared.answer.What.{What}
-use Rattle.fr_answer.specs.Answers.{kind_of, shown_line}
+use Rattle.fr_findings.specs.declared.answer.What.{What}
+use Rattle.fr_findings.specs.Answers.{kind_of, shown_line}
 use Rattle.fr_page.specs.declared.page.Kind.TheVariants.{Yes as YesPage, No as NoPage, MayDeadlock as MayDeadlockPage, Breach as BreachPage, Deadlock as DeadlockPage, Safe as SafePage, Unknown as UnknownPage, Followed as FollowedPage, FollowedApart as FollowedApartPage, NotFollowed as NotFollowedPage, NotListed as NotListedPage, GaveUp as GaveUpPage, Refused as RefusedPage}
 
 -- the heading of a page for an answer of this kind

@@ -1,6 +1,6 @@
 // The one entry, and the commands: from what the words ask for to the exit status.
 ghost use Rattle.std.specs.Prelude.{◌≡◌, ◌≤◌, ◌⊎◌, IfErr, IfOk};
-ghost use Rattle.fr_answer.specs.Checked.{fault_status};
+ghost use Rattle.fr_findings.specs.Checked.{fault_status};
 ghost use Rattle.fr_answer.specs.Commands.{AreSafe, IsAnswered, IsDone, IsText, IsWritten};
 ghost use Rattle.fr_answer.specs.Inputs.{Reads};
 
@@ -14,12 +14,12 @@ mod refute;
 mod run_files;
 mod translate;
 
-use crate::answer::Refusal;
 use crate::files::Files;
 use crate::printing::refuse;
 use check::check;
 use find::find;
 use follow::follow_traces;
+use fr_findings::Refusal;
 use fr_request::Request;
 use points::points;
 use prove::prove;

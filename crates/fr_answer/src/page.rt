@@ -8,9 +8,9 @@ mod points;
 mod steps;
 mod trail;
 
-use crate::answer::{Answer, What};
 use actors::put_actors;
 use code::Code;
+use fr_findings::{Answer, What};
 use fr_formats::{AnswerKind, Command};
 use fr_page::{ActorShown, Kind, Page, StepShown, WaitShown, page_text};
 use fr_program::App;
@@ -107,6 +107,7 @@ fn put_below(
     let what = &answer.what;
     match what {
         What::Judged(judged) => {
+            let judged = judged.get();
             put_actors(alloc, body, judged.app(), code)?;
             let blames = matches!(answer.command, Command::Prove);
             put_judged(alloc, body, judged, code, blames)?;
@@ -115,7 +116,10 @@ fn put_below(
             }
             Ok(())
         }
-        What::Searched { app, found, .. } => put_found(alloc, body, app, code, found),
+        What::Searched(searched) => {
+            let searched = searched.get();
+            put_found(alloc, body, &searched.app, code, &searched.found)
+        }
         What::Refused(_) => {
             body.details = what.lines(alloc)?;
             Ok(())

@@ -2,19 +2,16 @@
 ghost use Rattle.std.specs.Prelude.{◌≡◌, ◌≤◌, ◌⊎◌, ℕ, List, IfOk, IfErr, None, Some, option_copied, string_bytes};
 ghost use Rattle.std.specs.Io.KnownBytes.{Appends};
 ghost use Rattle.fr_formats.specs.Reports.{IsReport};
-ghost use Rattle.fr_answer.specs.Answers.{HasFound, IsTextOf, what_status};
-ghost use Rattle.fr_answer.specs.Checked.{fault_status};
+ghost use Rattle.fr_findings.specs.Answers.{HasFound, IsTextOf, what_status};
+ghost use Rattle.fr_findings.specs.Checked.{fault_status};
 ghost use Rattle.fr_answer.specs.Commands.{IsPaged, IsPrinted, IsShown, IsTextPrinted};
 
-use crate::answer::{Answer, Refusal, What};
-use crate::exit::{MACHINE, NO, REFUSED};
-use crate::fault::CheckFault;
 use crate::files::Files;
 use crate::page::page_of;
-use crate::reading::AppText;
 use crate::shown::shown_of;
-use crate::ways::{Asked, Warns};
+use crate::ways::Asked;
 use fr_files::OutputFault;
+use fr_findings::{Answer, AppText, Boxed, CheckFault, MACHINE, NO, REFUSED, Refusal, Warns, What};
 use fr_formats::{AnswerShown, Source, answers_text};
 use fr_place::is_unknown_word;
 use fr_report::text_of;
@@ -34,6 +31,14 @@ pub(crate) fn put<W: Write>(text: &str, writer: &mut W) -> Result<(), CheckFault
     }
 }
 
+/// Prints that there is no memory for the text of an answer, and gives the exit status of that.
+fn say_no_memory<E: Write>(err: &mut E) -> u8
+    ensures { result ≡ 3 }
+{
+    let _written = err.write_all(b"machine: memory\n");
+    MACHINE
+}
+
 /// Prints an answer on standard error, and gives its exit status; it is 3 where there is no memory for the text, in whose place
 /// `machine: memory` is printed, and where the writer failed.
 fn print_whole<E: Write>(alloc: Global, what: &What, err: &mut E) -> u8
@@ -41,8 +46,7 @@ fn print_whole<E: Write>(alloc: Global, what: &What, err: &mut E) -> u8
     ensures printed { result ≡ 2 → (text : List ℕ) × IsTextOf what.now text × Appends (E.contents err.old) (E.contents err.new) text }
 {
     let Ok(text) = what.text(alloc) else {
-        let _written = err.write_all(b"machine: memory\n");
-        return MACHINE;
+        return say_no_memory(err);
     };
     match err.write_all(text.as_bytes()) {
         Ok(()) => what.status(),
@@ -58,8 +62,10 @@ pub(crate) fn refuse<E: Write>(alloc: Global, refusal: Refusal, err: &mut E) -> 
     ensures least { 2 ≤ result }
     ensures most { result ≤ 3 }
 {
-    let what = What::Refused(refusal);
-    print_whole(alloc, &what, err)
+    let Ok(refusal) = Boxed::new(alloc, refusal) else {
+        return say_no_memory(err);
+    };
+    print_whole(alloc, &What::Refused(refusal), err)
 }
 
 /// Whether it is printed where a fault is: always of a file and of a source.
@@ -74,7 +80,7 @@ fn shows_place(fault: &CheckFault, asked: Asked) -> bool {
 /// What is printed of an answer without a verdict: the fault's line, and where it is.
 fn refusal_text(alloc: Global, what: &What, asked: Asked) -> Result<String, AllocError> {
     match what {
-        What::Refused(Refusal { fault, .. }) if !shows_place(fault, asked) => {
+        What::Refused(refusal) if !shows_place(&refusal.get().fault, asked) => {
             let line = what.line(alloc)?;
             format!(in alloc; "{line}\n")
         }

@@ -1,14 +1,13 @@
 // An answer as reports for machines show it.
 ghost use Rattle.std.specs.Prelude.{◌≡◌, IfOk, OnOk, string_bytes};
-ghost use Rattle.fr_answer.specs.Answers.{kind_of, shown_line};
+ghost use Rattle.fr_findings.specs.Answers.{kind_of, shown_line};
 
 mod failure;
 mod places;
 mod steps;
 
-use crate::answer::{Answer, What};
-use crate::judged::Judged;
 use failure::failure_of;
+use fr_findings::{Answer, Judged, What};
 use fr_formats::{AnswerShown, Failure, Source, StepShown, WarningShown};
 use fr_refuter::Finding;
 use places::Places;
@@ -44,12 +43,14 @@ fn details_of(
 ) -> Result<(Option<Failure>, Vec<StepShown>), AllocError> {
     match &answer.what {
         What::Judged(judged) => {
+            let judged = judged.get();
             let places = Places::build(alloc, judged.app(), &answer.text)?;
             verdict_shown(alloc, &places, judged)
         }
-        What::Searched { app, found, .. } => {
-            let places = Places::build(alloc, app, &answer.text)?;
-            found_shown(alloc, &places, found)
+        What::Searched(searched) => {
+            let searched = searched.get();
+            let places = Places::build(alloc, &searched.app, &answer.text)?;
+            found_shown(alloc, &places, &searched.found)
         }
         What::Refused(_) => Ok((None, Vec::new(alloc))),
     }

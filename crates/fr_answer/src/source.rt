@@ -1,11 +1,11 @@
 // A source in a file, translated into the text of an application.
 ghost use Rattle.std.specs.Prelude.{◌≡◌, ◌≤◌, IfErr, IfOk, string_bytes};
-ghost use Rattle.fr_answer.specs.Checked.{fault_status};
+ghost use Rattle.fr_findings.specs.Checked.{fault_status};
 ghost use Rattle.fr_answer.specs.Inputs.{AsSource, Reads, is_source};
 
-use crate::answer::Refusal;
 use crate::files::Files;
 use crate::reading::input;
+use fr_findings::Refusal;
 use fr_source::{MOST_SOURCE_BYTES, Translation};
 use std::alloc::Global;
 

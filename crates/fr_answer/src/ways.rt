@@ -1,4 +1,4 @@
-// How a command does its work.
+// What a command does where its words don't say it, and how its answer is to be printed.
 ghost use Rattle.std.specs.Prelude.{◌≡◌, option_copied, option_map};
 ghost use Rattle.fr_answer.specs.Commands.{detail_in};
 
@@ -14,37 +14,6 @@ pub(crate) const MOST_STATE_BYTES: usize = 536_870_912;
 /// So many MiB in bytes.
 pub(crate) fn mebibytes(count: u32) -> usize {
     (count as usize).saturating_mul(1_048_576)
-}
-
-/// Of which things that a verdict may hide a command warns.
-#[derive(Clone, Copy, PartialEq, Eq)]
-pub(crate) enum Warns {
-    /// Of nothing.
-    Never,
-    /// That there is no task or interrupt.
-    OfNoActors,
-    /// Of all.
-    OfAll,
-}
-
-/// How a command does its work, and what it says besides the verdict.
-#[derive(Clone, Copy)]
-pub(crate) struct Ways {
-    /// How many threads judge or search.
-    pub workers: usize,
-    /// The most states that a search for a breach keeps.
-    pub states: usize,
-    /// The most bytes that these states take.
-    pub state_bytes: usize,
-    /// Whether it is asked if actors can deadlock over mutexes.
-    pub deadlock: bool,
-    /// Whether it is explained why it is no and where a refusal is, and how much of a state.
-    pub detail: Option<Detail>,
-    /// Whether it is found out where a text is refused.
-    pub places: bool,
-    /// Whether a file that can't be read or written is named.
-    pub names: bool,
-    pub warns: Warns,
 }
 
 /// How an answer is to be printed.

@@ -9,8 +9,10 @@ use std::alloc::AllocError;
 const NOTES: &str =
     "<p>Below each line are its points, with what the certificate's note says is so there.</p>\n";
 
-/// The most actors that are all open where a point fails.
-const MOST_OPEN: usize = 4;
+/// The most actors that are all open, and the most where a point fails.
+const MOST_OPEN: usize = 12;
+
+const MOST_OPEN_BESIDE_FAILURES: usize = 4;
 
 /// Writes what the note of a point says, an item for each alternative.
 fn put_notes(page: &mut Writer, notes: &[String]) -> Result<(), AllocError>
@@ -172,9 +174,19 @@ fn put_actor(page: &mut Writer, actor: &ActorShown, is_open: bool) -> Result<(),
     page.markup("</table>\n</details>\n</article>\n")
 }
 
-/// Writes the actors side by side. Where there are more than four and a point fails, those without such a point are folded.
+/// Whether actors without a point that fails are folded: where there are more than twelve actors, or more than four and a point fails.
+fn are_folded(actors: &[ActorShown]) -> bool {
+    let most = if actors.iter().any(|actor| has_failure(actor)) {
+        MOST_OPEN_BESIDE_FAILURES
+    } else {
+        MOST_OPEN
+    };
+    actors.len() > most
+}
+
+/// Writes the actors side by side, open or folded.
 fn put_actors(page: &mut Writer, actors: &[ActorShown]) -> Result<(), AllocError> {
-    let folds = actors.len() > MOST_OPEN && actors.iter().any(|actor| has_failure(actor));
+    let folds = are_folded(actors);
     page.markup("<div class='actors' style='--count: ")?;
     page.number(actors.len())?;
     page.markup("'>\n")?;

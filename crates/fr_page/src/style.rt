@@ -47,6 +47,7 @@ article summary { padding: .6rem 1rem; }
 article h3 { display: inline; }
 article table { border-top: 1px solid var(--rule); }
 .failing { margin: 0 0 1rem 1.2rem; }
+.failing:has(li:nth-child(7)) { columns: 24rem; column-gap: 2.5rem; }
 article table { width: 100%; }
 article tbody + tbody { border-top: 1px solid var(--rule); }
 article th { width: 3rem; padding: .4rem .9rem .4rem 0; text-align: right; font: 13px/1.5 ui-monospace, SFMono-Regular, Menlo, Consolas, 'DejaVu Sans Mono', monospace; }
@@ -151,7 +152,8 @@ output { margin: 0 .8rem; font-weight: 600; white-space: nowrap; }
   .lanes:has(thead th:nth-child(8)) .does > b { display: block; }
   .actors { columns: 19rem 3; max-width: none; }
   article { break-inside: auto; }
-  tr, article tbody, .why { break-inside: avoid; }
+  article:has(> details:not([open])) { break-inside: avoid; }
+  tr:not(:has(.why)) { break-inside: avoid; }
   h2, h3 { break-after: avoid; }
 }
 ";

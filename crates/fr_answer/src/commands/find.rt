@@ -1,15 +1,14 @@
 // The command `find`.
 ghost use Rattle.std.specs.Prelude.{◌≡◌, ◌≤◌, IfErr, IfOk};
-ghost use Rattle.fr_answer.specs.Checked.{fault_status};
+ghost use Rattle.fr_findings.specs.Checked.{fault_status};
 ghost use Rattle.fr_answer.specs.Commands.{IsAnswered, IsDone, IsWritten};
 ghost use Rattle.fr_answer.specs.Inputs.{Reads};
 
-use crate::answer::Refusal;
 use crate::files::Files;
-use crate::found::{Found, find_bytes};
 use crate::printing::put;
 use crate::reading::application;
 use fr_files::{Holds, Output};
+use fr_findings::{Found, Refusal, find_bytes};
 use fr_request::{FindRequest, Request};
 use std::alloc::Global;
 use std::io::Write;

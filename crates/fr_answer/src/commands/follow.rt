@@ -1,7 +1,7 @@
 // The command `follow`.
 ghost use Rattle.std.specs.Prelude.{◌≡◌, ◌≤◌, ◌∷◌, [], ℕ, List, IfErr, IfNone, IfOk, IfSome, None, Some, false, length, map, string_bytes, true};
 ghost use Rattle.fr_formats.specs.Answers.{status_of as kind_status};
-ghost use Rattle.fr_answer.specs.Checked.{fault_status};
+ghost use Rattle.fr_findings.specs.Checked.{fault_status};
 ghost use Rattle.fr_answer.specs.Inputs.{Reads};
 ghost use Rattle.fr_answer.specs.Traces.{AreCovered, AreTraces, AreTracesPrinted, IsAnswerAt, IsReadAs, IsRunAt, IsTracesAnswered, PutsBoth, answered_at, is_several};
 
@@ -9,12 +9,11 @@ mod answers;
 mod outputs;
 mod printed;
 
-use crate::answer::Refusal;
-use crate::fault::CheckFault;
 use crate::files::Files;
 use crate::printing::put;
-use crate::reading::{AppText, application};
+use crate::reading::application;
 use answers::answer_one;
+use fr_findings::{AppText, Boxed, CheckFault, Refusal};
 use fr_place::is_unknown_word;
 use fr_program::App;
 use fr_reader::read_app;
@@ -66,7 +65,7 @@ fn follow_one<F: Files, O: Write>(
     coverage: &mut Coverage,
     files: &F,
     out: &mut O,
-) -> Result<TraceAnswer, Refusal>
+) -> Result<Boxed<TraceAnswer>, Refusal>
     ensures answered { IfOk result (λ answer. AreTraces (Reads (F.Gives files.now) F.Means) asked.now app.now (path.now ∷ []) (kind_status answer.kind)
         (AreTracesPrinted asked.now.format asked.now.app.now false (O.contents out.old) (O.contents out.new))) }
     ensures by { IfOk result (λ answer. IsAnswerAt (Reads (F.Gives files.now) F.Means) asked.now app.now
@@ -77,8 +76,8 @@ fn follow_one<F: Files, O: Write>(
     ensures refused { IfErr result (λ refusal. fault_status refusal.fault ≡ 2 → out.new ≡ out.old) }
 {
     let answer = answer_one(alloc, app, path, asked, files)?;
-    print_one(alloc, path, &answer, asked, out)?;
-    coverage.add(alloc, app, &answer)?;
+    print_one(alloc, path, answer.get(), asked, out)?;
+    coverage.add(alloc, app, answer.get())?;
     Ok(answer)
 }
 
@@ -91,7 +90,7 @@ fn follow_named<F: Files, O: Write>(
     coverage: &mut Coverage,
     files: &F,
     out: &mut O,
-) -> Result<(u8, Option<TraceAnswer>), Refusal>
+) -> Result<(u8, Option<Boxed<TraceAnswer>>), Refusal>
     ensures answered { IfOk result (λ r. AreTraces (Reads (F.Gives files.now) F.Means) asked.now app.now (map (λ s. s.now) asked.now.traces.now) r.0
         (AreTracesPrinted asked.now.format asked.now.app.now (is_several (length asked.now.traces.now)) (O.contents out.old) (O.contents out.new))) }
     ensures by { IfOk result (λ r. IfSome r.1 (λ answer. (path : List ℕ) × (map (λ s. s.now) asked.now.traces.now ≡ path ∷ [])
@@ -106,7 +105,7 @@ fn follow_named<F: Files, O: Write>(
     match one_named(asked.traces) {
         Some(path) => {
             let answer = follow_one(alloc, app, path, asked, coverage, files, out)?;
-            Ok((answer.kind.status(), Some(answer)))
+            Ok((answer.get().kind.status(), Some(answer)))
         }
         None => {
             let status = print_several(alloc, app, asked.traces, asked, coverage, files, out)?;

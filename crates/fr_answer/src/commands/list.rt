@@ -5,8 +5,8 @@ ghost use Rattle.std.specs.Option.{is_some};
 ghost use Rattle.fr_list.specs.Beside.{beside};
 ghost use Rattle.fr_list.specs.Means.{shown as entry_of};
 ghost use Rattle.fr_report.specs.Lines.{lines_text};
-ghost use Rattle.fr_answer.specs.Answers.{first_line, what_status};
-ghost use Rattle.fr_answer.specs.Checked.{fault_status};
+ghost use Rattle.fr_findings.specs.Answers.{first_line, what_status};
+ghost use Rattle.fr_findings.specs.Checked.{fault_status};
 ghost use Rattle.fr_answer.specs.Commands.{
   AreAnswered,
   AreLinesPrinted,
@@ -23,14 +23,13 @@ ghost use Rattle.fr_answer.specs.Each.{Each, IsAdded};
 ghost use Rattle.fr_answer.specs.Heading.{heading};
 ghost use Rattle.fr_answer.specs.Inputs.{Reads};
 
-use crate::answer::{Answer, Refusal, What};
-use crate::fault::CheckFault;
 use crate::files::Files;
 use crate::printing::{put, put_report, warn};
 use crate::reading::{checked_files, input, proved_alone};
 use crate::shown::shown_of;
-use crate::ways::{MOST_STATE_BYTES, MOST_STATES, Warns, Ways, detail_in};
+use crate::ways::{MOST_STATE_BYTES, MOST_STATES, detail_in};
 use fr_escape::push_plain;
+use fr_findings::{Answer, CheckFault, Refusal, Warns, Ways, What};
 use fr_formats::{AnswerShown, Command, Source};
 use fr_list::{Listed, MOST_LIST_BYTES, listed_in, path_beside};
 use fr_report::text_of;

@@ -1,17 +1,14 @@
 // The command `points`.
 ghost use Rattle.std.specs.Prelude.{◌≡◌, ℕ, List, IfErr, IfOk, string_bytes};
 ghost use Rattle.std.specs.Io.KnownBytes.{Appends};
-ghost use Rattle.fr_answer.specs.Checked.{fault_status};
+ghost use Rattle.fr_findings.specs.Checked.{fault_status};
 ghost use Rattle.fr_answer.specs.Commands.{AreShown, IsListed, IsListing};
 ghost use Rattle.fr_answer.specs.Inputs.{Reads};
 
-use crate::answer::Refusal;
-use crate::exit::DONE;
-use crate::fault::CheckFault;
 use crate::files::Files;
 use crate::printing::put;
-use crate::reading::{AppText, application};
-use crate::sources::sources_in;
+use crate::reading::application;
+use fr_findings::{AppText, CheckFault, DONE, Refusal, sources_in};
 use fr_place::is_unknown_word;
 use fr_program::App;
 use fr_reader::read_app;

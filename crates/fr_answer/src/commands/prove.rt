@@ -1,15 +1,15 @@
 // The command `prove`.
 ghost use Rattle.std.specs.Prelude.{◌≡◌, ◌≤◌, ℕ, List, IfErr, IfOk, IsErr, None, Some, option_copied, string_bytes};
-ghost use Rattle.fr_answer.specs.Checked.{fault_status};
+ghost use Rattle.fr_findings.specs.Checked.{fault_status};
 ghost use Rattle.fr_answer.specs.Commands.{IsAnswered, IsGiven, IsWritten};
 ghost use Rattle.fr_answer.specs.Inputs.{Reads};
 
-use crate::answer::{Refusal, What};
 use crate::files::Files;
 use crate::printing::{show_found, show_outputs_refused};
-use crate::reading::{AppText, proved_file};
-use crate::ways::{Asked, Warns, Ways, detail_in, mebibytes, output_at};
+use crate::reading::proved_file;
+use crate::ways::{Asked, detail_in, mebibytes, output_at};
 use fr_files::Holds;
+use fr_findings::{AppText, Refusal, Warns, Ways, What};
 use fr_formats::{Command, Source};
 use fr_request::{ProveRequest, Request};
 use std::alloc::Global;

@@ -1,15 +1,15 @@
 // The command `refute`.
 ghost use Rattle.std.specs.Prelude.{◌≡◌, ◌≤◌, ℕ, List, IfErr, IfOk, None, Some, option_copied};
-ghost use Rattle.fr_answer.specs.Checked.{fault_status};
+ghost use Rattle.fr_findings.specs.Checked.{fault_status};
 ghost use Rattle.fr_answer.specs.Commands.{IsAnswered, IsPaged, IsSearchAt};
 ghost use Rattle.fr_answer.specs.Inputs.{Reads};
 
-use crate::answer::Refusal;
 use crate::files::Files;
 use crate::printing::{show_found, show_outputs_refused};
 use crate::reading::searched_file;
-use crate::ways::{Asked, Warns, Ways, mebibytes, output_at};
+use crate::ways::{Asked, mebibytes, output_at};
 use fr_files::Holds;
+use fr_findings::{Refusal, Warns, Ways};
 use fr_formats::{Command, Source};
 use fr_request::{Detail, RefuteRequest, Request};
 use std::alloc::Global;

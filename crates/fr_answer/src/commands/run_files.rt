@@ -1,17 +1,14 @@
 // The command `run`.
 ghost use Rattle.std.specs.Prelude.{◌≡◌, ◌≤◌, IfErr, IfOk, option_copied};
-ghost use Rattle.fr_answer.specs.Checked.{fault_status};
+ghost use Rattle.fr_findings.specs.Checked.{fault_status};
 ghost use Rattle.fr_answer.specs.Commands.{AreRunWords, IsAnswered, IsSafeIn};
 ghost use Rattle.fr_answer.specs.Inputs.{Reads};
 
-use crate::answer::Refusal;
-use crate::fault::CheckFault;
 use crate::files::Files;
 use crate::printing::put;
-use crate::reading::{AppText, application, input};
-use crate::running::ran;
-use crate::words::{WordsFault, words_of};
+use crate::reading::{application, input};
 use fr_cert::MOST_BYTES as MOST_CERTIFICATE_BYTES;
+use fr_findings::{AppText, CheckFault, Refusal, WordsFault, ran_texts, words_of};
 use fr_parallel::Open;
 use fr_request::{Request, RunRequest};
 use std::alloc::Global;
@@ -53,7 +50,7 @@ pub(crate) fn run_files<R: Threads + Wait + Sync, F: Files, O: Write>(
     let path = asked.certificate;
     let certificate = input(alloc, files, path, MOST_CERTIFICATE_BYTES, explains)?;
     let polls = u64::from(asked.polls);
-    match ran(
+    match ran_texts(
         rt,
         alloc,
         &app,

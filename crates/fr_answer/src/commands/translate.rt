@@ -1,16 +1,14 @@
 // The command `translate`.
 ghost use Rattle.std.specs.Prelude.{◌≡◌, ◌≤◌, ◌⊎◌, IfErr, IfOk, None, string_bytes};
-ghost use Rattle.fr_answer.specs.Checked.{fault_status};
+ghost use Rattle.fr_findings.specs.Checked.{fault_status};
 ghost use Rattle.fr_answer.specs.Commands.{IsAnswered, IsApplication, IsDone, IsTranslated, IsWritten, PutsTranslated};
 ghost use Rattle.fr_answer.specs.Inputs.{AsSource, Reads};
 
-use crate::answer::Refusal;
-use crate::exit::DONE;
-use crate::fault::CheckFault;
 use crate::files::Files;
 use crate::printing::put;
 use crate::source::translation;
 use fr_files::{Holds, Output};
+use fr_findings::{CheckFault, DONE, Refusal};
 use fr_reader::read_app;
 use fr_request::{Request, TranslateRequest};
 use fr_source::{Message, Translation};

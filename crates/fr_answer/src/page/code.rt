@@ -1,6 +1,6 @@
 // The lines of code as a page shows them: as they stand in the application's text.
-use crate::sources::sources_in;
 use fr_escape::push_plain;
+use fr_findings::sources_in;
 use fr_place::lines_of_code;
 use fr_program::{App, Point};
 use fr_reasons::Explained;

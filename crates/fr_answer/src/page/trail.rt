@@ -1,5 +1,5 @@
 // A run that was found for a trace, with the events of the trace beside it.
-ghost use Rattle.std.specs.Prelude.{◌≡◌, IfOk, string_bytes};
+ghost use Rattle.std.specs.Prelude.{IfOk, string_bytes};
 ghost use Rattle.fr_calls.specs.State.{IsWellFormed};
 ghost use Rattle.fr_answer.specs.Pages.{IsTrailPage};
 

@@ -1,6 +1,6 @@
 // What fails by a verdict, or isn't excluded, and where.
 use super::places::Places;
-use crate::judged::Judged;
+use fr_findings::Judged;
 use fr_formats::{Failure, PlaceShown, part_name};
 use fr_judge::{Part, Verdict};
 use fr_order::{Edge, Order};

@@ -1,7 +1,7 @@
 // Points of an application as reports for machines show them.
 ghost use Rattle.std.specs.Prelude.{◌≡◌, IfOk};
 
-use crate::sources::sources_shown;
+use fr_findings::sources_shown;
 use fr_formats::{PlaceShown, SideShown, SourceShown};
 use fr_place::{CodePlace, CodeSource, places_of_code, sources_of_code};
 use fr_program::{App, Point, Side};

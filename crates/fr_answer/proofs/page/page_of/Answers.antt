@@ -3,8 +3,8 @@ use Rattle.std.proofs.Common.{◌≡◌, ◌++◌, ◌∙◌, ℕ, List, Result,
 use Rattle.std.specs.declared.alloc.Global.{Global}
 use Rattle.fr_page.specs.declared.page.Page.{Page}
 use Rattle.fr_page.specs.Whole.{head_of}
-use Rattle.fr_answer.specs.declared.answer.What.{What}
-use Rattle.fr_answer.specs.Answers.{kind_of, shown_line}
+use Rattle.fr_findings.specs.declared.answer.What.{What}
+use Rattle.fr_findings.specs.Answers.{kind_of, shown_line}
 use Rattle.fr_answer.specs.Pages.{IsPageOf, page_kind}
 use Rattle.fr_answer.proofs.page.page_of.Goals as goal
 

@@ -1,15 +1,14 @@
 // The answers to traces in files.
 ghost use Rattle.std.specs.Prelude.{◌≡◌, ◌≤◌, ◌∷◌, [], IfErr, IfOk, IfSome, None, string_bytes};
 ghost use Rattle.fr_formats.specs.Answers.{status_of as kind_status};
-ghost use Rattle.fr_answer.specs.Answers.{kind_of};
-ghost use Rattle.fr_answer.specs.Checked.{fault_status};
+ghost use Rattle.fr_findings.specs.Answers.{kind_of};
+ghost use Rattle.fr_findings.specs.Checked.{fault_status};
 ghost use Rattle.fr_answer.specs.Inputs.{Reads};
 ghost use Rattle.fr_answer.specs.Traces.{IsAnswerAt, IsRunAt, answered_at};
 
-use crate::answer::{Refusal, What};
-use crate::fault::CheckFault;
 use crate::files::Files;
 use crate::reading::input;
+use fr_findings::{Boxed, CheckFault, Refusal, What};
 use fr_place::place_of_texts;
 use fr_program::App;
 use fr_request::FollowRequest;
@@ -101,7 +100,7 @@ fn answer_of(alloc: Global, refusal: Refusal, explains: bool) -> Result<TraceAns
     ensures least { IfOk result (λ answer. 2 ≤ kind_status answer.kind) }
     ensures run { IfOk result (λ answer. answer.run ≡ None) }
 {
-    let what = What::Refused(refusal);
+    let what = What::Refused(Boxed::new(alloc, refusal)?);
     answer_with(alloc, &what, explains)
 }
 
@@ -112,15 +111,15 @@ pub(super) fn answer_shown<F: Files>(
     path: &str,
     asked: &FollowRequest,
     files: &F,
-) -> Result<TraceAnswer, AllocError>
+) -> Result<Boxed<TraceAnswer>, AllocError>
     ensures by { IfOk result (λ answer. IsAnswerAt (Reads (F.Gives files.now) F.Means) asked.now app.now
         (answered_at path.now answer)) }
     ensures run { IfOk result (λ answer. IfSome answer.run (λ text.
         IsRunAt (Reads (F.Gives files.now) F.Means) asked.now app.now (path.now ∷ []) (string_bytes text))) }
 {
     match answer_at(alloc, app, path, asked, files) {
-        Ok(answer) => Ok(answer),
-        Err(refusal) => answer_of(alloc, refusal, explains(asked)),
+        Ok(answer) => Boxed::new(alloc, answer),
+        Err(refusal) => Boxed::new(alloc, answer_of(alloc, refusal, explains(asked))?),
     }
 }
 
@@ -131,7 +130,7 @@ pub(super) fn answer_one<F: Files>(
     path: &str,
     asked: &FollowRequest,
     files: &F,
-) -> Result<TraceAnswer, Refusal>
+) -> Result<Boxed<TraceAnswer>, Refusal>
     ensures by { IfOk result (λ answer. IsAnswerAt (Reads (F.Gives files.now) F.Means) asked.now app.now
         (answered_at path.now answer)) }
     ensures run { IfOk result (λ answer. IfSome answer.run (λ text.
@@ -142,6 +141,7 @@ pub(super) fn answer_one<F: Files>(
     if asked.format.is_some() {
         Ok(answer_shown(alloc, app, path, asked, files)?)
     } else {
-        answer_at(alloc, app, path, asked, files)
+        let answer = answer_at(alloc, app, path, asked, files)?;
+        Ok(Boxed::new(alloc, answer)?)
     }
 }

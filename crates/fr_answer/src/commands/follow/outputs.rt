@@ -1,15 +1,14 @@
 // The files that `follow` writes: the run that was found for a trace, and the page of the answer to it.
-ghost use Rattle.std.specs.Prelude.{◌≡◌, ◌≤◌, ◌⊎◌, ℕ, List, IfErr, IfOk, IfSome, Some, option_copied, option_map, string_bytes};
-ghost use Rattle.fr_answer.specs.Checked.{fault_status};
+ghost use Rattle.std.specs.Prelude.{◌≡◌, ◌≤◌, ◌⊎◌, ℕ, List, IfErr, IfOk, Some, option_copied, option_map, string_bytes};
+ghost use Rattle.fr_findings.specs.Checked.{fault_status};
 ghost use Rattle.fr_answer.specs.Pages.{IsTrailPage};
 ghost use Rattle.fr_answer.specs.Traces.{PutsAnswer};
 
-use crate::answer::Refusal;
-use crate::fault::CheckFault;
 use crate::files::Files;
 use crate::page::trail_page;
 use crate::ways::output_at;
 use fr_files::Holds;
+use fr_findings::{Boxed, CheckFault, Refusal};
 use fr_program::App;
 use fr_request::FollowRequest;
 use fr_trail::TraceAnswer;
@@ -104,7 +103,7 @@ pub(super) fn put_outputs<F: Files>(
     asked: &FollowRequest,
     app: &App,
     text: &[u8],
-    answer: &Option<TraceAnswer>,
+    answer: &Option<Boxed<TraceAnswer>>,
     files: &mut F,
 ) -> Result<(), Refusal>
     requires run { (path : List ℕ) → option_copied asked.now.run ≡ Some path → F.May files.old path }
@@ -115,6 +114,7 @@ pub(super) fn put_outputs<F: Files>(
     let Some(answer) = answer else {
         return Ok(());
     };
+    let answer = answer.get();
     put_run(alloc, asked, &answer.run, files)?;
     put_page(alloc, asked, app, text, answer, files)
 }

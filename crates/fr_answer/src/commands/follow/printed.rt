@@ -3,17 +3,16 @@ ghost use Rattle.std.specs.Prelude.{◌≡◌, ◌≤◌, ◌++◌, ◌∷◌, [
 ghost use Rattle.std.specs.Io.KnownBytes.{Appends};
 ghost use Rattle.fr_formats.specs.Answers.{status_of as kind_status};
 ghost use Rattle.fr_report.specs.Lines.{lines_text};
-ghost use Rattle.fr_answer.specs.Checked.{fault_status};
+ghost use Rattle.fr_findings.specs.Checked.{fault_status};
 ghost use Rattle.fr_answer.specs.Each.{Each, IsAdded};
 ghost use Rattle.fr_answer.specs.Inputs.{Reads};
 ghost use Rattle.fr_answer.specs.Traces.{AreTraces, AreTracesPrinted, ShowsTrace, answered_at, text_at};
 
 use super::answers::answer_shown;
-use crate::answer::copied;
 use crate::commands::list::heading;
-use crate::fault::CheckFault;
 use crate::files::Files;
 use crate::printing::{put, put_report};
+use fr_findings::{CheckFault, copied_lines};
 use fr_formats::{AnswerShown, Command, Source, TraceShown};
 use fr_program::App;
 use fr_report::text_of;
@@ -52,7 +51,7 @@ fn trace_shown(
         file: String::from_str(alloc, path)?,
         line: answer.stop,
     };
-    let lines = copied(alloc, &answer.why)?;
+    let lines = copied_lines(alloc, &answer.why)?;
     let mut shown = AnswerShown::new(alloc, source, answer.kind, answer.line.clone()?)?;
     shown.trace = Some(trace);
     shown.lines = lines;
@@ -132,7 +131,7 @@ fn print_each<F: Files, O: Write>(
     let mut greatest = 0u8;
     for path in paths {
         let answer = answer_shown(alloc, app, *path, asked, files)?;
-        let status = print_after(alloc, app, *path, &answer, coverage, out)?;
+        let status = print_after(alloc, app, *path, answer.get(), coverage, out)?;
         greatest = greatest.max(status);
     }
     Ok(greatest)
@@ -169,7 +168,7 @@ fn shown_each<F: Files>(
     let (mut answers, mut greatest) = (Vec::new(alloc), 0u8);
     for path in paths {
         let answer = answer_shown(alloc, app, *path, asked, files)?;
-        let status = add_trace(alloc, *path, &answer, asked, &mut answers)?;
+        let status = add_trace(alloc, *path, answer.get(), asked, &mut answers)?;
         greatest = greatest.max(status);
     }
     Ok((answers, greatest))

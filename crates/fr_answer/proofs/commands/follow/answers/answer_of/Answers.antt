@@ -3,7 +3,7 @@ use Rattle.std.proofs.Common.{◌==◌, ◌≡◌, ◌≤◌, Result, Ok, Err, I
 use Rattle.fr_formats.specs.declared.answer.AnswerKind.{AnswerKind}
 use Rattle.fr_formats.specs.Answers.{status_of as kind_status}
 use Rattle.fr_trail.specs.declared.answer.TraceAnswer.{TraceAnswer}
-use Rattle.fr_answer.specs.Checked.{fault_status}
+use Rattle.fr_findings.specs.Checked.{fault_status}
 use Rattle.fr_answer.proofs.Following.{refused-least}
 use Rattle.fr_answer.proofs.commands.follow.answers.answer_of.Goals as goal
 
@@ -12,4 +12,4 @@ least kind (Ok answer) h is = subst (λ k. 2 ≤ kind_status k) (sym is) h
 least kind (Err e) h is = tt
 
 pub returns-clause-least : goal.returns-clause-least
-returns-clause-least c = least _ c.answer_with.result (refused-least (fault_status c.args.refusal.fault == 2)) c.answer_with.ensures.kind
+returns-clause-least c = least _ c.answer_with.result (refused-least (fault_status c.in_ok-new.field-0.fault == 2)) c.answer_with.ensures.kind

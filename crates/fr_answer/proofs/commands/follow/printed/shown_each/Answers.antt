@@ -6,7 +6,7 @@ use Rattle.fr_report.specs.Lines.{lines_text}
 use Rattle.fr_answer.specs.Each.{Each}
 use Rattle.fr_answer.specs.Inputs.{Reads}
 use Rattle.fr_answer.specs.Traces.{ShowsTrace, TraceAnswerAt}
-use Rattle.fr_answer.proofs.Following.{answers-at, none-yet, shown-trace}
+use Rattle.fr_answer.proofs.Following.{answers-at, none-yet, of-same, shown-trace}
 use Rattle.fr_answer.proofs.Safe.{status-most}
 use Rattle.fr_answer.proofs.commands.follow.printed.shown_each.Goals as goal
 
@@ -19,10 +19,11 @@ pub loop-path-preserved : goal.loop-path-preserved
 loop-path-preserved g c =
     let reads = Reads (g.F.Files.Gives c.args.files.now) g.F.Files.Means in
     let before = take c.loop-path.path-index c.args.paths.now in
-    let answer = c.in_ok-answer.answer in
+    let answer = c.get.result.now in
+    let by = of-same reads c.args.asked.now c.args.app.now _ _ answer c.get.ensures c.in_ok-answer.ensures.by in
     let t : TraceAnswerAt = record { path = _; kind = answer.kind; line = string_bytes answer.line; more = lines_text answer.why.items } in
     let s = c.in_ok-status.ensures.added in
-    let more = shown-trace reads c.args.asked.now c.args.app.now (map (λ s. s.now) before) c.loop-path.greatest t c.loop-path.answers.items _ s.0 s.2 c.loop-path.invariant.0 c.in_ok-answer.ensures.by s.1 in
+    let more = shown-trace reads c.args.asked.now c.args.app.now (map (λ s. s.now) before) c.loop-path.greatest t c.loop-path.answers.items _ s.0 s.2 c.loop-path.invariant.0 by s.1 in
     let on = ap (map (λ s. s.now)) (take_more c.args.paths.now c.loop-path.path-index _ c.loop-path-test.true) ∙ map-append (λ s. s.now) before _ in
     let next : c.max-greatest.result ≡ max c.loop-path.greatest (kind_status answer.kind) = c.max-greatest.ensures ∙ ap (max c.loop-path.greatest) c.in_ok-status.ensures.status in
     let least : kind_status answer.kind ≤ 3 = status-most answer.kind in

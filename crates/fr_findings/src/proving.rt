@@ -1,0 +1,234 @@
+// Working out a certificate for the application that bytes mean, and judging it.
+ghost use Rattle.std.specs.Prelude.{◌≡◌, ◌⊎◌, ◌↔◌, IsTrue, IfOk, IfErr, IsErrOf, string_bytes};
+ghost use Rattle.fr_ends.specs.Fits.{CertificateFits};
+ghost use Rattle.fr_parallel.specs.Kept.{IsNoCrew};
+ghost use Rattle.fr_refuter.specs.Refutes.{IsFound, Suits};
+ghost use Rattle.fr_findings.specs.Answers.{CanRefuseProof, IsProofOf, Settles, kind_of_judged};
+
+use crate::answer::{Searched, What, kind_of_judged};
+use crate::boxed::Boxed;
+use crate::fault::CheckFault;
+use crate::judged::{Judged, Tried};
+use crate::judging::{waits, why};
+use crate::layout::laid_out;
+use crate::sources::sources_for;
+use crate::ways::Ways;
+use fr_cert::{MOST_BYTES, read_cert, write_cert};
+use fr_ends::Certificate;
+use fr_formats::AnswerKind;
+use fr_judge::{Judging, Lists, Part, Verdict};
+use fr_order::{Edge, Order};
+use fr_parallel::{Gate, is_crew, judge_with};
+use fr_program::{App, Point};
+use fr_progress::Meter;
+use fr_prover::{best_certificate, thinned};
+use fr_reader::read_app;
+use fr_refuter::{Finding, Search, refute};
+use fr_states::ActorSet;
+use std::alloc::{AllocError, Global};
+use std::sync::Wait;
+use std::thread::Threads;
+
+/// The text of a certificate, a note on each line.
+fn text_of(alloc: Global, app: &App, certificate: &Certificate) -> Result<String, AllocError>
+    requires { CertificateFits app.now certificate.now }
+{
+    let compact = write_cert(alloc, app, certificate)?;
+    laid_out(alloc, compact.as_str())
+}
+
+/// Whether every part is kept at every point of the application.
+fn all_pass(app: &App, judging: &Judging) -> bool
+    requires { judging.now.app ≡ app.now }
+{
+    for number in 0..app.points() {
+        if judging.part_at(number).is_some() {
+            return false;
+        }
+    }
+    true
+}
+
+/// Whether the certificate keeps every part at every point.
+fn passes(alloc: Global, app: &App, certificate: &Certificate) -> Result<bool, AllocError>
+    requires { CertificateFits app.now certificate.now }
+{
+    let lists = Lists::build(alloc, app, certificate)?;
+    Ok(all_pass(app, &Judging::with(app, certificate, &lists)))
+}
+
+/// The text of the thin certificate where that passes, and else of the whole one, unless that is longer than a certificate may be.
+fn shorter_text(
+    alloc: Global,
+    app: &App,
+    whole: &Certificate,
+    thin: &Certificate,
+) -> Result<String, AllocError>
+    requires whole { CertificateFits app.now whole.now }
+    requires thin { CertificateFits app.now thin.now }
+{
+    if !passes(alloc, app, thin)? {
+        let text = text_of(alloc, app, whole)?;
+        if text.len() <= MOST_BYTES {
+            return Ok(text);
+        }
+    }
+    text_of(alloc, app, thin)
+}
+
+/// The text of this certificate, or of the one without what isn't needed.
+fn text_of_best(alloc: Global, app: &App, whole: &Certificate) -> Result<String, AllocError>
+    requires { CertificateFits app.now whole.now }
+{
+    let thin = thinned(alloc, app, whole)?;
+    shorter_text(alloc, app, whole, &thin)
+}
+
+/// The text of the best certificate that is found for the application: without what isn't needed where that passes, so that a change of the
+/// application changes few of its lines; and else with all that is known, unless that is longer than a certificate may be.
+fn certificate_text(alloc: Global, app: &App, meter: Option<&Meter>) -> Result<String, AllocError> {
+    let whole = best_certificate(alloc, app, meter)?;
+    text_of_best(alloc, app, &whole)
+}
+
+/// The actors that the verdict names: the one whose point fails, and the one whose step spoils its note.
+fn suspects_of(verdict: Verdict) -> ActorSet {
+    match verdict {
+        Verdict::Yes => ActorSet::NONE,
+        Verdict::No {
+            point,
+            part: Part::Spoiled(by),
+        } => ActorSet::NONE.with(point.actor).with(by.actor),
+        Verdict::No { point, .. } => ActorSet::NONE.with(point.actor),
+    }
+}
+
+/// The actors that are the first to be asked about: those that the verdict names, or those whose takes make a cycle.
+fn suspects_among(verdict: Verdict, waits: &Option<Order>) -> ActorSet {
+    let mut suspects = suspects_of(verdict);
+    if let Some(Order::Cycle(edges)) = waits {
+        for edge in edges {
+            suspects = suspects.with(edge.point.actor);
+        }
+    }
+    suspects
+}
+
+/// The point of the edge with this number, if there is one.
+fn point_of(edges: &[Edge], number: usize) -> Option<Point> {
+    Some(edges.get(number)?.point)
+}
+
+/// The points to which runs are followed first: the one that fails and the one whose step spoils its note, or the first two takes of a cycle.
+fn aims_of(verdict: Verdict, waits: &Option<Order>) -> [Option<Point>; 2] {
+    match (verdict, waits) {
+        (Verdict::Yes, Some(Order::Cycle(edges))) => { [point_of(edges, 0), point_of(edges, 1)] }
+        (Verdict::Yes, _) => [None, None],
+        (
+            Verdict::No {
+                point,
+                part: Part::Spoiled(by),
+            },
+            _,
+        ) => [Some(point), Some(by)],
+        (Verdict::No { point, .. }, _) => [Some(point), None],
+    }
+}
+
+/// Whether the verdict is no, or a deadlock isn't excluded.
+fn is_unsettled(verdict: Verdict, waits: &Option<Order>) -> bool
+    ensures { IsTrue result → (kind_of_judged verdict waits.now ≡ AnswerKind.No) ⊎ (kind_of_judged verdict waits.now ≡ AnswerKind.MayDeadlock) }
+{
+    match kind_of_judged(verdict, waits) {
+        AnswerKind::No | AnswerKind::MayDeadlock => true,
+        _ => false,
+    }
+}
+
+/// What a search finds in place of this verdict and of what is known of waits: a run into a breach, or that no state of any run breaches a
+/// rule, and where that is asked the same of deadlocks; else how far it went. Its error is that an allocation was refused.
+fn settled<R: Threads + Sync>(
+    rt: &R,
+    alloc: Global,
+    app: &App,
+    verdict: Verdict,
+    waits: &Option<Order>,
+    ways: Ways,
+    meter: Option<&Meter>,
+) -> Result<Result<Finding, Tried>, AllocError>
+    ensures found { IfOk result (λ r. IfOk r (λ found. IsFound app.now found)) }
+    ensures suits { IfOk result (λ r. IfOk r (Suits ways.deadlock)) }
+    ensures settles { IfOk result (λ r. IfOk r Settles) }
+{
+    let search = Search {
+        most_states: ways.states,
+        most_bytes: ways.state_bytes,
+        workers: ways.workers,
+        suspects: suspects_among(verdict, waits),
+        aims: aims_of(verdict, waits),
+        seeks_deadlocks: ways.deadlock,
+        wants_shortest: false,
+        meter,
+    };
+    Ok(match refute(rt, alloc, app, search)? {
+        Finding::Breach(run) => Ok(Finding::Breach(run)),
+        Finding::Deadlock(run) => Ok(Finding::Deadlock(run)),
+        Finding::Safe { states } => Ok(Finding::Safe { states }),
+        Finding::Free { states } => Ok(Finding::Free { states }),
+        Finding::Unknown { states, left } => Err(Tried { states, left }),
+    })
+}
+
+/// Works out a certificate for the application, and judges it. Where the verdict is no, or a deadlock isn't excluded where that is asked,
+/// and `searches` asks for it, the same workers look for a run into a breach or a deadlock.
+///
+/// Ok is the verdict by the certificate whose text comes with it. In place of one that doesn't settle the matter it is what the search
+/// found, where that is a run, or that no state of any run breaches a rule or is deadlocked. How far it is, it notes in the meter, if there
+/// is one.
+///
+/// # Errors
+///
+/// `Workers` exactly where their number is not 1 to 64, before anything is read; `App` names a fault that is present in the bytes;
+/// `Cert` says that the certificate can't be read, as one that is too long; `Memory` and `Thread` say that the machine refused an
+/// allocation or a thread.
+pub fn proved_text<R: Threads + Wait + Sync, G: Gate>(
+    rt: &R,
+    alloc: Global,
+    app: &[u8],
+    ways: Ways,
+    gate: &G,
+    searches: bool,
+    meter: Option<&Meter>,
+) -> Result<(What, String), CheckFault>
+    ensures proved { IfOk result (λ r. IsProofOf ways.deadlock app.now searches (string_bytes r.1) r.0) }
+    ensures workers { IsErrOf result CheckFault.Workers ↔ IsNoCrew ways.workers }
+    ensures refused { IfErr result (CanRefuseProof app.now ways.workers) }
+{
+    if !is_crew(ways.workers) {
+        return Err(CheckFault::Workers);
+    }
+    let bytes = app;
+    let app = read_app(alloc, bytes)?;
+    let text = certificate_text(alloc, &app, meter)?;
+    let certificate = read_cert(alloc, &app, text.as_bytes())?;
+    let verdict = judge_with(rt, alloc, &app, &certificate, ways.workers, gate)?;
+    let waits = waits(alloc, &app, &certificate, verdict, ways.deadlock)?;
+    let mut tried = None;
+    if searches && is_unsettled(verdict, &waits) {
+        match settled(rt, alloc, &app, verdict, &waits, ways, meter)? {
+            Ok(found) => {
+                let explains = sources_for(alloc, bytes, ways.detail)?;
+                let searched = Searched {
+                    app,
+                    found,
+                    explains,
+                };
+                return Ok((What::Searched(Boxed::new(alloc, searched)?), text));
+            }
+            Err(left) => tried = Some(left),
+        }
+    }
+    let why = why(alloc, bytes, &app, &certificate, verdict, ways.detail, true)?;
+    let judged = Judged::new(app, certificate, verdict, why, waits).after_search(tried);
+    Ok((What::Judged(Boxed::new(alloc, judged)?), text))
+}
