@@ -9,7 +9,7 @@
 -- | waits_text, second_text         | the line that says whether actors can deadlock, where it is asked                |
 -- | judged_line, shown_line         | the line that a report shows                                                     |
 -- | place_text, AreJudgedLines, AreLinesOf | the lines that follow it                                                  |
--- | IsRefusalText, IsTextOf         | the text of a refusal and of an answer, to the letter                            |
+-- | IsTextOf                        | the text of an answer, to the letter                                             |
 -- | IsAnsweredFor                   | whether actors can deadlock is answered exactly where that is asked              |
 -- | IsVerdictOn                     | the verdict on the application and the certificate that bytes mean               |
 -- | IsUnsettled                     | the verdict is no, or a deadlock isn't excluded                                  |
@@ -43,7 +43,6 @@ use Rattle.fr_formats.specs.Answers.{status_of as kind_status}
 use Rattle.fr_parallel.specs.Kept.{IsNoCrew}
 use Rattle.fr_findings.specs.declared.fault.CheckFault.{CheckFault}
 use Rattle.fr_findings.specs.declared.fault.CheckFault.TheVariants.{App, Cert, Workers, Memory, Thread}
-use Rattle.fr_findings.specs.declared.answer.Refusal.{Refusal}
 use Rattle.fr_findings.specs.declared.answer.What.{What}
 use Rattle.fr_findings.specs.declared.answer.What.TheVariants.{Judged, Searched, Refused as NoAnswer}
 use Rattle.fr_findings.specs.Judged.{JudgedOf}
@@ -120,10 +119,6 @@ abbrev pub AreLinesOf : What → List ℕ → Type 0
 AreLinesOf (Judged j) more = AreJudgedLines j more
 AreLinesOf (Searched s) more = IsRunText (is_some s.explains) s.app s.found more
 AreLinesOf (NoAnswer r) more = more ≡ place_text r.place
-
--- the text of a refusal: the fault's line, and where the fault is
-abbrev pub IsRefusalText : Refusal → List ℕ → Type 0
-IsRefusalText r text = (more : List ℕ) × (more ≡ place_text r.place) × (text ≡ line_of r.fault ++ (codes "\n" ++ more))
 
 -- the text of an answer: all its lines
 abbrev pub IsTextOf : What → List ℕ → Type 0

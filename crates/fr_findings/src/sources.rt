@@ -16,7 +16,7 @@ fn texts_of(alloc: Global, lines: &[Option<CodeSource>]) -> Result<Vec<String>, 
     Ok(texts)
 }
 
-/// These places of all actors' lines, as texts.
+/// These places of all actors' lines, as texts. Its error is that an allocation was refused.
 pub fn sources_shown(
     alloc: Global,
     sources: &[Vec<Option<CodeSource>>],
@@ -29,7 +29,7 @@ pub fn sources_shown(
 }
 
 /// Where the lines of the application with this text are in the source that it was translated from, as the comments after them say; no
-/// places where it was written by hand.
+/// places where it was written by hand. Its error is that an allocation was refused.
 pub fn sources_in(alloc: Global, text: &[u8]) -> Result<Sources, AllocError> {
     let code = places_of_code(alloc, text)?;
     sources_shown(alloc, &sources_of_code(alloc, text, &code)?)
