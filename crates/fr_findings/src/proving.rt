@@ -17,9 +17,10 @@ use fr_cert::{MOST_BYTES, read_cert, write_cert};
 use fr_ends::Certificate;
 use fr_formats::AnswerKind;
 use fr_judge::{Judging, Lists, Part, Verdict};
+use fr_notes::{Alternative, Note};
 use fr_order::{Edge, Order};
 use fr_parallel::{Gate, is_crew, judge_with};
-use fr_program::{App, Point};
+use fr_program::{App, Point, VarId};
 use fr_progress::Meter;
 use fr_prover::{best_certificate, thinned};
 use fr_reader::read_app;
@@ -28,6 +29,9 @@ use fr_states::ActorSet;
 use std::alloc::{AllocError, Global};
 use std::sync::Wait;
 use std::thread::Threads;
+
+/// How many bytes a range has at the least in a certificate's text besides the variable's name: `"":[0,0]`.
+const LEAST_BESIDE_NAME: usize = 8;
 
 /// The text of a certificate, a note on each line.
 fn text_of(alloc: Global, app: &App, certificate: &Certificate) -> Result<String, AllocError>
@@ -57,6 +61,39 @@ fn passes(alloc: Global, app: &App, certificate: &Certificate) -> Result<bool, A
     Ok(all_pass(app, &Judging::with(app, certificate, &lists)))
 }
 
+/// The fewest bytes that the ranges of an alternative have in a certificate's text.
+fn least_bytes(app: &App, facts: &Alternative) -> usize {
+    let mut least = 0usize;
+    for number in 0..app.variables().len() {
+        let variable = VarId(number);
+        if facts.range(variable) != app.range(variable) {
+            let name = app.variable(variable).name.len();
+            least = least.saturating_add(name).saturating_add(LEAST_BESIDE_NAME);
+        }
+    }
+    least
+}
+
+/// The fewest bytes that the ranges of a note have in a certificate's text.
+fn least_bytes_of_note(app: &App, note: &Note) -> usize {
+    let mut least = 0usize;
+    for facts in note.alternatives() {
+        least = least.saturating_add(least_bytes(app, facts));
+    }
+    least
+}
+
+/// Whether the certificate's text is longer than one may be by its ranges alone, which is known before it is written.
+fn is_too_long(app: &App, certificate: &Certificate) -> bool {
+    let mut least = 0usize;
+    for number in 0..app.points() {
+        if let Some(note) = certificate.notes.get(number) {
+            least = least.saturating_add(least_bytes_of_note(app, note));
+        }
+    }
+    least > MOST_BYTES
+}
+
 /// The text of the thin certificate where that passes, and else of the whole one, unless that is longer than a certificate may be.
 fn shorter_text(
     alloc: Global,
@@ -67,7 +104,7 @@ fn shorter_text(
     requires whole { CertificateFits app.now whole.now }
     requires thin { CertificateFits app.now thin.now }
 {
-    if !passes(alloc, app, thin)? {
+    if !passes(alloc, app, thin)? && !is_too_long(app, whole) {
         let text = text_of(alloc, app, whole)?;
         if text.len() <= MOST_BYTES {
             return Ok(text);

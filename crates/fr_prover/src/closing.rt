@@ -1,5 +1,5 @@
 // Closing a point's note under the steps of other actors.
-use crate::effect::{Effect, Effects};
+use crate::effect::{Effect, Effects, telling_ranges};
 use crate::trial::{Item, Trial};
 use fr_notes::Claim;
 use fr_program::{ObjId, Range, VarId};
@@ -76,11 +76,10 @@ impl<'a> Trial<'a> {
         let Some(facts) = self.pool.get(facts) else {
             return Ok(felt);
         };
+        let ranges = telling_ranges(alloc, self.pool.app(), facts)?;
         for (other, effects) in others.iter().enumerate() {
-            for (variable, written) in effects.writes.iter().enumerate() {
-                if other != actor && written.is_felt(variable, facts) {
-                    felt.push((other, variable))?;
-                }
+            if other != actor {
+                effects.add_felt(other, &ranges, facts, &mut felt)?;
             }
         }
         Ok(felt)

@@ -27,11 +27,15 @@ pub struct Effects {
     pub writes: Vec<Written>,
     /// By object: the steps that create or delete it.
     pub lives: Vec<Vec<Effect>>,
+    /// What is so wherever a variable is written of which another actor's notes speak.
+    common: Option<Common>,
 }
 
 /// The steps that write a variable.
 #[derive(Drop)]
 pub struct Written {
+    /// The least range that has all that is written.
+    reach: Option<Range>,
     /// What is so wherever one of them is made.
     common: Option<Common>,
     pub effects: Vec<Effect>,
@@ -44,10 +48,10 @@ pub struct Written {
 struct Common {
     /// Whether the actor is in the critical section by all of them.
     critical: bool,
-    /// The least range that has all that is written where they hold.
-    reach: Range,
-    claims: Vec<Claim>,
-    ranges: Vec<Range>,
+    /// What they say of objects, but for those of which they say nothing.
+    claims: Vec<(ObjId, Claim)>,
+    /// The ranges of variables, but for those that may have each declared number.
+    ranges: Vec<(VarId, Range)>,
 }
 
 /// The least range that has both.
@@ -58,40 +62,64 @@ fn hull(one: Range, other: Range) -> Range {
     }
 }
 
-/// Leaves of the claims what the others say, too.
-fn weaken(claims: &mut Vec<Claim>, others: &[Claim]) {
-    for (object, other) in others.iter().enumerate() {
-        if let Some(claim) = claims.get_mut(object) {
-            if *claim != *other {
-                *claim = Claim::NotHeld;
-            }
+/// What the alternative says of objects, but for those of which it says nothing.
+fn telling_claims(alloc: Global, facts: &Alternative) -> Result<Vec<(ObjId, Claim)>, AllocError> {
+    let mut telling = Vec::new(alloc);
+    for (object, claim) in facts.claims().iter().enumerate() {
+        if *claim != Claim::NotHeld {
+            telling.push((ObjId(object), *claim))?;
+        }
+    }
+    Ok(telling)
+}
+
+/// The alternative's ranges, but for those that have each declared number.
+pub fn telling_ranges(
+    alloc: Global,
+    app: &App,
+    facts: &Alternative,
+) -> Result<Vec<(VarId, Range)>, AllocError> {
+    let mut telling = Vec::new(alloc);
+    for number in 0..app.variables().len() {
+        let (variable, range) = (VarId(number), facts.range(VarId(number)));
+        if range != app.range(variable) {
+            telling.push((variable, range))?;
+        }
+    }
+    Ok(telling)
+}
+
+/// Leaves of the claims what the alternative says, too.
+fn weaken(claims: &mut Vec<(ObjId, Claim)>, facts: &Alternative) {
+    for (object, claim) in claims.iter_mut() {
+        if *claim != facts.claim(*object) {
+            *claim = Claim::NotHeld;
         }
     }
 }
 
-/// Grows the ranges so that they have the others' numbers, too.
-fn widen(ranges: &mut Vec<Range>, others: &[Range]) {
-    for (variable, other) in others.iter().enumerate() {
-        if let Some(range) = ranges.get_mut(variable) {
-            *range = hull(*range, *other);
-        }
+/// Grows the ranges so that they have the alternative's numbers, too.
+fn widen(ranges: &mut Vec<(VarId, Range)>, facts: &Alternative) {
+    for (variable, range) in ranges.iter_mut() {
+        *range = hull(*range, facts.range(*variable));
     }
 }
 
 /// Whether one of the claims can't hold together with what the alternative says of the same object.
-fn is_denied(claims: &[Claim], other: &Alternative) -> bool {
-    for (object, claim) in claims.iter().enumerate() {
-        if !claim.meets(other.claim(ObjId(object))) {
+fn is_denied(claims: &[(ObjId, Claim)], other: &Alternative) -> bool {
+    for (object, claim) in claims {
+        if !claim.meets(other.claim(*object)) {
             return true;
         }
     }
     false
 }
 
-/// Whether one of the ranges has no number in common with the other's range of the same variable.
-fn are_apart(ranges: &[Range], others: &[Range]) -> bool {
-    for (range, other) in ranges.iter().zip(others) {
-        if range.hi < other.lo || other.hi < range.lo {
+/// Whether one of the ranges has no number in common with the alternative's range of the same variable.
+fn are_apart(ranges: &[(VarId, Range)], other: &Alternative) -> bool {
+    for (variable, range) in ranges {
+        let numbers = other.range(*variable);
+        if range.hi < numbers.lo || numbers.hi < range.lo {
             return true;
         }
     }
@@ -99,29 +127,49 @@ fn are_apart(ranges: &[Range], others: &[Range]) -> bool {
 }
 
 impl Common {
-    /// What one alternative says, where these numbers are written.
-    fn of(alloc: Global, facts: &Alternative, range: Range) -> Result<Common, AllocError> {
+    /// What one alternative says.
+    fn of(alloc: Global, app: &App, facts: &Alternative) -> Result<Common, AllocError> {
         Ok(Common {
             critical: facts.critical() > 0,
-            reach: range,
-            claims: Vec::from_slice(alloc, facts.claims())?,
-            ranges: Vec::from_slice(alloc, facts.ranges())?,
+            claims: telling_claims(alloc, facts)?,
+            ranges: telling_ranges(alloc, app, facts)?,
         })
     }
 
-    /// Takes one more alternative, where these numbers are written.
-    fn take(&mut self, facts: &Alternative, range: Range) {
+    /// Takes one more alternative.
+    fn take(&mut self, facts: &Alternative) {
         self.critical = self.critical && facts.critical() > 0;
-        self.reach = hull(self.reach, range);
-        weaken(&mut self.claims, facts.claims());
-        widen(&mut self.ranges, facts.ranges());
+        weaken(&mut self.claims, facts);
+        widen(&mut self.ranges, facts);
     }
 
     /// Whether an alternative of another actor can hold together with none of them.
     fn excludes(&self, other: &Alternative) -> bool {
         self.critical && other.critical() > 0
             || is_denied(&self.claims, other)
-            || are_apart(&self.ranges, other.ranges())
+            || are_apart(&self.ranges, other)
+    }
+}
+
+/// Takes one more alternative into what several have in common, if there are some.
+fn take_into(
+    alloc: Global,
+    app: &App,
+    common: &mut Option<Common>,
+    facts: &Alternative,
+) -> Result<(), AllocError> {
+    match common {
+        Some(common) => common.take(facts),
+        None => *common = Some(Common::of(alloc, app, facts)?),
+    }
+    Ok(())
+}
+
+/// The least range that has both, if there is another one.
+fn grown_reach(reach: Option<Range>, range: Range) -> Option<Range> {
+    match reach {
+        Some(reach) => Some(hull(reach, range)),
+        None => Some(range),
     }
 }
 
@@ -163,12 +211,12 @@ fn print_of_set(facts: usize, instr: &Instr) -> Option<u64> {
 impl Written {
     /// Whether one of the steps may be made where the alternative of another actor holds, and write what
     /// that excludes of the variable.
-    pub fn is_felt(&self, variable: usize, other: &Alternative) -> bool {
-        match &self.common {
-            Some(common) => {
-                !common.reach.within(other.range(VarId(variable))) && !common.excludes(other)
+    fn is_felt(&self, variable: VarId, other: &Alternative) -> bool {
+        match (&self.common, self.reach) {
+            (Some(common), Some(reach)) => {
+                !reach.within(other.range(variable)) && !common.excludes(other)
             }
-            None => false,
+            (_, _) => false,
         }
     }
 
@@ -188,6 +236,7 @@ impl Written {
     fn add(
         &mut self,
         alloc: Global,
+        app: &App,
         mover: Item,
         instr: &Instr,
         facts: &Alternative,
@@ -196,10 +245,8 @@ impl Written {
         if self.has_set(mover, instr)? {
             return Ok(());
         }
-        match &mut self.common {
-            Some(common) => common.take(facts, range),
-            None => self.common = Some(Common::of(alloc, facts, range)?),
-        }
+        self.reach = grown_reach(self.reach, range);
+        take_into(alloc, app, &mut self.common, facts)?;
         let range = Some(range);
         Ok(self.effects.push(Effect { mover, range })?)
     }
@@ -210,6 +257,7 @@ fn no_writes(alloc: Global, count: usize) -> Result<Vec<Written>, AllocError> {
     let mut writes = Vec::with_capacity(alloc, count)?;
     for _ in 0..count {
         writes.push(Written {
+            reach: None,
             common: None,
             effects: Vec::new(alloc),
             sets: HashMap::new(alloc),
@@ -248,6 +296,7 @@ impl Effects {
         Ok(Effects {
             writes: no_writes(alloc, app.variables().len())?,
             lives: empty_lists(alloc, app.objects().len())?,
+            common: None,
         })
     }
 
@@ -271,12 +320,14 @@ impl Effects {
         requires placed { IsPlaced trial.now.pool.app.now place.point place.instr.now }
         requires fits { AlternativeFits trial.now.pool.app.now facts.now }
     {
-        let Some((variable, range)) = written_by(trial.pool.app(), place, facts) else {
+        let app = trial.pool.app();
+        let Some((variable, range)) = written_by(app, place, facts) else {
             return Ok(());
         };
         match self.writes.get_mut(variable.0) {
             Some(written) if trial.is_felt(variable.0) => {
-                written.add(alloc, mover, place.instr, facts, range)
+                take_into(alloc, app, &mut self.common, facts)?;
+                written.add(alloc, app, mover, place.instr, facts, range)
             }
             _ => Ok(()),
         }
@@ -307,6 +358,35 @@ impl Effects {
             }
         }
         Ok(effects)
+    }
+
+    /// Whether none of the writes can be made where the alternative of another actor holds.
+    fn is_excluded(&self, other: &Alternative) -> bool {
+        match &self.common {
+            Some(common) => common.excludes(other),
+            None => true,
+        }
+    }
+
+    /// Adds the variables, of those in these ranges, of which these steps of an actor may write what another one's alternative excludes.
+    pub fn add_felt(
+        &self,
+        actor: usize,
+        ranges: &[(VarId, Range)],
+        other: &Alternative,
+        felt: &mut Vec<(usize, usize)>,
+    ) -> Result<(), AllocError> {
+        if self.is_excluded(other) {
+            return Ok(());
+        }
+        for (variable, _) in ranges {
+            if let Some(written) = self.writes.get(variable.0) {
+                if written.is_felt(*variable, other) {
+                    felt.push((actor, variable.0))?;
+                }
+            }
+        }
+        Ok(())
     }
 
     /// A number that tells apart what two sets of steps do: by their points and alternatives.
