@@ -88,6 +88,8 @@ fn in_place_of(word: &str) -> &'static str {
         "SemaphoreHandle_t" => ": write 'mutex m;', 'binary b;' or 'counting c[8] first 0;'",
         "TaskHandle_t" => ": leave it out",
         "void" => ": write 'task t {', 'interrupt i {' or 'function f() {'",
+        "var" => ": write 'shared n in 0..8;' here, or put it into a task",
+        "isr" | "ISR" => ": write 'interrupt i {'",
         _ => "",
     }
 }
@@ -351,6 +353,7 @@ impl<'a> Reader<'a> {
         };
         let name = self.new_name(what)?;
         if self.cursor.sees("(") && self.cursor.following().text != ")" {
+            self.check_parameter()?;
             return self.template(kind, name);
         }
         let count = self.program.actors.len();
@@ -360,6 +363,18 @@ impl<'a> Reader<'a> {
         } else {
             self.actor_here(kind, name, &[])
         }
+    }
+
+    /// Refuses the parameter that each task of C has.
+    fn check_parameter(&self) -> Result<(), Fault> {
+        let Token { text, spot, .. } = self.cursor.following();
+        if text == "void" {
+            return Err(
+                self.cursor
+                    .refused(spot, "leave out '(void *p)': there are no types"),
+            );
+        }
+        Ok(())
     }
 
     /// Reads an actor whose parameters, if it has any, and body are next.

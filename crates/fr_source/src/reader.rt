@@ -147,6 +147,12 @@ impl<'a> Reader<'a> {
                     "' is a call: make it a statement of its own, as in 'f(..);' or 'x = f(..);'";
                 Err(wrong(self.alloc, token.spot, &["'", clipped(token.text), why]))
             }
+            None if token.text == "any" => Err(
+                self.cursor.refused(
+                    token.spot,
+                    "any(..) stands alone after '=': write 'n = any(0, 3);' first, with a variable",
+                ),
+            ),
             None => {
                 let why = self.why_undeclared(token.text)?;
                 let texts = &["'", clipped(token.text), "' isn't declared", why.as_str()];
