@@ -2,7 +2,7 @@
 // machines are made from it, and no text is read again. The texts are the report of a verdict (`report`), the lines of a trace
 // (`trace_text`), the listing of an application's points (`points_text`), and what a search found (`finding_line` and the lines of an
 // `ExplainedRun`); their contracts say each to the letter. What a page shows of a state is `state_told`. Below it are verdicts (fr_judge),
-// traces (fr_runner), runs into a breach (fr_refuter) and the writing of a line (fr_instr). The crate above, fr_reasons, tells why a
+// traces (fr_runner), runs into a breach (fr_refuter) and the writing of a line (fr_instr). The crate above, fr_reasons, says why a
 // verdict is no, in the words that are here for names, lists and what is so in a state.
 #![tactic(auto)]
 
