@@ -23,7 +23,7 @@ use Rattle.fr_trail.specs.declared.answer.TraceAnswer.{TraceAnswer}
 use Rattle.fr_request.specs.declared.request.FollowRequest.{FollowRequest}
 use Rattle.fr_answer.specs.Each.{Each}
 use Rattle.fr_answer.specs.Inputs.{Reading, AsTrace}
-use Rattle.fr_answer.specs.Pages.{IsTrailPage}
+use Rattle.fr_shown.specs.Pages.{IsTrailPage}
 use Rattle.fr_answer.specs.Traces.{AreTraces, AreTracesPrinted, IsAnswerAt, IsPageAt, IsReadAs, IsRunAt, PutsAnswer, PutsBoth, ShowsTrace, TraceAnswerAt, answered_at, greater_of, text_at}
 use Rattle.fr_answer.proofs.Listing.{each-more}
 

@@ -11,8 +11,8 @@ use Rattle.fr_formats.specs.declared.answer.AnswerShown.{AnswerShown}
 use Rattle.fr_list.specs.Means.{Entry}
 use Rattle.fr_list.specs.Beside.{beside}
 use Rattle.fr_answer.specs.Inputs.{Reading}
-use Rattle.fr_findings.specs.declared.answer.What.{What}
-use Rattle.fr_findings.specs.Answers.{what_status}
+use Rattle.fr_outcome.specs.declared.answer.What.{What}
+use Rattle.fr_outcome.specs.Answers.{what_status}
 use Rattle.fr_answer.specs.Commands.{AreAnswered, AreLinesPrinted, IsLineAdded, IsLineAnswer, IsLinePrinted, IsLineText, LineAnswer, Shows, greater_status}
 use Rattle.fr_answer.specs.Each.{Each, IsAdded}
 

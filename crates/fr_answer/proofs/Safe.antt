@@ -35,11 +35,11 @@ use Rattle.fr_request.specs.declared.format.Format.{Format}
 use Rattle.fr_request.specs.declared.request.Judged.{Judged as Named}
 use Rattle.fr_request.specs.declared.request.Judged.TheVariants.{One, Listed}
 use Rattle.fr_answer.specs.Inputs.{Reading}
-use Rattle.fr_findings.specs.declared.answer.What.{What}
-use Rattle.fr_findings.specs.declared.answer.What.TheVariants.{Judged, Searched, Refused}
-use Rattle.fr_findings.specs.Checked.{IsFreeText, IsSafeText}
-use Rattle.fr_findings.specs.Judged.{JudgedOf}
-use Rattle.fr_findings.specs.Answers.{kind_of_judged, kind_of_finding, what_status, IsAnsweredFor, IsProofOf, IsSettledIn, IsSearchOf, IsVerdictOn}
+use Rattle.fr_outcome.specs.declared.answer.What.{What}
+use Rattle.fr_outcome.specs.declared.answer.What.TheVariants.{Judged, Searched, Refused}
+use Rattle.fr_outcome.specs.Checked.{IsFreeText, IsSafeText}
+use Rattle.fr_outcome.specs.Judged.{JudgedOf}
+use Rattle.fr_outcome.specs.Answers.{kind_of_judged, kind_of_finding, what_status, IsAnsweredFor, IsProofOf, IsSettledIn, IsSearchOf, IsVerdictOn}
 use Rattle.fr_answer.specs.Commands.{AreAnswered, AreEachSafe, AreLinesPrinted, AreNamedSafe, IsAnswerBy, IsCheckAnswered, IsCheckOf, IsLineAnswer, IsProofAt, IsSafeAt, IsSearchAt, IsShown, LineAnswer, greater_status}
 
 -- the status 0 is that of a yes

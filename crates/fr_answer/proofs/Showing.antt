@@ -12,11 +12,11 @@ use Rattle.fr_text.specs.Texts.{IsJudged}
 use Rattle.fr_list.specs.Beside.{beside}
 use Rattle.fr_request.specs.declared.format.Format.{Format}
 use Rattle.fr_answer.specs.Inputs.{Reading}
-use Rattle.fr_findings.specs.declared.answer.Answer.{Answer}
-use Rattle.fr_findings.specs.declared.answer.Refusal.{Refusal}
-use Rattle.fr_findings.specs.declared.answer.What.{What}
-use Rattle.fr_findings.specs.declared.answer.What.TheVariants.{Judged, Searched, Refused}
-use Rattle.fr_findings.specs.Answers.{HasFound, IsProofOf, IsSettledIn, IsVerdictOn, IsYes, what_status}
+use Rattle.fr_outcome.specs.declared.answer.Answer.{Answer}
+use Rattle.fr_outcome.specs.declared.answer.Refusal.{Refusal}
+use Rattle.fr_outcome.specs.declared.answer.What.{What}
+use Rattle.fr_outcome.specs.declared.answer.What.TheVariants.{Judged, Searched, Refused}
+use Rattle.fr_outcome.specs.Answers.{HasFound, IsProofOf, IsSettledIn, IsVerdictOn, IsYes, what_status}
 use Rattle.fr_answer.specs.Commands.{IsAnswerBy, IsGiven, IsKept, IsLineAnswer, IsPaged, IsPrinted, IsProofAt, IsShown}
 
 -- what holds of all that is found holds of what was

@@ -43,12 +43,12 @@ use Rattle.fr_request.specs.declared.request.Judged.{Judged as Named}
 use Rattle.fr_request.specs.declared.request.Judged.TheVariants.{One, Listed}
 use Rattle.fr_request.specs.declared.request.Request.{Request}
 use Rattle.fr_request.specs.declared.request.Request.TheVariants.{Check, Find, Prove, Points, Refute, Run, Translate, Follow}
-use Rattle.fr_findings.specs.declared.answer.What.{What}
+use Rattle.fr_outcome.specs.declared.answer.What.{What}
 use Rattle.fr_findings.specs.declared.found.Found.{Found}
 use Rattle.fr_answer.specs.Inputs.{Reading, AsApp, AsCertificate, AsList, AsSource}
-use Rattle.fr_findings.specs.Answers.{AreLinesOf, IsProofOf, IsSearchOf, IsTextOf, IsVerdictOn, IsYes, first_line, second_text, shown_line, kind_of, what_status}
-use Rattle.fr_findings.specs.Checked.{IsFreeText, IsSafeText}
-use Rattle.fr_answer.specs.Pages.{IsPageOf}
+use Rattle.fr_outcome.specs.Answers.{AreLinesOf, IsProofOf, IsSearchOf, IsTextOf, IsVerdictOn, IsYes, first_line, second_text, shown_line, kind_of, what_status}
+use Rattle.fr_outcome.specs.Checked.{IsFreeText, IsSafeText}
+use Rattle.fr_shown.specs.Pages.{IsPageOf}
 use Rattle.fr_findings.specs.Found.{IsCertificateFor, IsFound, found_line, found_status}
 use Rattle.fr_findings.specs.Ran.{IsRunText}
 use Rattle.fr_answer.specs.Heading.{heading}

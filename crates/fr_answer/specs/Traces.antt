@@ -34,7 +34,7 @@ use Rattle.fr_trail.specs.declared.answer.TraceAnswer.{TraceAnswer}
 use Rattle.fr_answer.specs.Each.{Each}
 use Rattle.fr_answer.specs.Heading.{heading}
 use Rattle.fr_answer.specs.Inputs.{Reading, AsApp, AsTrace}
-use Rattle.fr_answer.specs.Pages.{IsTrailPage}
+use Rattle.fr_shown.specs.Pages.{IsTrailPage}
 
 -- the application that the file is read as
 abbrev pub IsReadAs : (Reading → List ℕ → List ℕ → Type 0) → List ℕ → Program → Type 0

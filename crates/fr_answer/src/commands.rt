@@ -1,6 +1,6 @@
 // The one entry, and the commands: from what the words ask for to the exit status.
 ghost use Rattle.std.specs.Prelude.{◌≡◌, ◌≤◌, ◌⊎◌, IfErr, IfOk};
-ghost use Rattle.fr_findings.specs.Checked.{fault_status};
+ghost use Rattle.fr_outcome.specs.Checked.{fault_status};
 ghost use Rattle.fr_answer.specs.Commands.{AreSafe, IsAnswered, IsDone, IsText, IsWritten};
 ghost use Rattle.fr_answer.specs.Inputs.{Reads};
 
@@ -19,7 +19,7 @@ use crate::printing::refuse;
 use check::check;
 use find::find;
 use follow::follow_traces;
-use fr_findings::Refusal;
+use fr_outcome::Refusal;
 use fr_request::Request;
 use points::points;
 use prove::prove;

@@ -2,20 +2,19 @@
 ghost use Rattle.std.specs.Prelude.{◌≡◌, ◌≤◌, ◌⊎◌, ℕ, List, IfOk, IfErr, None, Some, option_copied, string_bytes};
 ghost use Rattle.std.specs.Io.KnownBytes.{Appends};
 ghost use Rattle.fr_formats.specs.Reports.{IsReport};
-ghost use Rattle.fr_findings.specs.Answers.{HasFound, IsTextOf, what_status};
-ghost use Rattle.fr_findings.specs.Checked.{fault_status};
+ghost use Rattle.fr_outcome.specs.Answers.{HasFound, IsTextOf, what_status};
+ghost use Rattle.fr_outcome.specs.Checked.{fault_status};
 ghost use Rattle.fr_answer.specs.Commands.{IsPaged, IsPrinted, IsShown, IsTextPrinted};
 
 use crate::files::Files;
-use crate::page::page_of;
-use crate::shown::shown_of;
 use crate::ways::Asked;
 use fr_files::OutputFault;
-use fr_findings::{Answer, AppText, Boxed, CheckFault, MACHINE, NO, REFUSED, Refusal, Warns, What};
 use fr_formats::{AnswerShown, Source, answers_text};
+use fr_outcome::{Answer, Boxed, CheckFault, MACHINE, NO, REFUSED, Refusal, What};
 use fr_place::is_unknown_word;
 use fr_report::text_of;
-use fr_request::Format;
+use fr_request::{Format, Warns};
+use fr_shown::{AppText, answer_to, page_of, refusal_of_file, refusal_of_outputs, shown_of};
 use std::alloc::{AllocError, Global};
 use std::io::Write;
 use std::slice;
@@ -174,7 +173,7 @@ fn put_page<F: Files>(
     let text = page_of(alloc, answer)?;
     match files.replace(path, text.as_bytes()) {
         Ok(()) => Ok(()),
-        Err(fault) => Err(Refusal::of_file(alloc, &fault, asked.names)),
+        Err(fault) => Err(refusal_of_file(alloc, &fault, asked.names)),
     }
 }
 
@@ -241,7 +240,7 @@ pub(crate) fn show_found<F: Files, O: Write, E: Write>(
     ensures paged { IsPaged F.Puts (HasFound found) (option_copied asked.entry.html) files.old files.new }
     ensures fault { IfErr result (λ refusal. fault_status refusal.fault ≡ 3) }
 {
-    let answer = Answer::new(alloc, source, found, warns)?;
+    let answer = answer_to(alloc, source, found, warns)?;
     show(alloc, &answer, asked, files, out, err)
 }
 
@@ -263,7 +262,7 @@ pub(crate) fn show_outputs_refused<F: Files, O: Write, E: Write>(
     ensures same { files.new ≡ files.old }
     ensures fault { IfErr result (λ refusal. fault_status refusal.fault ≡ 3) }
 {
-    let found = Err(Refusal::of_outputs(alloc, fault, asked.names));
+    let found = Err(refusal_of_outputs(alloc, fault, asked.names));
     let asked = Asked {
         html: None,
         ..asked

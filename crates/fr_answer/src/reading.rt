@@ -1,18 +1,18 @@
 // From files to an answer.
 ghost use Rattle.std.specs.Prelude.{◌≤◌, ◌<◌, ◌≡◌, ◌^◌, ℕ, List, true, IfOk, IfErr, string_bytes};
-ghost use Rattle.fr_findings.specs.Checked.{fault_status};
+ghost use Rattle.fr_outcome.specs.Checked.{fault_status};
 ghost use Rattle.fr_answer.specs.Commands.{IsCheckOf, IsProofAt, IsSearchAt};
 ghost use Rattle.fr_answer.specs.Inputs.{AsApp, Reads};
 
 use crate::files::Files;
 use crate::source::{is_source, translation};
 use fr_cert::MOST_BYTES as MOST_CERTIFICATE_BYTES;
-use fr_findings::{
-    AppText, CheckFault, Refusal, Ways, What, judged_texts, proved_text, searched_text,
-};
+use fr_findings::{Ways, judged_texts, proved_text, searched_text};
+use fr_outcome::{CheckFault, Refusal, What};
 use fr_parallel::Open;
 use fr_place::is_unknown_word;
 use fr_reader::MOST_BYTES as MOST_APP_BYTES;
+use fr_shown::{AppText, refusal_of_file, refusal_of_texts};
 use fr_source::Translation;
 use std::alloc::Global;
 use std::sync::Wait;
@@ -32,7 +32,7 @@ pub(crate) fn input<F: Files>(
 {
     match files.read(path, limit) {
         Ok(bytes) => Ok(bytes),
-        Err(fault) => Err(Refusal::of_file(alloc, &fault, names)),
+        Err(fault) => Err(refusal_of_file(alloc, &fault, names)),
     }
 }
 
@@ -92,7 +92,7 @@ pub(crate) fn checked_files<R: Threads + Wait + Sync, F: Files>(
         Ok(what) => Ok((app, what)),
         Err(fault) => {
             let certificate = Some(certificate.as_slice());
-            Err(Refusal::of_texts(alloc, &app.bytes, certificate, fault, ways.places))
+            Err(refusal_of_texts(alloc, &app.bytes, certificate, fault, ways.places))
         }
     }
 }
@@ -113,7 +113,7 @@ pub(crate) fn proved_file<R: Threads + Wait + Sync, F: Files>(
     let app = application(alloc, files, app, ways.names)?;
     match proved_text(rt, alloc, &app.bytes, ways, &Open, searches, files.meter()) {
         Ok((what, certificate)) => Ok((app, what, certificate)),
-        Err(fault) => Err(Refusal::of_texts(alloc, &app.bytes, None, fault, ways.places)),
+        Err(fault) => Err(refusal_of_texts(alloc, &app.bytes, None, fault, ways.places)),
     }
 }
 
@@ -149,7 +149,7 @@ pub(crate) fn searched_file<R: Threads + Sync, F: Files>(
         Err(fault) => {
             let places = ways.places
                 || matches!(&fault, CheckFault::App(fault) if is_unknown_word(fault));
-            Err(Refusal::of_texts(alloc, &app.bytes, None, fault, places))
+            Err(refusal_of_texts(alloc, &app.bytes, None, fault, places))
         }
     }
 }

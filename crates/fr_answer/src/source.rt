@@ -1,11 +1,12 @@
 // A source in a file, translated into the text of an application.
 ghost use Rattle.std.specs.Prelude.{◌≡◌, ◌≤◌, IfErr, IfOk, string_bytes};
-ghost use Rattle.fr_findings.specs.Checked.{fault_status};
+ghost use Rattle.fr_outcome.specs.Checked.{fault_status};
 ghost use Rattle.fr_answer.specs.Inputs.{AsSource, Reads, is_source};
 
 use crate::files::Files;
 use crate::reading::input;
-use fr_findings::Refusal;
+use fr_outcome::Refusal;
+use fr_shown::refusal_of_source;
 use fr_source::{MOST_SOURCE_BYTES, Translation};
 use std::alloc::Global;
 
@@ -30,6 +31,6 @@ pub(crate) fn translation<F: Files>(
     let source = input(alloc, files, path, MOST_SOURCE_BYTES, names)?;
     match files.translate(alloc, path, &source) {
         Ok(found) => Ok(found),
-        Err(refused) => Err(Refusal::of_source(alloc, path, refused)),
+        Err(refused) => Err(refusal_of_source(alloc, path, refused)),
     }
 }

@@ -1,5 +1,5 @@
 -- What a refused text and a status say: a fault that stands, and a verdict.
-use Rattle.std.proofs.Common.{◌≡◌, ℕ, List, Bool, true, false, Result, Ok, Err, IfOk, IfErr, refl, sym, subst, arith}
+use Rattle.std.proofs.Common.{◌≡◌, ℕ, List, Bool, true, false, refl, arith}
 use Rattle.std.specs.Prelude.{if◌then◌else◌}
 use Rattle.fr_reader.specs.declared.fault.ReadFault.{ReadFault}
 use Rattle.fr_reader.specs.Faults.{is_memory as app_is_memory}
@@ -15,9 +15,9 @@ use Rattle.fr_parallel.specs.declared.bytes.BytesFault.TheVariants.{Par, App as 
 use Rattle.fr_parallel.specs.declared.fault.ParFault.TheVariants.{Memory as NoMemory, Workers as NoWorkers, Threads as NoThreads}
 use Rattle.fr_parallel.specs.Bytes.{bytes_fault, IsFaultOfBytes}
 use Rattle.fr_parallel.specs.Kept.{IsNoCrew}
-use Rattle.fr_findings.specs.declared.fault.CheckFault.{CheckFault}
-use Rattle.fr_findings.specs.declared.fault.CheckFault.TheVariants.{App, Cert, Memory}
-use Rattle.fr_findings.specs.Checked.{status_of, app_fault, cert_fault, check_fault, IsAppRefused, IsCertRefused, CanRefuse}
+use Rattle.fr_outcome.specs.declared.fault.CheckFault.{CheckFault}
+use Rattle.fr_outcome.specs.declared.fault.CheckFault.TheVariants.{App, Cert, Memory}
+use Rattle.fr_outcome.specs.Checked.{status_of, app_fault, cert_fault, check_fault, IsAppRefused, IsCertRefused, CanRefuse}
 
 -- what holds of want of memory, and of a fault that the application's text has, holds of what it comes to
 pub app-refused : (Q : CheckFault → Type 0) (f : ReadFault) → Q Memory → (app_is_memory f ≡ false → Q (App f)) → Q (app_fault f)
@@ -53,8 +53,3 @@ refused-by a c w (CertRefused f) s none = text-refused (CanRefuse a c w) a c tt 
 pub zero-yes : (v : Verdict) → status_of v ≡ 0 → v ≡ Yes
 zero-yes Yes e = refl
 zero-yes (No p part) e = absurd (omega (arith, e))
-
--- of an answer that isn't there nothing is promised
-pub no-answer : {X E T Y : Type 0} (found : Result X E) (r : Result T Y) (P : T → Type 0) (y : Y) → r ≡ Err y → IfErr found (λ _. IfOk r P)
-no-answer (Ok x) r P y e = tt
-no-answer (Err f) r P y e = subst (λ x. IfOk x P) (sym e) tt

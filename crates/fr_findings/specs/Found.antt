@@ -14,9 +14,9 @@ use Rattle.fr_ends.specs.Certificate.{Certificate}
 use Rattle.fr_ends.specs.Fits.{CertificateFits}
 use Rattle.fr_cert.specs.Written.{cert_text}
 use Rattle.fr_finder.specs.Found.{IsNoRounds}
-use Rattle.fr_findings.specs.declared.fault.CheckFault.{CheckFault}
-use Rattle.fr_findings.specs.declared.fault.CheckFault.TheVariants.{App, Rounds, Memory}
-use Rattle.fr_findings.specs.Checked.{IsAppRefused}
+use Rattle.fr_outcome.specs.declared.fault.CheckFault.{CheckFault}
+use Rattle.fr_outcome.specs.declared.fault.CheckFault.TheVariants.{App, Rounds, Memory}
+use Rattle.fr_outcome.specs.Checked.{IsAppRefused}
 use Rattle.fr_findings.specs.declared.found.Found.{Found}
 use Rattle.fr_findings.specs.declared.found.Found.TheVariants.{Text, NotFound}
 

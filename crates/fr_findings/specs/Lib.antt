@@ -1,6 +1,4 @@
-pub mod Checked
-pub mod Judged
-pub mod Answers
 pub mod Found
 pub mod Words
 pub mod Ran
+pub mod Proved

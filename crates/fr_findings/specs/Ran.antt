@@ -24,9 +24,9 @@ use Rattle.fr_runner.specs.declared.trace.Entry.{Entry}
 use Rattle.fr_runner.specs.Trace.{IsRunOf}
 use Rattle.fr_report.specs.Report.{report_text}
 use Rattle.fr_report.specs.Trace.{trace_text}
-use Rattle.fr_findings.specs.declared.fault.CheckFault.{CheckFault}
-use Rattle.fr_findings.specs.declared.fault.CheckFault.TheVariants.{App, Cert, Polls, Memory, Thread, Write}
-use Rattle.fr_findings.specs.Checked.{status_of, HasVerdict, IsAppRefused, IsCertRefused}
+use Rattle.fr_outcome.specs.declared.fault.CheckFault.{CheckFault}
+use Rattle.fr_outcome.specs.declared.fault.CheckFault.TheVariants.{App, Cert, Polls, Memory, Thread, Write}
+use Rattle.fr_outcome.specs.Checked.{status_of, HasVerdict, IsAppRefused, IsCertRefused}
 
 -- the most polls that a run may have
 abbrev pub most_polls : ℕ

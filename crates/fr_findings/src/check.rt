@@ -1,11 +1,10 @@
 // Checking the bytes of an application and of a certificate.
 ghost use Rattle.std.specs.Prelude.{◌≡◌, ◌≢◌, ◌≤◌, ◌↔◌, IfOk, IfErr, IsErrOf};
 ghost use Rattle.fr_parallel.specs.Kept.{IsNoCrew};
-ghost use Rattle.fr_findings.specs.Checked.{IsAnswer, IsSafeText, CanRefuse, IsRefused, status_of};
+ghost use Rattle.fr_outcome.specs.Checked.{IsAnswer, IsSafeText, CanRefuse, IsRefused, status_of};
 
-use crate::exit::{DONE, NO};
-use crate::fault::{CheckFault, status};
 use fr_judge::Verdict;
+use fr_outcome::{CheckFault, DONE, NO, status};
 use fr_parallel::{Gate, judge_bytes};
 use fr_report::report;
 use std::alloc::Global;

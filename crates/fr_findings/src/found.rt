@@ -2,7 +2,7 @@
 ghost use Rattle.std.specs.Prelude.{◌≡◌, ◌↔◌, IfOk, IfErr, IsErrOf};
 ghost use Rattle.fr_finder.specs.Found.{IsNoRounds};
 ghost use Rattle.fr_ends.specs.Fits.{CertificateFits};
-ghost use Rattle.fr_findings.specs.declared.fault.CheckFault.TheVariants.{Memory};
+ghost use Rattle.fr_outcome.specs.declared.fault.CheckFault.TheVariants.{Memory};
 ghost use Rattle.fr_findings.specs.Found.{
   IsFound,
   IsWrittenFor,
@@ -11,11 +11,10 @@ ghost use Rattle.fr_findings.specs.Found.{
   found_line,
 };
 
-use crate::exit::{DONE, NO};
-use crate::fault::CheckFault;
 use fr_cert::write_cert;
 use fr_ends::Certificate;
 use fr_finder::{FindFault, find, is_rounds};
+use fr_outcome::{CheckFault, DONE, NO};
 use fr_program::App;
 use fr_reader::read_app;
 use std::alloc::Global;

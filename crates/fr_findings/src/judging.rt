@@ -3,21 +3,18 @@ ghost use Rattle.std.specs.Prelude.{◌≡◌, IfOk, IfErr, IfSome, None};
 ghost use Rattle.fr_ends.specs.Fits.{CertificateFits};
 ghost use Rattle.fr_judge.specs.declared.part.Verdict.TheVariants.{Yes};
 ghost use Rattle.fr_order.specs.Order.{IsOrderOf};
-ghost use Rattle.fr_findings.specs.Answers.{IsAnsweredFor, IsVerdictOn};
-ghost use Rattle.fr_findings.specs.Checked.{CanRefuse};
+ghost use Rattle.fr_outcome.specs.Answers.{IsAnsweredFor, IsVerdictOn};
+ghost use Rattle.fr_outcome.specs.Checked.{CanRefuse};
 
-use crate::answer::What;
-use crate::boxed::Boxed;
-use crate::fault::CheckFault;
-use crate::judged::Judged;
-use crate::sources::sources_in;
 use fr_ends::Certificate;
 use fr_judge::{Judging, Lists, Verdict};
 use fr_order::{Order, order_of};
+use fr_outcome::{Boxed, CheckFault, Judged, What};
 use fr_parallel::{Gate, judge_reading};
+use fr_place::places_in_source;
 use fr_program::App;
-use fr_reasons::{Explained, Explanation, explain};
-use fr_report::verdict_line;
+use fr_reasons::explain;
+use fr_report::{Explained, Explanation, Sources, verdict_line};
 use fr_request::Detail;
 use std::alloc::{AllocError, Global};
 use std::sync::Wait;
@@ -88,7 +85,8 @@ pub(crate) fn why(
     let (Some(detail), Verdict::No { point, .. }) = (detail, verdict) else {
         return Ok(None);
     };
-    let sources = sources_in(alloc, text)?;
+    let places = places_in_source(alloc, text)?;
+    let sources = Sources { places };
     let found = explain(alloc, app, certificate, &sources, verdict, detail, blames)?;
     let Some(mut found) = found else {
         return Ok(None);
@@ -98,6 +96,20 @@ pub(crate) fn why(
         add_others(alloc, &mut found.items, app, certificate, first)?;
     }
     Ok(Some(found))
+}
+
+/// Where the lines of the application with this text are in the source that it was translated from, where something is to be explained.
+pub(crate) fn sources_for(
+    alloc: Global,
+    text: &[u8],
+    detail: Option<Detail>,
+) -> Result<Option<Sources>, AllocError> {
+    match detail {
+        Some(_) => Ok(Some(Sources {
+            places: places_in_source(alloc, text)?,
+        })),
+        None => Ok(None),
+    }
 }
 
 /// Whether actors can deadlock over mutexes, by a certificate that passes, where that is asked; None elsewhere.

@@ -3,15 +3,14 @@ ghost use Rattle.std.specs.Prelude.{◌≡◌, ◌⊎◌, ◌↔◌, IsTrue, IfO
 ghost use Rattle.fr_ends.specs.Fits.{CertificateFits};
 ghost use Rattle.fr_parallel.specs.Kept.{IsNoCrew};
 ghost use Rattle.fr_refuter.specs.Refutes.{IsFound, Suits};
-ghost use Rattle.fr_findings.specs.Answers.{CanRefuseProof, IsProofOf, Settles, kind_of_judged};
+ghost use Rattle.fr_cert.specs.Meaning.{Means as CertMeans};
+ghost use Rattle.fr_judge.specs.Told.{Speaks};
+ghost use Rattle.fr_reader.specs.Meaning.{Means as AppMeans};
+ghost use Rattle.fr_outcome.specs.Answers.{CanRefuseProof, IsProofOf, Settles, kind_of_judged};
+ghost use Rattle.fr_findings.specs.Proved.{IsKnown, IsTold, IsVerdictFor, IsWhatOf};
 
-use crate::answer::{Searched, What, kind_of_judged};
-use crate::boxed::Boxed;
-use crate::fault::CheckFault;
-use crate::judged::{Judged, Tried};
-use crate::judging::{waits, why};
+use crate::judging::{sources_for, waits, why};
 use crate::layout::laid_out;
-use crate::sources::sources_for;
 use crate::ways::Ways;
 use fr_cert::{MOST_BYTES, read_cert, write_cert};
 use fr_ends::Certificate;
@@ -19,12 +18,14 @@ use fr_formats::AnswerKind;
 use fr_judge::{Judging, Lists, Part, Verdict};
 use fr_notes::{Alternative, Note};
 use fr_order::{Edge, Order};
+use fr_outcome::{Boxed, CheckFault, Judged, Searched, Tried, What, kind_of_judged};
 use fr_parallel::{Gate, is_crew, judge_with};
 use fr_program::{App, Point, VarId};
 use fr_progress::Meter;
 use fr_prover::{best_certificate, thinned};
 use fr_reader::read_app;
 use fr_refuter::{Finding, Search, refute};
+use fr_report::{Explanation, Sources};
 use fr_states::ActorSet;
 use std::alloc::{AllocError, Global};
 use std::sync::Wait;
@@ -216,6 +217,143 @@ fn settled<R: Threads + Sync>(
     })
 }
 
+/// What is known of an application by a certificate.
+#[derive(Drop)]
+pub(crate) enum Known {
+    /// What a search found, where the verdict doesn't settle the matter, and the places of the lines in a source.
+    Settled(Finding, Option<Sources>),
+    /// The verdict, why it is no, whether actors can deadlock, and the search that found nothing.
+    Told(Verdict, Option<Explanation>, Option<Order>, Option<Tried>),
+}
+
+/// What is known by the certificate, of which this is the verdict, with what is known of waits.
+fn known_by<R: Threads + Wait + Sync>(
+    rt: &R,
+    alloc: Global,
+    text: &[u8],
+    app: &App,
+    certificate: &Certificate,
+    verdict: Verdict,
+    waits: Option<Order>,
+    ways: Ways,
+    searches: bool,
+    meter: Option<&Meter>,
+) -> Result<Known, AllocError>
+    requires fits { CertificateFits app.now certificate.now }
+    requires verdict { IsVerdictFor ways.deadlock app.now certificate.now verdict waits }
+    requires speaks { Speaks app.now verdict }
+    ensures known { IfOk result (IsKnown ways.deadlock searches app.now certificate.now) }
+    ensures told { IfOk result (IsTold app.now certificate.now) }
+{
+    let mut tried = None;
+    if searches && is_unsettled(verdict, &waits) {
+        match settled(rt, alloc, app, verdict, &waits, ways, meter)? {
+            Ok(found) => return Ok(Known::Settled(found, sources_for(alloc, text, ways.detail)?)),
+            Err(left) => tried = Some(left),
+        }
+    }
+    let why = why(alloc, text, app, certificate, verdict, ways.detail, true)?;
+    Ok(Known::Told(verdict, why, waits, tried))
+}
+
+/// What is known of the application by this certificate, once that is judged by so many workers as there can be.
+fn judged_by<R: Threads + Wait + Sync, G: Gate>(
+    rt: &R,
+    alloc: Global,
+    text: &[u8],
+    app: &App,
+    certificate: &Certificate,
+    ways: Ways,
+    gate: &G,
+    searches: bool,
+    meter: Option<&Meter>,
+) -> Result<Known, CheckFault>
+    requires fits { CertificateFits app.now certificate.now }
+    requires crew { IsNoCrew ways.workers → ⊥ }
+    ensures known { IfOk result (IsKnown ways.deadlock searches app.now certificate.now) }
+    ensures told { IfOk result (IsTold app.now certificate.now) }
+    ensures refused { IfErr result (λ fault. (fault ≡ CheckFault.Memory) ⊎ (fault ≡ CheckFault.Thread)) }
+{
+    let verdict = judge_with(rt, alloc, app, certificate, ways.workers, gate)?;
+    let waits = waits(alloc, app, certificate, verdict, ways.deadlock)?;
+    Ok(known_by(
+        rt,
+        alloc,
+        text,
+        app,
+        certificate,
+        verdict,
+        waits,
+        ways,
+        searches,
+        meter,
+    )?)
+}
+
+/// The answer about this application, by what is known of it.
+fn what_of(
+    alloc: Global,
+    app: App,
+    certificate: Certificate,
+    known: Known,
+) -> Result<What, AllocError>
+    requires fits { CertificateFits app certificate }
+    requires told { IsTold app certificate known }
+    ensures { IfOk result (IsWhatOf app certificate known) }
+{
+    match known {
+        Known::Settled(found, explains) => {
+            let searched = Searched {
+                app,
+                found,
+                explains,
+            };
+            Ok(What::Searched(Boxed::new(alloc, searched)?))
+        }
+        Known::Told(verdict, why, waits, tried) => {
+            let judged = Judged::new(app, certificate, verdict, why, waits).after_search(tried);
+            Ok(What::Judged(Boxed::new(alloc, judged)?))
+        }
+    }
+}
+
+/// A certificate that is worked out for the application, read from its text, with the text, and what is known by it.
+fn certified<R: Threads + Wait + Sync, G: Gate>(
+    rt: &R,
+    alloc: Global,
+    bytes: &[u8],
+    app: &App,
+    ways: Ways,
+    gate: &G,
+    searches: bool,
+    meter: Option<&Meter>,
+) -> Result<(Certificate, String, Known), CheckFault>
+    requires crew { IsNoCrew ways.workers → ⊥ }
+    requires means { AppMeans bytes.now app.now }
+    ensures means { IfOk result (λ r. CertMeans app.now (string_bytes r.1) r.0) }
+    ensures fits { IfOk result (λ r. CertificateFits app.now r.0) }
+    ensures known { IfOk result (λ r. IsKnown ways.deadlock searches app.now r.0 r.2) }
+    ensures told { IfOk result (λ r. IsTold app.now r.0 r.2) }
+    ensures refused { IfErr result (CanRefuseProof bytes.now ways.workers) }
+{
+    let text = certificate_text(alloc, app, meter)?;
+    let certificate = read_cert(alloc, app, text.as_bytes())?;
+    match judged_by(
+        rt,
+        alloc,
+        bytes,
+        app,
+        &certificate,
+        ways,
+        gate,
+        searches,
+        meter,
+    ) {
+        Ok(known) => Ok((certificate, text, known)),
+        Err(fault) => Err(fault),
+    }
+}
+
 /// Works out a certificate for the application, and judges it. Where the verdict is no, or a deadlock isn't excluded where that is asked,
 /// and `searches` asks for it, the same workers look for a run into a breach or a deadlock.
 ///
@@ -246,26 +384,8 @@ pub fn proved_text<R: Threads + Wait + Sync, G: Gate>(
     }
     let bytes = app;
     let app = read_app(alloc, bytes)?;
-    let text = certificate_text(alloc, &app, meter)?;
-    let certificate = read_cert(alloc, &app, text.as_bytes())?;
-    let verdict = judge_with(rt, alloc, &app, &certificate, ways.workers, gate)?;
-    let waits = waits(alloc, &app, &certificate, verdict, ways.deadlock)?;
-    let mut tried = None;
-    if searches && is_unsettled(verdict, &waits) {
-        match settled(rt, alloc, &app, verdict, &waits, ways, meter)? {
-            Ok(found) => {
-                let explains = sources_for(alloc, bytes, ways.detail)?;
-                let searched = Searched {
-                    app,
-                    found,
-                    explains,
-                };
-                return Ok((What::Searched(Boxed::new(alloc, searched)?), text));
-            }
-            Err(left) => tried = Some(left),
-        }
+    match certified(rt, alloc, bytes, &app, ways, gate, searches, meter) {
+        Ok((certificate, text, known)) => Ok((what_of(alloc, app, certificate, known)?, text)),
+        Err(fault) => Err(fault),
     }
-    let why = why(alloc, bytes, &app, &certificate, verdict, ways.detail, true)?;
-    let judged = Judged::new(app, certificate, verdict, why, waits).after_search(tried);
-    Ok((What::Judged(Boxed::new(alloc, judged)?), text))
 }

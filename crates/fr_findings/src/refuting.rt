@@ -1,13 +1,11 @@
 // Looking for a run of the application that bytes mean into a breach, or into a deadlock too.
 ghost use Rattle.std.specs.Prelude.{◌↔◌, IfOk, IfErr, IsErrOf};
 ghost use Rattle.fr_parallel.specs.Kept.{IsNoCrew};
-ghost use Rattle.fr_findings.specs.Answers.{CanRefuseSearch, IsSearchOf};
+ghost use Rattle.fr_outcome.specs.Answers.{CanRefuseSearch, IsSearchOf};
 
-use crate::answer::{Searched, What};
-use crate::boxed::Boxed;
-use crate::fault::CheckFault;
-use crate::sources::sources_for;
+use crate::judging::sources_for;
 use crate::ways::Ways;
+use fr_outcome::{Boxed, CheckFault, Searched, What};
 use fr_parallel::is_crew;
 use fr_progress::Meter;
 use fr_reader::read_app;

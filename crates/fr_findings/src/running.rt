@@ -5,7 +5,7 @@ ghost use Rattle.fr_ends.specs.Fits.{CertificateFits};
 ghost use Rattle.fr_judge.specs.declared.part.Verdict.TheVariants.{Yes};
 ghost use Rattle.fr_judge.specs.Told.{Speaks};
 ghost use Rattle.fr_report.specs.Report.{report_text};
-ghost use Rattle.fr_findings.specs.Checked.{IsSafeText};
+ghost use Rattle.fr_outcome.specs.Checked.{IsSafeText};
 ghost use Rattle.fr_findings.specs.Ran.{
   CanRefuseRun,
   IsOutput,
@@ -16,16 +16,14 @@ ghost use Rattle.fr_findings.specs.Ran.{
   run_fault,
 };
 
-use crate::exit::{DONE, NO};
-use crate::fault::CheckFault;
 use crate::judging::why;
 use fr_ends::Certificate;
 use fr_interfere::Index;
 use fr_judge::{Passed, Verdict};
+use fr_outcome::{CheckFault, DONE, NO};
 use fr_parallel::Gate;
 use fr_program::App;
-use fr_reasons::explanation_text;
-use fr_report::{report, trace_text};
+use fr_report::{explanation_text, report, trace_text};
 use fr_request::Detail;
 use fr_runner::{MOST_POLLS, RunFault, run};
 use fr_text::read_both;

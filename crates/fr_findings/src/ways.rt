@@ -1,16 +1,5 @@
 // How a command does its work.
-use fr_request::Detail;
-
-/// Of which things that a verdict may hide a command warns.
-#[derive(Clone, Copy, PartialEq, Eq)]
-pub enum Warns {
-    /// Of nothing.
-    Never,
-    /// That there is no task or interrupt.
-    OfNoActors,
-    /// Of all.
-    OfAll,
-}
+use fr_request::{Detail, Warns};
 
 /// How a command does its work, and what it says besides the verdict.
 #[derive(Clone, Copy)]

@@ -3,7 +3,7 @@ ghost use Rattle.std.specs.Prelude.{◌≡◌, ℕ, List, IfOk, IfSome, IfNone, 
 ghost use Rattle.fr_findings.specs.declared.words.WordsFault.TheVariants.{Memory, Bad};
 ghost use Rattle.fr_findings.specs.Words.{AreWords, IsRunWord};
 
-use crate::fault::CheckFault;
+use fr_outcome::CheckFault;
 use std::alloc::{AllocError, AllocFailed, Global};
 
 /// Why a text gives no words.

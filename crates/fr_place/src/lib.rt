@@ -1,7 +1,8 @@
 // Where a refusal is, in plain words: the text that follows the one line of a refusal. Given the bytes that were refused and
 // the fault, the bytes are read again, and what is at the fault's place is told: line and column, table and key, a line of
 // code with a mark below it, the path to a note with its point's name. Nothing is told that isn't known. Where the lines of
-// code stand in a text is told by numbers, too, and from which lines of a source they come. The words are presentation; the contracts promise that a text has printable ASCII and newlines alone, and that `nearest` is exact.
+// code stand in a text is told by numbers, too, and from which lines of a source they come. The words are presentation; the contracts
+// promise that nothing in a line steers a terminal (`Place` of fr_escape), and that `nearest` is exact.
 #![tactic(auto)]
 
 mod app;
@@ -18,7 +19,6 @@ mod nearness;
 mod note;
 mod path;
 mod piece;
-mod place;
 mod position;
 mod recipe;
 mod scope;
@@ -32,7 +32,6 @@ pub use app::{is_unknown_word, place_of_app};
 pub use certificate::place_of_certificate;
 pub use code::{CodePlace, lines_of_code, places_of_code};
 pub use nearness::nearest;
-pub use place::{Place, place_of_texts};
 pub use recipe::recipe_at;
-pub use source::{CodeSource, sources_of_code};
+pub use source::{CodeSource, places_in_source, source_texts, sources_of_code};
 pub use swap::{place_of_swapped, seem_swapped};

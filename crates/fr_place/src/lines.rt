@@ -1,8 +1,5 @@
 // The lines of a place while they are written.
-ghost use Rattle.std.specs.Prelude.{All, IfOk, string_bytes};
-ghost use Rattle.fr_place.specs.Told.{IsPlaceLine, IsPrintable};
-
-use crate::place::Place;
+use fr_escape::{Place, place_of_texts};
 use std::alloc::{AllocError, Global};
 use std::mem::replace;
 
@@ -15,36 +12,6 @@ pub(crate) struct Lines {
     /// What the line that is being written has so far.
     open: String,
     is_refused: bool,
-}
-
-/// The byte, or a question mark in place of one that isn't printable ASCII.
-fn plain_byte(byte: u8) -> u8
-    ensures { IsPrintable result }
-{
-    if b' ' <= byte && byte <= b'~' {
-        byte
-    } else {
-        b'?'
-    }
-}
-
-/// The text, with a question mark in place of each byte that isn't printable ASCII.
-fn plain_text(alloc: Global, text: &str) -> Result<String, AllocError>
-    ensures { IfOk result (λ s. All IsPrintable (string_bytes s)) }
-{
-    let mut out = String::new(alloc);
-    for byte in text.as_bytes() {
-        out.push(char::from(plain_byte(*byte)))?;
-    }
-    Ok(out)
-}
-
-/// The text as a line of a place.
-fn plain_line(alloc: Global, text: &str) -> Result<String, AllocError>
-    ensures { IfOk result (λ line. IsPlaceLine (string_bytes line)) }
-{
-    let text = plain_text(alloc, text)?;
-    format!(in alloc; "  {text}")
 }
 
 impl Lines {
@@ -121,10 +88,6 @@ impl Lines {
         if self.is_refused {
             return Err(AllocError);
         }
-        let mut place = Place::new(self.alloc);
-        for line in &self.done {
-            place.add(plain_line(self.alloc, line)?)?;
-        }
-        Ok(place)
+        place_of_texts(self.alloc, &self.done)
     }
 }

@@ -1,7 +1,7 @@
 // Where the lines of code of a translated application come from: the comments after them that name a place in the source.
 ghost use Rattle.std.specs.Prelude.{◌≡◌, IfOk, length, map, vec_len};
 
-use crate::code::CodePlace;
+use crate::code::{CodePlace, places_of_code};
 use std::alloc::{AllocError, Global};
 use std::fmt;
 
@@ -246,4 +246,36 @@ pub fn sources_of_code(
         sources.push(reading.sources_of(alloc, places)?)?;
     }
     Ok(sources)
+}
+
+/// The places of one actor's lines, as texts.
+fn texts_of(alloc: Global, lines: &[Option<CodeSource>]) -> Result<Vec<String>, AllocError> {
+    let mut texts = Vec::new(alloc);
+    for line in lines {
+        texts.push(match line {
+            Some(source) => format!(in alloc; "{source}")?,
+            None => String::new(alloc),
+        })?;
+    }
+    Ok(texts)
+}
+
+/// These places of all actors' lines, as texts; an empty one where a place isn't known. Its error is that an allocation was refused.
+pub fn source_texts(
+    alloc: Global,
+    sources: &[Vec<Option<CodeSource>>],
+) -> Result<Vec<Vec<String>>, AllocError> {
+    let mut places = Vec::new(alloc);
+    for lines in sources {
+        places.push(texts_of(alloc, lines)?)?;
+    }
+    Ok(places)
+}
+
+/// Where the lines of the application with this text are in the source that it was translated from, as the comments after them say: for each
+/// actor, in order, the place of each line as a text, as `uart.frc:12`; an empty one where the line was written by hand. Its error is that an
+/// allocation was refused.
+pub fn places_in_source(alloc: Global, text: &[u8]) -> Result<Vec<Vec<String>>, AllocError> {
+    let code = places_of_code(alloc, text)?;
+    source_texts(alloc, &sources_of_code(alloc, text, &code)?)
 }

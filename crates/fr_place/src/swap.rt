@@ -1,6 +1,6 @@
 // Files that seem to be swapped.
 use crate::lines::Lines;
-use crate::place::Place;
+use fr_escape::Place;
 use std::alloc::{AllocError, Global};
 
 /// The first byte that is no blank, and 0 where there is none.

@@ -13,14 +13,13 @@ mod rules;
 mod scene;
 mod words;
 
-use crate::told::{Explained, Explanation, ShownState, add_item};
 use culprits::{add_deleters, add_lackers, add_set, add_way};
 use fr_calls::{Rule, State, the_start_is_well_formed};
 use fr_ends::{Certificate, EndName, Guard};
 use fr_judge::{Part, Verdict};
 use fr_notes::Subject;
 use fr_program::{App, Point};
-use fr_report::{Sources, outcome_text, standing_in};
+use fr_report::{Explained, Explanation, ShownState, Sources, outcome_text, standing_in};
 use fr_request::Detail;
 use fr_witness::{Taken, Witness, witness};
 use guards::{guard_text, guarded_by, unguarded_text};
@@ -31,6 +30,11 @@ use rules::forbidden_text;
 use scene::{Scene, Site};
 use std::alloc::{AllocError, Global};
 use std::mem::drop;
+
+/// Adds a line that explains.
+fn add_item(items: &mut Vec<Explained>, item: Explained) -> Result<(), AllocError> {
+    Ok(items.push(item)?)
+}
 
 /// Adds a state, and where each actor is in it if all is asked for.
 fn add_state(

@@ -1,9 +1,9 @@
 // What a person reads, first as values and then as texts. A run into a breach is an `ExplainedRun` (`explain_run`): pages and reports for
 // machines are made from it, and no text is read again. The texts are the report of a verdict (`report`), the lines of a trace
 // (`trace_text`), the listing of an application's points (`points_text`), and what a search found (`finding_line` and the lines of an
-// `ExplainedRun`); their contracts say each to the letter. What a page shows of a state is `state_told`. Below it are verdicts (fr_judge),
-// traces (fr_runner), runs into a breach (fr_refuter) and the writing of a line (fr_instr). The crate above, fr_reasons, says why a
-// verdict is no, in the words that are here for names, lists and what is so in a state.
+// `ExplainedRun`); their contracts say each to the letter. What a page shows of a state is `state_told`. Why a verdict is no is an
+// `Explanation`, a list of values; its text is `explanation_text`. Below it are verdicts (fr_judge), traces (fr_runner), runs into a breach
+// (fr_refuter) and the writing of a line (fr_instr). The crate above, fr_reasons, finds out why a verdict is no.
 #![tactic(auto)]
 
 mod changes;
@@ -19,6 +19,7 @@ mod standing;
 mod steps;
 mod subjects;
 mod text;
+mod told;
 mod trace;
 mod waits;
 
@@ -39,5 +40,6 @@ pub use standing::{Line, Standing};
 pub use steps::outcome_text;
 pub use subjects::{subject_at, subject_count};
 pub use text::{part_text, report, verdict_line};
+pub use told::{Explained, Explanation, Named, ShownState, explanation_text};
 pub use trace::trace_text;
 pub use waits::{deadlock_text, order_line};

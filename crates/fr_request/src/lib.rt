@@ -5,6 +5,7 @@
 mod detail;
 mod format;
 mod request;
+mod warns;
 
 pub use detail::Detail;
 pub use format::{Format, VERSION};
@@ -12,3 +13,4 @@ pub use request::{
     CheckRequest, FindRequest, FollowRequest, Judged, ProveRequest, RefuteRequest, Request,
     RunRequest, TranslateRequest,
 };
+pub use warns::Warns;

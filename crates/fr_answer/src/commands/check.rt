@@ -1,7 +1,7 @@
 // The command `check`.
 ghost use Rattle.std.specs.Prelude.{◌≡◌, ◌≤◌, ℕ, List, IfErr, IfOk, None, Some, option_copied};
 ghost use Rattle.std.specs.Option.{is_some};
-ghost use Rattle.fr_findings.specs.Checked.{fault_status};
+ghost use Rattle.fr_outcome.specs.Checked.{fault_status};
 ghost use Rattle.fr_answer.specs.Commands.{
   IsCheckAnswered,
   IsCheckOf,
@@ -18,9 +18,10 @@ use crate::printing::{show_found, show_outputs_refused};
 use crate::reading::checked_files;
 use crate::ways::{Asked, MOST_STATE_BYTES, MOST_STATES, detail_in, output_at};
 use fr_files::Holds;
-use fr_findings::{Refusal, Warns, Ways};
+use fr_findings::Ways;
 use fr_formats::{Command, Source};
-use fr_request::{CheckRequest, Judged};
+use fr_outcome::Refusal;
+use fr_request::{CheckRequest, Judged, Warns};
 use std::alloc::Global;
 use std::io::Write;
 use std::sync::Wait;

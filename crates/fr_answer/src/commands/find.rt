@@ -1,6 +1,6 @@
 // The command `find`.
 ghost use Rattle.std.specs.Prelude.{◌≡◌, ◌≤◌, IfErr, IfOk};
-ghost use Rattle.fr_findings.specs.Checked.{fault_status};
+ghost use Rattle.fr_outcome.specs.Checked.{fault_status};
 ghost use Rattle.fr_answer.specs.Commands.{IsAnswered, IsDone, IsWritten};
 ghost use Rattle.fr_answer.specs.Inputs.{Reads};
 
@@ -8,8 +8,10 @@ use crate::files::Files;
 use crate::printing::put;
 use crate::reading::application;
 use fr_files::{Holds, Output};
-use fr_findings::{Found, Refusal, find_bytes};
+use fr_findings::{Found, find_bytes};
+use fr_outcome::Refusal;
 use fr_request::{FindRequest, Request};
+use fr_shown::{refusal_of_file, refusal_of_outputs, refusal_of_texts};
 use std::alloc::Global;
 use std::io::Write;
 use std::thread::Threads;
@@ -34,16 +36,16 @@ pub(crate) fn find<R: Threads + Sync, F: Files, O: Write>(
     let (path, explains) = (asked.out, asked.explains);
     let replaces = Holds::Anything;
     if let Err(fault) = files.check_outputs(&[asked.app], &[Some(Output { path, replaces })]) {
-        return Err(Refusal::of_outputs(alloc, &fault, explains));
+        return Err(refusal_of_outputs(alloc, &fault, explains));
     }
     let app = application(alloc, files, asked.app, explains)?;
     let found = match find_bytes(rt, alloc, &app.bytes, usize::from(asked.rounds)) {
         Ok(found) => found,
-        Err(fault) => return Err(Refusal::of_texts(alloc, &app.bytes, None, fault, explains)),
+        Err(fault) => return Err(refusal_of_texts(alloc, &app.bytes, None, fault, explains)),
     };
     if let Found::Text(text) = &found {
         if let Err(fault) = files.replace(path, text.as_bytes()) {
-            return Err(Refusal::of_file(alloc, &fault, explains));
+            return Err(refusal_of_file(alloc, &fault, explains));
         }
     }
     put(found.line(), out)?;

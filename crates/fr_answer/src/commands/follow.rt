@@ -1,23 +1,25 @@
 // The command `follow`.
 ghost use Rattle.std.specs.Prelude.{◌≡◌, ◌≤◌, ◌∷◌, [], ℕ, List, IfErr, IfNone, IfOk, IfSome, None, Some, false, length, map, string_bytes, true};
 ghost use Rattle.fr_formats.specs.Answers.{status_of as kind_status};
-ghost use Rattle.fr_findings.specs.Checked.{fault_status};
+ghost use Rattle.fr_outcome.specs.Checked.{fault_status};
 ghost use Rattle.fr_answer.specs.Inputs.{Reads};
 ghost use Rattle.fr_answer.specs.Traces.{AreCovered, AreTraces, AreTracesPrinted, IsAnswerAt, IsReadAs, IsRunAt, IsTracesAnswered, PutsBoth, answered_at, is_several};
 
 mod answers;
 mod outputs;
+mod page;
 mod printed;
 
 use crate::files::Files;
 use crate::printing::put;
 use crate::reading::application;
 use answers::answer_one;
-use fr_findings::{AppText, Boxed, CheckFault, Refusal};
+use fr_outcome::{Boxed, CheckFault, Refusal};
 use fr_place::is_unknown_word;
 use fr_program::App;
 use fr_reader::read_app;
 use fr_request::FollowRequest;
+use fr_shown::{AppText, refusal_of_texts};
 use fr_trail::{Coverage, TraceAnswer};
 use outputs::{look_at_outputs, put_outputs};
 use printed::{print_one, print_several};
@@ -39,7 +41,7 @@ fn app_asked<F: Files>(
         Err(fault) => {
             let places = asked.explains || is_unknown_word(&fault);
             let fault = CheckFault::from(fault);
-            Err(Refusal::of_texts(alloc, &text, None, fault, places))
+            Err(refusal_of_texts(alloc, &text, None, fault, places))
         }
     }
 }

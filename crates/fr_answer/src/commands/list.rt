@@ -5,8 +5,8 @@ ghost use Rattle.std.specs.Option.{is_some};
 ghost use Rattle.fr_list.specs.Beside.{beside};
 ghost use Rattle.fr_list.specs.Means.{shown as entry_of};
 ghost use Rattle.fr_report.specs.Lines.{lines_text};
-ghost use Rattle.fr_findings.specs.Answers.{first_line, what_status};
-ghost use Rattle.fr_findings.specs.Checked.{fault_status};
+ghost use Rattle.fr_outcome.specs.Answers.{first_line, what_status};
+ghost use Rattle.fr_outcome.specs.Checked.{fault_status};
 ghost use Rattle.fr_answer.specs.Commands.{
   AreAnswered,
   AreLinesPrinted,
@@ -26,14 +26,15 @@ ghost use Rattle.fr_answer.specs.Inputs.{Reads};
 use crate::files::Files;
 use crate::printing::{put, put_report, warn};
 use crate::reading::{checked_files, input, proved_alone};
-use crate::shown::shown_of;
 use crate::ways::{MOST_STATE_BYTES, MOST_STATES, detail_in};
 use fr_escape::push_plain;
-use fr_findings::{Answer, CheckFault, Refusal, Warns, Ways, What};
+use fr_findings::Ways;
 use fr_formats::{AnswerShown, Command, Source};
 use fr_list::{Listed, MOST_LIST_BYTES, listed_in, path_beside};
+use fr_outcome::{Answer, CheckFault, Refusal, What};
 use fr_report::text_of;
-use fr_request::{CheckRequest, Format};
+use fr_request::{CheckRequest, Format, Warns};
+use fr_shown::{answer_to, shown_of};
 use std::alloc::{AllocError, Global};
 use std::io::Write;
 use std::sync::Wait;
@@ -59,7 +60,7 @@ fn proved_line<R: Threads + Wait + Sync, F: Files>(
         application: &app,
         certificate: None,
     };
-    Answer::new(alloc, source, found, ways.warns)
+    answer_to(alloc, source, found, ways.warns)
 }
 
 /// The answer for a line that names an application and a certificate.
@@ -86,7 +87,7 @@ fn checked_line<R: Threads + Wait + Sync, F: Files>(
         application: &app,
         certificate: Some(&certificate),
     };
-    Answer::new(alloc, source, found, ways.warns)
+    answer_to(alloc, source, found, ways.warns)
 }
 
 /// The answer for one line of the list.

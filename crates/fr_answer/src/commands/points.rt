@@ -1,18 +1,19 @@
 // The command `points`.
 ghost use Rattle.std.specs.Prelude.{◌≡◌, ℕ, List, IfErr, IfOk, string_bytes};
 ghost use Rattle.std.specs.Io.KnownBytes.{Appends};
-ghost use Rattle.fr_findings.specs.Checked.{fault_status};
+ghost use Rattle.fr_outcome.specs.Checked.{fault_status};
 ghost use Rattle.fr_answer.specs.Commands.{AreShown, IsListed, IsListing};
 ghost use Rattle.fr_answer.specs.Inputs.{Reads};
 
 use crate::files::Files;
 use crate::printing::put;
 use crate::reading::application;
-use fr_findings::{AppText, CheckFault, DONE, Refusal, sources_in};
-use fr_place::is_unknown_word;
+use fr_outcome::{CheckFault, DONE, Refusal};
+use fr_place::{is_unknown_word, places_in_source};
 use fr_program::App;
 use fr_reader::read_app;
 use fr_report::{Sources, points_text};
+use fr_shown::{AppText, refusal_of_texts};
 use std::alloc::{AllocError, Global};
 use std::io::Write;
 
@@ -21,7 +22,9 @@ fn sources_asked(alloc: Global, text: &[u8], explains: bool) -> Result<Sources, 
     ensures { IfOk result (AreShown explains) }
 {
     if explains {
-        sources_in(alloc, text)
+        Ok(Sources {
+            places: places_in_source(alloc, text)?,
+        })
     } else {
         Ok(Sources::none(alloc))
     }
@@ -71,7 +74,7 @@ pub(crate) fn points<F: Files, O: Write>(
         Err(fault) => {
             let places = explains || is_unknown_word(&fault);
             let fault = CheckFault::from(fault);
-            Err(Refusal::of_texts(alloc, &text, None, fault, places))
+            Err(refusal_of_texts(alloc, &text, None, fault, places))
         }
     }
 }

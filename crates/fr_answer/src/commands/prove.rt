@@ -1,6 +1,6 @@
 // The command `prove`.
 ghost use Rattle.std.specs.Prelude.{◌≡◌, ◌≤◌, ℕ, List, IfErr, IfOk, IsErr, None, Some, option_copied, string_bytes};
-ghost use Rattle.fr_findings.specs.Checked.{fault_status};
+ghost use Rattle.fr_outcome.specs.Checked.{fault_status};
 ghost use Rattle.fr_answer.specs.Commands.{IsAnswered, IsGiven, IsWritten};
 ghost use Rattle.fr_answer.specs.Inputs.{Reads};
 
@@ -9,9 +9,11 @@ use crate::printing::{show_found, show_outputs_refused};
 use crate::reading::proved_file;
 use crate::ways::{Asked, detail_in, mebibytes, output_at};
 use fr_files::Holds;
-use fr_findings::{AppText, Refusal, Warns, Ways, What};
+use fr_findings::Ways;
 use fr_formats::{Command, Source};
-use fr_request::{ProveRequest, Request};
+use fr_outcome::{Refusal, What};
+use fr_request::{ProveRequest, Request, Warns};
+use fr_shown::{AppText, refusal_of_file};
 use std::alloc::Global;
 use std::io::Write;
 use std::sync::Wait;
@@ -39,7 +41,7 @@ fn kept<F: Files>(
         && let Some(path) = out
     {
         if let Err(fault) = files.replace(path, certificate.as_bytes()) {
-            return Err(Refusal::of_file(alloc, &fault, true));
+            return Err(refusal_of_file(alloc, &fault, true));
         }
     }
     Ok((text, what))

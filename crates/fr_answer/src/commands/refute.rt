@@ -1,6 +1,6 @@
 // The command `refute`.
 ghost use Rattle.std.specs.Prelude.{◌≡◌, ◌≤◌, ℕ, List, IfErr, IfOk, None, Some, option_copied};
-ghost use Rattle.fr_findings.specs.Checked.{fault_status};
+ghost use Rattle.fr_outcome.specs.Checked.{fault_status};
 ghost use Rattle.fr_answer.specs.Commands.{IsAnswered, IsPaged, IsSearchAt};
 ghost use Rattle.fr_answer.specs.Inputs.{Reads};
 
@@ -9,9 +9,10 @@ use crate::printing::{show_found, show_outputs_refused};
 use crate::reading::searched_file;
 use crate::ways::{Asked, mebibytes, output_at};
 use fr_files::Holds;
-use fr_findings::{Refusal, Warns, Ways};
+use fr_findings::Ways;
 use fr_formats::{Command, Source};
-use fr_request::{Detail, RefuteRequest, Request};
+use fr_outcome::Refusal;
+use fr_request::{Detail, RefuteRequest, Request, Warns};
 use std::alloc::Global;
 use std::io::Write;
 use std::thread::Threads;

@@ -1,6 +1,6 @@
 // The command `run`.
 ghost use Rattle.std.specs.Prelude.{◌≡◌, ◌≤◌, IfErr, IfOk, option_copied};
-ghost use Rattle.fr_findings.specs.Checked.{fault_status};
+ghost use Rattle.fr_outcome.specs.Checked.{fault_status};
 ghost use Rattle.fr_answer.specs.Commands.{AreRunWords, IsAnswered, IsSafeIn};
 ghost use Rattle.fr_answer.specs.Inputs.{Reads};
 
@@ -8,9 +8,11 @@ use crate::files::Files;
 use crate::printing::put;
 use crate::reading::{application, input};
 use fr_cert::MOST_BYTES as MOST_CERTIFICATE_BYTES;
-use fr_findings::{AppText, CheckFault, Refusal, WordsFault, ran_texts, words_of};
+use fr_findings::{WordsFault, ran_texts, words_of};
+use fr_outcome::{CheckFault, Refusal};
 use fr_parallel::Open;
 use fr_request::{Request, RunRequest};
+use fr_shown::{AppText, refusal_of_texts};
 use std::alloc::Global;
 use std::io::Write;
 use std::sync::Wait;
@@ -66,7 +68,7 @@ pub(crate) fn run_files<R: Threads + Wait + Sync, F: Files, O: Write>(
         }
         Err(fault) => {
             let certificate = Some(certificate.as_slice());
-            Err(Refusal::of_texts(alloc, &app, certificate, fault, explains))
+            Err(refusal_of_texts(alloc, &app, certificate, fault, explains))
         }
     }
 }

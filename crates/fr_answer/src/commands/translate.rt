@@ -1,6 +1,6 @@
 // The command `translate`.
 ghost use Rattle.std.specs.Prelude.{◌≡◌, ◌≤◌, ◌⊎◌, IfErr, IfOk, None, string_bytes};
-ghost use Rattle.fr_findings.specs.Checked.{fault_status};
+ghost use Rattle.fr_outcome.specs.Checked.{fault_status};
 ghost use Rattle.fr_answer.specs.Commands.{IsAnswered, IsApplication, IsDone, IsTranslated, IsWritten, PutsTranslated};
 ghost use Rattle.fr_answer.specs.Inputs.{AsSource, Reads};
 
@@ -8,9 +8,10 @@ use crate::files::Files;
 use crate::printing::put;
 use crate::source::translation;
 use fr_files::{Holds, Output};
-use fr_findings::{CheckFault, DONE, Refusal};
+use fr_outcome::{CheckFault, DONE, Refusal};
 use fr_reader::read_app;
 use fr_request::{Request, TranslateRequest};
+use fr_shown::{refusal_of_file, refusal_of_outputs};
 use fr_source::{Message, Translation};
 use std::alloc::{AllocError, Global};
 use std::io::Write;
@@ -69,11 +70,11 @@ fn write_to<F: Files, E: Write>(
 {
     let replaces = Holds::Anything;
     if let Err(fault) = files.check_outputs(&[asked.source], &[Some(Output { path, replaces })]) {
-        return Err(Refusal::of_outputs(alloc, &fault, true));
+        return Err(refusal_of_outputs(alloc, &fault, true));
     }
     let found = application(alloc, asked, files)?;
     if let Err(fault) = files.replace(path, found.text.as_bytes()) {
-        return Err(Refusal::of_file(alloc, &fault, true));
+        return Err(refusal_of_file(alloc, &fault, true));
     }
     warn(alloc, asked.source, &found.warnings, err)?;
     Ok(())

@@ -2,13 +2,14 @@
 // out of its range before it spoils a note.
 ghost use Rattle.fr_ends.specs.Fits.{CertificateFits};
 
+use super::add_item;
 use super::notes::{deletes, is_inside, site_of};
 use super::scene::{Scene, Site, is_variable};
-use crate::told::{Explained, Named, add_item};
 use fr_calls::Rule;
 use fr_ends::{Certificate, EndName, Guard, note_says};
 use fr_judge::{Part, Verdict};
 use fr_program::{Act, Attempt, Call, Instr, ObjId, Point, Side};
+use fr_report::{Explained, Named};
 use fr_witness::{Witness, witness};
 use std::alloc::AllocError;
 use std::mem::drop;

@@ -5,14 +5,14 @@ ghost use Rattle.fr_notes.specs.Fits.{AlternativeFits};
 ghost use Rattle.fr_ends.specs.Fits.{CertificateFits};
 ghost use Rattle.fr_reasons.specs.Told.{IsSite};
 
+use super::add_item;
 use super::scene::{Scene, Site, says_of};
 use super::words::{can_hold, otherwise_text, put_claim, put_said};
-use crate::told::{Explained, ShownState, add_item};
 use fr_calls::{State, is_at_end};
 use fr_ends::{Certificate, EndName};
 use fr_notes::{Alternative, Claim, Subject};
 use fr_program::{ActorId, App, Call, Instr, ObjId, Point, Side};
-use fr_report::{add_text, subject_at, subject_count};
+use fr_report::{Explained, ShownState, add_text, subject_at, subject_count};
 use fr_witness::claim_broken;
 use std::alloc::{AllocError, Global};
 

@@ -1,11 +1,12 @@
 // Where all actors stand in a state.
 ghost use Rattle.fr_calls.specs.State.{IsWellFormed};
 
-use crate::told::{Explained, add_item};
+use super::add_item;
 use fr_calls::{Place, State};
 use fr_program::{ActorId, App};
 use fr_report::{
-    actor_name, actor_place, put_critical, put_suspended, put_two, side_name, suspension_in,
+    Explained, actor_name, actor_place, put_critical, put_suspended, put_two, side_name,
+    suspension_in,
 };
 use std::alloc::{AllocError, Global};
 

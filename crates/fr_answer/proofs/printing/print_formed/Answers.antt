@@ -4,7 +4,7 @@ use Rattle.std.specs.Io.KnownBytes.{Appends}
 use Rattle.fr_request.specs.declared.format.Format.{Format}
 use Rattle.fr_formats.specs.declared.answer.AnswerShown.{AnswerShown}
 use Rattle.fr_formats.specs.Reports.{IsReport}
-use Rattle.fr_findings.specs.declared.answer.What.{What}
+use Rattle.fr_outcome.specs.declared.answer.What.{What}
 use Rattle.fr_answer.specs.Commands.{IsPrinted, Shows}
 use Rattle.fr_answer.proofs.printing.print_formed.Goals as goal
 

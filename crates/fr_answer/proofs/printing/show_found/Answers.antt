@@ -1,7 +1,7 @@
 -- What is shown is what was found.
 use Rattle.std.proofs.Common.{◌≡◌, ◌≤◌, subst, sym}
 use Rattle.std.specs.Prelude.{option_copied}
-use Rattle.fr_findings.specs.Answers.{HasFound, what_status}
+use Rattle.fr_outcome.specs.Answers.{HasFound, what_status}
 use Rattle.fr_answer.proofs.Showing.{kept-found, most-found, paged-as, refused-found, shown-found}
 use Rattle.fr_answer.proofs.printing.show_found.Goals as goal
 

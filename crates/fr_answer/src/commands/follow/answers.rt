@@ -1,15 +1,15 @@
 // The answers to traces in files.
 ghost use Rattle.std.specs.Prelude.{◌≡◌, ◌≤◌, ◌∷◌, [], IfErr, IfOk, IfSome, None, string_bytes};
 ghost use Rattle.fr_formats.specs.Answers.{status_of as kind_status};
-ghost use Rattle.fr_findings.specs.Answers.{kind_of};
-ghost use Rattle.fr_findings.specs.Checked.{fault_status};
+ghost use Rattle.fr_outcome.specs.Answers.{kind_of};
+ghost use Rattle.fr_outcome.specs.Checked.{fault_status};
 ghost use Rattle.fr_answer.specs.Inputs.{Reads};
 ghost use Rattle.fr_answer.specs.Traces.{IsAnswerAt, IsRunAt, answered_at};
 
 use crate::files::Files;
 use crate::reading::input;
-use fr_findings::{Boxed, CheckFault, Refusal, What};
-use fr_place::place_of_texts;
+use fr_escape::place_of_texts;
+use fr_outcome::{Boxed, CheckFault, Refusal, What};
 use fr_program::App;
 use fr_request::FollowRequest;
 use fr_trace::MOST_TRACE_BYTES;

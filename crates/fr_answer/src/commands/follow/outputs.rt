@@ -1,16 +1,17 @@
 // The files that `follow` writes: the run that was found for a trace, and the page of the answer to it.
 ghost use Rattle.std.specs.Prelude.{◌≡◌, ◌≤◌, ◌⊎◌, ℕ, List, IfErr, IfOk, Some, option_copied, option_map, string_bytes};
-ghost use Rattle.fr_findings.specs.Checked.{fault_status};
-ghost use Rattle.fr_answer.specs.Pages.{IsTrailPage};
+ghost use Rattle.fr_outcome.specs.Checked.{fault_status};
+ghost use Rattle.fr_shown.specs.Pages.{IsTrailPage};
 ghost use Rattle.fr_answer.specs.Traces.{PutsAnswer};
 
+use super::page::trail_page;
 use crate::files::Files;
-use crate::page::trail_page;
 use crate::ways::output_at;
 use fr_files::Holds;
-use fr_findings::{Boxed, CheckFault, Refusal};
+use fr_outcome::{Boxed, CheckFault, Refusal};
 use fr_program::App;
 use fr_request::FollowRequest;
+use fr_shown::{refusal_of_file, refusal_of_outputs};
 use fr_trail::TraceAnswer;
 use std::alloc::Global;
 
@@ -45,7 +46,7 @@ pub(super) fn look_at_outputs<F: Files>(
     let html = output_at(asked.html, Holds::Page);
     match files.check_outputs(&[asked.app, trace], &[run, html]) {
         Ok(()) => Ok(()),
-        Err(fault) => Err(Refusal::of_outputs(alloc, &fault, asked.explains)),
+        Err(fault) => Err(refusal_of_outputs(alloc, &fault, asked.explains)),
     }
 }
 
@@ -67,7 +68,7 @@ fn put_run<F: Files>(
     };
     match files.replace(path, text.as_bytes()) {
         Ok(()) => Ok(()),
-        Err(fault) => Err(Refusal::of_file(alloc, &fault, asked.explains)),
+        Err(fault) => Err(refusal_of_file(alloc, &fault, asked.explains)),
     }
 }
 
@@ -93,7 +94,7 @@ fn put_page<F: Files>(
     let page = trail_page(alloc, app, text, command, answer)?;
     match files.replace(path, page.as_bytes()) {
         Ok(()) => Ok(()),
-        Err(fault) => Err(Refusal::of_file(alloc, &fault, asked.explains)),
+        Err(fault) => Err(refusal_of_file(alloc, &fault, asked.explains)),
     }
 }
 

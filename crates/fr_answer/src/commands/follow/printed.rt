@@ -3,7 +3,7 @@ ghost use Rattle.std.specs.Prelude.{◌≡◌, ◌≤◌, ◌++◌, ◌∷◌, [
 ghost use Rattle.std.specs.Io.KnownBytes.{Appends};
 ghost use Rattle.fr_formats.specs.Answers.{status_of as kind_status};
 ghost use Rattle.fr_report.specs.Lines.{lines_text};
-ghost use Rattle.fr_findings.specs.Checked.{fault_status};
+ghost use Rattle.fr_outcome.specs.Checked.{fault_status};
 ghost use Rattle.fr_answer.specs.Each.{Each, IsAdded};
 ghost use Rattle.fr_answer.specs.Inputs.{Reads};
 ghost use Rattle.fr_answer.specs.Traces.{AreTraces, AreTracesPrinted, ShowsTrace, answered_at, text_at};
@@ -12,8 +12,8 @@ use super::answers::answer_shown;
 use crate::commands::list::heading;
 use crate::files::Files;
 use crate::printing::{put, put_report};
-use fr_findings::{CheckFault, copied_lines};
 use fr_formats::{AnswerShown, Command, Source, TraceShown};
+use fr_outcome::{CheckFault, copied_lines};
 use fr_program::App;
 use fr_report::text_of;
 use fr_request::{FollowRequest, Format};

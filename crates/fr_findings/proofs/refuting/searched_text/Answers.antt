@@ -1,6 +1,6 @@
 -- A fault of the bytes is present in them, and what was found is kept as it is.
 use Rattle.std.proofs.lemmas.Result.{err_from_is_err_and}
-use Rattle.fr_findings.specs.Answers.{CanRefuseSearch}
+use Rattle.fr_outcome.specs.Answers.{CanRefuseSearch}
 use Rattle.fr_findings.proofs.Refusals.{app-refused}
 use Rattle.fr_findings.proofs.refuting.searched_text.Goals as goal
 

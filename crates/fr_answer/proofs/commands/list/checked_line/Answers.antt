@@ -15,4 +15,4 @@ returns-clause-by g c =
     let certificate-is = c.deref-2.ensures ∙ c.in_ok-certificate.ensures in
     let one = subst (λ a. IfOk found (λ r. IsCheckOf reads c.args.ways.deadlock a c.deref-2.result.now r.1)) app-is c.checked_files-found.ensures.verdict in
     let both = subst (λ b. IfOk found (λ r. IsCheckOf reads c.args.ways.deadlock (beside list c.args.app.now) b r.1)) certificate-is one in
-    line-found (IsAnswerBy reads c.args.ways.deadlock list (beside list c.args.app.now) (Some c.args.certificate.now)) found c.new.result c.new.ensures.found both
+    line-found (IsAnswerBy reads c.args.ways.deadlock list (beside list c.args.app.now) (Some c.args.certificate.now)) found c.answer_to.result c.answer_to.ensures.found both

@@ -2,8 +2,8 @@
 use Rattle.std.proofs.Common.{◌≡◌, ◌++◌, ℕ, List, Bool, Result, Ok, Err, IfOk, String, codes, rules, string_bytes}
 use Rattle.std.specs.declared.alloc.Global.{Global}
 use Rattle.fr_report.specs.Lines.{lines_text}
-use Rattle.fr_findings.specs.declared.answer.What.{What}
-use Rattle.fr_findings.specs.Answers.{first_line}
+use Rattle.fr_outcome.specs.declared.answer.What.{What}
+use Rattle.fr_outcome.specs.Answers.{first_line}
 use Rattle.fr_answer.specs.Commands.{AreMore}
 use Rattle.fr_answer.proofs.commands.list.line_text.Goals as goal
 

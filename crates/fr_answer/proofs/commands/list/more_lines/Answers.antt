@@ -2,8 +2,8 @@
 use Rattle.std.proofs.Common.{Bool, true, false, ◌≡◌, IfOk, Result, String, Vec}
 use Rattle.std.specs.declared.alloc.Global.{Global}
 use Rattle.fr_report.specs.Lines.{lines_text}
-use Rattle.fr_findings.specs.declared.answer.What.{What}
-use Rattle.fr_findings.specs.Answers.{AreLinesOf, second_text}
+use Rattle.fr_outcome.specs.declared.answer.What.{What}
+use Rattle.fr_outcome.specs.Answers.{AreLinesOf, second_text}
 use Rattle.fr_answer.specs.Commands.{AreMore}
 use Rattle.fr_answer.proofs.commands.list.more_lines.Goals as goal
 

@@ -12,4 +12,4 @@ returns-clause-by g c =
     let list = c.args.list.now in
     let found = c.proved_alone-found.result in
     let proof = subst (λ a. IfOk found (λ r. (certificate : List ℕ) × IsProofAt reads c.args.ways.deadlock a true certificate r.1)) (c.deref.ensures ∙ c.in_ok-app.ensures) c.proved_alone-found.ensures.proof in
-    line-found (IsAnswerBy reads c.args.ways.deadlock list (beside list c.args.app.now) None) found c.new.result c.new.ensures.found proof
+    line-found (IsAnswerBy reads c.args.ways.deadlock list (beside list c.args.app.now) None) found c.answer_to.result c.answer_to.ensures.found proof

@@ -3,7 +3,7 @@ use Rattle.std.proofs.Common.{◌≡◌, ◌≤◌, ◌∙◌, [], ap, arith, ma
 use Rattle.std.proofs.lemmas.List.{map-append, take_more}
 use Rattle.std.proofs.lemmas.List.Elements.{All-nil}
 use Rattle.fr_list.specs.Means.{shown}
-use Rattle.fr_findings.specs.Answers.{kind_of, what_status}
+use Rattle.fr_outcome.specs.Answers.{kind_of, what_status}
 use Rattle.fr_answer.specs.Inputs.{Reads}
 use Rattle.fr_answer.specs.Commands.{IsLineAnswer}
 use Rattle.fr_answer.proofs.Listing.{answered-at, shown-line}

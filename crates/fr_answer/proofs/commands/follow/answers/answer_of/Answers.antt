@@ -3,7 +3,7 @@ use Rattle.std.proofs.Common.{◌==◌, ◌≡◌, ◌≤◌, Result, Ok, Err, I
 use Rattle.fr_formats.specs.declared.answer.AnswerKind.{AnswerKind}
 use Rattle.fr_formats.specs.Answers.{status_of as kind_status}
 use Rattle.fr_trail.specs.declared.answer.TraceAnswer.{TraceAnswer}
-use Rattle.fr_findings.specs.Checked.{fault_status}
+use Rattle.fr_outcome.specs.Checked.{fault_status}
 use Rattle.fr_answer.proofs.Following.{refused-least}
 use Rattle.fr_answer.proofs.commands.follow.answers.answer_of.Goals as goal
 

@@ -1,0 +1,168 @@
+// An answer as a page to look at.
+ghost use Rattle.std.specs.Prelude.{◌≡◌, IfOk, string_bytes};
+ghost use Rattle.fr_shown.specs.Pages.{IsPageOf, page_kind};
+
+mod actors;
+mod code;
+mod points;
+mod steps;
+
+pub use actors::{count_text, put_actors};
+pub use code::Code;
+use fr_formats::{AnswerKind, Command};
+use fr_outcome::{Answer, What};
+use fr_page::{ActorShown, Kind, Page, StepShown, WaitShown, page_text};
+use fr_program::App;
+use fr_refuter::Finding;
+use points::put_judged;
+use std::alloc::{AllocError, Global};
+pub use steps::{
+    Spot, is_shown, omitted_before, put_end, put_start, put_step, put_tracks, row_of, rule_told,
+};
+use steps::{put_deadlock, put_run};
+
+/// The heading of a page for an answer of this kind.
+pub fn page_kind(kind: AnswerKind) -> Kind
+    ensures { result ≡ page_kind kind }
+{
+    match kind {
+        AnswerKind::Yes => Kind::Yes,
+        AnswerKind::No => Kind::No,
+        AnswerKind::MayDeadlock => Kind::MayDeadlock,
+        AnswerKind::Breach => Kind::Breach,
+        AnswerKind::Deadlock => Kind::Deadlock,
+        AnswerKind::NoBreach => Kind::Safe,
+        AnswerKind::StatesLeft => Kind::Unknown,
+        AnswerKind::Followed => Kind::Followed,
+        AnswerKind::FollowedApart => Kind::FollowedApart,
+        AnswerKind::NotFollowed => Kind::NotFollowed,
+        AnswerKind::NotListed => Kind::NotListed,
+        AnswerKind::GaveUp => Kind::GaveUp,
+        AnswerKind::Refused | AnswerKind::Machine => Kind::Refused,
+    }
+}
+
+/// The words of the command with its files.
+fn command_text(alloc: Global, answer: &Answer) -> Result<String, AllocError> {
+    let app = &answer.application;
+    match (answer.command, &answer.certificate) {
+        (Command::Check, Some(certificate)) => format!(in alloc; "check {app} {certificate}"),
+        (Command::Check, None) => format!(in alloc; "check {app}"),
+        (Command::Prove, _) => format!(in alloc; "prove {app}"),
+        (Command::Refute, _) => format!(in alloc; "refute {app}"),
+        (Command::Follow, _) => format!(in alloc; "follow {app}"),
+    }
+}
+
+/// What a page shows below the answer.
+#[derive(Drop)]
+pub struct Body {
+    /// Lines that say whether actors can deadlock, or where a text is refused.
+    pub details: Vec<String>,
+    /// Numbers in words.
+    pub counts: Vec<String>,
+    /// What is left out.
+    pub omissions: Vec<String>,
+    pub actors: Vec<ActorShown>,
+    pub steps: Vec<StepShown>,
+    /// Which actors wait for one another after the steps.
+    pub waits: Vec<WaitShown>,
+}
+
+/// Nothing below the answer.
+pub fn empty_body(alloc: Global) -> Body {
+    Body {
+        details: Vec::new(alloc),
+        counts: Vec::new(alloc),
+        omissions: Vec::new(alloc),
+        actors: Vec::new(alloc),
+        steps: Vec::new(alloc),
+        waits: Vec::new(alloc),
+    }
+}
+
+/// Adds what a search found below the actors: a run into a breach or a deadlock, step by step.
+fn put_found(
+    alloc: Global,
+    body: &mut Body,
+    app: &App,
+    code: &Code,
+    found: &Finding,
+) -> Result<(), AllocError> {
+    put_actors(alloc, body, app, code)?;
+    match found {
+        Finding::Breach(run) => put_run(alloc, body, app, code, run),
+        Finding::Deadlock(run) => put_deadlock(alloc, body, app, code, run),
+        _ => Ok(()),
+    }
+}
+
+/// Adds what the page shows below the answer: the actors side by side, with a certificate what each note says, which points fail
+/// and which are never reached; with a run into a breach the run, step by step; and where a text is refused, where.
+fn put_below(
+    alloc: Global,
+    body: &mut Body,
+    answer: &Answer,
+    code: &Code,
+) -> Result<(), AllocError> {
+    let what = &answer.what;
+    match what {
+        What::Judged(judged) => {
+            let judged = judged.get();
+            put_actors(alloc, body, judged.app(), code)?;
+            let blames = matches!(answer.command, Command::Prove);
+            put_judged(alloc, body, judged, code, blames)?;
+            if matches!(what.kind(), AnswerKind::Yes) {
+                body.details = what.second_lines(alloc)?;
+            }
+            Ok(())
+        }
+        What::Searched(searched) => {
+            let searched = searched.get();
+            put_found(alloc, body, &searched.app, code, &searched.found)
+        }
+        What::Refused(_) => {
+            body.details = what.lines(alloc)?;
+            Ok(())
+        }
+    }
+}
+
+/// What the page shows below the answer. Lines of code are as they stand in the text, with their places in the source where the
+/// application was translated from one.
+fn body_of(alloc: Global, answer: &Answer) -> Result<Body, AllocError> {
+    let code = Code::of(alloc, &answer.text)?;
+    let mut body = empty_body(alloc);
+    put_below(alloc, &mut body, answer, &code)?;
+    Ok(body)
+}
+
+/// The page with this heading and the words of the command, with this line and this below it.
+pub fn page_with(kind: Kind, command: String, line: String, body: Body) -> Page
+    ensures kind { result.kind ≡ kind }
+    ensures line { result.answer ≡ line }
+{
+    Page {
+        kind,
+        command,
+        answer: line,
+        details: body.details,
+        counts: body.counts,
+        omissions: body.omissions,
+        actors: body.actors,
+        steps: body.steps,
+        waits: body.waits,
+    }
+}
+
+/// The page of an answer, as one HTML file. Its heading is that of the answer's kind, and the line below it is the one that
+/// reports show of it. Its error is that an allocation was refused.
+pub fn page_of(alloc: Global, answer: &Answer) -> Result<String, AllocError>
+    ensures { IfOk result (λ text. IsPageOf answer.now.what (string_bytes text)) }
+{
+    let (command, line) = (command_text(alloc, answer)?, answer.what.shown_line(alloc)?);
+    let kind = page_kind(answer.what.kind());
+    let body = body_of(alloc, answer)?;
+    let page = page_with(kind, command, line, body);
+    page_text(alloc, &page)
+}

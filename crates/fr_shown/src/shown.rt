@@ -1,0 +1,101 @@
+// An answer as reports for machines show it.
+ghost use Rattle.std.specs.Prelude.{◌≡◌, IfOk, OnOk, string_bytes};
+ghost use Rattle.fr_outcome.specs.Answers.{kind_of, shown_line};
+
+mod failure;
+mod places;
+mod steps;
+
+use failure::failure_of;
+use fr_formats::{AnswerShown, Failure, Source, StepShown, WarningShown};
+use fr_outcome::{Answer, Judged, What};
+use fr_refuter::Finding;
+use places::Places;
+use std::alloc::{AllocError, Global};
+use steps::{deadlock_shown, run_shown};
+
+/// What fails by a verdict.
+fn verdict_shown(
+    alloc: Global,
+    places: &Places,
+    judged: &Judged,
+) -> Result<(Option<Failure>, Vec<StepShown>), AllocError> {
+    Ok((failure_of(alloc, places, judged)?, Vec::new(alloc)))
+}
+
+/// What fails by a run that was found, and its steps; nothing where none was found.
+fn found_shown(
+    alloc: Global,
+    places: &Places,
+    found: &Finding,
+) -> Result<(Option<Failure>, Vec<StepShown>), AllocError> {
+    match found {
+        Finding::Breach(run) => run_shown(alloc, places, run),
+        Finding::Deadlock(run) => deadlock_shown(alloc, places, run),
+        _ => Ok((None, Vec::new(alloc))),
+    }
+}
+
+/// What fails, and the steps of a run, each with its place in the application's text.
+fn details_of(
+    alloc: Global,
+    answer: &Answer,
+) -> Result<(Option<Failure>, Vec<StepShown>), AllocError> {
+    match &answer.what {
+        What::Judged(judged) => {
+            let judged = judged.get();
+            let places = Places::build(alloc, judged.app(), &answer.text)?;
+            verdict_shown(alloc, &places, judged)
+        }
+        What::Searched(searched) => {
+            let searched = searched.get();
+            let places = Places::build(alloc, &searched.app, &answer.text)?;
+            found_shown(alloc, &places, &searched.found)
+        }
+        What::Refused(_) => Ok((None, Vec::new(alloc))),
+    }
+}
+
+/// The warnings.
+fn warnings_shown(
+    alloc: Global,
+    warnings: &[WarningShown],
+) -> Result<Vec<WarningShown>, AllocError> {
+    let mut shown = Vec::new(alloc);
+    for WarningShown { kind, text } in warnings {
+        let (kind, text) = (*kind, text.clone()?);
+        shown.push(WarningShown { kind, text })?;
+    }
+    Ok(shown)
+}
+
+/// Adds what reports show besides the answer itself: its other lines, its warnings, what fails and the steps of a run.
+fn add_details(alloc: Global, answer: &Answer, shown: &mut AnswerShown) -> Result<(), AllocError>
+    ensures application { OnOk result (shown.new.application ≡ shown.old.application) }
+    ensures kind { OnOk result (shown.new.answer ≡ shown.old.answer) }
+    ensures report { OnOk result (shown.new.report ≡ shown.old.report) }
+{
+    shown.lines = answer.what.shown_lines(alloc)?;
+    shown.warnings = warnings_shown(alloc, &answer.warnings)?;
+    let (failure, steps) = details_of(alloc, answer)?;
+    shown.failure = failure;
+    shown.steps = steps;
+    Ok(())
+}
+
+/// The answer as JSON, SARIF and JUnit show it. Its error is that an allocation was refused.
+pub fn shown_of(alloc: Global, answer: &Answer) -> Result<AnswerShown, AllocError>
+    ensures application { IfOk result (λ shown. string_bytes shown.application ≡ string_bytes answer.now.application) }
+    ensures kind { IfOk result (λ shown. shown.answer ≡ kind_of answer.now.what) }
+    ensures report { IfOk result (λ shown. string_bytes shown.report ≡ shown_line answer.now.what) }
+{
+    let source = Source {
+        command: answer.command,
+        application: &answer.application,
+        certificate: answer.certificate.as_deref(),
+    };
+    let report = answer.what.shown_line(alloc)?;
+    let mut shown = AnswerShown::new(alloc, source, answer.what.kind(), report)?;
+    add_details(alloc, answer, &mut shown)?;
+    Ok(shown)
+}

@@ -1,0 +1,90 @@
+// Points that are never reached.
+use fr_notes::Notes;
+use fr_program::{ActorId, App};
+use fr_report::{actor_name, add_text};
+use std::alloc::{AllocError, Global};
+
+/// Points of one actor in a row whose notes say that the actor is never there.
+#[derive(Clone, Copy)]
+struct Unreached {
+    actor: usize,
+    /// The instructions of the first and of the last of them.
+    first: usize,
+    last: usize,
+    /// The number of the point after the last one.
+    end: usize,
+}
+
+/// Whether the note of the point says that its actor is never there.
+fn is_never(notes: &Notes, number: usize) -> bool {
+    match notes.get(number) {
+        Some(note) => note.alternatives().is_empty(),
+        None => false,
+    }
+}
+
+/// Adds a point to the rows, at the end of the last one where it follows that.
+fn add(
+    rows: &mut Vec<Unreached>,
+    actor: usize,
+    pc: usize,
+    number: usize,
+) -> Result<(), AllocError> {
+    let end = number.saturating_add(1);
+    if let Some(row) = rows.last_mut() {
+        if row.actor == actor && row.end == number {
+            row.last = pc;
+            row.end = end;
+            return Ok(());
+        }
+    }
+    Ok(rows.push(Unreached {
+        actor,
+        first: pc,
+        last: pc,
+        end,
+    })?)
+}
+
+/// The points whose notes say that their actors are never there, in rows.
+fn rows_of(alloc: Global, app: &App, notes: &Notes) -> Result<Vec<Unreached>, AllocError> {
+    let mut rows = Vec::new(alloc);
+    for number in 0..app.points() {
+        if is_never(notes, number) {
+            let point = app.point(number);
+            add(&mut rows, point.actor.0, point.pc, number)?;
+        }
+    }
+    Ok(rows)
+}
+
+/// The line of a row of points.
+fn line_of(alloc: Global, app: &App, row: Unreached) -> Result<String, AllocError> {
+    let (name, first, last) = (actor_name(app, ActorId(row.actor)), row.first, row.last);
+    if first == last {
+        format!(in alloc; "warning: {name} {first} is never reached")
+    } else {
+        format!(in alloc; "warning: {name} {first} to {last} are never reached")
+    }
+}
+
+/// The lines of these rows.
+fn lines_of(alloc: Global, app: &App, rows: &[Unreached]) -> Result<Vec<String>, AllocError> {
+    let mut lines = Vec::new(alloc);
+    for row in rows {
+        add_text(&mut lines, line_of(alloc, app, *row)?)?;
+    }
+    Ok(lines)
+}
+
+/// The warnings for points that are never reached, a line for each row of points whose notes say that the actor is never
+/// there, with the actor and its lines of code. Nothing is asked at such points, and a wrong target can be the cause. An
+/// error says that an allocation was refused. The lines' form is this project's own.
+pub(crate) fn never_reached(
+    alloc: Global,
+    app: &App,
+    notes: &Notes,
+) -> Result<Vec<String>, AllocError> {
+    let rows = rows_of(alloc, app, notes)?;
+    lines_of(alloc, app, &rows)
+}

@@ -1,0 +1,199 @@
+// What the lines of an application use: the warnings for variables and objects that are never used, and for variables that are used one way.
+use fr_program::{Act, App, Attempt, Call, Instr, ObjId, Operand, VarId};
+use fr_report::{add_text, object_name, variable_name};
+use std::alloc::{AllocError, Global};
+
+/// Whether each variable is read, whether it is written, and whether each object is named by a line of code.
+#[derive(Drop)]
+struct Uses {
+    read: Vec<bool>,
+    written: Vec<bool>,
+    named: Vec<bool>,
+}
+
+/// Marks the place in the list, if it has it.
+fn mark(list: &mut [bool], place: usize) {
+    if let Some(used) = list.get_mut(place) {
+        *used = true;
+    }
+}
+
+/// Marks the variable that the operand is, if it is one.
+fn mark_operand(list: &mut [bool], operand: Operand) {
+    if let Operand::Variable(x) = operand {
+        mark(list, x.0);
+    }
+}
+
+/// Whether the place in the list is marked.
+fn is_marked(list: &[bool], place: usize) -> bool {
+    match list.get(place) {
+        Some(used) => *used,
+        None => false,
+    }
+}
+
+impl Uses {
+    /// Adds what an act reads and writes.
+    fn add_act(&mut self, act: Act) {
+        if let Act::Try {
+            attempt: Attempt::QueueSend(value),
+            ..
+        } = act
+        {
+            mark_operand(&mut self.read, value);
+        }
+        if let Some(x) = act.written() {
+            mark(&mut self.written, x.0);
+        }
+    }
+
+    /// Adds what a call names, reads and writes.
+    fn add_call(&mut self, call: Call) {
+        if let Some(object) = call.object() {
+            mark(&mut self.named, object.0);
+        }
+        if let Call::On(call) = call {
+            self.add_act(call.act);
+        }
+    }
+
+    /// Adds what a line reads, writes and names.
+    fn add(&mut self, instr: &Instr) {
+        match *instr {
+            Instr::Set {
+                target,
+                left,
+                right,
+                ..
+            } => {
+                mark(&mut self.written, target.0);
+                mark_operand(&mut self.read, left);
+                mark_operand(&mut self.read, right);
+            }
+            Instr::If { left, right, .. } => {
+                mark_operand(&mut self.read, left);
+                mark_operand(&mut self.read, right);
+            }
+            Instr::Pick { target, .. } => mark(&mut self.written, target.0),
+            Instr::Call(call) => self.add_call(call),
+            _ => {}
+        }
+    }
+
+    /// Adds what all lines of an actor's code read, write and name.
+    fn add_all(&mut self, code: &[Instr]) {
+        for instr in code {
+            self.add(instr);
+        }
+    }
+}
+
+/// What the lines of an application use.
+fn uses_in(alloc: Global, app: &App) -> Result<Uses, AllocError> {
+    let read = vec![in alloc; false; app.variables().len()]?;
+    let written = vec![in alloc; false; app.variables().len()]?;
+    let named = vec![in alloc; false; app.objects().len()]?;
+    let mut uses = Uses {
+        read,
+        written,
+        named,
+    };
+    for actor in app.actors() {
+        uses.add_all(&actor.code);
+    }
+    Ok(uses)
+}
+
+/// Adds the warning for something, by its name and how it is used.
+fn warn(
+    alloc: Global,
+    lines: &mut Vec<String>,
+    what: &str,
+    name: &str,
+    how: &str,
+) -> Result<(), AllocError> {
+    add_text(
+        lines,
+        format!(in alloc; "warning: the {what} {name} is {how}")?,
+    )
+}
+
+/// Adds the warnings for what isn't used.
+fn add_unused(
+    alloc: Global,
+    lines: &mut Vec<String>,
+    app: &App,
+    uses: &Uses,
+) -> Result<(), AllocError> {
+    for place in 0..app.variables().len() {
+        if !is_marked(&uses.read, place) && !is_marked(&uses.written, place) {
+            let name = variable_name(app, VarId(place));
+            warn(alloc, lines, "variable", name, "never used")?;
+        }
+    }
+    for place in 0..app.objects().len() {
+        if !is_marked(&uses.named, place) {
+            let name = object_name(app, ObjId(place));
+            warn(alloc, lines, "object", name, "never used")?;
+        }
+    }
+    Ok(())
+}
+
+/// The warnings for variables and objects that no line of code names, a line each. A wrong name can be the cause. An error
+/// says that an allocation was refused. The lines' form is this project's own.
+pub(crate) fn never_used(alloc: Global, app: &App) -> Result<Vec<String>, AllocError> {
+    let uses = uses_in(alloc, app)?;
+    let mut lines = Vec::new(alloc);
+    add_unused(alloc, &mut lines, app, &uses)?;
+    Ok(lines)
+}
+
+/// Whether the variable has one value alone.
+fn is_single(app: &App, x: VarId) -> bool {
+    match app.variables().get(x.0) {
+        Some(variable) => variable.lo >= variable.hi,
+        None => false,
+    }
+}
+
+/// How the variable is used one way, if it is.
+fn one_way(app: &App, uses: &Uses, x: VarId) -> Option<&'static str> {
+    match (is_marked(&uses.read, x.0), is_marked(&uses.written, x.0)) {
+        (true, false) => Some("read and never written"),
+        (false, true) if !is_single(app, x) => Some("written and never read"),
+        _ => None,
+    }
+}
+
+/// Adds the warnings for variables that are used one way.
+fn add_one_way(
+    alloc: Global,
+    lines: &mut Vec<String>,
+    app: &App,
+    uses: &Uses,
+) -> Result<(), AllocError> {
+    for place in 0..app.variables().len() {
+        if let Some(how) = one_way(app, uses, VarId(place)) {
+            warn(
+                alloc,
+                lines,
+                "variable",
+                variable_name(app, VarId(place)),
+                how,
+            )?;
+        }
+    }
+    Ok(())
+}
+
+/// The warnings for variables that are read and never written, or written and never read, a line each. A wrong name can be the cause.
+/// A variable with one value in its range is written so that a rule is broken there, and nobody has to read it.
+/// An error says that an allocation was refused. The lines' form is this project's own.
+pub(crate) fn used_one_way(alloc: Global, app: &App) -> Result<Vec<String>, AllocError> {
+    let uses = uses_in(alloc, app)?;
+    let mut lines = Vec::new(alloc);
+    add_one_way(alloc, &mut lines, app, &uses)?;
+    Ok(lines)
+}
