@@ -1,12 +1,11 @@
 // Calls of the kernel with their arguments.
 
-use crate::cursor::clipped;
-use crate::fault::{Fault, Spot, said, wrong, wrong_about};
-use crate::kernel::{Answer, Kernel, Place, kernel_named};
+use crate::fault::{Fault, Spot, wrong, wrong_about, wrong_with};
+use crate::kernel::{Kernel, Place, kernel_named};
 use crate::program::{Argument, Call, Object, Operand, Range, Variable};
 use crate::reader::{Home, Reader};
 use crate::scope::Meaning;
-use crate::texts::{joined, push_all};
+use crate::texts::{Word, filled};
 use crate::token::Token;
 use std::alloc::AllocError;
 
@@ -49,78 +48,60 @@ impl<'a> Reader<'a> {
         let Some(kernel) = kernel_named(token.text) else {
             return Err(self.unknown_call(token));
         };
-        self.check_home(kernel, token.spot)?;
+        if kernel.is_of_interrupts() && matches!(self.home, Home::Task) {
+            let form = "a task doesn't make the call %, which is for interrupts";
+            return Err(wrong_about(self.alloc, token.spot, form, kernel.name, ""));
+        }
         self.call = Some(kernel);
         self.cursor.take("(", "")?;
-        let mut call = Call {
-            kernel,
-            arguments: [Argument::Absent; 3],
-            length: 1,
-        };
-        let mut object = None;
+        let mut arguments = [Argument::Absent; 3];
         for (place, what) in kernel.places.iter().enumerate() {
             if place > 0 {
                 self.take_in_call(",", kernel)?;
             }
-            let argument = self.argument(kernel, *what, object)?;
-            if let Argument::Object(one) = argument {
-                object = self.program.objects.get(one).copied();
-            }
-            if let (Place::Length, Argument::Operand(Operand::Number(length))) = (*what, argument) {
-                call.length = length;
-            }
-            if let Some(slot) = call.arguments.get_mut(place) {
+            let argument = self.argument(kernel, *what, arguments[0])?;
+            if let Some(slot) = arguments.get_mut(place) {
                 *slot = argument;
             }
         }
         self.take_in_call(")", kernel)?;
         self.call = None;
-        Ok(call)
+        Ok(Call { kernel, arguments })
     }
 
     /// The fault that a called name is neither a function's nor the kernel's.
     fn unknown_call(&self, token: Token<'a>) -> Fault {
-        let shown = clipped(token.text);
-        if token.text == self.name {
-            let why = "' can't call itself: a function is expanded where it is called";
-            return wrong(self.alloc, token.spot, &["'", shown, why]);
-        }
-        if let Some(meaning) = self.scope.meaning(token.text) {
-            let why = ", and only a function or a call of the kernel is called";
-            let (is_of, kind) = ("' is the name of ", meaning.text());
-            return wrong_about(self.alloc, token.spot, "'", shown, is_of, kind, why);
-        }
-        let what = "no function above and no kernel call '";
-        match self.scope.near(token.text) {
-            Some(near) => {
-                let meant = "'. Did you mean '";
-                wrong_about(self.alloc, token.spot, what, shown, meant, near, "'?")
-            }
-            None => {
-                let instead = instead_of(token.text);
-                wrong_about(self.alloc, token.spot, what, shown, instead, "", "")
-            }
-        }
-    }
-
-    /// Refuses a task that makes a call of interrupts.
-    fn check_home(&self, kernel: &Kernel, spot: Spot) -> Result<(), Fault> {
-        if kernel.is_of_interrupts() && matches!(self.home, Home::Task) {
-            let what = "a task doesn't make the call ";
-            let texts = &[what, kernel.name, ", which is for interrupts"];
-            return Err(wrong(self.alloc, spot, texts));
-        }
-        Ok(())
+        let Token { text, spot, .. } = token;
+        let (form, more) = if text == self.name {
+            (
+                "'%' can't call itself: a function is expanded where it is called",
+                "",
+            )
+        } else if let Some(meaning) = self.scope.meaning(text) {
+            (
+                "'%' is the name of %, and only a function or a call of the kernel is called",
+                meaning.text(),
+            )
+        } else if let Some(near) = self.scope.near(text) {
+            (
+                "no function above and no kernel call '%'. Did you mean '%'?",
+                near,
+            )
+        } else {
+            ("no function above and no kernel call '%%", instead_of(text))
+        };
+        wrong_about(self.alloc, spot, form, text, more)
     }
 
     /// The call's name, with what its arguments are.
     pub(crate) fn shape(&self, kernel: &Kernel) -> Result<String, AllocError> {
-        let mut shape = joined(self.alloc, &[kernel.name, "("])?;
-        for (place, what) in kernel.places.iter().enumerate() {
-            push_all(
-                &mut shape,
-                &[if place > 0 { ", " } else { "" }, what.text()],
-            )?;
+        let mut shape = String::from_str(self.alloc, kernel.name)?;
+        shape.push_str("(")?;
+        let mut before = "";
+        for what in kernel.places {
+            shape.push_str(before)?;
+            shape.push_str(what.text())?;
+            before = ", ";
         }
         shape.push_str(")")?;
         Ok(shape)
@@ -129,12 +110,16 @@ impl<'a> Reader<'a> {
     /// The fault that something is expected in a call.
     fn expected_in(&self, what: &str, kernel: &Kernel) -> Result<Fault, AllocError> {
         let shape = self.shape(kernel)?;
-        let after = if self.cursor.sees(",") {
-            "; data pointers and '&woken' are left out"
+        let form = if self.cursor.sees(",") {
+            "% in %; data pointers and '&woken' are left out"
         } else {
-            ""
+            "% in %"
         };
-        let text = joined(self.alloc, &[what, " in ", shape.as_str(), after])?;
+        let text = filled(
+            self.alloc,
+            form,
+            &[Word::Text(what), Word::Text(shape.as_str())],
+        )?;
         Ok(self.cursor.expected(text.as_str()))
     }
 
@@ -147,12 +132,12 @@ impl<'a> Reader<'a> {
         Err(self.expected_in(what, kernel)?)
     }
 
-    /// Takes the argument in a place.
+    /// Takes the argument in a place. `object` is the first one.
     fn argument(
         &mut self,
         kernel: &Kernel,
         place: Place,
-        object: Option<Object<'a>>,
+        object: Argument,
     ) -> Result<Argument, Fault> {
         if self.cursor.sees(")") {
             return Err(self.expected_in(place.text(), kernel)?);
@@ -161,19 +146,19 @@ impl<'a> Reader<'a> {
             Place::Object => self.object_argument(kernel),
             Place::Operand => Ok(Argument::Operand(self.number_or_variable()?)),
             Place::Variable => self.variable_argument(object),
-            Place::Length => {
-                let length = self.number(place.text(), LENGTHS)?;
-                Ok(Argument::Operand(Operand::Number(length)))
-            }
             Place::Time if self.accepts_forever() => Ok(Argument::Forever),
-            Place::Time | Place::Ticks => {
-                let ticks = self.number(place.text(), TICKS)?;
-                Ok(Argument::Operand(Operand::Number(ticks)))
+            Place::Length | Place::Time | Place::Ticks => {
+                let range = if matches!(place, Place::Length) {
+                    LENGTHS
+                } else {
+                    TICKS
+                };
+                Ok(Argument::Operand(Operand::Number(self.number(place.text(), range)?)))
             }
             Place::Null if self.cursor.accepts("NULL") => Ok(Argument::Null),
             Place::Null => {
                 let text = "expected NULL: no line deletes another task";
-                Err(self.cursor.refused(self.cursor.spot(), text))
+                Err(wrong(self.alloc, self.cursor.spot(), text))
             }
         }
     }
@@ -196,74 +181,54 @@ impl<'a> Reader<'a> {
             Meaning::Object(place) => place,
             meaning => return Err(self.other_meaning(token, "an object", meaning)),
         };
-        if let Some(object) = self.program.objects.get(place).copied() {
-            self.check_kind(kernel, object, token.spot)?;
+        match self.program.objects.get(place) {
+            Some(object) if !kernel.is_for(object.kind) => {
+                let kinds = kernel.kinds_text(self.alloc)?;
+                let words = &[
+                    Word::Text(object.name),
+                    Word::Text(object.kind.text()),
+                    Word::Text(kernel.name),
+                    Word::Text(kinds.as_str()),
+                ];
+                Err(wrong_with(self.alloc, token.spot, "'%' is a %, and % is for: %", words))
+            }
+            _ => Ok(Argument::Object(place)),
         }
-        Ok(Argument::Object(place))
-    }
-
-    /// Refuses an object of another kind than the call is for.
-    fn check_kind(&self, kernel: &Kernel, object: Object<'a>, spot: Spot) -> Result<(), Fault> {
-        if kernel.is_for(object.kind) {
-            return Ok(());
-        }
-        let mut kinds = String::new(self.alloc);
-        for one in kernel.kinds {
-            let comma = if kinds.is_empty() { "" } else { ", " };
-            push_all(&mut kinds, &[comma, one.text()])?;
-        }
-        let (object_name, kind, name) = (object.name, object.kind.text(), kernel.name);
-        let text = format!(in self.alloc;
-            "'{object_name}' is a {kind}, and {name} is for: {kinds}"
-        );
-        Err(said(spot, text))
     }
 
     /// Takes the variable that a queue's item goes to.
-    fn variable_argument(&mut self, object: Option<Object<'a>>) -> Result<Argument, Fault> {
+    fn variable_argument(&mut self, object: Argument) -> Result<Argument, Fault> {
         let spot = self.cursor.spot();
         let place = self.variable_named("the name of a variable")?;
-        let variable = self.variable(place, spot)?;
-        match object {
-            Some(
-                Object {
-                    items: Some(items),
-                    ..
-                },
-            ) if !variable.range.includes(items) => {
-                let around = ["the queue's, ", "", "", ""];
-                Err(self.too_narrow(variable, items, around, spot)?)
-            }
-            _ => Ok(Argument::Operand(Operand::Variable(place))),
+        let variable = self.program.variable(place);
+        if let Argument::Object(queue) = object
+            && let Some(queue) = self.program.objects.get(queue)
+            && let Some(items) = queue.items
+            && !variable.range.includes(items)
+        {
+            let form = "the range of '%', %..%, has to include the queue's, %..%";
+            return Err(self.too_narrow(variable, items, form, "", spot));
         }
+        Ok(Argument::Operand(Operand::Variable(place)))
     }
 
-    /// The fault that a variable's range doesn't include another one. `around` is what is said before that, and after it.
+    /// The fault that a variable's range doesn't include another one. The form has the variable's name, both ranges and `name`.
     pub(crate) fn too_narrow(
         &self,
         variable: Variable<'a>,
         other: Range,
-        around: [&str; 4],
+        form: &str,
+        name: &'a str,
         spot: Spot,
-    ) -> Result<Fault, AllocError> {
-        let [before, first, second, third] = around;
-        let (range, other) = (variable.range.text(self.alloc)?, other.text(self.alloc)?);
-        let text = joined(self.alloc, &[before, other.as_str(), first, second, third])?;
-        let (name, range) = (variable.name, range.as_str());
-        let what = ", has to include ";
-        let texts = &["the range of '", name, "', ", range, what, text.as_str()];
-        Ok(wrong(self.alloc, spot, texts))
-    }
-
-    /// The greatest number that a call answers. Refuses one that answers nothing.
-    pub(crate) fn greatest_answer(&self, call: Call, spot: Spot) -> Result<i64, Fault> {
-        match call.kernel.answer {
-            Answer::Nothing => {
-                let texts = &[call.kernel.name, " answers nothing"];
-                Err(wrong(self.alloc, spot, texts))
-            }
-            Answer::Bytes => Ok(call.length),
-            Answer::Success | Answer::Handle => Ok(1),
-        }
+    ) -> Fault {
+        let words = &[
+            Word::Text(variable.name),
+            Word::Number(variable.range.low),
+            Word::Number(variable.range.high),
+            Word::Number(other.low),
+            Word::Number(other.high),
+            Word::Text(name),
+        ];
+        wrong_with(self.alloc, spot, form, words)
     }
 }

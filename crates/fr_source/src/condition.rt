@@ -1,11 +1,21 @@
 // Conditions: what an expression says, where a statement asks whether it is true.
 
 use crate::expression::{Term, Value};
-use crate::fault::{Fault, Spot, wrong};
+use crate::fault::{Fault, Spot, wrong, wrong_about};
 use crate::kernel::Answer;
 use crate::lines::Condition;
-use crate::program::{Action, Call, Comparison, Operand};
+use crate::program::{Action, Call, Comparison, Operand, Owner, Variable};
 use crate::reader::Reader;
+
+/// Why a value is no condition.
+fn why_untested(value: Value) -> &'static str {
+    match value {
+        Value::Given { .. } =>
+            "an assignment as a condition: compare it, as in (n = ..) != 0, or write '=='",
+        Value::Any(_) => "expected a condition: give any(..) to a variable first",
+        _ => "expected a condition",
+    }
+}
 
 impl Reader<'_> {
     /// Reads a condition in brackets.
@@ -13,10 +23,11 @@ impl Reader<'_> {
         self.cursor.take("(", "")?;
         let test = self.bare_condition()?;
         if self.cursor.sees("=") {
-            return Err(
-                self.cursor
-                    .refused(self.cursor.spot(), "'=' in a condition: write '=='"),
-            );
+            return Err(wrong(
+                self.alloc,
+                self.cursor.spot(),
+                "'=' in a condition: write '=='",
+            ));
         }
         self.cursor.take(")", "")?;
         Ok(test)
@@ -47,21 +58,9 @@ impl Reader<'_> {
                 self.check_fails(call, spot)?;
                 self.lines.test(Condition::Works(call), spot)
             }
-            Value::Given { .. } => Err(
-                self.cursor.refused(
-                    spot,
-                    "an assignment as a condition: compare it, as in (n = ..) != 0, or write '=='",
-                ),
-            ),
-            Value::Any(_) => Err(
-                self.cursor.refused(
-                    spot,
-                    "expected a condition: give any(..) to a variable first",
-                ),
-            ),
-            Value::Null | Value::Sum { .. } => Err(
-                self.cursor.refused(spot, "expected a condition"),
-            ),
+            Value::Given { .. } | Value::Any(_) | Value::Null | Value::Sum { .. } => {
+                Err(wrong(self.alloc, spot, why_untested(value)))
+            }
         }
     }
 
@@ -70,12 +69,12 @@ impl Reader<'_> {
         if call.kernel.may_fail() {
             return Ok(());
         }
-        let hint = match call.kernel.answer {
-            Answer::Bytes => ": write (n = ..) > 0, where n is a variable",
-            _ => "",
+        let form = match call.kernel.answer {
+            Answer::Bytes =>
+                "% doesn't answer whether it worked: write (n = ..) > 0, where n is a variable",
+            _ => "% doesn't answer whether it worked",
         };
-        let texts = &[call.kernel.name, " doesn't answer whether it worked", hint];
-        Err(wrong(self.alloc, spot, texts))
+        Err(wrong_about(self.alloc, spot, form, call.kernel.name, ""))
     }
 
     /// The condition that two terms compare so.
@@ -96,25 +95,17 @@ impl Reader<'_> {
         match left.value {
             Value::Called(call) => self.compare_answer(call, comparison, right, left.spot),
             Value::Given { variable, action } => {
-                self.check_given(variable, left.spot)?;
-                let left = Term {
-                    value: Value::Variable(variable),
-                    spot: left.spot,
-                };
+                let Variable { name, owner, .. } = self.program.variable(variable);
+                if matches!(owner, Owner::Everyone) {
+                    let form = "'%' is shared: give this to a 'var'";
+                    return Err(wrong_about(self.alloc, left.spot, form, name, ""));
+                }
+                let value = Value::Variable(variable);
+                let left = Term { value, ..left };
                 self.compare_sides(Some(action), left, comparison, right, spot)
             }
             _ => self.compare_sides(None, left, comparison, right, spot),
         }
-    }
-
-    /// Refuses a shared variable that a condition gives a value.
-    fn check_given(&self, variable: usize, spot: Spot) -> Result<(), Fault> {
-        let variable = self.variable(variable, spot)?;
-        if !variable.is_shared() {
-            return Ok(());
-        }
-        let texts = &["'", variable.name, "' is shared: give this to a 'var'"];
-        Err(wrong(self.alloc, spot, texts))
     }
 
     /// The condition that a call answers so.
@@ -147,14 +138,12 @@ impl Reader<'_> {
 
     /// The fault that a call's answer is compared with something else.
     fn wrong_answer(&self, call: Call, is_handle: bool, spot: Spot) -> Fault {
-        let answers = if is_handle {
-            "NULL"
+        let form = if is_handle {
+            "the answer of % is compared by '==' or '!=' with NULL"
         } else {
-            "pdTRUE, pdPASS, pdFALSE or pdFAIL"
+            "the answer of % is compared by '==' or '!=' with pdTRUE, pdPASS, pdFALSE or pdFAIL"
         };
-        let what = " is compared by '==' or '!=' with ";
-        let texts = &["the answer of ", call.kernel.name, what, answers];
-        wrong(self.alloc, spot, texts)
+        wrong_about(self.alloc, spot, form, call.kernel.name, "")
     }
 
     /// The operand that is a side of a comparison.
@@ -164,12 +153,11 @@ impl Reader<'_> {
         }
         match term.operand() {
             Some(operand) => Ok(operand),
-            None => Err(
-                self.cursor.refused(
-                    term.spot,
-                    "a side of a comparison is a number or a variable",
-                ),
-            ),
+            None => Err(wrong(
+                self.alloc,
+                term.spot,
+                "a side of a comparison is a number or a variable",
+            )),
         }
     }
 
@@ -206,17 +194,15 @@ impl Reader<'_> {
 
     /// Refuses to compare a variable with itself, and two shared ones.
     fn check_two(&self, one: usize, other: usize, spot: Spot) -> Result<(), Fault> {
-        let first = self.variable(one, spot)?;
-        let second = self.variable(other, spot)?;
-        if one == other {
-            let texts = &["'", first.name, "' can't be both sides of a comparison"];
-            return Err(wrong(self.alloc, spot, texts));
-        }
-        if first.is_shared() && second.is_shared() {
-            let why = "', which are shared, in one step: copy one to a 'var' first";
-            let texts = &["this reads '", first.name, "' and '", second.name, why];
-            return Err(wrong(self.alloc, spot, texts));
-        }
-        Ok(())
+        let first = self.program.variable(one);
+        let second = self.program.variable(other);
+        let form = if one == other {
+            "'%' can't be both sides of a comparison"
+        } else if first.is_shared() && second.is_shared() {
+            "this reads '%' and '%', which are shared, in one step: copy one to a 'var' first"
+        } else {
+            return Ok(());
+        };
+        Err(wrong_about(self.alloc, spot, form, first.name, second.name))
     }
 }

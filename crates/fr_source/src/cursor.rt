@@ -1,17 +1,9 @@
 // Where a reader is among the tokens of a source.
 
-use crate::fault::{Fault, Spot, wrong, wrong_about};
-use crate::texts::joined;
+use crate::fault::{Fault, Spot, clipped, wrong_with};
+use crate::texts::{Word, filled};
 use crate::token::{Kind, Token};
 use std::alloc::Global;
-
-/// The most characters of a word that a message repeats.
-const MOST_REPEATED: usize = 40;
-
-/// The text, cut where it is too long for a message.
-pub(crate) fn clipped(text: &str) -> &str {
-    text.get(..MOST_REPEATED).unwrap_or(text)
-}
 
 /// The tokens of a source, and which is read next.
 #[derive(Drop)]
@@ -62,9 +54,10 @@ impl<'a> Cursor<'a> {
         }
     }
 
-    /// The number of commas before the bracket that closes the innermost open one.
-    pub(crate) fn commas(&self) -> usize {
-        let mut count = 0usize;
+    /// Whether the next token is an argument of a call that isn't its first one, and with those after it there are more than
+    /// so many.
+    pub(crate) fn is_at_surplus(&self, most: usize) -> bool {
+        let mut count = 2usize;
         let mut depth = 1usize;
         for token in self.tokens.iter().skip(self.next) {
             match token.text {
@@ -77,7 +70,7 @@ impl<'a> Cursor<'a> {
                 break;
             }
         }
-        count
+        self.previous().text == "," && count > most
     }
 
     pub(crate) fn spot(&self) -> Spot {
@@ -101,6 +94,11 @@ impl<'a> Cursor<'a> {
         self.token().text == text
     }
 
+    /// Whether the next token is a word, and this sign is after it.
+    pub(crate) fn is_before(&self, sign: &str) -> bool {
+        self.is_at_word() && self.following().text == sign
+    }
+
     /// Takes the next token if it is this word or sign.
     pub(crate) fn accepts(&mut self, text: &str) -> bool {
         let is_there = self.sees(text);
@@ -116,7 +114,7 @@ impl<'a> Cursor<'a> {
         if self.accepts(text) {
             return Ok(());
         }
-        let what = joined(self.alloc, &["'", text, "'", why])?;
+        let what = filled(self.alloc, "'%'%", &[Word::Text(text), Word::Text(why)])?;
         let mut spot = self.spot();
         if text == ";" {
             let before = self.previous();
@@ -131,10 +129,10 @@ impl<'a> Cursor<'a> {
         self.take("{", "")?;
         let mut depth = 1usize;
         for _ in 0..self.left() {
-            if self.sees("{") {
-                depth = depth.saturating_add(1);
-            } else if self.sees("}") {
-                depth = depth.saturating_sub(1);
+            match self.token().text {
+                "{" => depth = depth.saturating_add(1),
+                "}" => depth = depth.saturating_sub(1),
+                _ => {}
             }
             self.advance();
             if depth == 0 {
@@ -158,29 +156,24 @@ impl<'a> Cursor<'a> {
 
     /// The fault at a place that something else was expected in place of the next token.
     fn expected_at(&self, spot: Spot, what: &str) -> Fault {
-        if self.is_at_end() {
-            return wrong(
-                self.alloc,
-                spot,
-                &["expected ", what, ", found the end of the file"],
-            );
-        }
         let found = clipped(self.token().text);
-        let end = if found == "[" {
-            "': there are no arrays"
+        let form = if self.is_at_end() {
+            "expected %, found the end of the file"
+        } else if found == "[" {
+            "expected %, found '[': there are no arrays"
         } else {
-            "'"
+            "expected %, found '%'"
         };
-        wrong_about(self.alloc, spot, "expected ", what, ", found '", found, end)
+        wrong_with(
+            self.alloc,
+            spot,
+            form,
+            &[Word::Text(what), Word::Text(found)],
+        )
     }
 
     /// The fault that something else was expected in place of the next token.
     pub(crate) fn expected(&self, what: &str) -> Fault {
         self.expected_at(self.spot(), what)
-    }
-
-    /// The fault of a fixed text at a place.
-    pub(crate) fn refused(&self, spot: Spot, text: &str) -> Fault {
-        wrong(self.alloc, spot, &[text])
     }
 }

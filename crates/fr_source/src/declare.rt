@@ -1,7 +1,7 @@
 // Declarations: constants, variables, objects, functions, tasks and interrupts.
 
-use crate::cursor::{Cursor, clipped};
-use crate::fault::{Fault, Spot, wrong, wrong_about};
+use crate::cursor::Cursor;
+use crate::fault::{Fault, Spot, clipped, wrong, wrong_about, wrong_with};
 use crate::lines::Lines;
 use crate::near::near_among;
 use crate::program::{
@@ -9,9 +9,9 @@ use crate::program::{
 };
 use crate::reader::{Home, Reader};
 use crate::scope::Meaning;
-use crate::texts::numeral;
+use crate::texts::Word;
 use crate::token::Token;
-use std::alloc::{AllocError, Global};
+use std::alloc::Global;
 use std::mem;
 
 /// The most objects of an application.
@@ -52,58 +52,78 @@ pub(crate) fn program_in<'a>(
     end: Token<'a>,
 ) -> Result<Program<'a>, Fault> {
     let mut reader = Reader::new(alloc, Cursor::new(alloc, tokens, end));
-    for _ in 0..=reader.cursor.left() {
-        if reader.cursor.is_at_end() {
-            break;
-        }
-        reader.declaration()?;
-    }
-    reader.check_templates()?;
-    if reader.program.actors.is_empty() {
-        return Err(
-            reader
-                .cursor
-                .expected("a task or an interrupt: there is none"),
-        );
-    }
-    Ok(mem::replace(&mut reader.program, Program::new(alloc)))
+    reader.declarations()
 }
+
+/// Words that begin a declaration of C, and what to write in place of it.
+static OF_C: [(&str, &str); 19] = [
+    ("volatile", SHARED),
+    ("static", SHARED),
+    ("unsigned", SHARED),
+    ("int", SHARED),
+    ("bool", SHARED),
+    ("uint8_t", SHARED),
+    ("uint16_t", SHARED),
+    ("uint32_t", SHARED),
+    ("BaseType_t", SHARED),
+    ("UBaseType_t", SHARED),
+    ("StreamBufferHandle_t", ": write 'stream s[64];'"),
+    ("MessageBufferHandle_t", ": write 'message m[64];'"),
+    ("QueueHandle_t", ": write 'queue q[8] of 0..9;'"),
+    (
+        "SemaphoreHandle_t",
+        ": write 'mutex m;', 'binary b;' or 'counting c[8] first 0;'",
+    ),
+    ("TaskHandle_t", ": leave it out"),
+    (
+        "void",
+        ": write 'task t {', 'interrupt i {' or 'function f() {'",
+    ),
+    (
+        "var",
+        ": write 'shared n in 0..8;' here, or put it into a task",
+    ),
+    ("isr", ": write 'interrupt i {'"),
+    ("ISR", ": write 'interrupt i {'"),
+];
+
+const SHARED: &str = ": write 'shared n in 0..8;' for what several use";
 
 /// What to write in place of a declaration of C that begins with this word.
 fn in_place_of(word: &str) -> &'static str {
-    match word {
-        "volatile"
-        | "static"
-        | "unsigned"
-        | "int"
-        | "bool"
-        | "uint8_t"
-        | "uint16_t"
-        | "uint32_t"
-        | "BaseType_t"
-        | "UBaseType_t" => ": write 'shared n in 0..8;' for what several use",
-        "StreamBufferHandle_t" => ": write 'stream s[64];'",
-        "MessageBufferHandle_t" => ": write 'message m[64];'",
-        "QueueHandle_t" => ": write 'queue q[8] of 0..9;'",
-        "SemaphoreHandle_t" => ": write 'mutex m;', 'binary b;' or 'counting c[8] first 0;'",
-        "TaskHandle_t" => ": leave it out",
-        "void" => ": write 'task t {', 'interrupt i {' or 'function f() {'",
-        "var" => ": write 'shared n in 0..8;' here, or put it into a task",
-        "isr" | "ISR" => ": write 'interrupt i {'",
-        _ => "",
+    for (begin, instead) in &OF_C {
+        if *begin == word {
+            return *instead;
+        }
     }
+    ""
 }
 
 impl<'a> Reader<'a> {
+    /// Reads all declarations, and gives what they say.
+    fn declarations(&mut self) -> Result<Program<'a>, Fault> {
+        for _ in 0..=self.cursor.left() {
+            if self.cursor.is_at_end() {
+                break;
+            }
+            self.declaration()?;
+        }
+        self.check_templates()?;
+        if self.program.actors.is_empty() {
+            return Err(
+                self.cursor
+                    .expected("a task or an interrupt: there is none"),
+            );
+        }
+        Ok(mem::replace(&mut self.program, Program::new(self.alloc)))
+    }
+
     /// Reads a declaration.
     fn declaration(&mut self) -> Result<(), Fault> {
         self.operators = 0;
         let word = self.cursor.word("a declaration")?;
         if self.scope.outside.len() >= MOST_NAMES {
-            return Err(
-                self.cursor
-                    .refused(word.spot, "more than 1024 names are declared"),
-            );
+            return Err(wrong(self.alloc, word.spot, "more than 1024 names are declared"));
         }
         match word.text {
             "const" => self.constant_declaration(),
@@ -124,16 +144,12 @@ impl<'a> Reader<'a> {
         let what =
             "expected a declaration, which begins with one of const, shared, task, interrupt, function, queue, \
             binary, counting, mutex, recursive, stream, message; found '";
-        match near_among(&DECLARATIONS, word.text) {
-            Some(near) => {
-                let meant = "'. Did you mean '";
-                wrong_about(self.alloc, spot, what, shown, meant, near, "'?")
-            }
-            None => {
-                let instead = in_place_of(word.text);
-                wrong_about(self.alloc, spot, what, shown, "'", instead, "")
-            }
-        }
+        let (form, more) = match near_among(&DECLARATIONS, word.text) {
+            Some(near) => ("%%'. Did you mean '%'?", near),
+            None => ("%%'%", in_place_of(word.text)),
+        };
+        let words = &[Word::Text(what), Word::Text(shown), Word::Text(more)];
+        wrong_with(self.alloc, spot, form, words)
     }
 
     /// Refuses one more of what there may be at most so many.
@@ -147,10 +163,13 @@ impl<'a> Reader<'a> {
         if count < most {
             return Ok(());
         }
-        let text = format!(in self.alloc;
-            "there may be at most {most} {what}, and this is one more"
-        )?;
-        Err(self.cursor.refused(spot, text.as_str()))
+        let form = "there may be at most % %, and this is one more";
+        Err(wrong_with(
+            self.alloc,
+            spot,
+            form,
+            &[Word::Count(most), Word::Text(what)],
+        ))
     }
 
     fn constant_declaration(&mut self) -> Result<(), Fault> {
@@ -170,9 +189,8 @@ impl<'a> Reader<'a> {
         let high = self.constant()?;
         let range = Range { low, high };
         if low > high {
-            let text = range.text(self.alloc)?;
-            let texts = &["the range ", text.as_str(), " is empty"];
-            return Err(wrong(self.alloc, spot, texts));
+            let words = &[Word::Number(low), Word::Number(high)];
+            return Err(wrong_with(self.alloc, spot, "the range %..% is empty", words));
         }
         Ok(range)
     }
@@ -214,42 +232,35 @@ impl<'a> Reader<'a> {
             if range.holds(0) {
                 return Ok(0);
             }
-            return Err(self.no_first(range, may_begin, spot)?);
+            let form = if may_begin {
+                "expected '=' and the first value: % isn't in %..%"
+            } else {
+                "this variable begins at 0: let its range include 0, or write 'static var' with '=' and a first value: \
+                % isn't in %..%"
+            };
+            return Err(self.not_in(form, 0, range, spot));
         }
         let first = self.constant()?;
         if !may_begin {
-            let why =
-                " keeps its value: write 'static var' for one that is set at the start alone, or assign it below";
-            let texts = &["a variable of this ", self.home.text(), why];
-            return Err(wrong(self.alloc, spot, texts));
+            let form =
+                "a variable of this % keeps its value: write 'static var' for one that is set at the start alone, \
+                or assign it below";
+            return Err(wrong_about(self.alloc, spot, form, self.home.text(), ""));
         }
         if !range.holds(first) {
-            return Err(self.not_in("", first, range, spot)?);
+            return Err(self.not_in("% isn't in %..%", first, range, spot));
         }
         Ok(first)
     }
 
-    /// The fault that a variable without a first value begins at 0, which isn't in its range.
-    fn no_first(&self, range: Range, may_begin: bool, spot: Spot) -> Result<Fault, AllocError> {
-        let before = if may_begin {
-            "expected '=' and the first value: "
-        } else {
-            "this variable begins at 0: let its range include 0, or write 'static var' with '=' and a first value: "
-        };
-        self.not_in(before, 0, range, spot)
-    }
-
     /// The fault that a number isn't in a range.
-    fn not_in(
-        &self,
-        before: &str,
-        number: i64,
-        range: Range,
-        spot: Spot,
-    ) -> Result<Fault, AllocError> {
-        let (number, range) = (numeral(self.alloc, number)?, range.text(self.alloc)?);
-        let texts = &[before, number.as_str(), " isn't in ", range.as_str()];
-        Ok(wrong(self.alloc, spot, texts))
+    fn not_in(&self, form: &str, number: i64, range: Range, spot: Spot) -> Fault {
+        let words = &[
+            Word::Number(number),
+            Word::Number(range.low),
+            Word::Number(range.high),
+        ];
+        wrong_with(self.alloc, spot, form, words)
     }
 
     /// Adds a variable of the application, or one of a function: each actor that calls it gets its own.
@@ -339,9 +350,7 @@ impl<'a> Reader<'a> {
             .take("(", " and ')' after the name of a function")?;
         self.cursor.take(")", ": a function has no arguments")?;
         let place = self.program.bodies.len();
-        self.body(Home::Function, name, Owner::Function(place))?;
-        self.lines.place(0)?;
-        self.add_body()?;
+        self.body(Home::Function, name, Owner::Function(place), None)?;
         self.scope.add_outside(name.text, Meaning::Function(place))
     }
 
@@ -352,8 +361,12 @@ impl<'a> Reader<'a> {
             ActorKind::Interrupt => "the name of an interrupt",
         };
         let name = self.new_name(what)?;
-        if self.cursor.sees("(") && self.cursor.following().text != ")" {
-            self.check_parameter()?;
+        let parameter = self.cursor.following();
+        if self.cursor.sees("(") && parameter.text != ")" {
+            if parameter.text == "void" {
+                let text = "leave out '(void *p)': there are no types";
+                return Err(wrong(self.alloc, parameter.spot, text));
+            }
             return self.template(kind, name);
         }
         let count = self.program.actors.len();
@@ -363,18 +376,6 @@ impl<'a> Reader<'a> {
         } else {
             self.actor_here(kind, name, &[])
         }
-    }
-
-    /// Refuses the parameter that each task of C has.
-    fn check_parameter(&self) -> Result<(), Fault> {
-        let Token { text, spot, .. } = self.cursor.following();
-        if text == "void" {
-            return Err(
-                self.cursor
-                    .refused(spot, "leave out '(void *p)': there are no types"),
-            );
-        }
-        Ok(())
     }
 
     /// Reads an actor whose parameters, if it has any, and body are next.
@@ -393,11 +394,8 @@ impl<'a> Reader<'a> {
         if !values.is_empty() {
             self.give(values)?;
         }
-        let end = self.body(home, name, Owner::Actor(number))?;
-        self.lines.place(0)?;
-        self.lines.line(last, None, end)?;
         let body = self.program.bodies.len();
-        self.add_body()?;
+        let end = self.body(home, name, Owner::Actor(number), Some(last))?;
         self.program.actors.push(Actor {
             name: name.text,
             kind,
@@ -407,8 +405,14 @@ impl<'a> Reader<'a> {
         Ok(())
     }
 
-    /// Reads a body, and gives the place of its closing brace.
-    fn body(&mut self, home: Home, name: Token<'a>, owner: Owner) -> Result<Spot, Fault> {
+    /// Reads a body, keeps it with a last line after it, and gives the place of its closing brace.
+    fn body(
+        &mut self,
+        home: Home,
+        name: Token<'a>,
+        owner: Owner,
+        last: Option<Action>,
+    ) -> Result<Spot, Fault> {
         self.home = home;
         self.name = name.text;
         self.labels.clear();
@@ -425,13 +429,12 @@ impl<'a> Reader<'a> {
         let end = self.statements()?;
         self.check_labels()?;
         self.scope.inside.clear();
-        Ok(end)
-    }
-
-    /// Keeps the body that was read.
-    fn add_body(&mut self) -> Result<(), Fault> {
+        self.lines.place(0)?;
+        if let Some(action) = last {
+            self.lines.line(action, None, end)?;
+        }
         let Lines { body, .. } = mem::replace(&mut self.lines, Lines::new(self.alloc));
         self.program.bodies.push(body)?;
-        Ok(())
+        Ok(end)
     }
 }

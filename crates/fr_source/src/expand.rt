@@ -4,11 +4,12 @@
 ghost use Rattle.std.specs.Prelude.{◌≡◌};
 ghost use Rattle.fr_source.specs.Steps.{ends};
 
-use crate::fault::{Fault, Spot, said, wrong, wrong_about};
+use crate::fault::{Fault, Spot, wrong, wrong_about, wrong_with};
 use crate::program::{
     Action, Actor, Argument, Call, Item, MOST_ITEMS, MOST_VARIABLES, Operand, Owner, Program,
     Variable,
 };
+use crate::texts::Word;
 use std::alloc::Global;
 
 /// Where a line is in the source. In a function, `call` is the number of the call, among those of the actor.
@@ -77,6 +78,7 @@ struct Own {
 /// What writes out the body of an actor.
 #[derive(Drop)]
 struct Expander<'a> {
+    alloc: Global,
     actor: Actor<'a>,
     number: usize,
     items: usize,
@@ -91,6 +93,7 @@ struct Expander<'a> {
 impl<'a> Expander<'a> {
     fn new(alloc: Global, actor: Actor<'a>, number: usize) -> Expander<'a> {
         Expander {
+            alloc,
             actor,
             number,
             items: 0,
@@ -100,6 +103,27 @@ impl<'a> Expander<'a> {
             labels: Vec::new(alloc),
             own: Vec::new(alloc),
         }
+    }
+
+    /// Writes out the body of the actor.
+    fn write_out(&mut self, program: &mut Program<'a>) -> Result<(), Fault> {
+        self.enter(program, self.actor.body, None)?;
+        for _ in 0..=MOST_ITEMS * 4 {
+            if !self.step(program)? {
+                break;
+            }
+            if self.items > MOST_ITEMS {
+                let place = match self.lines.last() {
+                    Some(line) => line.place,
+                    None => Place {
+                        spot: self.actor.end,
+                        call: None,
+                    },
+                };
+                return Err(self.too_large(place));
+            }
+        }
+        Ok(())
     }
 
     /// Begins to write out a body.
@@ -127,7 +151,7 @@ impl<'a> Expander<'a> {
     }
 
     /// Writes out the next item of the innermost body, or leaves that body. Answers whether there is more.
-    fn step(&mut self, alloc: Global, program: &mut Program<'a>) -> Result<bool, Fault> {
+    fn step(&mut self, program: &mut Program<'a>) -> Result<bool, Fault> {
         let Some(frame) = self.frames.last().copied() else {
             return Ok(false);
         };
@@ -144,7 +168,6 @@ impl<'a> Expander<'a> {
             Item::Label(label) => self.label(frame, label),
             Item::Expand { function, spot } => {
                 self.expand(
-                    alloc,
                     program,
                     function,
                     Place {
@@ -160,15 +183,14 @@ impl<'a> Expander<'a> {
     /// Begins to write out a function that is called at a place.
     fn expand(
         &mut self,
-        alloc: Global,
         program: &mut Program<'a>,
         function: usize,
         place: Place,
     ) -> Result<(), Fault> {
         if self.items > MOST_ITEMS {
-            return Err(self.too_large(alloc, place));
+            return Err(self.too_large(place));
         }
-        self.copy_variables(alloc, program, function)?;
+        self.copy_variables(program, function)?;
         let call = self.calls.len();
         self.calls.push(place)?;
         self.enter(program, function, Some(call))
@@ -207,45 +229,37 @@ impl<'a> Expander<'a> {
     }
 
     /// Gives the actor its own variables of a function, unless it has them.
-    fn copy_variables(
-        &mut self,
-        alloc: Global,
-        program: &mut Program<'a>,
-        function: usize,
-    ) -> Result<(), Fault> {
+    fn copy_variables(&mut self, program: &mut Program<'a>, function: usize) -> Result<(), Fault> {
         for place in 0..MOST_VARIABLES {
             let Some(declared) = program.declared(function, place) else {
                 break;
             };
-            if self.copy_of(declared).is_none() {
-                self.copy_variable(alloc, program, declared)?;
+            if self.own_variable(declared) == declared {
+                self.copy_variable(program, declared)?;
             }
         }
         Ok(())
     }
 
     /// Gives the actor its own variable for one of a function.
-    fn copy_variable(
-        &mut self,
-        alloc: Global,
-        program: &mut Program<'a>,
-        declared: usize,
-    ) -> Result<(), Fault> {
-        let Some(variable) = program.variable(declared) else {
-            return Ok(());
-        };
+    fn copy_variable(&mut self, program: &mut Program<'a>, declared: usize) -> Result<(), Fault> {
+        let variable = program.variable(declared);
         if let (true, Owner::Actor(first)) = (variable.is_static, variable.owner) {
-            let (name, one, other) = (variable.name, program.actor_name(first), self.actor.name);
-            let text = format!(in alloc;
-                "'{name}' is static, and '{one}' and '{other}' call the function: in C they share it. Declare it outside, \
-                 as 'shared {name} in ..;'"
-            );
-            return Err(said(variable.spot, text));
+            let form =
+                "'%' is static, and '%' and '%' call the function: in C they share it. Declare it outside, \
+                 as 'shared % in ..;'";
+            let words = &[
+                Word::Text(variable.name),
+                Word::Text(program.actor_name(first)),
+                Word::Text(self.actor.name),
+                Word::Text(variable.name),
+            ];
+            return Err(wrong_with(self.alloc, variable.spot, form, words));
         }
         if program.written.len() >= MOST_VARIABLES {
             let text =
                 "there may be at most 64 variables, and each actor that calls this function has its own: this is one more";
-            return Err(wrong(alloc, variable.spot, &[text]));
+            return Err(wrong(self.alloc, variable.spot, text));
         }
         let copy = program.variables.len();
         program.variables.push(Variable {
@@ -260,22 +274,14 @@ impl<'a> Expander<'a> {
         Ok(())
     }
 
-    /// The actor's own variable for one of a function.
-    fn copy_of(&self, variable: usize) -> Option<usize> {
-        for own in &self.own {
-            if own.declared == variable {
-                return Some(own.copy);
-            }
-        }
-        None
-    }
-
     /// The actor's own variable for one of a function; any other variable itself.
     fn own_variable(&self, variable: usize) -> usize {
-        match self.copy_of(variable) {
-            Some(copy) => copy,
-            None => variable,
+        for own in &self.own {
+            if own.declared == variable {
+                return own.copy;
+            }
         }
+        variable
     }
 
     fn own_operand(&self, operand: Operand) -> Operand {
@@ -342,13 +348,18 @@ impl<'a> Expander<'a> {
     }
 
     /// The fault that an actor grows too large.
-    fn too_large(&self, alloc: Global, place: Place) -> Fault {
+    fn too_large(&self, place: Place) -> Fault {
         let spot = outermost(&self.calls, place);
-        let why =
-            "' grows to more than 4096 lines and labels: this construct passed the limit, and at most 512 lines \
+        let form =
+            "% '%' grows to more than 4096 lines and labels: this construct passed the limit, and at most 512 lines \
             may be left in the end";
-        let (kind, name) = (self.actor.kind.text(), self.actor.name);
-        wrong_about(alloc, spot, kind, " '", name, why, "")
+        wrong_about(
+            self.alloc,
+            spot,
+            form,
+            self.actor.kind.text(),
+            self.actor.name,
+        )
     }
 
     /// The lines, with the lines that their labels are before.
@@ -396,21 +407,6 @@ pub(crate) fn code_of<'a>(
     number: usize,
 ) -> Result<Code, Fault> {
     let mut expander = Expander::new(alloc, actor, number);
-    expander.enter(program, actor.body, None)?;
-    for _ in 0..=MOST_ITEMS * 4 {
-        if !expander.step(alloc, program)? {
-            break;
-        }
-        if expander.items > MOST_ITEMS {
-            let place = match expander.lines.last() {
-                Some(line) => line.place,
-                None => Place {
-                    spot: actor.end,
-                    call: None,
-                },
-            };
-            return Err(expander.too_large(alloc, place));
-        }
-    }
+    expander.write_out(program)?;
     Ok(expander.finished())
 }

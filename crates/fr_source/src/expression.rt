@@ -1,14 +1,13 @@
 // Expressions, read with the precedence of C. What is waiting for its right side is on a list, and no call goes into
 // itself: so the depth of brackets costs no stack.
 
-use crate::cursor::clipped;
-use crate::fault::{Fault, Spot, wrong, wrong_about};
+use crate::fault::{Fault, Spot, wrong, wrong_about, wrong_with};
 use crate::kernel::value_of;
 use crate::lines::Condition;
 use crate::program::{Action, Arithmetic, Call, Comparison, Operand, Range};
 use crate::reader::Reader;
 use crate::scope::Meaning;
-use crate::texts::numeral;
+use crate::texts::Word;
 use crate::token::{Kind, Token};
 use std::alloc::Global;
 
@@ -63,14 +62,12 @@ pub(crate) enum Operator {
 impl Operator {
     /// The operator that the sign is.
     fn of(sign: &str) -> Option<Operator> {
-        match sign {
-            "||" => Some(Operator::Or),
-            "&&" => Some(Operator::And),
-            _ => match comparison_of(sign) {
-                Some(comparison) => Some(Operator::Compare(comparison)),
-                None => Some(Operator::Arithmetic(arithmetic_of(sign)?)),
-            },
+        for (text, operator) in &OPERATORS {
+            if *text == sign {
+                return Some(*operator);
+            }
         }
+        None
     }
 
     /// The operator of a greater level binds first.
@@ -85,28 +82,22 @@ impl Operator {
     }
 }
 
-fn comparison_of(sign: &str) -> Option<Comparison> {
-    match sign {
-        "==" => Some(Comparison::Equal),
-        "!=" => Some(Comparison::Unequal),
-        "<" => Some(Comparison::Less),
-        "<=" => Some(Comparison::AtMost),
-        ">" => Some(Comparison::Greater),
-        ">=" => Some(Comparison::AtLeast),
-        _ => None,
-    }
-}
-
-fn arithmetic_of(sign: &str) -> Option<Arithmetic> {
-    match sign {
-        "+" => Some(Arithmetic::Plus),
-        "-" => Some(Arithmetic::Minus),
-        "*" => Some(Arithmetic::Times),
-        "/" => Some(Arithmetic::Divide),
-        "%" => Some(Arithmetic::Remainder),
-        _ => None,
-    }
-}
+/// The signs of all operators.
+static OPERATORS: [(&str, Operator); 13] = [
+    ("||", Operator::Or),
+    ("&&", Operator::And),
+    ("==", Operator::Compare(Comparison::Equal)),
+    ("!=", Operator::Compare(Comparison::Unequal)),
+    ("<", Operator::Compare(Comparison::Less)),
+    ("<=", Operator::Compare(Comparison::AtMost)),
+    (">", Operator::Compare(Comparison::Greater)),
+    (">=", Operator::Compare(Comparison::AtLeast)),
+    ("+", Operator::Arithmetic(Arithmetic::Plus)),
+    ("-", Operator::Arithmetic(Arithmetic::Minus)),
+    ("*", Operator::Arithmetic(Arithmetic::Times)),
+    ("/", Operator::Arithmetic(Arithmetic::Divide)),
+    ("%", Operator::Arithmetic(Arithmetic::Remainder)),
+];
 
 /// What is waiting for what is right of it: an operator, or an open bracket. `Ticks` is that of pdMS_TO_TICKS, and
 /// `Given` that of `(x = ..)`.
@@ -120,25 +111,19 @@ enum Waiting {
     Given { variable: usize, spot: Spot },
 }
 
-/// What an expression may have: operators on numbers alone, or conditions too.
-#[derive(Clone, Copy)]
-enum Extent {
-    Arithmetic,
-    Everything,
-}
-
 /// The terms and operators that are read, and not yet joined.
 #[derive(Drop)]
 struct Yard {
-    extent: Extent,
+    /// Whether conditions may be among them, and not numbers alone.
+    is_of_tests: bool,
     terms: Vec<Term>,
     waiting: Vec<Waiting>,
 }
 
 impl Yard {
-    fn new(alloc: Global, extent: Extent) -> Yard {
+    fn new(alloc: Global, is_of_tests: bool) -> Yard {
         Yard {
-            extent,
+            is_of_tests,
             terms: Vec::new(alloc),
             waiting: Vec::new(alloc),
         }
@@ -155,10 +140,15 @@ impl Yard {
         depth
     }
 
-    fn is_of_tests(&self) -> bool {
-        matches!(self.extent, Extent::Everything)
+    /// Keeps a term.
+    fn keep(&mut self, value: Value, spot: Spot) -> Result<(), Fault> {
+        self.terms.push(Term { value, spot })?;
+        Ok(())
     }
 }
+
+/// The most operators of a statement.
+const MOST_OPERATORS: usize = 256;
 
 /// The text of the number below all others of 64 bits, without its sign.
 const LEAST: &str = "9223372036854775808";
@@ -187,42 +177,56 @@ fn computed(left: i64, sign: Arithmetic, right: i64) -> Option<i64> {
 impl<'a> Reader<'a> {
     /// Reads an expression.
     pub(crate) fn expression(&mut self) -> Result<Term, Fault> {
-        let mut yard = Yard::new(self.alloc, Extent::Everything);
+        let mut yard = Yard::new(self.alloc, true);
+        self.read_expression(&mut yard)
+    }
+
+    fn read_expression(&mut self, yard: &mut Yard) -> Result<Term, Fault> {
         for _ in 0..=self.cursor.left() {
-            if self.prefix(&mut yard)? {
+            if self.prefix(yard)? {
                 continue;
             }
             let term = self.operand()?;
-            yard.terms.push(term)?;
-            self.settle(&mut yard)?;
-            if !self.assignment(&mut yard)? && !self.infix(&mut yard)? {
+            if self.ends_after(yard, term)? {
                 break;
             }
         }
-        self.finished(&mut yard)
+        self.finished(yard)
     }
 
     /// Reads an expression of numbers, and of a variable.
     fn arithmetic(&mut self) -> Result<Term, Fault> {
-        let mut yard = Yard::new(self.alloc, Extent::Arithmetic);
+        let mut yard = Yard::new(self.alloc, false);
+        self.read_arithmetic(&mut yard)
+    }
+
+    fn read_arithmetic(&mut self, yard: &mut Yard) -> Result<Term, Fault> {
         for _ in 0..=self.cursor.left() {
-            if self.prefix(&mut yard)? {
+            if self.prefix(yard)? {
                 continue;
             }
             let term = self.plain_operand()?;
-            yard.terms.push(term)?;
-            self.settle(&mut yard)?;
-            if !self.infix(&mut yard)? {
+            if self.ends_after(yard, term)? {
                 break;
             }
         }
-        self.finished(&mut yard)
+        self.finished(yard)
+    }
+
+    /// Keeps a term, with what is after it. Answers whether the expression ends there.
+    fn ends_after(&mut self, yard: &mut Yard, term: Term) -> Result<bool, Fault> {
+        yard.terms.push(term)?;
+        self.settle(yard)?;
+        if self.assignment(yard)? {
+            return Ok(false);
+        }
+        self.infix(yard)
     }
 
     /// Takes an operator before a term, or an opening bracket, if it is next.
     fn prefix(&mut self, yard: &mut Yard) -> Result<bool, Fault> {
         let Token { text, spot, .. } = self.cursor.token();
-        let waiting = if text == "!" && yard.is_of_tests() {
+        let waiting = if text == "!" && yard.is_of_tests {
             Waiting::Not(spot)
         } else if text == "-" && self.cursor.following().text != LEAST {
             Waiting::Minus(spot)
@@ -247,32 +251,34 @@ impl<'a> Reader<'a> {
         let token = self.cursor.token();
         let Token { text, spot, .. } = token;
         if text == "any" {
-            self.cursor.advance();
             return self.any(spot);
         }
         if text == "NULL" {
             self.cursor.advance();
-            return Ok(Term {
-                value: Value::Null,
-                spot,
-            });
+            let value = Value::Null;
+            return Ok(Term { value, spot });
         }
-        if self.cursor.is_at_word() && self.cursor.following().text == "(" {
-            self.cursor.advance();
-            if let Some(Meaning::Function(_)) = self.scope.meaning(text) {
-                let why = "' is a function and answers nothing: let it set a variable";
-                return Err(wrong(self.alloc, spot, &["'", clipped(text), why]));
-            }
-            return Ok(Term {
-                value: Value::Called(self.kernel_call(token)?),
-                spot,
-            });
+        if self.cursor.is_before("(") {
+            return self.called_operand(token);
         }
         self.plain_operand()
     }
 
+    /// Takes a call.
+    fn called_operand(&mut self, token: Token<'a>) -> Result<Term, Fault> {
+        let Token { text, spot, .. } = token;
+        self.cursor.advance();
+        if let Some(Meaning::Function(_)) = self.scope.meaning(text) {
+            let form = "'%' is a function and answers nothing: let it set a variable";
+            return Err(wrong_about(self.alloc, spot, form, text, ""));
+        }
+        let value = Value::Called(self.kernel_call(token)?);
+        Ok(Term { value, spot })
+    }
+
     /// Takes the two numbers of an `any`.
     fn any(&mut self, spot: Spot) -> Result<Term, Fault> {
+        self.cursor.advance();
         self.cursor
             .take("(", " and two numbers, as in 'any(0, 1)'")?;
         let low = self.constant()?;
@@ -280,14 +286,13 @@ impl<'a> Reader<'a> {
         let high_spot = self.cursor.spot();
         let high = self.constant()?;
         if low > high {
-            let (low, high) = (numeral(self.alloc, low)?, numeral(self.alloc, high)?);
-            let texts = &[
-                "there is no number from ",
-                low.as_str(),
-                " to ",
-                high.as_str(),
-            ];
-            return Err(wrong(self.alloc, high_spot, texts));
+            let words = &[Word::Number(low), Word::Number(high)];
+            return Err(wrong_with(
+                self.alloc,
+                high_spot,
+                "there is no number from % to %",
+                words,
+            ));
         }
         self.cursor.take(")", "")?;
         Ok(Term {
@@ -309,8 +314,8 @@ impl<'a> Reader<'a> {
             Kind::Number => match number_in(text) {
                 Some(number) => Value::Number(number),
                 None => {
-                    let texts = &[clipped(text), " doesn't fit in 64 bits"];
-                    return Err(wrong(self.alloc, spot, texts));
+                    let form = "% doesn't fit in 64 bits";
+                    return Err(wrong_about(self.alloc, spot, form, text, ""));
                 }
             },
             Kind::Word => self.named_operand(token)?,
@@ -337,9 +342,8 @@ impl<'a> Reader<'a> {
             Meaning::Constant(number) => Ok(Value::Number(number)),
             Meaning::Variable(variable) => Ok(Value::Variable(variable)),
             meaning => {
-                let why = ", and a variable or a number is expected";
-                let (shown, kind, is_of) = (clipped(text), meaning.text(), "' is the name of ");
-                Err(wrong_about(self.alloc, spot, "'", shown, is_of, kind, why))
+                let form = "'%' is the name of %, and a variable or a number is expected";
+                Err(wrong_about(self.alloc, spot, form, text, meaning.text()))
             }
         }
     }
@@ -348,18 +352,8 @@ impl<'a> Reader<'a> {
     fn settle(&mut self, yard: &mut Yard) -> Result<(), Fault> {
         for _ in 0..=yard.waiting.len() {
             match yard.waiting.last().copied() {
-                Some(Waiting::Not(spot)) => {
-                    let _ = yard.waiting.pop();
-                    self.negate(yard, spot)?;
-                }
-                Some(Waiting::Minus(spot)) => {
-                    let _ = yard.waiting.pop();
-                    yard.terms.push(Term {
-                        value: Value::Number(0),
-                        spot,
-                    })?;
-                    self.join_turned(yard, spot)?;
-                }
+                Some(Waiting::Not(spot)) => self.negate(yard, spot)?,
+                Some(Waiting::Minus(spot)) => self.take_from_zero(yard, spot)?,
                 // An operator before a term is joined as soon as the term is there: so what is left is an open bracket.
                 _ if self.cursor.sees(")") && yard.depth() > 0 => self.close(yard)?,
                 _ => break,
@@ -370,26 +364,27 @@ impl<'a> Reader<'a> {
 
     /// Makes the condition at the end of the terms its opposite.
     fn negate(&mut self, yard: &mut Yard, spot: Spot) -> Result<(), Fault> {
+        let _ = yard.waiting.pop();
         let Some(term) = yard.terms.pop() else {
             return Ok(());
         };
         let part = self.test_of(term)?;
         let test = self.lines.test(Condition::Not(part), spot)?;
-        yard.terms.push(Term {
-            value: Value::Test(test),
-            spot,
-        })?;
-        Ok(())
+        yard.keep(Value::Test(test), spot)
     }
 
-    /// Joins the two last terms, the last one to the left, by a minus.
-    fn join_turned(&mut self, yard: &mut Yard, spot: Spot) -> Result<(), Fault> {
-        let (Some(left), Some(right)) = (yard.terms.pop(), yard.terms.pop()) else {
+    /// Takes the last term from zero.
+    fn take_from_zero(&mut self, yard: &mut Yard, spot: Spot) -> Result<(), Fault> {
+        let _ = yard.waiting.pop();
+        let Some(term) = yard.terms.pop() else {
             return Ok(());
         };
-        let term = self.binary(left, Arithmetic::Minus, right, spot)?;
-        yard.terms.push(term)?;
-        Ok(())
+        let zero = Term {
+            value: Value::Number(0),
+            spot,
+        };
+        let Term { value, spot } = self.binary(zero, Arithmetic::Minus, term, spot)?;
+        yard.keep(value, spot)
     }
 
     /// Takes the bracket that closes the innermost open one.
@@ -412,28 +407,30 @@ impl<'a> Reader<'a> {
     fn ticks(&self, term: Term) -> Result<Term, Fault> {
         let Term { value, spot } = term;
         let Some(Meaning::Constant(rate)) = self.scope.meaning("configTICK_RATE_HZ") else {
-            return Err(
-                self.cursor.refused(
-                    spot,
-                    "pdMS_TO_TICKS needs 'const configTICK_RATE_HZ = ..;' above",
-                ),
-            );
+            return Err(wrong(
+                self.alloc,
+                spot,
+                "pdMS_TO_TICKS needs 'const configTICK_RATE_HZ = ..;' above",
+            ));
         };
         let Value::Number(time) = value else {
-            return Err(self.cursor.refused(spot, "expected a number or a constant"));
+            return Err(wrong(self.alloc, spot, "expected a number or a constant"));
         };
         match time.checked_mul(rate) {
             Some(product) => Ok(Term {
                 value: Value::Number(product.div_euclid(1000)),
                 spot,
             }),
-            None => Err(self.cursor.refused(spot, "this doesn't fit in 64 bits")),
+            None => Err(wrong(self.alloc, spot, "this doesn't fit in 64 bits")),
         }
     }
 
     /// Takes the `=` of `(x = ..)`, if it is next and only `(x` is before it.
     fn assignment(&mut self, yard: &mut Yard) -> Result<bool, Fault> {
-        if !self.cursor.sees("=") || !matches!(yard.waiting.last(), Some(Waiting::Bracket)) {
+        if !yard.is_of_tests
+            || !self.cursor.sees("=")
+            || !matches!(yard.waiting.last(), Some(Waiting::Bracket))
+        {
             return Ok(false);
         }
         let Some(
@@ -452,30 +449,35 @@ impl<'a> Reader<'a> {
         Ok(true)
     }
 
-    /// Takes an operator between two terms, if it is next.
+    /// Takes an operator between two terms, if it is next. Answers whether none is.
     fn infix(&mut self, yard: &mut Yard) -> Result<bool, Fault> {
         let Token { text, spot, .. } = self.cursor.token();
         let Some(operator) = Operator::of(text) else {
-            return Ok(false);
+            return Ok(true);
         };
-        if operator.level() < 4 && !yard.is_of_tests() {
-            return Ok(false);
+        if operator.level() < 4 && !yard.is_of_tests {
+            return Ok(true);
         }
         self.cursor.advance();
-        self.count_operator(spot)?;
+        self.operators = self.operators.saturating_add(1);
+        if self.operators > MOST_OPERATORS {
+            let text = "more than 256 operators in one statement";
+            return Err(wrong(self.alloc, spot, text));
+        }
         self.join(yard, operator.level().saturating_add(1))?;
         if let (Operator::Compare(_), Some(Waiting::Infix(Operator::Compare(_), _))) = (
             operator,
             yard.waiting.last(),
         ) {
-            return Err(
-                self.cursor
-                    .refused(spot, "a comparison of a comparison: join two with '&&'"),
-            );
+            return Err(wrong(
+                self.alloc,
+                spot,
+                "a comparison of a comparison: join two with '&&'",
+            ));
         }
         self.join(yard, operator.level())?;
         yard.waiting.push(Waiting::Infix(operator, spot))?;
-        Ok(true)
+        Ok(false)
     }
 
     /// Joins terms by the operators of this level and above, up to the innermost open bracket.
@@ -538,12 +540,11 @@ impl<'a> Reader<'a> {
             } else {
                 left.spot
             };
-            return Err(
-                self.cursor.refused(
-                    spot,
-                    "one line has one operator at most: give a part of this to a variable first",
-                ),
-            );
+            return Err(wrong(
+                self.alloc,
+                spot,
+                "one line has one operator at most: give a part of this to a variable first",
+            ));
         };
         match (first, second) {
             (Operand::Number(one), Operand::Number(other)) => self.worked_out(
@@ -573,14 +574,14 @@ impl<'a> Reader<'a> {
     ) -> Result<Term, Fault> {
         let (first, spot) = spots;
         if other == 0 && matches!(sign, Arithmetic::Divide | Arithmetic::Remainder) {
-            return Err(self.cursor.refused(spot, "division by zero"));
+            return Err(wrong(self.alloc, spot, "division by zero"));
         }
         match computed(one, sign, other) {
             Some(number) => Ok(Term {
                 value: Value::Number(number),
                 spot: first,
             }),
-            None => Err(self.cursor.refused(spot, "this doesn't fit in 64 bits")),
+            None => Err(wrong(self.alloc, spot, "this doesn't fit in 64 bits")),
         }
     }
 
@@ -604,7 +605,7 @@ impl<'a> Reader<'a> {
                 } else {
                     "expected a number or a constant"
                 };
-                Err(self.cursor.refused(term.spot, text))
+                Err(wrong(self.alloc, term.spot, text))
             }
         }
     }
@@ -617,8 +618,13 @@ impl<'a> Reader<'a> {
         if range.holds(number) {
             return Ok(number);
         }
-        let text = format!(in self.alloc; "{what} is from {low} to {high}, and this is {number}")?;
-        Err(self.cursor.refused(spot, text.as_str()))
+        let words = &[
+            Word::Text(what),
+            Word::Number(low),
+            Word::Number(high),
+            Word::Number(number),
+        ];
+        Err(wrong_with(self.alloc, spot, "% is from % to %, and this is %", words))
     }
 
     /// Reads a number or a variable.
@@ -626,10 +632,7 @@ impl<'a> Reader<'a> {
         let term = self.arithmetic()?;
         match term.operand() {
             Some(operand) => Ok(operand),
-            None => Err(
-                self.cursor
-                    .refused(term.spot, "expected a number or a variable"),
-            ),
+            None => Err(wrong(self.alloc, term.spot, "expected a number or a variable")),
         }
     }
 }

@@ -1,6 +1,6 @@
 // Why a source is refused, and where.
 
-use crate::texts::joined;
+use crate::texts::{Word, filled};
 use std::alloc::{AllocError, AllocFailed, Global};
 
 /// A place in the source: its line and its column, from 1. A column is a character.
@@ -31,9 +31,12 @@ impl<T: Drop> From<AllocFailed<T>> for Fault {
     }
 }
 
-/// The fault that some texts, one after another, say is at a place.
-pub(crate) fn wrong(alloc: Global, spot: Spot, texts: &[&str]) -> Fault {
-    said(spot, joined(alloc, texts))
+/// The most characters of a word that a message repeats.
+const MOST_REPEATED: usize = 40;
+
+/// The text, cut where it is too long for a message.
+pub(crate) fn clipped(text: &str) -> &str {
+    text.get(..MOST_REPEATED).unwrap_or(text)
 }
 
 /// The fault that a text says is at a place.
@@ -44,15 +47,28 @@ pub(crate) fn said(spot: Spot, text: Result<String, AllocError>) -> Fault {
     }
 }
 
-/// The fault at a place that five texts say, each of which may be borrowed from somewhere else.
+/// The fault of a fixed text at a place.
+pub(crate) fn wrong(alloc: Global, spot: Spot, text: &str) -> Fault {
+    said(spot, String::from_str(alloc, text))
+}
+
+/// The fault that a form says is at a place, with its words.
+pub(crate) fn wrong_with(alloc: Global, spot: Spot, form: &str, words: &[Word<'_>]) -> Fault {
+    said(spot, filled(alloc, form, words))
+}
+
+/// The same with one or two texts as its words: the first one is cut where it is too long.
 pub(crate) fn wrong_about(
     alloc: Global,
     spot: Spot,
+    form: &str,
     first: &str,
     second: &str,
-    third: &str,
-    fourth: &str,
-    fifth: &str,
 ) -> Fault {
-    wrong(alloc, spot, &[first, second, third, fourth, fifth])
+    wrong_with(
+        alloc,
+        spot,
+        form,
+        &[Word::Text(clipped(first)), Word::Text(second)],
+    )
 }

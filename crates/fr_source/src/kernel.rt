@@ -2,6 +2,7 @@
 
 use crate::near::is_near;
 use crate::program::ObjectKind;
+use std::alloc::{AllocError, Global};
 
 /// What is in an argument's place.
 #[derive(Clone, Copy)]
@@ -62,6 +63,16 @@ impl Kernel {
             }
         }
         false
+    }
+
+    /// The kinds of objects that the call is for.
+    pub(crate) fn kinds_text(&self, alloc: Global) -> Result<String, AllocError> {
+        let mut text = String::new(alloc);
+        for one in self.kinds {
+            text.push_str(if text.is_empty() { "" } else { ", " })?;
+            text.push_str(one.text())?;
+        }
+        Ok(text)
     }
 
     /// Whether the call is for interrupts alone.
@@ -126,9 +137,13 @@ static CALLS: [Kernel; 40] = rows! {
     "xMessageBufferReset"            [Object] [Message] Success;
 };
 
+fn calls() -> &'static [Kernel] {
+    &CALLS
+}
+
 /// The call of the kernel with this name.
 pub(crate) fn kernel_named(name: &str) -> Option<&'static Kernel> {
-    for row in &CALLS {
+    for row in calls() {
         if row.name == name {
             return Some(row);
         }
@@ -138,7 +153,7 @@ pub(crate) fn kernel_named(name: &str) -> Option<&'static Kernel> {
 
 /// The name of a call of the kernel that a word is near to.
 pub(crate) fn kernel_near(word: &str) -> Option<&'static str> {
-    for row in &CALLS {
+    for row in calls() {
         if is_near(word, row.name) {
             return Some(row.name);
         }

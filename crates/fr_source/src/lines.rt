@@ -185,26 +185,19 @@ impl Lines {
         };
         let Branch { spot, yes, no, .. } = branch;
         match condition {
-            Condition::Not(part) => tasks.push(Task::Branch(Branch {
-                test: part,
-                yes: no,
-                no: yes,
-                ..branch
-            }))?,
-            Condition::And(first, second) => self.branch_twice(
-                tasks,
-                branch,
-                (first, second),
-                true,
-            )?,
-            Condition::Or(first, second) => self.branch_twice(
-                tasks,
-                branch,
-                (first, second),
-                false,
-            )?,
-            Condition::Works(call) => self.branch_on_call(branch, call)?,
-            Condition::Always(holds) => self.goto(if holds { yes } else { no }, spot)?,
+            Condition::Not(part) => {
+                tasks.push(Task::Branch(Branch {
+                    test: part,
+                    yes: no,
+                    no: yes,
+                    ..branch
+                }))?;
+                Ok(())
+            }
+            Condition::And(one, other) => self.branch_twice(tasks, branch, (one, other), true),
+            Condition::Or(one, other) => self.branch_twice(tasks, branch, (one, other), false),
+            Condition::Works(call) => self.branch_on_call(branch, call),
+            Condition::Always(holds) => self.goto(if holds { yes } else { no }, spot),
             Condition::Compare {
                 before,
                 left,
@@ -214,10 +207,9 @@ impl Lines {
                 if let Some(action) = before {
                     self.line(action, None, spot)?;
                 }
-                self.branch_on_comparison(branch, left, comparison, right)?;
+                self.branch_on_comparison(branch, left, comparison, right)
             }
         }
-        Ok(())
     }
 
     /// Makes a call, and goes to `yes` if it works, else to `no`.

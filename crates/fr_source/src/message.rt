@@ -1,7 +1,8 @@
 // What is printed of a source that is refused, or of a line of it that is left out.
 
 use crate::fault::{Fault, Spot};
-use crate::source::Source;
+use crate::source::{Source, plain};
+use crate::texts::{Word, filled, push_filled};
 use std::alloc::{AllocError, AllocFailed, Global};
 
 /// A place in a source, and what is to be said of it. All texts are printable ASCII and tabs.
@@ -92,14 +93,20 @@ impl Message {
     ///
     /// Only where memory is refused.
     pub fn report(&self, alloc: Global, file: &str) -> Result<String, AllocError> {
-        let file = crate::source::plain(alloc, file.as_bytes())?;
+        let mut report = plain(alloc, file.as_bytes())?;
         let Message {
             line,
             column,
             text,
             ..
         } = self;
-        format!(in alloc; "{file}:{line}:{column}: {text}")
+        let words = &[
+            Word::Count(*line),
+            Word::Count(*column),
+            Word::Text(text.as_str()),
+        ];
+        push_filled(alloc, &mut report, ":%:%: %", words)?;
+        Ok(report)
     }
 
     /// The lines to print below that: the line of the source with its number, and the mark under the place.
@@ -114,11 +121,16 @@ impl Message {
             mark,
             ..
         } = self;
-        let number = format!(in alloc; "{line:>3}")?;
-        let width = number.len();
+        let before = match *line {
+            0..=9 => 2,
+            10..=99 => 1,
+            _ => 0,
+        };
+        let number = filled(alloc, "%%", &[Word::Blanks(before), Word::Count(*line)])?;
+        let (numbered, marked) = (Word::Text(number.as_str()), Word::Blanks(number.len()));
         Ok([
-            format!(in alloc; "{number} | {shown}")?,
-            format!(in alloc; "{:width$} | {mark}", "")?,
+            filled(alloc, "% | %", &[numbered, Word::Text(shown.as_str())])?,
+            filled(alloc, "% | %", &[marked, Word::Text(mark.as_str())])?,
         ])
     }
 }

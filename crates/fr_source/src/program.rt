@@ -6,7 +6,7 @@ ghost use Rattle.fr_source.specs.Kept.{inverse, turned};
 
 use crate::fault::Spot;
 use crate::kernel::Kernel;
-use std::alloc::{AllocError, Global};
+use std::alloc::Global;
 
 /// The most variables of an application.
 pub(crate) const MOST_VARIABLES: usize = 64;
@@ -29,12 +29,6 @@ impl Range {
     /// Whether every number of another range is in this one.
     pub(crate) fn includes(self, other: Range) -> bool {
         self.low <= other.low && other.high <= self.high
-    }
-
-    /// The range as the source writes it.
-    pub(crate) fn text(self, alloc: Global) -> Result<String, AllocError> {
-        let Range { low, high } = self;
-        format!(in alloc; "{low}..{high}")
     }
 }
 
@@ -218,12 +212,11 @@ pub(crate) enum Argument {
     Null,
 }
 
-/// A call of the kernel with its arguments. `length` is the greatest number that it can answer.
+/// A call of the kernel with its arguments.
 #[derive(Clone, Copy)]
 pub(crate) struct Call {
     pub(crate) kernel: &'static Kernel,
     pub(crate) arguments: [Argument; 3],
-    pub(crate) length: i64,
 }
 
 /// What a line of the application does. Where an `If`, a `Goto` or a failed call goes is kept beside it. `End` is the
@@ -369,8 +362,20 @@ impl<'a> Program<'a> {
         }
     }
 
-    pub(crate) fn variable(&self, place: usize) -> Option<Variable<'a>> {
-        self.variables.get(place).copied()
+    /// The variable in this place. There is always one.
+    pub(crate) fn variable(&self, place: usize) -> Variable<'a> {
+        match self.variables.get(place) {
+            Some(variable) => *variable,
+            None => Variable {
+                name: "",
+                spot: Spot { line: 1, column: 1 },
+                range: Range { low: 0, high: 0 },
+                first: 0,
+                owner: Owner::Everyone,
+                is_static: false,
+                function: None,
+            },
+        }
     }
 
     pub(crate) fn is_shared(&self, place: usize) -> bool
@@ -403,6 +408,14 @@ impl<'a> Program<'a> {
         match operand {
             Operand::Number(_) => false,
             Operand::Variable(variable) => self.is_shared(variable),
+        }
+    }
+
+    /// The name of the object in this place.
+    pub(crate) fn object_name(&self, place: usize) -> &'a str {
+        match self.objects.get(place) {
+            Some(object) => object.name,
+            None => "",
         }
     }
 

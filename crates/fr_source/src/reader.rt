@@ -1,25 +1,22 @@
 // What reads a source: its tokens, the names so far, and the body that is being read.
 
-use crate::cursor::{Cursor, clipped};
-use crate::fault::{Fault, Spot, said, wrong, wrong_about};
+use crate::cursor::Cursor;
+use crate::fault::{Fault, Spot, wrong, wrong_about, wrong_with};
 use crate::kernel::{Kernel, TYPES, is_among, is_reserved, kernel_named};
 use crate::lines::Lines;
 use crate::open::{Case, Open};
-use crate::program::{Program, Variable};
+use crate::program::Program;
 use crate::scope::{Meaning, Scope};
 use crate::template::Template;
-use crate::texts::joined;
+use crate::texts::Word;
 use crate::token::Token;
-use std::alloc::{AllocError, Global};
+use std::alloc::Global;
 
 /// The most characters of a name.
 const LONGEST_NAME: usize = 32;
 
 /// The most constructs and brackets inside one another.
 pub(crate) const DEEPEST: usize = 40;
-
-/// The most operators of a statement.
-const MOST_OPERATORS: usize = 256;
 
 /// Whose body is read.
 #[derive(Clone, Copy)]
@@ -92,113 +89,93 @@ impl<'a> Reader<'a> {
         }
     }
 
-    /// Counts an operator of this statement.
-    pub(crate) fn count_operator(&mut self, spot: Spot) -> Result<(), Fault> {
-        self.operators = self.operators.saturating_add(1);
-        if self.operators > MOST_OPERATORS {
-            return Err(
-                self.cursor
-                    .refused(spot, "more than 256 operators in one statement"),
-            );
-        }
-        Ok(())
-    }
-
     /// Refuses what is too deep: so many brackets in the constructs that are open.
     pub(crate) fn check_depth(&self, brackets: usize, spot: Spot) -> Result<(), Fault> {
         if self.open.len().saturating_add(brackets) > DEEPEST {
-            return Err(self.cursor.refused(spot, "nested more than 40 deep"));
+            return Err(wrong(self.alloc, spot, "nested more than 40 deep"));
         }
         Ok(())
     }
 
     /// Takes the name of something new. `what` is what is expected.
     pub(crate) fn new_name(&mut self, what: &str) -> Result<Token<'a>, Fault> {
-        let token = self.cursor.token();
+        let token = self.cursor.word(what)?;
         let Token { text, spot, .. } = token;
-        if !self.cursor.is_at_word() {
-            return Err(self.cursor.expected(what));
-        }
         if is_reserved(text) || kernel_named(text).is_some() {
-            let why = "' is a word of this notation or of the kernel: choose another name";
-            return Err(wrong(self.alloc, spot, &["'", clipped(text), why]));
+            let form = "'%' is a word of this notation or of the kernel: choose another name";
+            return Err(wrong_about(self.alloc, spot, form, text, ""));
         }
         if text.len() > LONGEST_NAME {
-            let length = text.len();
-            let why = format!(in self.alloc;
-                "a name has at most 32 characters, this one {length}"
-            )?;
-            return Err(self.cursor.refused(spot, why.as_str()));
+            let form = "a name has at most 32 characters, this one %";
+            return Err(wrong_with(self.alloc, spot, form, &[Word::Count(text.len())]));
         }
-        if let Some(meaning) = self.scope.meaning(text) {
-            let (already, kind) = ("' is already the name of ", meaning.text());
-            return Err(wrong_about(self.alloc, spot, "'", text, already, kind, ""));
+        match self.scope.meaning(text) {
+            Some(meaning) => {
+                let form = "'%' is already the name of %";
+                Err(wrong_about(self.alloc, spot, form, text, meaning.text()))
+            }
+            None => Ok(token),
         }
-        self.cursor.advance();
-        Ok(token)
     }
 
     /// What a name means here.
     pub(crate) fn meaning_of(&self, token: Token<'a>) -> Result<Meaning, Fault> {
         match self.scope.meaning(token.text) {
             Some(meaning) => Ok(meaning),
-            None if kernel_named(token.text).is_some() => {
-                let why =
-                    "' is a call: make it a statement of its own, as in 'f(..);' or 'x = f(..);'";
-                Err(wrong(self.alloc, token.spot, &["'", clipped(token.text), why]))
-            }
-            None if token.text == "any" => Err(
-                self.cursor.refused(
-                    token.spot,
-                    "any(..) stands alone after '=': write 'n = any(0, 3);' first, with a variable",
-                ),
-            ),
-            None => {
-                let why = self.why_undeclared(token.text)?;
-                let texts = &["'", clipped(token.text), "' isn't declared", why.as_str()];
-                Err(wrong(self.alloc, token.spot, texts))
-            }
+            None => Err(self.undeclared(token)),
         }
     }
 
-    /// What is said of a name that isn't declared.
-    fn why_undeclared(&self, name: &str) -> Result<String, AllocError> {
-        if is_among(name, &TYPES) {
-            return String::from_str(self.alloc, ": there are no types, write 'var n in 0..9;'");
-        }
-        if name == "portTICK_PERIOD_MS" {
-            let why = ": write pdMS_TO_TICKS(500) for 500 milliseconds";
-            return String::from_str(self.alloc, why);
-        }
-        let near = self.scope.near(name);
-        match self.call {
-            Some(kernel) if near.is_none() && self.is_surplus(kernel) => {
-                let shape = self.shape(kernel)?;
-                joined(
-                    self.alloc,
-                    &[": data pointers are left out, as in ", shape.as_str()],
-                )
+    /// The fault that a name isn't declared.
+    fn undeclared(&self, token: Token<'a>) -> Fault {
+        let Token { text, spot, .. } = token;
+        let (form, more) = if kernel_named(text).is_some() {
+            (
+                "'%' is a call: make it a statement of its own, as in 'f(..);' or 'x = f(..);'",
+                "",
+            )
+        } else if text == "any" {
+            (
+                "any(..) stands alone after '=': write 'n = any(0, 3);' first, with a variable",
+                "",
+            )
+        } else if is_among(text, &TYPES) {
+            (
+                "'%' isn't declared: there are no types, write 'var n in 0..9;'",
+                "",
+            )
+        } else if text == "portTICK_PERIOD_MS" {
+            (
+                "'%' isn't declared: write pdMS_TO_TICKS(500) for 500 milliseconds",
+                "",
+            )
+        } else {
+            match (self.scope.near(text), self.call) {
+                (Some(near), _) => ("'%' isn't declared. Did you mean '%'?", near),
+                (None, Some(kernel)) if self.cursor.is_at_surplus(kernel.places.len()) => {
+                    return self.surplus(token, kernel);
+                }
+                _ => ("'%' isn't declared", ""),
             }
-            _ => match near {
-                Some(near) => joined(self.alloc, &[". Did you mean '", near, "'?"]),
-                None => Ok(String::new(self.alloc)),
-            },
-        }
+        };
+        wrong_about(self.alloc, spot, form, text, more)
     }
 
-    /// Whether the next token is an argument that isn't the object, and with those after it there are too many.
-    fn is_surplus(&self, kernel: &Kernel) -> bool {
-        self.cursor.previous().text == ","
-            && self.cursor.commas().saturating_add(2) > kernel.places.len()
+    /// The fault that an argument isn't declared, where there are more than the call has.
+    fn surplus(&self, token: Token<'a>, kernel: &Kernel) -> Fault {
+        let form = "'%' isn't declared: data pointers are left out, as in %";
+        match self.shape(kernel) {
+            Ok(shape) => { wrong_about(self.alloc, token.spot, form, token.text, shape.as_str()) }
+            Err(_) => Fault::Memory,
+        }
     }
 
     /// The fault that a name means something else than what is expected.
     pub(crate) fn other_meaning(&self, token: Token<'a>, what: &str, meaning: Meaning) -> Fault {
-        let (shown, kind) = (clipped(token.text), meaning.text());
-        let text = format!(in self.alloc;
-            "expected the name of {what}, and '{shown}' is the name of {kind}"
-        );
-        said(token.spot, text)
+        let (shown, kind) = (token.text, meaning.text());
+        let form = "expected the name of %, and '%' is the name of %";
+        let words = &[Word::Text(what), Word::Text(shown), Word::Text(kind)];
+        wrong_with(self.alloc, token.spot, form, words)
     }
 
     /// Takes the name of a variable.
@@ -207,14 +184,6 @@ impl<'a> Reader<'a> {
         match self.meaning_of(token)? {
             Meaning::Variable(variable) => Ok(variable),
             meaning => Err(self.other_meaning(token, "a variable", meaning)),
-        }
-    }
-
-    /// The variable with this place.
-    pub(crate) fn variable(&self, place: usize, spot: Spot) -> Result<Variable<'a>, Fault> {
-        match self.program.variable(place) {
-            Some(variable) => Ok(variable),
-            None => Err(self.cursor.refused(spot, "this variable isn't there")),
         }
     }
 }

@@ -2,7 +2,7 @@
 
 use crate::kernel::{is_reserved, kernel_named};
 use crate::program::{Owner, Program, Variable};
-use crate::texts::joined;
+use crate::texts::{Word, filled};
 use std::alloc::{AllocError, Global};
 
 /// The most characters of a name.
@@ -11,14 +11,18 @@ const LONGEST_NAME: usize = 32;
 /// The most numbers that are tried after a name. Fewer names are taken.
 const MOST_TRIES: usize = 1000;
 
-/// How many variables of the application have a name.
-fn count_of_variables(program: &Program<'_>, name: &str) -> usize {
+/// How many variables of the application have a name: all of them, or those of the actor with this number.
+fn count_of_variables(program: &Program<'_>, name: &str, actor: Option<usize>) -> usize {
     let mut count = 0usize;
     for place in &program.written {
-        if let Some(variable) = program.variable(*place) {
-            if variable.name == name {
-                count = count.saturating_add(1);
-            }
+        let variable = program.variable(*place);
+        let is_counted = match (actor, variable.owner) {
+            (None, _) => true,
+            (Some(number), Owner::Actor(owner)) => number == owner,
+            _ => false,
+        };
+        if is_counted && variable.name == name {
+            count = count.saturating_add(1);
         }
     }
     count
@@ -48,24 +52,9 @@ fn count_of_actors(program: &Program<'_>, name: &str) -> usize {
 
 /// How many variables, objects and actors of the application have a name.
 fn count_of(program: &Program<'_>, name: &str) -> usize {
-    count_of_variables(program, name)
+    count_of_variables(program, name, None)
         .saturating_add(count_of_objects(program, name))
         .saturating_add(count_of_actors(program, name))
-}
-
-/// How many variables of an actor have a name.
-fn count_of_actor(program: &Program<'_>, number: usize, name: &str) -> usize {
-    let mut count = 0usize;
-    for place in &program.written {
-        if let Some(variable) = program.variable(*place) {
-            if variable.name == name
-                && matches!(variable.owner, Owner::Actor(owner) if owner == number)
-            {
-                count = count.saturating_add(1);
-            }
-        }
-    }
-    count
 }
 
 /// The name of an actor's own variable: the actor's, and its own after it.
@@ -75,13 +64,13 @@ fn own_name(
     variable: Variable<'_>,
     number: usize,
 ) -> Result<String, AllocError> {
-    let actor = program.actor_name(number);
-    let name = variable.name;
+    let (actor, name) = (program.actor_name(number), variable.name);
     match variable.function {
-        Some(function) if count_of_actor(program, number, name) > 1 => {
-            joined(alloc, &[actor, "_", function, "_", name])
+        Some(function) if count_of_variables(program, name, Some(number)) > 1 => {
+            let words = &[Word::Text(actor), Word::Text(function), Word::Text(name)];
+            filled(alloc, "%_%_%", words)
         }
-        _ => joined(alloc, &[actor, "_", name]),
+        _ => filled(alloc, "%_%", &[Word::Text(actor), Word::Text(name)]),
     }
 }
 
@@ -118,7 +107,7 @@ fn free_name(
         if is_free(program, names, text.as_str()) {
             break;
         }
-        text = format!(in alloc; "{short}_{number}")?;
+        text = filled(alloc, "%_%", &[Word::Text(short), Word::Count(number)])?;
     }
     Ok(text)
 }
@@ -135,19 +124,23 @@ fn names_in_source(alloc: Global, program: &Program<'_>) -> Result<Vec<String>, 
 /// The name of each variable in the application, by its place.
 pub(crate) fn names_of(alloc: Global, program: &Program<'_>) -> Result<Vec<String>, AllocError> {
     let mut names = names_in_source(alloc, program)?;
+    rename(alloc, program, &mut names)?;
+    Ok(names)
+}
+
+/// Gives each actor's own variable a name that no other has.
+fn rename(alloc: Global, program: &Program<'_>, names: &mut [String]) -> Result<(), AllocError> {
     for place in &program.written {
-        let Some(variable) = program.variable(*place) else {
-            continue;
-        };
+        let variable = program.variable(*place);
         let Owner::Actor(number) = variable.owner else {
             continue;
         };
         if count_of(program, variable.name) > 1 {
-            let text = free_name(alloc, program, &names, variable, number)?;
+            let text = free_name(alloc, program, names, variable, number)?;
             if let Some(slot) = names.get_mut(*place) {
                 *slot = text;
             }
         }
     }
-    Ok(names)
+    Ok(())
 }

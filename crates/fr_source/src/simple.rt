@@ -2,11 +2,12 @@
 // and `configASSERT`.
 
 use crate::expression::{Term, Value};
-use crate::fault::{Fault, Spot, wrong};
-use crate::program::{Action, Arithmetic, Call, Operand, Owner, Range, Variable};
+use crate::fault::{Fault, Spot, wrong, wrong_about, wrong_with};
+use crate::kernel::Answer;
+use crate::program::{Action, Argument, Arithmetic, Call, Operand, Owner, Range, Variable};
 use crate::reader::Reader;
 use crate::scope::Meaning;
-use crate::texts::numeral;
+use crate::texts::Word;
 use crate::token::Token;
 
 /// A simple statement.
@@ -21,6 +22,12 @@ pub(crate) enum Simple {
     Expand(usize),
 }
 
+/// What `++` and `--` change a variable by.
+const ONE: Term = Term {
+    value: Value::Number(1),
+    spot: Spot { line: 1, column: 1 },
+};
+
 /// The sign that an operator like `+=` joins by.
 fn joining(operator: &str) -> Option<Arithmetic> {
     match operator {
@@ -31,71 +38,80 @@ fn joining(operator: &str) -> Option<Arithmetic> {
     }
 }
 
+/// Why a variable isn't given what has no number.
+fn why_unassigned(value: Value) -> &'static str {
+    match value {
+        Value::Null => "NULL is no number, and a variable has a number: write 0",
+        Value::Test(_) => "a condition is no value: write 'if (..) x = 1; else x = 0;'",
+        _ => "one line has one operator at most: give a part of this to a variable first",
+    }
+}
+
 impl<'a> Reader<'a> {
     /// Takes a simple statement.
     pub(crate) fn simple(&mut self) -> Result<Simple, Fault> {
         let token = self.cursor.token();
-        if self.cursor.is_at_word() && self.cursor.following().text == "(" && token.text != "any" {
-            self.cursor.advance();
+        let Token { text, spot, .. } = token;
+        if text != "any" && self.cursor.is_before("(") {
             return self.called(token);
         }
-        if self.cursor.accepts("++") {
-            return self.changed_by_one(token.spot, Arithmetic::Plus);
+        match text {
+            "++" => self.changed_by_one(spot, Arithmetic::Plus),
+            "--" => self.changed_by_one(spot, Arithmetic::Minus),
+            "(" => {
+                let text = "a statement doesn't begin with '(': leave out a cast like '(void)'";
+                Err(wrong(self.alloc, spot, text))
+            }
+            _ => self.assignment_here(spot),
         }
-        if self.cursor.accepts("--") {
-            return self.changed_by_one(token.spot, Arithmetic::Minus);
-        }
-        if token.text == "(" {
-            let text = "a statement doesn't begin with '(': leave out a cast like '(void)'";
-            return Err(self.cursor.refused(token.spot, text));
-        }
+    }
+
+    /// Takes a `++` or a `--` and the variable after it.
+    fn changed_by_one(&mut self, spot: Spot, sign: Arithmetic) -> Result<Simple, Fault> {
+        self.cursor.advance();
+        let variable = self.variable_named("a variable")?;
+        self.changed(variable, spot, sign, ONE, spot)
+    }
+
+    /// Takes a variable, and what it is given or how it is changed.
+    fn assignment_here(&mut self, spot: Spot) -> Result<Simple, Fault> {
         let variable = self.variable_named("a statement")?;
         let operator = self.cursor.token();
         if self.cursor.accepts("=") {
             let term = self.expression()?;
-            return self.assigned(variable, token.spot, term);
+            return self.assigned(variable, spot, term);
         }
         let Some(sign) = joining(operator.text) else {
             return Err(self.cursor.expected("'=', '+=', '-=', '*=', '++' or '--'"));
         };
         self.cursor.advance();
-        let by = if operator.text == "++" || operator.text == "--" {
-            Term {
-                value: Value::Number(1),
-                spot: operator.spot,
-            }
-        } else {
-            self.expression()?
+        let by = match operator.text {
+            "++" | "--" => ONE,
+            _ => self.expression()?,
         };
-        let whole = Term {
-            value: Value::Variable(variable),
-            spot: token.spot,
-        };
-        let term = self.binary(whole, sign, by, operator.spot)?;
-        self.assigned(variable, token.spot, term)
+        self.changed(variable, spot, sign, by, operator.spot)
     }
 
-    /// Takes the variable after a `++` or a `--`.
-    fn changed_by_one(&mut self, spot: Spot, sign: Arithmetic) -> Result<Simple, Fault> {
-        let variable = self.variable_named("a variable")?;
+    /// The statement that joins a variable with a term. The places are those of the variable and of the sign.
+    fn changed(
+        &self,
+        variable: usize,
+        spot: Spot,
+        sign: Arithmetic,
+        by: Term,
+        sign_spot: Spot,
+    ) -> Result<Simple, Fault> {
         let whole = Term {
             value: Value::Variable(variable),
             spot,
         };
-        let term = self.binary(
-            whole,
-            sign,
-            Term {
-                value: Value::Number(1),
-                spot,
-            },
-            spot,
-        )?;
+        let term = self.binary(whole, sign, by, sign_spot)?;
         self.assigned(variable, spot, term)
     }
 
     /// Takes what is after the name of what is called.
     fn called(&mut self, token: Token<'a>) -> Result<Simple, Fault> {
+        self.cursor.advance();
         if token.text == "configASSERT" {
             let test = self.condition()?;
             let variable = self.assertion_variable(token.spot)?;
@@ -117,7 +133,7 @@ impl<'a> Reader<'a> {
         }
         if self.scope.meaning("assertion").is_some() {
             let text = "configASSERT makes the variable 'assertion', and that name is used";
-            return Err(self.cursor.refused(spot, text));
+            return Err(wrong(self.alloc, spot, text));
         }
         let variable = Variable {
             name: "assertion",
@@ -137,40 +153,17 @@ impl<'a> Reader<'a> {
 
     /// The statement that gives a variable this value.
     fn assigned(&self, variable: usize, spot: Spot, term: Term) -> Result<Simple, Fault> {
-        let target = self.variable(variable, spot)?;
         match term.value {
-            Value::Any(range) => {
-                self.check_any(target, range, term.spot)?;
-                Ok(Simple::Line(Action::Pick { variable, range }))
-            }
-            Value::Called(call) => {
-                self.check_answer(target, call, spot, term.spot)?;
-                if call.kernel.may_fail() {
-                    return Ok(Simple::Keep { variable, call });
-                }
-                Ok(Simple::Line(Action::Call {
-                    answer: Some(variable),
-                    call,
-                }))
-            }
+            Value::Any(range) => self.picked(variable, range, term.spot),
+            Value::Called(call) => self.answered(variable, call, spot, term.spot),
             Value::Sum { left, sign, right } => {
                 self.check_sum(left, sign, right, term.spot)?;
                 self.set_to(variable, spot, left, Some((sign, right)))
             }
             Value::Number(number) => self.set_to(variable, spot, Operand::Number(number), None),
             Value::Variable(other) => self.set_to(variable, spot, Operand::Variable(other), None),
-            Value::Null => {
-                let text = "NULL is no number, and a variable has a number: write 0";
-                Err(self.cursor.refused(term.spot, text))
-            }
-            Value::Test(_) => {
-                let text = "a condition is no value: write 'if (..) x = 1; else x = 0;'";
-                Err(self.cursor.refused(term.spot, text))
-            }
-            Value::Given { .. } => {
-                let text =
-                    "one line has one operator at most: give a part of this to a variable first";
-                Err(self.cursor.refused(term.spot, text))
+            Value::Null | Value::Test(_) | Value::Given { .. } => {
+                Err(wrong(self.alloc, term.spot, why_unassigned(term.value)))
             }
         }
     }
@@ -187,42 +180,55 @@ impl<'a> Reader<'a> {
             _ => {
                 let text =
                     "in a condition, only any(..) or the bytes of a call are given to a variable";
-                Err(self.cursor.refused(spot, text))
+                Err(wrong(self.alloc, spot, text))
             }
         }
     }
 
-    /// Refuses an `any` with numbers that the variable can't have.
-    fn check_any(&self, target: Variable<'a>, range: Range, spot: Spot) -> Result<(), Fault> {
+    /// The statement that gives a variable a number of an `any`. Refuses numbers that the variable can't have.
+    fn picked(&self, variable: usize, range: Range, spot: Spot) -> Result<Simple, Fault> {
+        let target = self.program.variable(variable);
         if target.range.includes(range) {
-            return Ok(());
+            return Ok(Simple::Line(Action::Pick { variable, range }));
         }
-        let (low, high) = (
-            numeral(self.alloc, range.low)?,
-            numeral(self.alloc, range.high)?,
-        );
-        let (low, high) = (low.as_str(), high.as_str());
-        let has = target.range.text(self.alloc)?;
-        let what = " isn't in the range of '";
-        let texts = &[low, " to ", high, what, target.name, "', ", has.as_str()];
-        Err(wrong(self.alloc, spot, texts))
+        let words = &[
+            Word::Number(range.low),
+            Word::Number(range.high),
+            Word::Text(target.name),
+            Word::Number(target.range.low),
+            Word::Number(target.range.high),
+        ];
+        let form = "% to % isn't in the range of '%', %..%";
+        Err(wrong_with(self.alloc, spot, form, words))
     }
 
-    /// Refuses a call with an answer that the variable can't have.
-    fn check_answer(
+    /// The statement that gives a variable the answer of a call. Refuses an answer that the variable can't have.
+    fn answered(
         &self,
-        target: Variable<'a>,
+        variable: usize,
         call: Call,
         spot: Spot,
         call_spot: Spot,
-    ) -> Result<(), Fault> {
-        let most = self.greatest_answer(call, call_spot)?;
-        let answers = Range { low: 0, high: most };
-        if target.range.includes(answers) {
-            return Ok(());
+    ) -> Result<Simple, Fault> {
+        let target = self.program.variable(variable);
+        let high = match (call.kernel.answer, call.arguments) {
+            (Answer::Nothing, _) => {
+                let form = "% answers nothing";
+                return Err(wrong_about(self.alloc, call_spot, form, call.kernel.name, ""));
+            }
+            (Answer::Bytes, [_, Argument::Operand(Operand::Number(length)), _]) => length,
+            _ => 1,
+        };
+        let answers = Range { low: 0, high };
+        if !target.range.includes(answers) {
+            let form = "the range of '%', %..%, has to include %..%, which % can answer";
+            return Err(self.too_narrow(target, answers, form, call.kernel.name, spot));
         }
-        let around = ["", ", which ", call.kernel.name, " can answer"];
-        Err(self.too_narrow(target, answers, around, spot)?)
+        if call.kernel.may_fail() {
+            return Ok(Simple::Keep { variable, call });
+        }
+        let answer = Some(variable);
+        Ok(Simple::Line(Action::Call { answer, call }))
     }
 
     /// Refuses what a line can't work out.
@@ -234,22 +240,19 @@ impl<'a> Reader<'a> {
         spot: Spot,
     ) -> Result<(), Fault> {
         if matches!(sign, Arithmetic::Divide | Arithmetic::Remainder) {
-            let texts = &["'", sign.text(), "' is for constants alone"];
-            return Err(wrong(self.alloc, spot, texts));
+            let form = "'%' is for constants alone";
+            return Err(wrong_about(self.alloc, spot, form, sign.text(), ""));
         }
         let (Operand::Variable(one), Operand::Variable(other)) = (left, right) else {
             return Ok(());
         };
         if one == other {
-            let name = self.variable(one, spot)?.name;
-            let why = "' can't be both operands: copy it to another variable";
-            return Err(wrong(self.alloc, spot, &["'", name, why]));
+            let form = "'%' can't be both operands: copy it to another variable";
+            let name = self.program.variable(one).name;
+            return Err(wrong_about(self.alloc, spot, form, name, ""));
         }
         if matches!(sign, Arithmetic::Times) {
-            return Err(
-                self.cursor
-                    .refused(spot, "at least one operand of '*' is a number"),
-            );
+            return Err(wrong(self.alloc, spot, "at least one operand of '*' is a number"));
         }
         Ok(())
     }
@@ -267,34 +270,29 @@ impl<'a> Reader<'a> {
             Some((_, right)) => self.program.shared_in(right),
             None => None,
         };
-        if let (true, Some(read)) = (self.program.is_shared(variable), first.or(second)) {
-            return Err(self.two_steps(variable, read, spot));
-        }
-        if let (Some(one), Some(_)) = (first, second) {
-            let name = self.variable(one, spot)?.name;
-            let what = "this reads two shared variables in one step: copy '";
-            return Err(wrong(self.alloc, spot, &[what, name, "' to a 'var' first"]));
-        }
-        Ok(Simple::Line(Action::Set {
-            variable,
-            left,
-            more,
-        }))
-    }
-
-    /// The fault that a line reads and writes shared variables.
-    fn two_steps(&self, written: usize, read: usize, spot: Spot) -> Fault {
-        let (Some(written), Some(read)) = (
-            self.program.variable(written),
-            self.program.variable(read),
-        ) else {
-            return Fault::Memory;
+        let (form, one, other) = match (self.program.is_shared(variable), first, second) {
+            (true, Some(read), _) | (true, None, Some(read)) => (
+                "this reads '%' and writes '%', shared variables: on two cores these are two steps. \
+                Write two statements, with a 'var' between",
+                read,
+                variable,
+            ),
+            (false, Some(read), Some(other)) => (
+                "this reads two shared variables in one step: copy '%' to a 'var' first",
+                read,
+                other,
+            ),
+            _ => {
+                let set = Action::Set {
+                    variable,
+                    left,
+                    more,
+                };
+                return Ok(Simple::Line(set));
+            }
         };
-        let (target, source) = (written.name, read.name);
-        let why =
-            "', shared variables: on two cores these are two steps. Write two statements, with a 'var' between";
-        let texts = &["this reads '", source, "' and writes '", target, why];
-        wrong(self.alloc, spot, texts)
+        let (one, other) = (self.program.variable(one), self.program.variable(other));
+        Err(wrong_about(self.alloc, spot, form, one.name, other.name))
     }
 
     /// Writes the lines of a simple statement.

@@ -1,12 +1,11 @@
 // Statements. The constructs whose end isn't read yet are on a list, and no call goes into itself.
 
-use crate::cursor::clipped;
 use crate::fault::{Fault, Spot, wrong, wrong_about};
-use crate::kernel::{is_among, is_reserved};
+use crate::kernel::is_reserved;
 use crate::open::{Margin, Open, Step};
 use crate::program::MOST_ITEMS;
 use crate::reader::{Home, NamedLabel, Reader};
-use crate::token::{Kind, Token};
+use crate::token::Token;
 
 /// Whether a construct holds statements up to its closing brace.
 fn holds_many(open: Option<&Open>) -> bool {
@@ -26,81 +25,62 @@ impl<'a> Reader<'a> {
                 self.close_all()?;
             }
             if self.lines.body.items.len() > MOST_ITEMS {
-                return Err(self.too_large(spot));
+                let form = "% '%' grows to more than 4096 lines and labels: this passed the limit";
+                return Err(wrong_about(self.alloc, spot, form, self.home.text(), self.name));
             }
         }
         Err(self.cursor.expected("'}'"))
     }
 
-    /// The fault that a body is too large.
-    fn too_large(&self, spot: Spot) -> Fault {
-        let why = "' grows to more than 4096 lines and labels: this passed the limit";
-        wrong_about(self.alloc, spot, self.home.text(), " '", self.name, why, "")
-    }
-
     /// Reads a statement, or the head of a construct. Answers whether a statement ends here.
     fn statement(&mut self) -> Result<bool, Fault> {
-        let Token { kind, text, .. } = self.cursor.token();
-        if matches!(kind, Kind::End) {
-            return Err(self.cursor.expected("'}'"));
-        }
-        if let Some(Open::Switch { first_case, .. }) = self.open.last() {
-            let has_case = self.cases.len() > *first_case;
-            if !has_case && !is_among(text, &["case", "default", "}"]) {
-                return Err(self.cursor.expected("'case' or 'default'"));
+        match self.cursor.token().text {
+            "" => Err(self.cursor.expected("'}'")),
+            "case" | "default" => self.case(),
+            "}" if holds_many(self.open.last()) => {
+                self.cursor.advance();
+                match self.open.pop() {
+                    Some(
+                        Open::Switch {
+                            variable,
+                            end,
+                            first_item,
+                            first_case,
+                            spot,
+                        },
+                    ) => self.write_switch(variable, end, (first_item, first_case), spot),
+                    _ => Ok(true),
+                }
             }
-        }
-        match text {
+            _ if self.is_before_cases() => Err(self.cursor.expected("'case' or 'default'")),
             "{" => {
                 self.cursor.advance();
-                self.enter(Open::Block)?;
-                Ok(false)
+                self.enter(Open::Block)
             }
-            "}" if holds_many(self.open.last()) => self.end_of_block(),
             ";" => {
                 self.cursor.advance();
                 Ok(true)
             }
-            "case" | "default" => self.case(),
             "if" | "while" | "do" | "for" | "switch" => self.construct(),
-            _ if self.is_at_label() => {
-                self.named_label()?;
-                Ok(false)
-            }
-            _ => {
-                self.jump_or_simple()?;
-                Ok(true)
-            }
+            // A label belongs to the statement after it.
+            _ if self.cursor.is_before(":") => self.named_label(),
+            _ => self.jump_or_simple(),
         }
     }
 
-    /// Whether a label is next, which belongs to the statement after it.
-    fn is_at_label(&self) -> bool {
-        self.cursor.is_at_word() && self.cursor.following().text == ":"
+    /// Whether a switch is open that has no case yet.
+    fn is_before_cases(&self) -> bool {
+        match self.open.last() {
+            Some(Open::Switch { first_case, .. }) => self.cases.len() <= *first_case,
+            _ => false,
+        }
     }
 
-    /// Notes that a construct is open.
-    fn enter(&mut self, open: Open) -> Result<(), Fault> {
+    /// Notes that a construct is open: no statement ends here.
+    fn enter(&mut self, open: Open) -> Result<bool, Fault> {
         self.open.push(open)?;
-        self.check_depth(0, self.cursor.spot())
-    }
-
-    /// Takes the brace that ends a block or a switch.
-    fn end_of_block(&mut self) -> Result<bool, Fault> {
-        self.cursor.advance();
-        if let Some(
-            Open::Switch {
-                variable,
-                end,
-                first_item,
-                first_case,
-                spot,
-            },
-        ) = self.open.pop()
-        {
-            self.write_switch(variable, end, (first_item, first_case), spot)?;
-        }
-        Ok(true)
+        self.check_depth(0, self.cursor.spot())?;
+        Ok(false)
     }
 
     /// Reads the head of a construct.
@@ -108,16 +88,15 @@ impl<'a> Reader<'a> {
         let Token { text, spot, .. } = self.cursor.token();
         self.cursor.advance();
         match text {
-            "if" => self.if_head(spot)?,
-            "while" => self.while_head(spot)?,
-            "do" => self.do_head()?,
-            "for" => self.for_head(spot)?,
-            _ => self.switch_head(spot)?,
+            "if" => self.if_head(spot),
+            "while" => self.while_head(spot),
+            "do" => self.do_head(),
+            "for" => self.for_head(spot),
+            _ => self.switch_head(spot),
         }
-        Ok(false)
     }
 
-    fn if_head(&mut self, spot: Spot) -> Result<(), Fault> {
+    fn if_head(&mut self, spot: Spot) -> Result<bool, Fault> {
         let test = self.condition()?;
         let yes = self.lines.label();
         let no = self.lines.label();
@@ -127,17 +106,17 @@ impl<'a> Reader<'a> {
         self.enter(Open::If { no, margin, spot })
     }
 
-    fn while_head(&mut self, spot: Spot) -> Result<(), Fault> {
+    fn while_head(&mut self, spot: Spot) -> Result<bool, Fault> {
         let top = self.lines.label();
         self.lines.place(top)?;
         let test = self.condition()?;
         self.loop_head(Some(test), top, None, "while", spot)
     }
 
-    fn for_head(&mut self, spot: Spot) -> Result<(), Fault> {
+    fn for_head(&mut self, spot: Spot) -> Result<bool, Fault> {
         self.cursor.take("(", "")?;
-        if let Some(first) = self.step(";")? {
-            self.write_simple(first.simple, first.spot)?;
+        if !self.cursor.sees(";") {
+            self.simple_here()?;
         }
         self.cursor.take(";", "")?;
         let top = self.lines.label();
@@ -148,19 +127,22 @@ impl<'a> Reader<'a> {
             Some(self.bare_condition()?)
         };
         self.cursor.take(";", "")?;
-        let step = self.step(")")?;
+        let step = if self.cursor.sees(")") {
+            None
+        } else {
+            let spot = self.cursor.spot();
+            let simple = self.simple()?;
+            Some(Step { simple, spot })
+        };
         self.cursor.take(")", "")?;
         self.loop_head(test, top, step, "for", spot)
     }
 
-    /// Takes a simple statement, unless the sign after it is next.
-    fn step(&mut self, after: &str) -> Result<Option<Step>, Fault> {
-        if self.cursor.sees(after) {
-            return Ok(None);
-        }
+    /// Takes a simple statement, and writes its lines.
+    fn simple_here(&mut self) -> Result<(), Fault> {
         let spot = self.cursor.spot();
         let simple = self.simple()?;
-        Ok(Some(Step { simple, spot }))
+        self.write_simple(simple, spot)
     }
 
     /// Writes the test of a loop, and notes that its body comes.
@@ -171,7 +153,7 @@ impl<'a> Reader<'a> {
         step: Option<Step>,
         word: &'static str,
         spot: Spot,
-    ) -> Result<(), Fault> {
+    ) -> Result<bool, Fault> {
         let body = self.lines.label();
         let again = self.lines.label();
         let end = self.lines.label();
@@ -190,7 +172,7 @@ impl<'a> Reader<'a> {
         })
     }
 
-    fn do_head(&mut self) -> Result<(), Fault> {
+    fn do_head(&mut self) -> Result<bool, Fault> {
         let top = self.lines.label();
         let again = self.lines.label();
         let end = self.lines.label();
@@ -209,8 +191,8 @@ impl<'a> Reader<'a> {
         let head = self.cursor.previous();
         let first = self.cursor.token();
         if (word == "if" || word == "else") && first.text == ";" {
-            let why = "' with nothing but ';': write '{ }' if this is meant";
-            return Err(wrong(self.alloc, first.spot, &["an '", word, why]));
+            let form = "an '%' with nothing but ';': write '{ }' if this is meant";
+            return Err(wrong_about(self.alloc, first.spot, form, word, ""));
         }
         Ok(Margin {
             word,
@@ -234,9 +216,10 @@ impl<'a> Reader<'a> {
         if is_apart {
             return Ok(());
         }
-        let why = "' above, and isn't: put braces around its body, or move this to the left";
-        let texts = &["this looks as if it were in the '", margin.word, why];
-        Err(wrong(self.alloc, after.spot, texts))
+        let form =
+            "this looks as if it were in the '%' above, and isn't: put braces around its body, \
+            or move this to the left";
+        Err(wrong_about(self.alloc, after.spot, form, margin.word, ""))
     }
 
     /// Closes the constructs that the end of a statement ends.
@@ -301,8 +284,7 @@ impl<'a> Reader<'a> {
         self.lines.goto(end, spot)?;
         self.lines.place(no)?;
         let margin = self.margin("else")?;
-        self.enter(Open::Else { end, margin })?;
-        Ok(false)
+        self.enter(Open::Else { end, margin })
     }
 
     fn close_do(&mut self, labels: (usize, usize, usize), margin: Margin) -> Result<bool, Fault> {
@@ -325,42 +307,54 @@ impl<'a> Reader<'a> {
         Ok(true)
     }
 
-    /// Reads a jump or a simple statement.
-    fn jump_or_simple(&mut self) -> Result<(), Fault> {
+    /// Reads a jump or a simple statement, with its semicolon.
+    fn jump_or_simple(&mut self) -> Result<bool, Fault> {
+        self.jump()?;
+        self.cursor.take(";", " after the statement")?;
+        Ok(true)
+    }
+
+    /// Reads a jump, or else a simple statement.
+    fn jump(&mut self) -> Result<(), Fault> {
         let Token { text, spot, .. } = self.cursor.token();
         match text {
-            "break" => self.leave_loop(true, spot)?,
-            "continue" => self.leave_loop(false, spot)?,
-            "return" => self.return_here(spot)?,
-            "goto" => self.goto_here(spot)?,
+            "break" => self.leave_loop(true, spot),
+            "continue" => self.leave_loop(false, spot),
+            "return" if matches!(self.home, Home::Task) => {
+                let text = "a task doesn't return (rule 11): end it with vTaskDelete(NULL)";
+                Err(wrong(self.alloc, spot, text))
+            }
+            "return" => {
+                self.cursor.advance();
+                self.lines.goto(0, spot)
+            }
+            "goto" => self.goto_here(spot),
             "var" | "static" => {
-                let what = "variables are declared at the beginning of the ";
-                return Err(wrong(self.alloc, spot, &[what, self.home.text()]));
+                let form = "variables are declared at the beginning of the %";
+                Err(wrong_about(self.alloc, spot, form, self.home.text(), ""))
             }
             "const" => {
                 let why = "constants are declared outside tasks, interrupts and functions";
-                return Err(self.cursor.refused(spot, why));
+                Err(wrong(self.alloc, spot, why))
             }
-            "else" => return Err(self.cursor.refused(spot, "'else' without an 'if' above it")),
-            _ => {
-                let simple = self.simple()?;
-                self.write_simple(simple, spot)?;
-            }
+            "else" => Err(wrong(self.alloc, spot, "'else' without an 'if' above it")),
+            _ => self.simple_here(),
         }
-        self.cursor.take(";", " after the statement")
     }
 
     /// The label that a `break` goes to, or else a `continue`.
     fn label_outside(&self, is_break: bool) -> Option<usize> {
-        for open in self.open.iter().rev() {
-            match open {
-                Open::Loop { end, .. } | Open::Do { end, .. } | Open::Switch { end, .. }
-                    if is_break => return Some(*end),
-                Open::Loop { again, .. } | Open::Do { again, .. } => return Some(*again),
+        let mut label = None;
+        for open in &self.open {
+            match *open {
+                Open::Loop { again, end, .. } | Open::Do { again, end, .. } => {
+                    label = Some(if is_break { end } else { again });
+                }
+                Open::Switch { end, .. } if is_break => label = Some(end),
                 _ => {}
             }
         }
-        None
+        label
     }
 
     /// Takes a `break`, or else a `continue`.
@@ -371,24 +365,10 @@ impl<'a> Reader<'a> {
             } else {
                 "'continue' outside a loop"
             };
-            return Err(self.cursor.refused(spot, text));
+            return Err(wrong(self.alloc, spot, text));
         };
         self.cursor.advance();
         self.lines.goto(label, spot)
-    }
-
-    /// Takes a `return`: label 0 is the end of the body.
-    fn return_here(&mut self, spot: Spot) -> Result<(), Fault> {
-        if matches!(self.home, Home::Task) {
-            return Err(
-                self.cursor.refused(
-                    spot,
-                    "a task doesn't return (rule 11): end it with vTaskDelete(NULL)",
-                ),
-            );
-        }
-        self.cursor.advance();
-        self.lines.goto(0, spot)
     }
 
     /// Takes a `goto` and its label.
@@ -399,17 +379,18 @@ impl<'a> Reader<'a> {
         self.lines.goto(label, spot)
     }
 
-    /// Takes a label that the source names.
-    fn named_label(&mut self) -> Result<(), Fault> {
+    /// Takes a label that the source names: no statement ends here.
+    fn named_label(&mut self) -> Result<bool, Fault> {
         let name = self.cursor.token();
         self.cursor.advance();
         self.cursor.advance();
         if is_reserved(name.text) {
-            let why = "' is a word of this notation: choose another label";
-            return Err(wrong(self.alloc, name.spot, &["'", clipped(name.text), why]));
+            let form = "'%' is a word of this notation: choose another label";
+            return Err(wrong_about(self.alloc, name.spot, form, name.text, ""));
         }
         let label = self.label_named(name, true)?;
-        self.lines.place(label)
+        self.lines.place(label)?;
+        Ok(false)
     }
 
     /// The place of the label with this name among those that are named.
@@ -428,8 +409,8 @@ impl<'a> Reader<'a> {
         let place = self.place_of_label(text).unwrap_or(self.labels.len());
         if let Some(one) = self.labels.get_mut(place) {
             if one.is_placed && is_placed {
-                let texts = &["the label '", clipped(text), "' is there already"];
-                return Err(wrong(self.alloc, spot, texts));
+                let form = "the label '%' is there already";
+                return Err(wrong_about(self.alloc, spot, form, text, ""));
             }
             one.is_placed = one.is_placed || is_placed;
             return Ok(one.label);
@@ -448,9 +429,8 @@ impl<'a> Reader<'a> {
     pub(crate) fn check_labels(&self) -> Result<(), Fault> {
         for one in &self.labels {
             if !one.is_placed {
-                let (name, kind) = (clipped(one.text), self.home.text());
-                let (what, place) = ("no label '", "' in this ");
-                return Err(wrong_about(self.alloc, one.spot, what, name, place, kind, ""));
+                let (name, kind) = (one.text, self.home.text());
+                return Err(wrong_about(self.alloc, one.spot, "no label '%' in this %", name, kind));
             }
         }
         Ok(())

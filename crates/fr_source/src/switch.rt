@@ -1,10 +1,10 @@
 // Switches: their tests are written once all cases are read, and put before the bodies.
 
-use crate::fault::{Fault, Spot, wrong};
+use crate::fault::{Fault, Spot, wrong, wrong_about, wrong_with};
 use crate::open::{Case, Open};
 use crate::program::{Action, Comparison, Item, Operand, Range};
 use crate::reader::Reader;
-use crate::texts::numeral;
+use crate::texts::Word;
 use crate::token::Token;
 use std::alloc::{AllocError, Global};
 
@@ -39,12 +39,13 @@ fn test_item(variable: usize, value: i64, case: Case) -> Item {
     }
 }
 
-/// The tests of a switch, one for each number but the last one of all.
+/// The tests of a switch, one for each number but the last one of all, and the line after them.
 fn tests_of(
     alloc: Global,
     variable: usize,
     cases: &[Case],
     last: Option<i64>,
+    rest: Item,
 ) -> Result<Vec<Item>, AllocError> {
     let mut tests = Vec::new(alloc);
     for case in cases {
@@ -53,6 +54,7 @@ fn tests_of(
             _ => {}
         }
     }
+    tests.push(rest)?;
     Ok(tests)
 }
 
@@ -66,17 +68,28 @@ fn label_without_test(cases: &[Case], last: Option<i64>) -> Option<usize> {
     None
 }
 
+/// The fault that a case is there already.
+fn already(alloc: Global, value: Option<i64>, spot: Spot) -> Fault {
+    match value {
+        Some(number) => {
+            let form = "this case % is there already";
+            wrong_with(alloc, spot, form, &[Word::Number(number)])
+        }
+        None => wrong(alloc, spot, "this default is there already"),
+    }
+}
+
 impl<'a> Reader<'a> {
     /// Reads the head of a switch.
-    pub(crate) fn switch_head(&mut self, spot: Spot) -> Result<(), Fault> {
+    pub(crate) fn switch_head(&mut self, spot: Spot) -> Result<bool, Fault> {
         self.cursor.take("(", "")?;
         let variable_spot = self.cursor.spot();
         let variable = self.variable_named("a variable")?;
         if self.program.is_shared(variable) {
-            let name = self.variable(variable, variable_spot)?.name;
-            let why =
-                "' is shared, and each 'case' would read it again: copy it to a 'var' and switch on that";
-            return Err(wrong(self.alloc, variable_spot, &["'", name, why]));
+            let form =
+                "'%' is shared, and each 'case' would read it again: copy it to a 'var' and switch on that";
+            let name = self.program.variable(variable).name;
+            return Err(wrong_about(self.alloc, variable_spot, form, name, ""));
         }
         self.cursor.take(")", "")?;
         self.cursor.take("{", "")?;
@@ -90,7 +103,8 @@ impl<'a> Reader<'a> {
             first_case,
             spot,
         })?;
-        self.check_depth(0, spot)
+        self.check_depth(0, spot)?;
+        Ok(false)
     }
 
     /// Takes a `case` or a `default` with its colon.
@@ -106,53 +120,38 @@ impl<'a> Reader<'a> {
             None
         };
         self.cursor.take(":", "")?;
-        self.check_new_case(first_case, value, spot)?;
+        for case in self.cases.iter().skip(first_case) {
+            if case.value == value {
+                return Err(already(self.alloc, value, spot));
+            }
+        }
         let label = self.lines.label();
         self.lines.place(label)?;
         self.cases.push(Case { value, label, spot })?;
         Ok(false)
     }
 
-    /// Refuses a case that is there already.
-    fn check_new_case(
-        &self,
-        first_case: usize,
-        value: Option<i64>,
-        spot: Spot,
-    ) -> Result<(), Fault> {
-        for case in self.cases.iter().skip(first_case) {
-            if case.value == value {
-                let Some(number) = value else {
-                    return Err(self.cursor.refused(spot, "this default is there already"));
-                };
-                let number = numeral(self.alloc, number)?;
-                let texts = &["this case ", number.as_str(), " is there already"];
-                return Err(wrong(self.alloc, spot, texts));
-            }
-        }
-        Ok(())
-    }
-
-    /// Writes the tests of a switch before its bodies, and its end.
+    /// Writes the tests of a switch before its bodies, and its end: a statement ends there.
     pub(crate) fn write_switch(
         &mut self,
         variable: usize,
         end: usize,
         firsts: (usize, usize),
         spot: Spot,
-    ) -> Result<(), Fault> {
+    ) -> Result<bool, Fault> {
         let (first_item, first_case) = firsts;
-        let range = self.variable(variable, spot)?.range;
+        let range = self.program.variable(variable).range;
         let Some(cases) = self.cases.get(first_case..) else {
-            return self.lines.place(end);
+            return Ok(true);
         };
         let last = last_of_all(cases, range);
-        let mut tests = tests_of(self.alloc, variable, cases, last)?;
         let action = Action::Goto;
         let to = Some(label_without_test(cases, last).unwrap_or(end));
-        tests.push(Item::Line { action, to, spot })?;
+        let rest = Item::Line { action, to, spot };
+        let tests = tests_of(self.alloc, variable, cases, last, rest)?;
         self.cases.truncate(first_case);
         self.lines.insert(first_item, tests)?;
-        self.lines.place(end)
+        self.lines.place(end)?;
+        Ok(true)
     }
 }

@@ -1,11 +1,11 @@
 // Bodies with parameters. Such a body is no actor: it is noted and passed by. Each actor that is made of it reads its
 // tokens anew, with a value for each parameter.
 
-use crate::cursor::clipped;
-use crate::fault::{Fault, said, wrong, wrong_about};
+use crate::fault::{Fault, wrong_about, wrong_with};
 use crate::program::ActorKind;
 use crate::reader::Reader;
 use crate::scope::Meaning;
+use crate::texts::{Word, push_filled};
 use crate::token::Token;
 
 /// The most parameters of a body.
@@ -29,21 +29,6 @@ impl<'a> Reader<'a> {
     /// Notes a body with parameters, and passes it by.
     pub(crate) fn template(&mut self, kind: ActorKind, name: Token<'a>) -> Result<(), Fault> {
         let start = self.cursor.next;
-        let count = self.parameters()?;
-        let place = self.templates.len();
-        self.templates.push(Template {
-            name,
-            kind,
-            start,
-            count,
-            is_used: false,
-        })?;
-        self.scope.add_outside(name.text, Meaning::Template(place))?;
-        self.cursor.pass_body()
-    }
-
-    /// Reads the names of parameters with the brackets around them, and counts them.
-    fn parameters(&mut self) -> Result<usize, Fault> {
         let mut count = 0usize;
         for _ in 0..self.cursor.left() {
             self.cursor.advance();
@@ -58,7 +43,16 @@ impl<'a> Reader<'a> {
         }
         self.scope.inside.clear();
         self.cursor.take(")", " or ',' after a parameter")?;
-        Ok(count)
+        let meaning = Meaning::Template(self.templates.len());
+        self.templates.push(Template {
+            name,
+            kind,
+            start,
+            count,
+            is_used: false,
+        })?;
+        self.scope.add_outside(name.text, meaning)?;
+        self.cursor.pass_body()
     }
 
     /// Reads what an actor is made of, after the `=`: a body with parameters, and a value for each of them.
@@ -85,17 +79,17 @@ impl<'a> Reader<'a> {
         if count == given {
             return Ok(());
         }
-        let shown = clipped(word.text);
-        let parameters = if count == 1 {
-            "parameter"
-        } else {
-            "parameters"
+        let form = match (count, given) {
+            (1, _) => "'%' has % parameter, and this gives % values",
+            (_, 1) => "'%' has % parameters, and this gives % value",
+            _ => "'%' has % parameters, and this gives % values",
         };
-        let what = if given == 1 { "value" } else { "values" };
-        let text = format!(in self.alloc;
-            "'{shown}' has {count} {parameters}, and this gives {given} {what}"
-        )?;
-        Err(self.cursor.refused(word.spot, text.as_str()))
+        let words = &[
+            Word::Text(word.text),
+            Word::Count(count),
+            Word::Count(given),
+        ];
+        Err(wrong_with(self.alloc, word.spot, form, words))
     }
 
     /// The body with parameters that a word names, for an actor of this kind.
@@ -107,10 +101,9 @@ impl<'a> Reader<'a> {
                 if template.kind.text() == kind.text() {
                     return Ok(*template);
                 }
-                let why = "', and so does each actor that is made of it";
-                let (shown, kind) = (clipped(word.text), template.kind.text());
-                let begins = "' begins with '";
-                return Err(wrong_about(self.alloc, word.spot, "'", shown, begins, kind, why));
+                let form = "'%' begins with '%', and so does each actor that is made of it";
+                let (shown, kind) = (word.text, template.kind.text());
+                return Err(wrong_about(self.alloc, word.spot, form, shown, kind));
             }
         }
         Err(self.other_meaning(word, "a body with parameters", meaning))
@@ -157,11 +150,13 @@ impl<'a> Reader<'a> {
     /// A fault in a body with parameters, with the actor that it is read for.
     fn fault_for(&self, fault: Fault, name: Token<'a>) -> Fault {
         match fault {
-            Fault::Wrong(spot, text) => {
-                let shown = clipped(name.text);
-                let line = name.spot.line;
-                let text = format!(in self.alloc; "{text} (read for '{shown}' of line {line})");
-                said(spot, text)
+            Fault::Wrong(spot, mut text) => {
+                let words = &[Word::Text(name.text), Word::Count(name.spot.line)];
+                let form = " (read for '%' of line %)";
+                match push_filled(self.alloc, &mut text, form, words) {
+                    Ok(()) => Fault::Wrong(spot, text),
+                    Err(_) => Fault::Memory,
+                }
             }
             Fault::Memory => Fault::Memory,
         }
@@ -171,11 +166,10 @@ impl<'a> Reader<'a> {
     pub(crate) fn check_templates(&self) -> Result<(), Fault> {
         for template in &self.templates {
             if !template.is_used {
-                let (kind, shown) = (template.kind.text(), clipped(template.name.text));
-                let text = format!(in self.alloc;
-                    "no {kind} is made of this body: write '{kind} NAME = {shown}(..);' below it"
-                );
-                return Err(said(template.name.spot, text));
+                let (kind, shown) = (template.kind.text(), template.name.text);
+                let words = &[Word::Text(kind), Word::Text(kind), Word::Text(shown)];
+                let form = "no % is made of this body: write '% NAME = %(..);' below it";
+                return Err(wrong_with(self.alloc, template.name.spot, form, words));
             }
         }
         Ok(())

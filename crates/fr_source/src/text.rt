@@ -5,8 +5,9 @@ use crate::fault::{Fault, Spot, wrong};
 use crate::program::{
     Action, Actor, Argument, Arithmetic, Call, Object, Operand, Owner, Program, Range, Variable,
 };
+use crate::renamed::names_of;
 use crate::source::Source;
-use crate::texts::{joined, joined_five, numeral, push_all};
+use crate::texts::{Word, filled, push_filled};
 use std::alloc::{AllocError, Global};
 
 /// The most bytes of an application.
@@ -17,10 +18,26 @@ const LONGEST_EXCERPT: usize = 70;
 
 /// Writes the text of an application. `names` has the name of each variable there, by its place.
 #[derive(Drop)]
-pub(crate) struct Writer {
+struct Writer {
     alloc: Global,
     text: String,
     names: Vec<String>,
+}
+
+/// The text of an application.
+pub(crate) fn text_of(
+    alloc: Global,
+    source: &Source<'_>,
+    program: &Program<'_>,
+    codes: &[Code],
+) -> Result<String, Fault> {
+    let form = "# Generated from % by fr_check translate: edit that file, not this one.\n";
+    let names = names_of(alloc, program)?;
+    let text = filled(alloc, form, &[Word::Text(source.file)])?;
+    let mut writer = Writer { alloc, text, names };
+    writer.application(program, source, codes)?;
+    let Writer { text, .. } = writer;
+    Ok(text)
 }
 
 /// The lines of an actor as text, and the length of the longest.
@@ -31,30 +48,32 @@ struct Said {
 }
 
 impl Writer {
-    pub(crate) fn new(alloc: Global, file: &str, names: Vec<String>) -> Result<Writer, AllocError> {
-        let after = " by fr_check translate: edit that file, not this one.\n";
-        let text = joined(alloc, &["# Generated from ", file, after])?;
-        Ok(Writer { alloc, text, names })
+    /// Writes a form, with its words in their places.
+    fn write(&mut self, form: &str, words: &[Word<'_>]) -> Result<(), AllocError> {
+        push_filled(self.alloc, &mut self.text, form, words)
     }
 
-    pub(crate) fn into_text(self) -> String {
-        let Writer { text, .. } = self;
-        text
-    }
-
-    fn name(&self, variable: usize) -> &str {
-        match self.names.get(variable) {
-            Some(name) => name.as_str(),
-            None => "",
+    /// Writes the variables, the objects and the actors.
+    fn application(
+        &mut self,
+        program: &Program<'_>,
+        source: &Source<'_>,
+        codes: &[Code],
+    ) -> Result<(), Fault> {
+        self.variables(program)?;
+        self.objects(program)?;
+        for (number, actor) in program.actors.iter().enumerate() {
+            if let Some(code) = codes.get(number) {
+                self.actor(program, source, *actor, code)?;
+            }
         }
+        Ok(())
     }
 
     /// Writes the variables.
-    pub(crate) fn variables(&mut self, program: &Program<'_>) -> Result<(), AllocError> {
+    fn variables(&mut self, program: &Program<'_>) -> Result<(), AllocError> {
         for place in &program.written {
-            if let Some(variable) = program.variable(*place) {
-                self.variable(program, *place, variable)?;
-            }
+            self.variable(program, *place, program.variable(*place))?;
         }
         Ok(())
     }
@@ -65,22 +84,25 @@ impl Writer {
         place: usize,
         variable: Variable<'_>,
     ) -> Result<(), AllocError> {
-        let (begin, name, end) = ("\n[[variable]]\nname = \"", self.name(place), "\"\n");
-        let head = joined_five(self.alloc, begin, name, end, "", "")?;
-        self.text.push_str(head.as_str())?;
-        self.number_entry("lo", variable.range.low)?;
-        self.number_entry("hi", variable.range.high)?;
-        self.number_entry("init", variable.first)?;
-        if let Owner::Actor(number) = variable.owner {
-            let actor = program.actor_name(number);
-            let entry = joined_five(self.alloc, "owner = \"", actor, "\"\n", "", "")?;
-            self.text.push_str(entry.as_str())?;
+        let words = &[
+            Word::Text(name_in(&self.names, place)),
+            Word::Number(variable.range.low),
+            Word::Number(variable.range.high),
+            Word::Number(variable.first),
+        ];
+        let form = "\n[[variable]]\nname = \"%\"\nlo = %\nhi = %\ninit = %\n";
+        push_filled(self.alloc, &mut self.text, form, words)?;
+        match variable.owner {
+            Owner::Actor(number) => {
+                let actor = program.actor_name(number);
+                self.write("owner = \"%\"\n", &[Word::Text(actor)])
+            }
+            _ => Ok(()),
         }
-        Ok(())
     }
 
     /// Writes the objects.
-    pub(crate) fn objects(&mut self, program: &Program<'_>) -> Result<(), AllocError> {
+    fn objects(&mut self, program: &Program<'_>) -> Result<(), AllocError> {
         for object in &program.objects {
             self.object(*object)?;
         }
@@ -96,33 +118,23 @@ impl Writer {
             first,
             is_live,
         } = object;
-        let (begin, kind) = ("\n[[object]]\nname = \"", kind.text());
-        let head = joined_five(self.alloc, begin, name, "\"\nkind = \"", kind, "\"\n")?;
-        self.text.push_str(head.as_str())?;
+        let words = &[Word::Text(name), Word::Text(kind.text())];
+        self.write("\n[[object]]\nname = \"%\"\nkind = \"%\"\n", words)?;
         if let Some(size) = size {
-            self.number_entry("size", size)?;
+            self.write("size = %\n", &[Word::Number(size)])?;
         }
         if let Some(Range { low, high }) = items {
-            self.number_entry("lo", low)?;
-            self.number_entry("hi", high)?;
+            self.write("lo = %\nhi = %\n", &[Word::Number(low), Word::Number(high)])?;
         }
         if let Some(first) = first {
-            self.number_entry("first", first)?;
+            self.write("first = %\n", &[Word::Number(first)])?;
         }
-        self.text.push_str(if is_live {
-            "live = true\n"
-        } else {
-            "live = false\n"
-        })
-    }
-
-    fn number_entry(&mut self, key: &str, number: i64) -> Result<(), AllocError> {
-        let number = numeral(self.alloc, number)?;
-        push_all(&mut self.text, &[key, " = ", number.as_str(), "\n"])
+        let is_live = if is_live { "true" } else { "false" };
+        self.write("live = %\n", &[Word::Text(is_live)])
     }
 
     /// Writes an actor with its code.
-    pub(crate) fn actor(
+    fn actor(
         &mut self,
         program: &Program<'_>,
         source: &Source<'_>,
@@ -130,14 +142,11 @@ impl Writer {
         code: &Code,
     ) -> Result<(), Fault> {
         let said = self.lines_said(program, code)?;
-        let (name, kind) = (actor.name, actor.kind.text());
-        let (begin, end) = ("\n[[actor]]\nname = \"", "\"\ncode = [\n");
-        let head = joined_five(self.alloc, begin, name, "\"\nkind = \"", kind, end)?;
-        self.text.push_str(head.as_str())?;
+        let words = &[Word::Text(actor.name), Word::Text(actor.kind.text())];
+        self.write("\n[[actor]]\nname = \"%\"\nkind = \"%\"\ncode = [\n", words)?;
         self.rows(source, code, &said)?;
         if self.text.len() > MOST_BYTES {
-            let texts = &["the translation has more than 1 MiB"];
-            return Err(wrong(self.alloc, actor.end, texts));
+            return Err(wrong(self.alloc, actor.end, "the translation has more than 1 MiB"));
         }
         self.text.push_str("]\n")?;
         Ok(())
@@ -145,15 +154,19 @@ impl Writer {
 
     /// Writes the lines of an actor, each with its comment.
     fn rows(&mut self, source: &Source<'_>, code: &Code, said: &Said) -> Result<(), AllocError> {
-        let width = said.width;
         let mut last = None;
         for (number, line) in code.lines.iter().enumerate() {
             let text = match said.lines.get(number) {
                 Some(text) => text.as_str(),
                 None => "",
             };
-            let row = format!(in self.alloc; "  {text:width$}  # {number:<2} ")?;
-            self.text.push_str(row.as_str())?;
+            let words = &[
+                Word::Text(text),
+                Word::Blanks(said.width.saturating_sub(text.len())),
+                Word::Count(number),
+                Word::Blanks(usize::from(number < 10)),
+            ];
+            self.write("  %%  # %% ", words)?;
             self.comment(source, code, line.place, last)?;
             last = Some(line.place);
         }
@@ -165,15 +178,14 @@ impl Writer {
         let mut lines = Vec::new(self.alloc);
         let mut width = 0usize;
         for line in &code.lines {
-            let text = self.line_said(program, *line)?;
-            let quoted = joined(self.alloc, &["\"", text.as_str(), "\","])?;
+            let quoted = self.line_said(program, *line)?;
             width = width.max(quoted.len());
             lines.push(quoted)?;
         }
         Ok(Said { lines, width })
     }
 
-    /// A line of code.
+    /// A line of code in quotes, with a comma.
     fn line_said(&self, program: &Program<'_>, line: Line) -> Result<String, AllocError> {
         let target = line.to.unwrap_or(0);
         match line.action {
@@ -183,30 +195,26 @@ impl Writer {
                 more,
             } => self.set_said(variable, left, more),
             Action::Pick { variable, range } => {
-                let low = numeral(self.alloc, range.low)?;
-                let high = numeral(self.alloc, range.high)?;
-                let texts = &[
-                    "pick ",
-                    self.name(variable),
-                    " ",
-                    low.as_str(),
-                    " ",
-                    high.as_str(),
-                ];
-                joined(self.alloc, texts)
+                let (low, high) = (Word::Number(range.low), Word::Number(range.high));
+                filled(
+                    self.alloc,
+                    "\"pick % % %\",",
+                    &[self.name(variable), low, high],
+                )
             }
-            Action::Call { answer, call } => self.call_said(program, answer, call, line.to),
+            Action::Call { answer, call } => (&*self).call_said(&*program, answer, call, line.to),
             Action::If {
                 left,
                 comparison,
                 right,
             } => {
-                let condition = self.joined_said(left, comparison.text(), right)?;
-                let after = self.numbered(" goto ", target)?;
-                joined(self.alloc, &["if ", condition.as_str(), after.as_str()])
+                let (left, right) = (self.operand(left), self.operand(right));
+                let sign = Word::Text(comparison.text());
+                let words = &[left, sign, right, Word::Count(target)];
+                filled(self.alloc, "\"if % % % goto %\",", words)
             }
-            Action::Goto => self.numbered("goto ", target),
-            Action::Return | Action::End => String::from_str(self.alloc, "return"),
+            Action::Goto => filled(self.alloc, "\"goto %\",", &[Word::Count(target)]),
+            Action::Return | Action::End => String::from_str(self.alloc, "\"return\","),
         }
     }
 
@@ -217,87 +225,71 @@ impl Writer {
         left: Operand,
         more: Option<(Arithmetic, Operand)>,
     ) -> Result<String, AllocError> {
-        let value = match more {
-            Some((sign, right)) => self.joined_said(left, sign.text(), right)?,
-            None => self.operand_said(left)?,
-        };
-        let texts = &["set ", self.name(variable), " = ", value.as_str()];
-        joined(self.alloc, texts)
-    }
-
-    /// A text with a number after it.
-    fn numbered(&self, text: &str, number: usize) -> Result<String, AllocError> {
-        format!(in self.alloc; "{text}{number}")
-    }
-
-    /// Two operands with a sign between them.
-    fn joined_said(&self, left: Operand, sign: &str, right: Operand) -> Result<String, AllocError> {
-        let first = self.operand_said(left)?;
-        let second = self.operand_said(right)?;
-        joined(
-            self.alloc,
-            &[first.as_str(), " ", sign, " ", second.as_str()],
-        )
-    }
-
-    fn operand_said(&self, operand: Operand) -> Result<String, AllocError> {
-        match operand {
-            Operand::Variable(variable) => String::from_str(self.alloc, self.name(variable)),
-            Operand::Number(number) => numeral(self.alloc, number),
+        let (name, left) = (self.name(variable), self.operand(left));
+        match more {
+            Some((sign, right)) => {
+                let words = &[name, left, Word::Text(sign.text()), self.operand(right)];
+                filled(self.alloc, "\"set % = % % %\",", words)
+            }
+            None => filled(self.alloc, "\"set % = %\",", &[name, left]),
         }
     }
 
-    /// A call with its arguments.
-    fn call_said(
-        &self,
-        program: &Program<'_>,
+    /// The name of a variable.
+    fn name(&self, variable: usize) -> Word<'_> {
+        Word::Text(name_in(&self.names, variable))
+    }
+
+    fn operand(&self, operand: Operand) -> Word<'_> {
+        match operand {
+            Operand::Variable(variable) => self.name(variable),
+            Operand::Number(number) => Word::Number(number),
+        }
+    }
+
+    fn argument<'b>(&'b self, program: &'b Program<'_>, argument: Argument) -> Word<'b> {
+        match argument {
+            Argument::Absent => Word::Text(""),
+            Argument::Object(place) => Word::Text(program.object_name(place)),
+            Argument::Operand(operand) => self.operand(operand),
+            Argument::Forever => Word::Text("portMAX_DELAY"),
+            Argument::Null => Word::Text("NULL"),
+        }
+    }
+
+    /// A call with its arguments, in quotes, with a comma.
+    fn call_said<'b>(
+        &'b self,
+        program: &'b Program<'_>,
         answer: Option<usize>,
         call: Call,
         to: Option<usize>,
     ) -> Result<String, AllocError> {
-        let mut said = String::new(self.alloc);
-        if let Some(variable) = answer {
-            push_all(&mut said, &[self.name(variable), " = "])?;
-        }
-        push_all(&mut said, &[call.kernel.name, "("])?;
-        for (number, argument) in call.arguments.iter().enumerate() {
-            if number > 0 && !matches!(argument, Argument::Absent) {
-                said.push_str(", ")?;
-            }
-            let text = self.argument_said(program, *argument)?;
-            said.push_str(text.as_str())?;
-        }
-        said.push_str(")")?;
-        if let Some(target) = to {
-            let tail = self.numbered(" else ", target)?;
-            said.push_str(tail.as_str())?;
-        }
-        Ok(said)
-    }
-
-    /// The name of an object.
-    fn object_said(&self, program: &Program<'_>, place: usize) -> Result<String, AllocError> {
-        match program.objects.get(place) {
-            Some(object) => {
-                let name = object.name;
-                String::from_str(self.alloc, name)
-            }
-            None => Ok(String::new(self.alloc)),
-        }
-    }
-
-    fn argument_said(
-        &self,
-        program: &Program<'_>,
-        argument: Argument,
-    ) -> Result<String, AllocError> {
-        match argument {
-            Argument::Absent => Ok(String::new(self.alloc)),
-            Argument::Object(place) => self.object_said(program, place),
-            Argument::Operand(operand) => self.operand_said(operand),
-            Argument::Forever => String::from_str(self.alloc, "portMAX_DELAY"),
-            Argument::Null => String::from_str(self.alloc, "NULL"),
-        }
+        let form = match call.kernel.places.len() {
+            0 | 1 => "\"%%%(%%%)%%\",",
+            2 => "\"%%%(%, %%)%%\",",
+            _ => "\"%%%(%, %, %)%%\",",
+        };
+        let (given, is) = match answer {
+            Some(variable) => (self.name(variable), " = "),
+            None => (Word::Text(""), ""),
+        };
+        let (otherwise, target) = match to {
+            Some(target) => (" else ", Word::Count(target)),
+            None => ("", Word::Text("")),
+        };
+        let [first, second, third] = call.arguments;
+        let words = &[
+            given,
+            Word::Text(is),
+            Word::Text(call.kernel.name),
+            self.argument(program, first),
+            self.argument(program, second),
+            self.argument(program, third),
+            Word::Text(otherwise),
+            target,
+        ];
+        filled(self.alloc, form, words)
     }
 
     /// Writes where a line is in the source, and what is there, unless the line before it is of the same place.
@@ -309,21 +301,18 @@ impl Writer {
         last: Option<Place>,
     ) -> Result<(), AllocError> {
         let Spot { line, .. } = place.spot;
-        let number = self.numbered(":", line)?;
-        self.text.push_str(source.file)?;
-        self.text.push_str(number.as_str())?;
+        self.write("%:%", &[Word::Text(source.file), Word::Count(line)])?;
         self.callers(code, place)?;
         match last {
             Some(last) if are_of_one_place(code, last, place) => return self.text.push_str("\n"),
             _ => {}
         }
         let shown = source.excerpt(self.alloc, line)?;
-        self.text.push_str(": ")?;
         match shown.as_str().get(..LONGEST_EXCERPT - 3) {
             Some(cut) if shown.len() > LONGEST_EXCERPT => {
-                push_all(&mut self.text, &[cut, "...\n"])
+                self.write(": %...\n", &[Word::Text(cut)])
             }
-            _ => push_all(&mut self.text, &[shown.as_str(), "\n"]),
+            _ => self.write(": %\n", &[Word::Text(shown.as_str())]),
         }
     }
 
@@ -334,11 +323,18 @@ impl Writer {
             let Some(outer) = caller(&code.calls, place) else {
                 break;
             };
-            let text = self.numbered(" from ", outer.spot.line)?;
-            self.text.push_str(text.as_str())?;
+            self.write(" from %", &[Word::Count(outer.spot.line)])?;
             place = outer;
         }
         Ok(())
+    }
+}
+
+/// The name of a variable among all names.
+fn name_in(names: &[String], variable: usize) -> &str {
+    match names.get(variable) {
+        Some(name) => name.as_str(),
+        None => "",
     }
 }
 

@@ -1,35 +1,57 @@
-// Texts that are put together.
+// Texts that are put together. A form is a text in which each `%` is the place of a word.
 
 use std::alloc::{AllocError, Global};
 
-/// Appends some texts, one after another.
-pub(crate) fn push_all(whole: &mut String, texts: &[&str]) -> Result<(), AllocError> {
-    for text in texts {
-        whole.push_str(text)?;
+/// What is filled into a form.
+#[derive(Clone, Copy)]
+pub(crate) enum Word<'a> {
+    Text(&'a str),
+    Number(i64),
+    Count(usize),
+    /// So many blanks.
+    Blanks(usize),
+}
+
+/// Appends so many blanks.
+fn push_blanks(whole: &mut String, count: usize) -> Result<(), AllocError> {
+    for _ in 0..count {
+        whole.push(' ')?;
     }
     Ok(())
 }
 
-/// Some texts, one after another.
-pub(crate) fn joined(alloc: Global, texts: &[&str]) -> Result<String, AllocError> {
-    let mut whole = String::new(alloc);
-    push_all(&mut whole, texts)?;
-    Ok(whole)
+/// Appends a word.
+fn push_word(alloc: Global, whole: &mut String, word: Word<'_>) -> Result<(), AllocError> {
+    let digits = match word {
+        Word::Text(text) => return whole.push_str(text),
+        Word::Blanks(count) => return push_blanks(whole, count),
+        Word::Number(number) => format!(in alloc; "{number}")?,
+        Word::Count(count) => format!(in alloc; "{count}")?,
+    };
+    whole.push_str(digits.as_str())
 }
 
-/// The same of five texts, each of which may be borrowed from somewhere else.
-pub(crate) fn joined_five(
+/// Appends a form, with its words in their places.
+pub(crate) fn push_filled(
     alloc: Global,
-    first: &str,
-    second: &str,
-    third: &str,
-    fourth: &str,
-    fifth: &str,
-) -> Result<String, AllocError> {
-    joined(alloc, &[first, second, third, fourth, fifth])
+    whole: &mut String,
+    form: &str,
+    words: &[Word<'_>],
+) -> Result<(), AllocError> {
+    let mut rest = words.iter();
+    for character in form.chars() {
+        if character != '%' {
+            whole.push(character)?;
+        } else if let Some(word) = rest.next() {
+            push_word(alloc, whole, *word)?;
+        }
+    }
+    Ok(())
 }
 
-/// A number as text.
-pub(crate) fn numeral(alloc: Global, number: i64) -> Result<String, AllocError> {
-    format!(in alloc; "{number}")
+/// A form, with its words in their places.
+pub(crate) fn filled(alloc: Global, form: &str, words: &[Word<'_>]) -> Result<String, AllocError> {
+    let mut whole = String::new(alloc);
+    push_filled(alloc, &mut whole, form, words)?;
+    Ok(whole)
 }

@@ -286,6 +286,31 @@ impl Tidying<'_> {
     }
 }
 
+impl Tidying<'_> {
+    /// Makes all changes that can be made.
+    fn tidy(&mut self, alloc: Global) -> Result<(), AllocError> {
+        for _ in 0..=self.kept.len().saturating_mul(4) {
+            let is_shorter = shorten_jumps(&mut self.kept);
+            let is_smaller = self.take_out_unreached(alloc)?;
+            let is_changed = self.change_one();
+            if !is_shorter && !is_smaller && !is_changed {
+                break;
+            }
+        }
+        Ok(())
+    }
+
+    /// The lines that are kept.
+    fn all_kept(&self, alloc: Global) -> Result<Vec<Kept>, AllocError> {
+        let mut kept = Vec::new(alloc);
+        for Origin { line, from, form } in &self.kept {
+            let (from, form, to) = (*from, *form, line.to);
+            kept.push(Kept { from, form, to })?;
+        }
+        Ok(kept)
+    }
+}
+
 /// All lines as they are.
 fn untouched<'a>(
     alloc: Global,
@@ -315,19 +340,7 @@ pub(crate) fn tidied(
     ensures { IfOk result (λ tidied. ShowsNoLess program.now.variables.items lines.now tidied.items) }
 {
     let mut tidying = untouched(alloc, program, lines)?;
-    let most = lines.len().saturating_mul(4);
-    for _ in 0..=most {
-        let is_shorter = shorten_jumps(&mut tidying.kept);
-        let is_smaller = tidying.take_out_unreached(alloc)?;
-        let is_changed = tidying.change_one();
-        if !is_shorter && !is_smaller && !is_changed {
-            break;
-        }
-    }
-    let mut kept = Vec::new(alloc);
-    for Origin { line, from, form } in &tidying.kept {
-        let (from, form, to) = (*from, *form, line.to);
-        kept.push(Kept { from, form, to })?;
-    }
+    tidying.tidy(alloc)?;
+    let kept = tidying.all_kept(alloc)?;
     tidied_lines(alloc, program, lines, &kept, &tidying.heirs)
 }

@@ -1,7 +1,7 @@
 // The words, numbers and signs of a source, with their places.
 
-use crate::fault::{Fault, Spot, wrong, wrong_about};
-use crate::texts::numeral;
+use crate::fault::{Fault, Spot, wrong, wrong_about, wrong_with};
+use crate::texts::Word;
 use std::alloc::{AllocError, Global};
 
 /// What a token is.
@@ -202,20 +202,15 @@ fn in_place_of(byte: u8) -> &'static str {
 }
 
 /// Why a byte that begins no token is refused.
-fn unknown_sign(alloc: Global, spot: Spot, text: &[u8], byte: u8) -> Fault {
+fn unknown_sign(alloc: Global, spot: Spot, text: &[u8]) -> Fault {
+    let byte = text.first().copied().unwrap_or(0);
     let hint = in_place_of(byte);
     if byte.is_ascii_graphic() {
         let sign = std::str::from_utf8(text).unwrap_or("");
-        let why = "' means nothing here";
-        wrong_about(alloc, spot, "the sign '", sign, why, hint, "")
+        wrong_about(alloc, spot, "the sign '%' means nothing here%", sign, hint)
     } else {
-        match numeral(alloc, i64::from(byte)) {
-            Ok(code) => {
-                let texts = &["the sign of code ", code.as_str(), " means nothing here"];
-                wrong(alloc, spot, texts)
-            }
-            Err(_) => Fault::Memory,
-        }
+        let words = &[Word::Number(i64::from(byte))];
+        wrong_with(alloc, spot, "the sign of code % means nothing here", words)
     }
 }
 
@@ -231,7 +226,7 @@ fn check_number(alloc: Global, spot: Spot, text: &[u8], rest: &[u8]) -> Result<(
     } else {
         return Ok(());
     };
-    Err(wrong(alloc, spot, &[why]))
+    Err(wrong(alloc, spot, why))
 }
 
 /// The tokens of a source, its end, and its bytes with blanks in place of comments.
@@ -271,44 +266,66 @@ fn token_of<'a>(
     })
 }
 
+impl<'a> Scan<'a> {
+    /// Keeps a piece of the source. `after` is what is behind it.
+    fn keep(
+        &mut self,
+        alloc: Global,
+        piece: Piece,
+        text: &'a [u8],
+        after: &[u8],
+        position: Position,
+    ) -> Result<(), Fault> {
+        match piece {
+            Piece::Comment => return Ok(push_blanks(&mut self.blank, text)?),
+            Piece::Unended => return Err(wrong(alloc, position.spot, "this comment doesn't end")),
+            Piece::Unknown => return Err(unknown_sign(alloc, position.spot, text)),
+            Piece::Token(kind) => self
+                .tokens
+                .push(token_of(alloc, kind, position, text, after)?)?,
+            Piece::Space => {}
+        }
+        self.blank.extend_from_slice(text)?;
+        Ok(())
+    }
+
+    /// Reads the pieces of a source.
+    fn read(&mut self, alloc: Global, source: &'a [u8]) -> Result<(), Fault> {
+        let mut rest = source;
+        let mut position = START;
+        for _ in 0..source.len() {
+            let Some(first) = rest.first().copied() else {
+                break;
+            };
+            let (piece, length) = piece_of(rest, first);
+            let Some((text, after)) = rest.split_at_checked(length.max(1)) else {
+                break;
+            };
+            self.keep(alloc, piece, text, after, position)?;
+            position = position.past(text);
+            rest = after;
+        }
+        let Position { spot, indent } = position;
+        self.end.spot = spot;
+        self.end.indent = indent;
+        Ok(())
+    }
+}
+
 /// The words, numbers and signs of a source.
 pub(crate) fn scanned<'a>(alloc: Global, source: &'a [u8]) -> Result<Scan<'a>, Fault> {
-    let mut tokens = Vec::new(alloc);
-    let mut blank = Vec::new(alloc);
-    let mut rest = source;
-    let mut position = START;
-    for _ in 0..source.len() {
-        let Some(first) = rest.first().copied() else {
-            break;
-        };
-        let (piece, length) = piece_of(rest, first);
-        let Some((text, after)) = rest.split_at_checked(length.max(1)) else {
-            break;
-        };
-        match piece {
-            Piece::Space => blank.extend_from_slice(text)?,
-            Piece::Comment => push_blanks(&mut blank, text)?,
-            Piece::Token(kind) => {
-                tokens.push(token_of(alloc, kind, position, text, after)?)?;
-                blank.extend_from_slice(text)?;
-            }
-            Piece::Unended => {
-                return Err(wrong(alloc, position.spot, &["this comment doesn't end"]));
-            }
-            Piece::Unknown => return Err(unknown_sign(alloc, position.spot, text, first)),
-        }
-        position = position.past(text);
-        rest = after;
-    }
-    let Position { spot, indent } = position;
-    Ok(Scan {
-        tokens,
-        end: Token {
-            kind: Kind::End,
-            text: "",
-            spot,
-            indent,
-        },
-        blank,
-    })
+    let Position { spot, indent } = START;
+    let end = Token {
+        kind: Kind::End,
+        text: "",
+        spot,
+        indent,
+    };
+    let mut scan = Scan {
+        tokens: Vec::new(alloc),
+        end,
+        blank: Vec::new(alloc),
+    };
+    scan.read(alloc, source)?;
+    Ok(scan)
 }

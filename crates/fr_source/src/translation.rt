@@ -3,13 +3,12 @@ ghost use Rattle.std.specs.Prelude.{◌≤◌, length, IfOk, string_bytes};
 
 use crate::declare::program_in;
 use crate::expand::{Code, Line, Place, code_of, outermost};
-use crate::fault::{Fault, Spot, wrong, wrong_about};
+use crate::fault::{Fault, Spot, wrong, wrong_about, wrong_with};
 use crate::message::{Message, Refused, message_at, refused_by};
 use crate::program::{Action, Actor, ActorKind, Program};
-use crate::renamed::names_of;
 use crate::source::{Source, plain};
-use crate::text::Writer;
-use crate::texts::joined_five;
+use crate::text::text_of;
+use crate::texts::{Word, filled};
 use crate::tidy::{reached, tidied};
 use crate::token::{Scan, scanned};
 use std::alloc::{AllocError, Global};
@@ -43,9 +42,8 @@ fn check_calls(alloc: Global, actor: Actor<'_>, code: &Code) -> Result<(), Fault
             && matches!(actor.kind, ActorKind::Task)
         {
             let spot = outermost(&code.calls, line.place);
-            let (name, called) = (actor.name, call.kernel.name);
-            let (makes, after) = ("' makes the call ", " here, which is for interrupts");
-            return Err(wrong_about(alloc, spot, "task '", name, makes, called, after));
+            let form = "task '%' makes the call % here, which is for interrupts";
+            return Err(wrong_about(alloc, spot, form, actor.name, call.kernel.name));
         }
     }
     Ok(())
@@ -63,27 +61,29 @@ fn can_end(lines: &[Line]) -> bool {
 
 /// Refuses a task that can come to its end, and an actor with too many lines.
 fn check_code(alloc: Global, actor: Actor<'_>, code: &Code) -> Result<(), Fault> {
-    let name = actor.name;
     if can_end(&code.lines) {
-        let why =
-            "' can come to its end here, and a task doesn't return (rule 11): write vTaskDelete(NULL) or an endless loop";
-        return Err(wrong(alloc, actor.end, &["task '", name, why]));
+        let form =
+            "task '%' can come to its end here, and a task doesn't return (rule 11): write vTaskDelete(NULL) \
+            or an endless loop";
+        return Err(wrong_about(alloc, actor.end, form, actor.name, ""));
     }
     if let Some(line) = code.lines.get(MOST_LINES) {
-        let count = code.lines.len();
-        let kind = actor.kind.text();
-        let text = format!(in alloc;
-            "{kind} '{name}' has {count} lines, at most 512 are allowed: this construct passed the limit"
-        )?;
-        return Err(Fault::Wrong(outermost(&code.calls, line.place), text));
+        let spot = outermost(&code.calls, line.place);
+        let form = "% '%' has % lines, at most 512 are allowed: this construct passed the limit";
+        let words = &[
+            Word::Text(actor.kind.text()),
+            Word::Text(actor.name),
+            Word::Count(code.lines.len()),
+        ];
+        return Err(wrong_with(alloc, spot, form, words));
     }
     Ok(())
 }
 
 /// Whether a way leads to a line of this place.
 fn is_reached(lines: &[Line], seen: &[bool], place: Place) -> bool {
-    for (line, is_seen) in lines.iter().zip(seen) {
-        if *is_seen && line.place.is(place) {
+    for (number, line) in lines.iter().enumerate() {
+        if seen.get(number) == Some(&true) && line.place.is(place) {
             return true;
         }
     }
@@ -109,14 +109,15 @@ fn unreached(alloc: Global, lines: &[Line]) -> Result<Vec<Spot>, AllocError> {
     Ok(spots)
 }
 
-/// The warnings of an actor: what is never reached in it.
+/// Adds the warnings of an actor: what is never reached in it. Refuses a task that makes a call of interrupts.
 fn warn(
     alloc: Global,
     source: &Source<'_>,
     actor: Actor<'_>,
     code: &Code,
     warnings: &mut Vec<Message>,
-) -> Result<(), AllocError> {
+) -> Result<(), Fault> {
+    check_calls(alloc, actor, code)?;
     let spots = unreached(alloc, &code.lines)?;
     let kind = actor.kind.text();
     let name = actor.name;
@@ -124,11 +125,22 @@ fn warn(
         if warnings.len() >= MOST_WARNINGS {
             break;
         }
-        let what = "warning: this is never reached in ";
-        let text = joined_five(alloc, what, kind, " '", name, "', and left out")?;
+        let form = "warning: this is never reached in % '%', and left out";
+        let text = filled(alloc, form, &[Word::Text(kind), Word::Text(name)])?;
         warnings.push(message_at(alloc, source, *spot, text)?)?;
     }
     Ok(())
+}
+
+/// Tidies the code of an actor.
+fn tidy(
+    alloc: Global,
+    program: &Program<'_>,
+    actor: Actor<'_>,
+    code: &mut Code,
+) -> Result<(), Fault> {
+    code.lines = tidied(alloc, program, &code.lines)?;
+    check_code(alloc, actor, code)
 }
 
 /// The code of each actor, and the warnings.
@@ -144,30 +156,11 @@ fn codes_of(
             break;
         };
         let mut code = code_of(alloc, program, actor, number)?;
-        check_calls(alloc, actor, &code)?;
         warn(alloc, source, actor, &code, warnings)?;
-        code.lines = tidied(alloc, program, &code.lines)?;
-        check_code(alloc, actor, &code)?;
+        tidy(alloc, program, actor, &mut code)?;
         codes.push(code)?;
     }
     Ok(codes)
-}
-
-/// The text of an application.
-fn text_of(
-    alloc: Global,
-    source: &Source<'_>,
-    program: &Program<'_>,
-    codes: &[Code],
-) -> Result<String, Fault> {
-    let names = names_of(alloc, program)?;
-    let mut writer = Writer::new(alloc, source.file, names)?;
-    writer.variables(program)?;
-    writer.objects(program)?;
-    for (actor, code) in program.actors.iter().zip(codes) {
-        writer.actor(program, source, *actor, code)?;
-    }
-    Ok(writer.into_text())
 }
 
 /// A source, translated.
@@ -180,17 +173,28 @@ fn translation_of(
 {
     if bytes.len() > MOST_SOURCE_BYTES {
         let spot = Spot { line: 1, column: 1 };
-        return Err(wrong(alloc, spot, &["the source has more than 1 MiB"]));
+        return Err(wrong(alloc, spot, "the source has more than 1 MiB"));
     }
     let Scan { tokens, end, blank } = scanned(alloc, bytes)?;
     source.blank = blank;
     let mut program = program_in(alloc, tokens, end)?;
+    application_of(alloc, source, &mut program)
+}
+
+/// The application that a program is.
+fn application_of(
+    alloc: Global,
+    source: &Source<'_>,
+    program: &mut Program<'_>,
+) -> Result<Translation, Fault>
+    ensures { IfOk result (λ translation. length (string_bytes translation.text) ≤ 1048576) }
+{
     let mut warnings = Vec::new(alloc);
-    let codes = codes_of(alloc, source, &mut program, &mut warnings)?;
-    let text = text_of(alloc, source, &program, &codes)?;
+    let codes = codes_of(alloc, source, program, &mut warnings)?;
+    let text = text_of(alloc, source, program, &codes)?;
     if text.len() > MOST_APPLICATION_BYTES {
         let spot = Spot { line: 1, column: 1 };
-        return Err(wrong(alloc, spot, &["the translation has more than 1 MiB"]));
+        return Err(wrong(alloc, spot, "the translation has more than 1 MiB"));
     }
     Ok(Translation { text, warnings })
 }

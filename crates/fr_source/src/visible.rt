@@ -297,9 +297,15 @@ impl Comparison<'_> {
         requires below { number < length self.plain.now }
         ensures { IsTrue result → KeepsLine (tidied self.entry.program.now.variables.items self.entry.lines.now self.entry.marks.now self.entry.aims.now) self.entry.plain.now number }
     {
-        match (self.plain.get(number), self.aims.get(number)) {
-            (Some(line), Some(Some(mark))) => self.keeps_step(number, *mark, *line),
-            _ => true,
+        let Some(line) = self.plain.get(number) else {
+            return true;
+        };
+        match self.aims.get(number) {
+            Some(aim) => match *aim {
+                Some(mark) => self.keeps_step(number, mark, *line),
+                None => true,
+            },
+            None => true,
         }
     }
 
