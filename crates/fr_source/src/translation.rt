@@ -199,6 +199,14 @@ fn application_of(
     Ok(Translation { text, warnings })
 }
 
+/// The source without a byte order mark at its beginning.
+fn without_mark(source: &[u8]) -> &[u8] {
+    match source {
+        [0xef, 0xbb, 0xbf, rest @ ..] => rest,
+        _ => source,
+    }
+}
+
 /// Translates a source (docs/SOURCE.md) into the text of an application. `file` is the name of its file, as comments show
 /// it: of it, control characters and what isn't ASCII are question marks. The text has at most 1,048,576 bytes.
 ///
@@ -209,6 +217,7 @@ pub fn translated(alloc: Global, file: &str, source: &[u8]) -> Result<Translatio
     ensures { IfOk result (λ translation. length (string_bytes translation.text) ≤ 1048576) }
 {
     let file = plain(alloc, file.as_bytes())?;
+    let source = without_mark(source);
     let mut text = Source::new(alloc, file.as_str(), source)?;
     match translation_of(alloc, &mut text, source) {
         Ok(translation) => Ok(translation),
