@@ -37,16 +37,27 @@ fn through(kept: &[Origin], number: usize) -> Option<usize> {
     }
 }
 
-/// Where a jump to a line comes to in the end, through further gotos.
+/// The line with the least number among those that a way through gotos comes to from this one.
+fn least_after(kept: &[Origin], first: usize) -> usize {
+    let (mut target, mut least) = (first, first);
+    for _ in 0..kept.len() {
+        target = through(kept, target).unwrap_or(target);
+        least = least.min(target);
+    }
+    least
+}
+
+/// Where a jump to a line comes to in the end, through further gotos. Of gotos that go around for ever that is the one with the least number,
+/// whichever of them the way begins at.
 fn end_of_jumps(kept: &[Origin], first: usize) -> usize {
     let mut target = first;
     for _ in 0..kept.len() {
         match through(kept, target) {
             Some(next) if next != target => target = next,
-            _ => break,
+            _ => return target,
         }
     }
-    target
+    least_after(kept, target)
 }
 
 /// The line with its jump to the end of all jumps; a goto to a return returns.
