@@ -2,12 +2,12 @@
 
 use crate::fault::{Fault, Spot, wrong, wrong_about, wrong_with};
 use crate::kernel::{Kernel, Place, kernel_named};
-use crate::program::{Argument, Call, Object, Operand, Range, Variable};
-use crate::reader::{Home, Reader};
+use crate::program::{Argument, Call, Home, Object, Operand, Range, Variable};
+use crate::reader::{Reader, other_meaning};
 use crate::scope::Meaning;
 use crate::texts::{Word, filled};
 use crate::token::Token;
-use std::alloc::AllocError;
+use std::alloc::{AllocError, Global};
 
 /// The lengths in bytes that a call may have.
 const LENGTHS: Range = Range {
@@ -21,14 +21,11 @@ const TICKS: Range = Range {
     high: 2_147_483_647,
 };
 
-/// Whether a name looks like one of the kernel's.
-fn is_of_kernel(name: &str) -> bool {
-    let is_upper = matches!(name.as_bytes().get(1).copied(), Some(b'A'..=b'Z'));
-    is_upper && (name.starts_with("x") || name.starts_with("v")) || name.starts_with("ulTask")
-}
-
 /// What to write in place of a call that no source has, after the quote behind its name.
 fn instead_of(name: &str) -> &'static str {
+    let is_upper = matches!(name.as_bytes().get(1).copied(), Some(b'A'..=b'Z'));
+    let is_of_kernel = is_upper && (name.starts_with("x") || name.starts_with("v"))
+        || name.starts_with("ulTask");
     match name {
         "portYIELD_FROM_ISR" | "portEND_SWITCHING_ISR" => "': leave it out",
         "assert" => "': write configASSERT",
@@ -37,9 +34,29 @@ fn instead_of(name: &str) -> &'static str {
         | "uxQueueSpacesAvailable"
         | "uxSemaphoreGetCount"
         | "xTaskGetTickCount" => "': write any(..), as in 'n = any(0, 4);'",
-        _ if is_of_kernel(name) => "'",
+        _ if is_of_kernel => "'",
         _ => "': leave it out if it makes no kernel call, and write any(..) for its answer",
     }
+}
+
+/// The fault that a variable's range doesn't include another one. The form has the variable's name, both ranges and `name`.
+pub(crate) fn too_narrow<'x>(
+    alloc: Global,
+    variable: Variable<'x>,
+    other: Range,
+    form: &str,
+    name: &'x str,
+    spot: Spot,
+) -> Fault {
+    let words = &[
+        Word::Text(variable.name),
+        Word::Number(variable.range.low),
+        Word::Number(variable.range.high),
+        Word::Number(other.low),
+        Word::Number(other.high),
+        Word::Text(name),
+    ];
+    wrong_with(alloc, spot, form, words)
 }
 
 impl<'a> Reader<'a> {
@@ -56,15 +73,17 @@ impl<'a> Reader<'a> {
         self.cursor.take("(", "")?;
         let mut arguments = [Argument::Absent; 3];
         for (place, what) in kernel.places.iter().enumerate() {
-            if place > 0 {
-                self.take_in_call(",", kernel)?;
+            if place > 0 && !self.cursor.accepts(",") {
+                return Err(self.expected_in("','", kernel)?);
             }
             let argument = self.argument(kernel, *what, arguments[0])?;
             if let Some(slot) = arguments.get_mut(place) {
                 *slot = argument;
             }
         }
-        self.take_in_call(")", kernel)?;
+        if !self.cursor.accepts(")") {
+            return Err(self.expected_in("')'", kernel)?);
+        }
         self.call = None;
         Ok(Call { kernel, arguments })
     }
@@ -93,23 +112,9 @@ impl<'a> Reader<'a> {
         wrong_about(self.alloc, spot, form, text, more)
     }
 
-    /// The call's name, with what its arguments are.
-    pub(crate) fn shape(&self, kernel: &Kernel) -> Result<String, AllocError> {
-        let mut shape = String::from_str(self.alloc, kernel.name)?;
-        shape.push_str("(")?;
-        let mut before = "";
-        for what in kernel.places {
-            shape.push_str(before)?;
-            shape.push_str(what.text())?;
-            before = ", ";
-        }
-        shape.push_str(")")?;
-        Ok(shape)
-    }
-
     /// The fault that something is expected in a call.
     fn expected_in(&self, what: &str, kernel: &Kernel) -> Result<Fault, AllocError> {
-        let shape = self.shape(kernel)?;
+        let shape = kernel.shape(self.alloc)?;
         let form = if self.cursor.sees(",") {
             "% in %; data pointers and '&woken' are left out"
         } else {
@@ -123,15 +128,6 @@ impl<'a> Reader<'a> {
         Ok(self.cursor.expected(text.as_str()))
     }
 
-    /// Takes a sign between the arguments.
-    fn take_in_call(&mut self, sign: &str, kernel: &Kernel) -> Result<(), Fault> {
-        if self.cursor.accepts(sign) {
-            return Ok(());
-        }
-        let what = if sign == "," { "','" } else { "')'" };
-        Err(self.expected_in(what, kernel)?)
-    }
-
     /// Takes the argument in a place. `object` is the first one.
     fn argument(
         &mut self,
@@ -139,14 +135,20 @@ impl<'a> Reader<'a> {
         place: Place,
         object: Argument,
     ) -> Result<Argument, Fault> {
-        if self.cursor.sees(")") {
+        let text = self.cursor.token().text;
+        if text == ")" {
             return Err(self.expected_in(place.text(), kernel)?);
         }
+        let is_forever = text == "portMAX_DELAY"
+            || matches!(self.scope.meaning(text), Some(Meaning::Forever));
         match place {
             Place::Object => self.object_argument(kernel),
             Place::Operand => Ok(Argument::Operand(self.number_or_variable()?)),
             Place::Variable => self.variable_argument(object),
-            Place::Time if self.accepts_forever() => Ok(Argument::Forever),
+            Place::Time if is_forever => {
+                self.cursor.advance();
+                Ok(Argument::Forever)
+            }
             Place::Length | Place::Time | Place::Ticks => {
                 let range = if matches!(place, Place::Length) {
                     LENGTHS
@@ -163,23 +165,11 @@ impl<'a> Reader<'a> {
         }
     }
 
-    /// Takes `portMAX_DELAY`, or a parameter with this value, if it is there.
-    fn accepts_forever(&mut self) -> bool {
-        let text = self.cursor.token().text;
-        let is_there = text == "portMAX_DELAY"
-            || matches!(self.scope.meaning(text), Some(Meaning::Forever));
-        if is_there {
-            self.cursor.advance();
-        }
-        is_there
-    }
-
     /// Takes the object of a call.
     fn object_argument(&mut self, kernel: &Kernel) -> Result<Argument, Fault> {
-        let token = self.cursor.word("the name of an object")?;
-        let place = match self.meaning_of(token)? {
-            Meaning::Object(place) => place,
-            meaning => return Err(self.other_meaning(token, "an object", meaning)),
+        let (token, meaning) = self.named("the name of an object")?;
+        let Meaning::Object(place) = meaning else {
+            return Err(other_meaning(self.alloc, token, "an object", meaning));
         };
         match self.program.objects.get(place) {
             Some(object) if !kernel.is_for(object.kind) => {
@@ -207,28 +197,8 @@ impl<'a> Reader<'a> {
             && !variable.range.includes(items)
         {
             let form = "the range of '%', %..%, has to include the queue's, %..%";
-            return Err(self.too_narrow(variable, items, form, "", spot));
+            return Err(too_narrow(self.alloc, variable, items, form, "", spot));
         }
         Ok(Argument::Operand(Operand::Variable(place)))
-    }
-
-    /// The fault that a variable's range doesn't include another one. The form has the variable's name, both ranges and `name`.
-    pub(crate) fn too_narrow(
-        &self,
-        variable: Variable<'a>,
-        other: Range,
-        form: &str,
-        name: &'a str,
-        spot: Spot,
-    ) -> Fault {
-        let words = &[
-            Word::Text(variable.name),
-            Word::Number(variable.range.low),
-            Word::Number(variable.range.high),
-            Word::Number(other.low),
-            Word::Number(other.high),
-            Word::Text(name),
-        ];
-        wrong_with(self.alloc, spot, form, words)
     }
 }

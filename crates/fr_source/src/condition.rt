@@ -6,14 +6,32 @@ use crate::kernel::Answer;
 use crate::lines::Condition;
 use crate::program::{Action, Call, Comparison, Operand, Owner, Variable};
 use crate::reader::Reader;
+use std::alloc::Global;
 
-/// Why a value is no condition.
-fn why_untested(value: Value) -> &'static str {
-    match value {
-        Value::Given { .. } =>
-            "an assignment as a condition: compare it, as in (n = ..) != 0, or write '=='",
-        Value::Any(_) => "expected a condition: give any(..) to a variable first",
-        _ => "expected a condition",
+/// Refuses a call that doesn't answer whether it worked.
+fn check_fails(alloc: Global, call: Call, spot: Spot) -> Result<(), Fault> {
+    if call.kernel.may_fail() {
+        return Ok(());
+    }
+    let form = match call.kernel.answer {
+        Answer::Bytes =>
+            "% doesn't answer whether it worked: write (n = ..) > 0, where n is a variable",
+        _ => "% doesn't answer whether it worked",
+    };
+    Err(wrong_about(alloc, spot, form, call.kernel.name, ""))
+}
+
+/// The operand that is a side of a comparison.
+fn side(alloc: Global, term: Term) -> Result<Operand, Fault> {
+    if let Value::Called(call) = term.value {
+        check_fails(alloc, call, term.spot)?;
+    }
+    match term.operand() {
+        Some(operand) => Ok(operand),
+        None => {
+            let text = "a side of a comparison is a number or a variable";
+            Err(wrong(alloc, term.spot, text))
+        }
     }
 }
 
@@ -23,11 +41,8 @@ impl Reader<'_> {
         self.cursor.take("(", "")?;
         let test = self.bare_condition()?;
         if self.cursor.sees("=") {
-            return Err(wrong(
-                self.alloc,
-                self.cursor.spot(),
-                "'=' in a condition: write '=='",
-            ));
+            let text = "'=' in a condition: write '=='";
+            return Err(wrong(self.alloc, self.cursor.spot(), text));
         }
         self.cursor.take(")", "")?;
         Ok(test)
@@ -42,39 +57,30 @@ impl Reader<'_> {
     /// The place of the condition that a term is.
     pub(crate) fn test_of(&mut self, term: Term) -> Result<usize, Fault> {
         let Term { value, spot } = term;
-        match value {
-            Value::Test(test) => Ok(test),
-            Value::Number(number) => self.lines.test(Condition::Always(number != 0), spot),
-            Value::Variable(variable) => self.lines.test(
-                Condition::Compare {
-                    before: None,
-                    left: Operand::Variable(variable),
-                    comparison: Comparison::Unequal,
-                    right: Operand::Number(0),
-                },
-                spot,
-            ),
+        let condition = match value {
+            Value::Test(test) => return Ok(test),
+            Value::Number(number) => Condition::Always(number != 0),
+            Value::Variable(variable) => Condition::Compare {
+                before: None,
+                left: Operand::Variable(variable),
+                comparison: Comparison::Unequal,
+                right: Operand::Number(0),
+            },
             Value::Called(call) => {
-                self.check_fails(call, spot)?;
-                self.lines.test(Condition::Works(call), spot)
+                check_fails(self.alloc, call, spot)?;
+                Condition::Works(call)
             }
             Value::Given { .. } | Value::Any(_) | Value::Null | Value::Sum { .. } => {
-                Err(wrong(self.alloc, spot, why_untested(value)))
+                let why = match value {
+                    Value::Given { .. } =>
+                        "an assignment as a condition: compare it, as in (n = ..) != 0, or write '=='",
+                    Value::Any(_) => "expected a condition: give any(..) to a variable first",
+                    _ => "expected a condition",
+                };
+                return Err(wrong(self.alloc, spot, why));
             }
-        }
-    }
-
-    /// Refuses a call that doesn't answer whether it worked.
-    fn check_fails(&self, call: Call, spot: Spot) -> Result<(), Fault> {
-        if call.kernel.may_fail() {
-            return Ok(());
-        }
-        let form = match call.kernel.answer {
-            Answer::Bytes =>
-                "% doesn't answer whether it worked: write (n = ..) > 0, where n is a variable",
-            _ => "% doesn't answer whether it worked",
         };
-        Err(wrong_about(self.alloc, spot, form, call.kernel.name, ""))
+        self.lines.test(condition, spot)
     }
 
     /// The condition that two terms compare so.
@@ -116,48 +122,30 @@ impl Reader<'_> {
         right: Term,
         spot: Spot,
     ) -> Result<usize, Fault> {
-        self.check_fails(call, spot)?;
+        check_fails(self.alloc, call, spot)?;
         let is_handle = matches!(call.kernel.answer, Answer::Handle);
         let worked = match (right.value, is_handle) {
-            (Value::Null, true) | (Value::Number(0), false) => false,
-            (Value::Number(1), false) => true,
-            _ => return Err(self.wrong_answer(call, is_handle, right.spot)),
+            (Value::Null, true) | (Value::Number(0), false) => Some(false),
+            (Value::Number(1), false) => Some(true),
+            _ => None,
         };
-        let is_works = match comparison {
-            Comparison::Equal => worked,
-            Comparison::Unequal => !worked,
-            _ => return Err(self.wrong_answer(call, is_handle, right.spot)),
+        let is_works = match (comparison, worked) {
+            (Comparison::Equal, Some(worked)) => worked,
+            (Comparison::Unequal, Some(worked)) => !worked,
+            _ => {
+                let form = if is_handle {
+                    "the answer of % is compared by '==' or '!=' with NULL"
+                } else {
+                    "the answer of % is compared by '==' or '!=' with pdTRUE, pdPASS, pdFALSE or pdFAIL"
+                };
+                return Err(wrong_about(self.alloc, right.spot, form, call.kernel.name, ""));
+            }
         };
         let test = self.lines.test(Condition::Works(call), spot)?;
         if is_works {
             Ok(test)
         } else {
             self.lines.test(Condition::Not(test), spot)
-        }
-    }
-
-    /// The fault that a call's answer is compared with something else.
-    fn wrong_answer(&self, call: Call, is_handle: bool, spot: Spot) -> Fault {
-        let form = if is_handle {
-            "the answer of % is compared by '==' or '!=' with NULL"
-        } else {
-            "the answer of % is compared by '==' or '!=' with pdTRUE, pdPASS, pdFALSE or pdFAIL"
-        };
-        wrong_about(self.alloc, spot, form, call.kernel.name, "")
-    }
-
-    /// The operand that is a side of a comparison.
-    fn side(&self, term: Term) -> Result<Operand, Fault> {
-        if let Value::Called(call) = term.value {
-            self.check_fails(call, term.spot)?;
-        }
-        match term.operand() {
-            Some(operand) => Ok(operand),
-            None => Err(wrong(
-                self.alloc,
-                term.spot,
-                "a side of a comparison is a number or a variable",
-            )),
         }
     }
 
@@ -170,26 +158,22 @@ impl Reader<'_> {
         right: Term,
         spot: Spot,
     ) -> Result<usize, Fault> {
-        let left = self.side(left)?;
-        let right = self.side(right)?;
+        let left = side(self.alloc, left)?;
+        let right = side(self.alloc, right)?;
+        let mut condition = Condition::Compare {
+            before,
+            left,
+            comparison,
+            right,
+        };
         match (left, right) {
             (Operand::Number(one), Operand::Number(other)) => {
-                return self
-                    .lines
-                    .test(Condition::Always(comparison.holds(one, other)), spot);
+                condition = Condition::Always(comparison.holds(one, other));
             }
             (Operand::Variable(one), Operand::Variable(other)) => self.check_two(one, other, spot)?,
             _ => {}
         }
-        self.lines.test(
-            Condition::Compare {
-                before,
-                left,
-                comparison,
-                right,
-            },
-            spot,
-        )
+        self.lines.test(condition, spot)
     }
 
     /// Refuses to compare a variable with itself, and two shared ones.
@@ -198,7 +182,7 @@ impl Reader<'_> {
         let second = self.program.variable(other);
         let form = if one == other {
             "'%' can't be both sides of a comparison"
-        } else if first.is_shared() && second.is_shared() {
+        } else if self.program.is_shared(one) && self.program.is_shared(other) {
             "this reads '%' and '%', which are shared, in one step: copy one to a 'var' first"
         } else {
             return Ok(());

@@ -1,7 +1,7 @@
 // Where a reader is among the tokens of a source.
 
 use crate::fault::{Fault, Spot, clipped, wrong_with};
-use crate::texts::{Word, filled};
+use crate::texts::Word;
 use crate::token::{Kind, Token};
 use std::alloc::Global;
 
@@ -81,14 +81,6 @@ impl<'a> Cursor<'a> {
         self.next = self.next.saturating_add(1);
     }
 
-    pub(crate) fn is_at_end(&self) -> bool {
-        matches!(self.token().kind, Kind::End)
-    }
-
-    pub(crate) fn is_at_word(&self) -> bool {
-        matches!(self.token().kind, Kind::Word)
-    }
-
     /// Whether the next token is this word or sign.
     pub(crate) fn sees(&self, text: &str) -> bool {
         self.token().text == text
@@ -96,7 +88,7 @@ impl<'a> Cursor<'a> {
 
     /// Whether the next token is a word, and this sign is after it.
     pub(crate) fn is_before(&self, sign: &str) -> bool {
-        self.is_at_word() && self.following().text == sign
+        matches!(self.token().kind, Kind::Word) && self.following().text == sign
     }
 
     /// Takes the next token if it is this word or sign.
@@ -108,20 +100,12 @@ impl<'a> Cursor<'a> {
         is_there
     }
 
-    /// Takes this word or sign. `why` continues the message, where another token is there. Where a semicolon is missing,
-    /// the mark is after the token before it.
+    /// Takes this word or sign. `why` continues the message, where another token is there.
     pub(crate) fn take(&mut self, text: &str, why: &str) -> Result<(), Fault> {
         if self.accepts(text) {
             return Ok(());
         }
-        let what = filled(self.alloc, "'%'%", &[Word::Text(text), Word::Text(why)])?;
-        let mut spot = self.spot();
-        if text == ";" {
-            let before = self.previous();
-            spot = before.spot;
-            spot.column = spot.column.saturating_add(before.text.len());
-        }
-        Err(self.expected_at(spot, what.as_str()))
+        Err(self.missing("'", text, why))
     }
 
     /// Passes a body by, up to its closing brace.
@@ -154,26 +138,33 @@ impl<'a> Cursor<'a> {
         }
     }
 
-    /// The fault at a place that something else was expected in place of the next token.
-    fn expected_at(&self, spot: Spot, what: &str) -> Fault {
-        let found = clipped(self.token().text);
-        let form = if self.is_at_end() {
-            "expected %, found the end of the file"
-        } else if found == "[" {
-            "expected %, found '[': there are no arrays"
-        } else {
-            "expected %, found '%'"
+    /// The fault that something else was expected in place of the next token: a sign in quotes, and more behind it. Where
+    /// a semicolon is missing, the mark is after the token before it.
+    fn missing(&self, quote: &str, sign: &str, more: &str) -> Fault {
+        let found = self.token();
+        let mut spot = found.spot;
+        if sign == ";" {
+            let before = self.previous();
+            spot = before.spot;
+            spot.column = spot.column.saturating_add(before.text.len());
+        }
+        let form = match (found.kind, found.text) {
+            (Kind::End, _) => "expected %%%%, found the end of the file",
+            (_, "[") => "expected %%%%, found '[': there are no arrays",
+            _ => "expected %%%%, found '%'",
         };
-        wrong_with(
-            self.alloc,
-            spot,
-            form,
-            &[Word::Text(what), Word::Text(found)],
-        )
+        let words = &[
+            Word::Text(quote),
+            Word::Text(sign),
+            Word::Text(quote),
+            Word::Text(more),
+            Word::Text(clipped(found.text)),
+        ];
+        wrong_with(self.alloc, spot, form, words)
     }
 
     /// The fault that something else was expected in place of the next token.
     pub(crate) fn expected(&self, what: &str) -> Fault {
-        self.expected_at(self.spot(), what)
+        self.missing("", "", what)
     }
 }

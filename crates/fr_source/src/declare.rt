@@ -5,12 +5,12 @@ use crate::fault::{Fault, Spot, clipped, wrong, wrong_about, wrong_with};
 use crate::lines::Lines;
 use crate::near::near_among;
 use crate::program::{
-    Action, Actor, ActorKind, MOST_VARIABLES, Object, ObjectKind, Owner, Program, Range, Variable,
+    Action, Actor, Home, MOST_VARIABLES, Object, ObjectKind, Owner, Program, Range, Variable,
 };
-use crate::reader::{Home, Reader};
+use crate::reader::Reader;
 use crate::scope::Meaning;
 use crate::texts::Word;
-use crate::token::Token;
+use crate::token::{Kind, Token};
 use std::alloc::Global;
 use std::mem;
 
@@ -99,11 +99,40 @@ fn in_place_of(word: &str) -> &'static str {
     ""
 }
 
+/// The fault that a word begins no declaration.
+fn no_declaration(alloc: Global, word: Token<'_>) -> Fault {
+    let (shown, spot) = (clipped(word.text), word.spot);
+    let what =
+        "expected a declaration, which begins with one of const, shared, task, interrupt, function, queue, \
+        binary, counting, mutex, recursive, stream, message; found '";
+    let (form, more) = match near_among(&DECLARATIONS, word.text) {
+        Some(near) => ("%%'. Did you mean '%'?", near),
+        None => ("%%'%", in_place_of(word.text)),
+    };
+    let words = &[Word::Text(what), Word::Text(shown), Word::Text(more)];
+    wrong_with(alloc, spot, form, words)
+}
+
+/// Refuses one more of what there may be at most so many.
+pub(crate) fn check_count(
+    alloc: Global,
+    what: &str,
+    count: usize,
+    most: usize,
+    spot: Spot,
+) -> Result<(), Fault> {
+    if count < most {
+        return Ok(());
+    }
+    let form = "there may be at most % %, and this is one more";
+    Err(wrong_with(alloc, spot, form, &[Word::Count(most), Word::Text(what)]))
+}
+
 impl<'a> Reader<'a> {
     /// Reads all declarations, and gives what they say.
     fn declarations(&mut self) -> Result<Program<'a>, Fault> {
         for _ in 0..=self.cursor.left() {
-            if self.cursor.is_at_end() {
+            if matches!(self.cursor.token().kind, Kind::End) {
                 break;
             }
             self.declaration()?;
@@ -128,48 +157,14 @@ impl<'a> Reader<'a> {
         match word.text {
             "const" => self.constant_declaration(),
             "shared" => self.variable_declaration(Owner::Everyone, false),
-            "task" => self.actor(ActorKind::Task),
-            "interrupt" => self.actor(ActorKind::Interrupt),
+            "task" => self.actor(Home::Task),
+            "interrupt" => self.actor(Home::Interrupt),
             "function" => self.function(),
             text => match ObjectKind::of(text) {
                 Some(kind) => self.object(kind),
-                None => Err(self.no_declaration(word)),
+                None => Err(no_declaration(self.alloc, word)),
             },
         }
-    }
-
-    /// The fault that a word begins no declaration.
-    fn no_declaration(&self, word: Token<'a>) -> Fault {
-        let (shown, spot) = (clipped(word.text), word.spot);
-        let what =
-            "expected a declaration, which begins with one of const, shared, task, interrupt, function, queue, \
-            binary, counting, mutex, recursive, stream, message; found '";
-        let (form, more) = match near_among(&DECLARATIONS, word.text) {
-            Some(near) => ("%%'. Did you mean '%'?", near),
-            None => ("%%'%", in_place_of(word.text)),
-        };
-        let words = &[Word::Text(what), Word::Text(shown), Word::Text(more)];
-        wrong_with(self.alloc, spot, form, words)
-    }
-
-    /// Refuses one more of what there may be at most so many.
-    pub(crate) fn check_count(
-        &self,
-        what: &str,
-        count: usize,
-        most: usize,
-        spot: Spot,
-    ) -> Result<(), Fault> {
-        if count < most {
-            return Ok(());
-        }
-        let form = "there may be at most % %, and this is one more";
-        Err(wrong_with(
-            self.alloc,
-            spot,
-            form,
-            &[Word::Count(most), Word::Text(what)],
-        ))
     }
 
     fn constant_declaration(&mut self) -> Result<(), Fault> {
@@ -181,18 +176,23 @@ impl<'a> Reader<'a> {
         self.cursor.take(";", " after the declaration")
     }
 
-    /// Reads the least and the greatest number of a range.
+    /// Reads the least and the greatest number of a range, with `..` between them.
     fn range(&mut self) -> Result<Range, Fault> {
+        self.numbers("..", " and the greatest value", "the range %..% is empty")
+    }
+
+    /// Reads two numbers with a sign between them. `why` continues the message where it is missing, and `form` says that
+    /// the first number is greater.
+    pub(crate) fn numbers(&mut self, sign: &str, why: &str, form: &str) -> Result<Range, Fault> {
         let low = self.constant()?;
-        self.cursor.take("..", " and the greatest value")?;
+        self.cursor.take(sign, why)?;
         let spot = self.cursor.spot();
         let high = self.constant()?;
-        let range = Range { low, high };
         if low > high {
             let words = &[Word::Number(low), Word::Number(high)];
-            return Err(wrong_with(self.alloc, spot, "the range %..% is empty", words));
+            return Err(wrong_with(self.alloc, spot, form, words));
         }
-        Ok(range)
+        Ok(Range { low, high })
     }
 
     /// Reads a variable, without the words before its name.
@@ -228,39 +228,31 @@ impl<'a> Reader<'a> {
     /// Takes the first value of a variable, if there is one.
     fn first_value(&mut self, range: Range, may_begin: bool) -> Result<i64, Fault> {
         let spot = self.cursor.spot();
-        if !self.cursor.accepts("=") {
-            if range.holds(0) {
-                return Ok(0);
-            }
-            let form = if may_begin {
-                "expected '=' and the first value: % isn't in %..%"
-            } else {
-                "this variable begins at 0: let its range include 0, or write 'static var' with '=' and a first value: \
-                % isn't in %..%"
-            };
-            return Err(self.not_in(form, 0, range, spot));
-        }
-        let first = self.constant()?;
-        if !may_begin {
+        let is_given = self.cursor.accepts("=");
+        let first = if is_given { self.constant()? } else { 0 };
+        if is_given && !may_begin {
             let form =
                 "a variable of this % keeps its value: write 'static var' for one that is set at the start alone, \
                 or assign it below";
             return Err(wrong_about(self.alloc, spot, form, self.home.text(), ""));
         }
-        if !range.holds(first) {
-            return Err(self.not_in("% isn't in %..%", first, range, spot));
+        if range.holds(first) {
+            return Ok(first);
         }
-        Ok(first)
-    }
-
-    /// The fault that a number isn't in a range.
-    fn not_in(&self, form: &str, number: i64, range: Range, spot: Spot) -> Fault {
+        let form = if is_given {
+            "% isn't in %..%"
+        } else if may_begin {
+            "expected '=' and the first value: % isn't in %..%"
+        } else {
+            "this variable begins at 0: let its range include 0, or write 'static var' with '=' and a first value: \
+            % isn't in %..%"
+        };
         let words = &[
-            Word::Number(number),
+            Word::Number(first),
             Word::Number(range.low),
             Word::Number(range.high),
         ];
-        wrong_with(self.alloc, spot, form, words)
+        Err(wrong_with(self.alloc, spot, form, words))
     }
 
     /// Adds a variable of the application, or one of a function: each actor that calls it gets its own.
@@ -271,7 +263,13 @@ impl<'a> Reader<'a> {
         } else {
             self.program.written.len()
         };
-        self.check_count("variables", count, MOST_VARIABLES, variable.spot)?;
+        check_count(
+            self.alloc,
+            "variables",
+            count,
+            MOST_VARIABLES,
+            variable.spot,
+        )?;
         let place = self.program.variables.len();
         self.program.variables.push(variable)?;
         if is_of_function {
@@ -285,62 +283,54 @@ impl<'a> Reader<'a> {
     /// Reads an object, without the word of its kind.
     fn object(&mut self, kind: ObjectKind) -> Result<(), Fault> {
         let name = self.new_name("the name of an object")?;
-        self.check_count(
+        check_count(
+            self.alloc,
             "objects",
             self.program.objects.len(),
             MOST_OBJECTS,
             name.spot,
         )?;
-        let size = self.size(kind)?;
-        let items = match kind {
-            ObjectKind::Queue => {
-                self.cursor.take("of", " and a range, as in 'of 0..9'")?;
-                Some(self.range()?)
-            }
-            _ => None,
+        let mut object = Object {
+            name: name.text,
+            kind,
+            size: None,
+            items: None,
+            first: None,
+            is_live: true,
         };
-        let first = self.first_count(kind, size)?;
-        let is_live = !self.cursor.accepts("=");
-        if !is_live {
+        self.sizes(&mut object)?;
+        if self.cursor.accepts("=") {
+            object.is_live = false;
             self.cursor
                 .take("NULL", ": an object that isn't there at the start")?;
         }
         self.cursor.take(";", " after the declaration")?;
         let place = self.program.objects.len();
-        self.program.objects.push(Object {
-            name: name.text,
-            kind,
-            size,
-            items,
-            first,
-            is_live,
-        })?;
+        self.program.objects.push(object)?;
         self.scope.add_outside(name.text, Meaning::Object(place))
     }
 
-    /// Takes the first count of a counting semaphore.
-    fn first_count(&mut self, kind: ObjectKind, size: Option<i64>) -> Result<Option<i64>, Fault> {
-        match (kind, size) {
-            (ObjectKind::Counting, Some(high)) => {
-                self.cursor
-                    .take("first", " and the first count, as in 'first 0'")?;
-                Ok(Some(self.number("the first count", Range { low: 0, high })?))
-            }
-            _ => Ok(None),
+    /// Takes the size of an object, the range of its items and its first count, where its kind has them.
+    fn sizes(&mut self, object: &mut Object<'a>) -> Result<(), Fault> {
+        if matches!(
+            object.kind,
+            ObjectKind::Binary | ObjectKind::Mutex | ObjectKind::Recursive
+        ) {
+            return Ok(());
         }
-    }
-
-    /// Takes the size of an object, where its kind has one.
-    fn size(&mut self, kind: ObjectKind) -> Result<Option<i64>, Fault> {
-        match kind {
-            ObjectKind::Queue | ObjectKind::Counting | ObjectKind::Stream | ObjectKind::Message => {
-                self.cursor.take("[", " and the size")?;
-                let size = self.number("the size", SIZES)?;
-                self.cursor.take("]", "")?;
-                Ok(Some(size))
-            }
-            _ => Ok(None),
+        self.cursor.take("[", " and the size")?;
+        let high = self.number("the size", SIZES)?;
+        self.cursor.take("]", "")?;
+        object.size = Some(high);
+        if matches!(object.kind, ObjectKind::Queue) {
+            self.cursor.take("of", " and a range, as in 'of 0..9'")?;
+            object.items = Some(self.range()?);
+        } else if matches!(object.kind, ObjectKind::Counting) {
+            self.cursor
+                .take("first", " and the first count, as in 'first 0'")?;
+            object.first = Some(self.number("the first count", Range { low: 0, high })?);
         }
+        Ok(())
     }
 
     /// Reads a function: its name means something only after it.
@@ -355,10 +345,10 @@ impl<'a> Reader<'a> {
     }
 
     /// Reads a task or an interrupt, with a body of its own or made of a body with parameters. Or notes such a body.
-    fn actor(&mut self, kind: ActorKind) -> Result<(), Fault> {
+    fn actor(&mut self, kind: Home) -> Result<(), Fault> {
         let what = match kind {
-            ActorKind::Task => "the name of a task",
-            ActorKind::Interrupt => "the name of an interrupt",
+            Home::Task => "the name of a task",
+            _ => "the name of an interrupt",
         };
         let name = self.new_name(what)?;
         let parameter = self.cursor.following();
@@ -370,7 +360,7 @@ impl<'a> Reader<'a> {
             return self.template(kind, name);
         }
         let count = self.program.actors.len();
-        self.check_count("actors", count, MOST_ACTORS, name.spot)?;
+        check_count(self.alloc, "actors", count, MOST_ACTORS, name.spot)?;
         if self.cursor.accepts("=") {
             self.made_actor(kind, name)
         } else {
@@ -381,13 +371,13 @@ impl<'a> Reader<'a> {
     /// Reads an actor whose parameters, if it has any, and body are next.
     pub(crate) fn actor_here(
         &mut self,
-        kind: ActorKind,
+        kind: Home,
         name: Token<'a>,
         values: &[Meaning],
     ) -> Result<(), Fault> {
-        let (home, meaning, last) = match kind {
-            ActorKind::Task => (Home::Task, Meaning::Task, Action::End),
-            ActorKind::Interrupt => (Home::Interrupt, Meaning::Interrupt, Action::Return),
+        let (meaning, last) = match kind {
+            Home::Task => (Meaning::Task, Action::End),
+            _ => (Meaning::Interrupt, Action::Return),
         };
         let number = self.program.actors.len();
         self.scope.add_outside(name.text, meaning)?;
@@ -395,7 +385,7 @@ impl<'a> Reader<'a> {
             self.give(values)?;
         }
         let body = self.program.bodies.len();
-        let end = self.body(home, name, Owner::Actor(number), Some(last))?;
+        let end = self.body(kind, name, Owner::Actor(number), Some(last))?;
         self.program.actors.push(Actor {
             name: name.text,
             kind,

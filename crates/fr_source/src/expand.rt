@@ -11,20 +11,13 @@ use crate::program::{
 };
 use crate::texts::Word;
 use std::alloc::Global;
+use std::mem;
 
 /// Where a line is in the source. In a function, `call` is the number of the call, among those of the actor.
 #[derive(Clone, Copy)]
 pub(crate) struct Place {
     pub(crate) spot: Spot,
     pub(crate) call: Option<usize>,
-}
-
-impl Place {
-    pub(crate) fn is(self, other: Place) -> bool {
-        self.spot.line == other.spot.line
-            && self.spot.column == other.spot.column
-            && self.call == other.call
-    }
 }
 
 /// A line of an actor. `to` is the number of the line that a goto, an `if` or a failed call goes to.
@@ -36,10 +29,6 @@ pub(crate) struct Line {
 }
 
 impl Line {
-    pub(crate) fn is_goto(self) -> bool {
-        matches!(self.action, Action::Goto)
-    }
-
     /// Whether no way leads from this line to the next.
     pub(crate) fn ends(self) -> bool
         ensures { result ≡ ends self.action }
@@ -91,39 +80,15 @@ struct Expander<'a> {
 }
 
 impl<'a> Expander<'a> {
-    fn new(alloc: Global, actor: Actor<'a>, number: usize) -> Expander<'a> {
-        Expander {
-            alloc,
-            actor,
-            number,
-            items: 0,
-            frames: Vec::new(alloc),
-            lines: Vec::new(alloc),
-            calls: Vec::new(alloc),
-            labels: Vec::new(alloc),
-            own: Vec::new(alloc),
-        }
-    }
-
     /// Writes out the body of the actor.
-    fn write_out(&mut self, program: &mut Program<'a>) -> Result<(), Fault> {
+    fn write_out(&mut self, program: &mut Program<'a>) -> Result<Code, Fault> {
         self.enter(program, self.actor.body, None)?;
         for _ in 0..=MOST_ITEMS * 4 {
             if !self.step(program)? {
                 break;
             }
-            if self.items > MOST_ITEMS {
-                let place = match self.lines.last() {
-                    Some(line) => line.place,
-                    None => Place {
-                        spot: self.actor.end,
-                        call: None,
-                    },
-                };
-                return Err(self.too_large(place));
-            }
         }
-        Ok(())
+        Ok(self.finished())
     }
 
     /// Begins to write out a body.
@@ -155,7 +120,11 @@ impl<'a> Expander<'a> {
         let Some(frame) = self.frames.last().copied() else {
             return Ok(false);
         };
-        let Some(item) = program.item(frame.body, frame.next) else {
+        let item = match program.bodies.get(frame.body) {
+            Some(body) => body.items.get(frame.next).copied(),
+            None => None,
+        };
+        let Some(item) = item else {
             let _ = self.frames.pop();
             return Ok(true);
         };
@@ -163,75 +132,59 @@ impl<'a> Expander<'a> {
             top.next = frame.next.saturating_add(1);
         }
         self.items = self.items.saturating_add(1);
-        match item {
-            Item::Line { action, to, spot } => self.line(frame, action, to, spot)?,
-            Item::Label(label) => self.label(frame, label),
-            Item::Expand { function, spot } => {
-                self.expand(
-                    program,
-                    function,
-                    Place {
-                        spot,
-                        call: frame.call,
-                    },
-                )?;
-            }
+        if self.items > MOST_ITEMS {
+            return Err(self.too_large(item, frame.call));
         }
+        self.write_item(program, item, frame)?;
         Ok(true)
     }
 
-    /// Begins to write out a function that is called at a place.
-    fn expand(
+    /// Writes a line with the actor's own variables, notes the line that a label is before, or begins to write out a
+    /// function.
+    fn write_item(
         &mut self,
         program: &mut Program<'a>,
-        function: usize,
-        place: Place,
-    ) -> Result<(), Fault> {
-        if self.items > MOST_ITEMS {
-            return Err(self.too_large(place));
-        }
-        self.copy_variables(program, function)?;
-        let call = self.calls.len();
-        self.calls.push(place)?;
-        self.enter(program, function, Some(call))
-    }
-
-    /// Writes a line, with the actor's own variables.
-    fn line(
-        &mut self,
+        item: Item,
         frame: Frame,
-        action: Action,
-        to: Option<usize>,
-        spot: Spot,
     ) -> Result<(), Fault> {
-        let action = self.own_action(action);
-        let to = match to {
-            Some(label) => Some(label.saturating_add(frame.first_label)),
-            None => None,
-        };
-        self.lines.push(Line {
-            action,
-            to,
-            place: Place {
-                spot,
-                call: frame.call,
-            },
-        })?;
-        Ok(())
-    }
-
-    /// Notes the line that a label is before: the next one.
-    fn label(&mut self, frame: Frame, label: usize) {
-        let line = self.lines.len();
-        if let Some(slot) = self.labels.get_mut(label.saturating_add(frame.first_label)) {
-            *slot = line;
+        let Frame {
+            first_label,
+            call,
+            ..
+        } = frame;
+        match item {
+            Item::Line { action, to, spot } => {
+                let action = self.own_action(action);
+                let to = match to {
+                    Some(label) => Some(label.saturating_add(first_label)),
+                    None => None,
+                };
+                let place = Place { spot, call };
+                self.lines.push(Line { action, to, place })?;
+                Ok(())
+            }
+            Item::Label(label) => {
+                if let Some(slot) = self.labels.get_mut(label.saturating_add(first_label)) {
+                    *slot = self.lines.len();
+                }
+                Ok(())
+            }
+            Item::Expand { function, spot } => {
+                self.copy_variables(program, function)?;
+                let number = self.calls.len();
+                self.calls.push(Place { spot, call })?;
+                self.enter(program, function, Some(number))
+            }
         }
     }
 
     /// Gives the actor its own variables of a function, unless it has them.
     fn copy_variables(&mut self, program: &mut Program<'a>, function: usize) -> Result<(), Fault> {
         for place in 0..MOST_VARIABLES {
-            let Some(declared) = program.declared(function, place) else {
+            let Some(body) = program.bodies.get(function) else {
+                break;
+            };
+            let Some(declared) = body.variables.get(place).copied() else {
                 break;
             };
             if self.own_variable(declared) == declared {
@@ -291,21 +244,13 @@ impl<'a> Expander<'a> {
         }
     }
 
-    fn own_argument(&self, argument: Argument) -> Argument {
-        match argument {
-            Argument::Operand(operand) => Argument::Operand(self.own_operand(operand)),
-            _ => argument,
+    fn own_call(&self, mut call: Call) -> Call {
+        for argument in &mut call.arguments {
+            if let Argument::Operand(operand) = *argument {
+                *argument = Argument::Operand(self.own_operand(operand));
+            }
         }
-    }
-
-    fn own_call(&self, call: Call) -> Call {
-        let [first, second, third] = call.arguments;
-        let arguments = [
-            self.own_argument(first),
-            self.own_argument(second),
-            self.own_argument(third),
-        ];
-        Call { arguments, ..call }
+        call
     }
 
     /// The action, with the actor's own variables in place of those of functions.
@@ -347,8 +292,16 @@ impl<'a> Expander<'a> {
         }
     }
 
-    /// The fault that an actor grows too large.
-    fn too_large(&self, place: Place) -> Fault {
+    /// The fault that an actor grows too large. A label is told by the line above it.
+    fn too_large(&self, item: Item, call: Option<usize>) -> Fault {
+        let place = match (item, self.lines.last()) {
+            (Item::Line { spot, .. } | Item::Expand { spot, .. }, _) => Place { spot, call },
+            (Item::Label(_), Some(line)) => line.place,
+            (Item::Label(_), None) => Place {
+                spot: self.actor.end,
+                call: None,
+            },
+        };
         let spot = outermost(&self.calls, place);
         let form =
             "% '%' grows to more than 4096 lines and labels: this construct passed the limit, and at most 512 lines \
@@ -363,19 +316,16 @@ impl<'a> Expander<'a> {
     }
 
     /// The lines, with the lines that their labels are before.
-    fn finished(self) -> Code {
-        let Expander {
-            mut lines,
-            calls,
-            labels,
-            ..
-        } = self;
-        for line in lines.iter_mut() {
+    fn finished(&mut self) -> Code {
+        for line in &mut self.lines {
             if let Some(label) = line.to {
-                line.to = labels.get(label).copied();
+                line.to = self.labels.get(label).copied();
             }
         }
-        Code { lines, calls }
+        Code {
+            lines: mem::replace(&mut self.lines, Vec::new(self.alloc)),
+            calls: mem::replace(&mut self.calls, Vec::new(self.alloc)),
+        }
     }
 }
 
@@ -406,7 +356,16 @@ pub(crate) fn code_of<'a>(
     actor: Actor<'a>,
     number: usize,
 ) -> Result<Code, Fault> {
-    let mut expander = Expander::new(alloc, actor, number);
-    expander.write_out(program)?;
-    Ok(expander.finished())
+    let mut expander = Expander {
+        alloc,
+        actor,
+        number,
+        items: 0,
+        frames: Vec::new(alloc),
+        lines: Vec::new(alloc),
+        calls: Vec::new(alloc),
+        labels: Vec::new(alloc),
+        own: Vec::new(alloc),
+    };
+    expander.write_out(program)
 }

@@ -60,50 +60,39 @@ pub(crate) enum Operator {
 }
 
 impl Operator {
-    /// The operator that the sign is.
-    fn of(sign: &str) -> Option<Operator> {
-        for (text, operator) in &OPERATORS {
+    /// The operator that the sign is, and its level.
+    fn of(sign: &str) -> Option<(Operator, u8)> {
+        for (text, level, operator) in &OPERATORS {
             if *text == sign {
-                return Some(*operator);
+                return Some((*operator, *level));
             }
         }
         None
     }
-
-    /// The operator of a greater level binds first.
-    fn level(self) -> u8 {
-        match self {
-            Operator::Or => 1,
-            Operator::And => 2,
-            Operator::Compare(_) => 3,
-            Operator::Arithmetic(Arithmetic::Plus | Arithmetic::Minus) => 4,
-            Operator::Arithmetic(_) => 5,
-        }
-    }
 }
 
-/// The signs of all operators.
-static OPERATORS: [(&str, Operator); 13] = [
-    ("||", Operator::Or),
-    ("&&", Operator::And),
-    ("==", Operator::Compare(Comparison::Equal)),
-    ("!=", Operator::Compare(Comparison::Unequal)),
-    ("<", Operator::Compare(Comparison::Less)),
-    ("<=", Operator::Compare(Comparison::AtMost)),
-    (">", Operator::Compare(Comparison::Greater)),
-    (">=", Operator::Compare(Comparison::AtLeast)),
-    ("+", Operator::Arithmetic(Arithmetic::Plus)),
-    ("-", Operator::Arithmetic(Arithmetic::Minus)),
-    ("*", Operator::Arithmetic(Arithmetic::Times)),
-    ("/", Operator::Arithmetic(Arithmetic::Divide)),
-    ("%", Operator::Arithmetic(Arithmetic::Remainder)),
+/// The signs of all operators. The operator of a greater level binds first.
+static OPERATORS: [(&str, u8, Operator); 13] = [
+    ("||", 1, Operator::Or),
+    ("&&", 2, Operator::And),
+    ("==", 3, Operator::Compare(Comparison::Equal)),
+    ("!=", 3, Operator::Compare(Comparison::Unequal)),
+    ("<", 3, Operator::Compare(Comparison::Less)),
+    ("<=", 3, Operator::Compare(Comparison::AtMost)),
+    (">", 3, Operator::Compare(Comparison::Greater)),
+    (">=", 3, Operator::Compare(Comparison::AtLeast)),
+    ("+", 4, Operator::Arithmetic(Arithmetic::Plus)),
+    ("-", 4, Operator::Arithmetic(Arithmetic::Minus)),
+    ("*", 5, Operator::Arithmetic(Arithmetic::Times)),
+    ("/", 5, Operator::Arithmetic(Arithmetic::Divide)),
+    ("%", 5, Operator::Arithmetic(Arithmetic::Remainder)),
 ];
 
 /// What is waiting for what is right of it: an operator, or an open bracket. `Ticks` is that of pdMS_TO_TICKS, and
 /// `Given` that of `(x = ..)`.
 #[derive(Clone, Copy)]
 enum Waiting {
-    Infix(Operator, Spot),
+    Infix(Operator, u8, Spot),
     Not(Spot),
     Minus(Spot),
     Bracket,
@@ -118,6 +107,8 @@ struct Yard {
     is_of_tests: bool,
     terms: Vec<Term>,
     waiting: Vec<Waiting>,
+    /// The number of open brackets and of operators before a term.
+    depth: usize,
 }
 
 impl Yard {
@@ -126,24 +117,8 @@ impl Yard {
             is_of_tests,
             terms: Vec::new(alloc),
             waiting: Vec::new(alloc),
+            depth: 0,
         }
-    }
-
-    /// The number of open brackets and of operators before a term.
-    fn depth(&self) -> usize {
-        let mut depth = 0usize;
-        for one in &self.waiting {
-            if !matches!(one, Waiting::Infix(..)) {
-                depth = depth.saturating_add(1);
-            }
-        }
-        depth
-    }
-
-    /// Keeps a term.
-    fn keep(&mut self, value: Value, spot: Spot) -> Result<(), Fault> {
-        self.terms.push(Term { value, spot })?;
-        Ok(())
     }
 }
 
@@ -163,14 +138,63 @@ fn number_in(text: &str) -> Option<i64> {
     }
 }
 
-/// A number, as the operator makes it of two.
-fn computed(left: i64, sign: Arithmetic, right: i64) -> Option<i64> {
-    match sign {
-        Arithmetic::Plus => left.checked_add(right),
-        Arithmetic::Minus => left.checked_sub(right),
-        Arithmetic::Times => left.checked_mul(right),
-        Arithmetic::Divide => left.checked_div(right),
-        Arithmetic::Remainder => left.checked_rem(right),
+/// Two terms, joined by an operator on numbers: worked out, where both are numbers.
+pub(crate) fn binary(
+    alloc: Global,
+    left: Term,
+    sign: Arithmetic,
+    right: Term,
+    spot: Spot,
+) -> Result<Term, Fault> {
+    let (Some(first), Some(second)) = (left.operand(), right.operand()) else {
+        let spot = if left.operand().is_some() {
+            right.spot
+        } else {
+            left.spot
+        };
+        let text = "one line has one operator at most: give a part of this to a variable first";
+        return Err(wrong(alloc, spot, text));
+    };
+    match (first, second) {
+        (Operand::Number(one), Operand::Number(other)) => {
+            worked_out(alloc, one, sign, other, (left.spot, spot))
+        }
+        _ => Ok(Term {
+            value: Value::Sum {
+                left: first,
+                sign,
+                right: second,
+            },
+            spot,
+        }),
+    }
+}
+
+/// The number that the operator makes of two. The places are those of the first number and of the operator.
+fn worked_out(
+    alloc: Global,
+    one: i64,
+    sign: Arithmetic,
+    other: i64,
+    spots: (Spot, Spot),
+) -> Result<Term, Fault> {
+    let (first, spot) = spots;
+    let number = match sign {
+        Arithmetic::Plus => one.checked_add(other),
+        Arithmetic::Minus => one.checked_sub(other),
+        Arithmetic::Times => one.checked_mul(other),
+        Arithmetic::Divide | Arithmetic::Remainder if other == 0 => {
+            return Err(wrong(alloc, spot, "division by zero"));
+        }
+        Arithmetic::Divide => one.checked_div(other),
+        Arithmetic::Remainder => one.checked_rem(other),
+    };
+    match number {
+        Some(number) => Ok(Term {
+            value: Value::Number(number),
+            spot: first,
+        }),
+        None => Err(wrong(alloc, spot, "this doesn't fit in 64 bits")),
     }
 }
 
@@ -242,7 +266,8 @@ impl<'a> Reader<'a> {
             self.cursor.take("(", "")?;
         }
         yard.waiting.push(waiting)?;
-        self.check_depth(yard.depth(), spot)?;
+        yard.depth = yard.depth.saturating_add(1);
+        self.check_depth(yard.depth, spot)?;
         Ok(true)
     }
 
@@ -250,55 +275,29 @@ impl<'a> Reader<'a> {
     fn operand(&mut self) -> Result<Term, Fault> {
         let token = self.cursor.token();
         let Token { text, spot, .. } = token;
-        if text == "any" {
-            return self.any(spot);
+        if text != "any" && text != "NULL" && !self.cursor.is_before("(") {
+            return self.plain_operand();
         }
-        if text == "NULL" {
-            self.cursor.advance();
-            let value = Value::Null;
-            return Ok(Term { value, spot });
-        }
-        if self.cursor.is_before("(") {
-            return self.called_operand(token);
-        }
-        self.plain_operand()
-    }
-
-    /// Takes a call.
-    fn called_operand(&mut self, token: Token<'a>) -> Result<Term, Fault> {
-        let Token { text, spot, .. } = token;
         self.cursor.advance();
-        if let Some(Meaning::Function(_)) = self.scope.meaning(text) {
-            let form = "'%' is a function and answers nothing: let it set a variable";
-            return Err(wrong_about(self.alloc, spot, form, text, ""));
-        }
-        let value = Value::Called(self.kernel_call(token)?);
+        let value = match (text, self.scope.meaning(text)) {
+            ("any", _) => Value::Any(self.any()?),
+            ("NULL", _) => Value::Null,
+            (_, Some(Meaning::Function(_))) => {
+                let form = "'%' is a function and answers nothing: let it set a variable";
+                return Err(wrong_about(self.alloc, spot, form, text, ""));
+            }
+            _ => Value::Called(self.kernel_call(token)?),
+        };
         Ok(Term { value, spot })
     }
 
     /// Takes the two numbers of an `any`.
-    fn any(&mut self, spot: Spot) -> Result<Term, Fault> {
-        self.cursor.advance();
+    fn any(&mut self) -> Result<Range, Fault> {
         self.cursor
             .take("(", " and two numbers, as in 'any(0, 1)'")?;
-        let low = self.constant()?;
-        self.cursor.take(",", "")?;
-        let high_spot = self.cursor.spot();
-        let high = self.constant()?;
-        if low > high {
-            let words = &[Word::Number(low), Word::Number(high)];
-            return Err(wrong_with(
-                self.alloc,
-                high_spot,
-                "there is no number from % to %",
-                words,
-            ));
-        }
+        let range = self.numbers(",", "", "there is no number from % to %")?;
         self.cursor.take(")", "")?;
-        Ok(Term {
-            value: Value::Any(Range { low, high }),
-            spot,
-        })
+        Ok(range)
     }
 
     /// Takes a number, a constant or a variable.
@@ -338,10 +337,11 @@ impl<'a> Reader<'a> {
         if text == "NULL" || text == "portMAX_DELAY" {
             return Err(self.cursor.expected("a variable or a number"));
         }
-        match self.meaning_of(token)? {
-            Meaning::Constant(number) => Ok(Value::Number(number)),
-            Meaning::Variable(variable) => Ok(Value::Variable(variable)),
-            meaning => {
+        match self.scope.meaning(text) {
+            None => Err(self.undeclared(token)),
+            Some(Meaning::Constant(number)) => Ok(Value::Number(number)),
+            Some(Meaning::Variable(variable)) => Ok(Value::Variable(variable)),
+            Some(meaning) => {
                 let form = "'%' is the name of %, and a variable or a number is expected";
                 Err(wrong_about(self.alloc, spot, form, text, meaning.text()))
             }
@@ -351,56 +351,48 @@ impl<'a> Reader<'a> {
     /// Joins what the last term completes: the operators before it, and the brackets that close after it.
     fn settle(&mut self, yard: &mut Yard) -> Result<(), Fault> {
         for _ in 0..=yard.waiting.len() {
-            match yard.waiting.last().copied() {
-                Some(Waiting::Not(spot)) => self.negate(yard, spot)?,
-                Some(Waiting::Minus(spot)) => self.take_from_zero(yard, spot)?,
+            if !matches!(
+                yard.waiting.last(),
+                Some(Waiting::Not(_) | Waiting::Minus(_))
+            ) {
                 // An operator before a term is joined as soon as the term is there: so what is left is an open bracket.
-                _ if self.cursor.sees(")") && yard.depth() > 0 => self.close(yard)?,
-                _ => break,
+                if yard.depth == 0 || !self.cursor.sees(")") {
+                    break;
+                }
+                self.join(yard, 0)?;
+                self.cursor.advance();
             }
+            yard.depth = yard.depth.saturating_sub(1);
+            let (Some(waiting), Some(term)) = (yard.waiting.pop(), yard.terms.pop()) else {
+                break;
+            };
+            yard.terms.push(self.completed(waiting, term)?)?;
         }
         Ok(())
     }
 
-    /// Makes the condition at the end of the terms its opposite.
-    fn negate(&mut self, yard: &mut Yard, spot: Spot) -> Result<(), Fault> {
-        let _ = yard.waiting.pop();
-        let Some(term) = yard.terms.pop() else {
-            return Ok(());
-        };
-        let part = self.test_of(term)?;
-        let test = self.lines.test(Condition::Not(part), spot)?;
-        yard.keep(Value::Test(test), spot)
-    }
-
-    /// Takes the last term from zero.
-    fn take_from_zero(&mut self, yard: &mut Yard, spot: Spot) -> Result<(), Fault> {
-        let _ = yard.waiting.pop();
-        let Some(term) = yard.terms.pop() else {
-            return Ok(());
-        };
-        let zero = Term {
-            value: Value::Number(0),
-            spot,
-        };
-        let Term { value, spot } = self.binary(zero, Arithmetic::Minus, term, spot)?;
-        yard.keep(value, spot)
-    }
-
-    /// Takes the bracket that closes the innermost open one.
-    fn close(&mut self, yard: &mut Yard) -> Result<(), Fault> {
-        self.join(yard, 0)?;
-        self.cursor.advance();
-        let (Some(bracket), Some(term)) = (yard.waiting.pop(), yard.terms.pop()) else {
-            return Ok(());
-        };
-        let term = match bracket {
-            Waiting::Ticks => self.ticks(term)?,
-            Waiting::Given { variable, spot } => self.given(variable, spot, term)?,
-            _ => term,
-        };
-        yard.terms.push(term)?;
-        Ok(())
+    /// What an operator before a term makes of it, or the bracket around it.
+    fn completed(&mut self, waiting: Waiting, term: Term) -> Result<Term, Fault> {
+        match waiting {
+            Waiting::Not(spot) => {
+                let part = self.test_of(term)?;
+                let value = Value::Test(self.lines.test(Condition::Not(part), spot)?);
+                Ok(Term { value, spot })
+            }
+            Waiting::Minus(spot) => {
+                let value = Value::Number(0);
+                binary(
+                    self.alloc,
+                    Term { value, spot },
+                    Arithmetic::Minus,
+                    term,
+                    spot,
+                )
+            }
+            Waiting::Ticks => self.ticks(term),
+            Waiting::Given { variable, spot } => self.given(variable, spot, term),
+            Waiting::Bracket | Waiting::Infix(..) => Ok(term),
+        }
     }
 
     /// The ticks of so many milliseconds.
@@ -452,10 +444,10 @@ impl<'a> Reader<'a> {
     /// Takes an operator between two terms, if it is next. Answers whether none is.
     fn infix(&mut self, yard: &mut Yard) -> Result<bool, Fault> {
         let Token { text, spot, .. } = self.cursor.token();
-        let Some(operator) = Operator::of(text) else {
+        let Some((operator, level)) = Operator::of(text) else {
             return Ok(true);
         };
-        if operator.level() < 4 && !yard.is_of_tests {
+        if level < 4 && !yard.is_of_tests {
             return Ok(true);
         }
         self.cursor.advance();
@@ -464,29 +456,30 @@ impl<'a> Reader<'a> {
             let text = "more than 256 operators in one statement";
             return Err(wrong(self.alloc, spot, text));
         }
-        self.join(yard, operator.level().saturating_add(1))?;
-        if let (Operator::Compare(_), Some(Waiting::Infix(Operator::Compare(_), _))) = (
-            operator,
-            yard.waiting.last(),
-        ) {
-            return Err(wrong(
-                self.alloc,
-                spot,
-                "a comparison of a comparison: join two with '&&'",
-            ));
+        // No comparison is joined by another one.
+        let is_comparison = matches!(operator, Operator::Compare(_));
+        self.join(yard, level.saturating_add(u8::from(is_comparison)))?;
+        if is_comparison
+            && matches!(
+                yard.waiting.last(),
+                Some(Waiting::Infix(Operator::Compare(_), ..))
+            )
+        {
+            let text = "a comparison of a comparison: join two with '&&'";
+            return Err(wrong(self.alloc, spot, text));
         }
-        self.join(yard, operator.level())?;
-        yard.waiting.push(Waiting::Infix(operator, spot))?;
+        yard.waiting.push(Waiting::Infix(operator, level, spot))?;
         Ok(false)
     }
 
     /// Joins terms by the operators of this level and above, up to the innermost open bracket.
     fn join(&mut self, yard: &mut Yard, level: u8) -> Result<(), Fault> {
         for _ in 0..yard.waiting.len() {
-            let Some(Waiting::Infix(operator, spot)) = yard.waiting.last().copied() else {
+            let Some(Waiting::Infix(operator, own_level, spot)) = yard.waiting.last().copied()
+            else {
                 break;
             };
-            if operator.level() < level {
+            if own_level < level {
                 break;
             }
             let _ = yard.waiting.pop();
@@ -508,7 +501,7 @@ impl<'a> Reader<'a> {
         spot: Spot,
     ) -> Result<Term, Fault> {
         let test = match operator {
-            Operator::Arithmetic(sign) => return self.binary(left, sign, right, spot),
+            Operator::Arithmetic(sign) => return binary(self.alloc, left, sign, right, spot),
             Operator::Compare(comparison) => self.compare(left, comparison, right, spot)?,
             Operator::And | Operator::Or => {
                 let first = self.test_of(left)?;
@@ -524,65 +517,6 @@ impl<'a> Reader<'a> {
             value: Value::Test(test),
             spot,
         })
-    }
-
-    /// Two terms, joined by an operator on numbers: worked out, where both are numbers.
-    pub(crate) fn binary(
-        &self,
-        left: Term,
-        sign: Arithmetic,
-        right: Term,
-        spot: Spot,
-    ) -> Result<Term, Fault> {
-        let (Some(first), Some(second)) = (left.operand(), right.operand()) else {
-            let spot = if left.operand().is_some() {
-                right.spot
-            } else {
-                left.spot
-            };
-            return Err(wrong(
-                self.alloc,
-                spot,
-                "one line has one operator at most: give a part of this to a variable first",
-            ));
-        };
-        match (first, second) {
-            (Operand::Number(one), Operand::Number(other)) => self.worked_out(
-                one,
-                sign,
-                other,
-                (left.spot, spot),
-            ),
-            _ => Ok(Term {
-                value: Value::Sum {
-                    left: first,
-                    sign,
-                    right: second,
-                },
-                spot,
-            }),
-        }
-    }
-
-    /// The number that the operator makes of two. The places are those of the first number and of the operator.
-    fn worked_out(
-        &self,
-        one: i64,
-        sign: Arithmetic,
-        other: i64,
-        spots: (Spot, Spot),
-    ) -> Result<Term, Fault> {
-        let (first, spot) = spots;
-        if other == 0 && matches!(sign, Arithmetic::Divide | Arithmetic::Remainder) {
-            return Err(wrong(self.alloc, spot, "division by zero"));
-        }
-        match computed(one, sign, other) {
-            Some(number) => Ok(Term {
-                value: Value::Number(number),
-                spot: first,
-            }),
-            None => Err(wrong(self.alloc, spot, "this doesn't fit in 64 bits")),
-        }
     }
 
     /// The one term that all is joined to.

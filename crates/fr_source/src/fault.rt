@@ -39,22 +39,17 @@ pub(crate) fn clipped(text: &str) -> &str {
     text.get(..MOST_REPEATED).unwrap_or(text)
 }
 
-/// The fault that a text says is at a place.
-pub(crate) fn said(spot: Spot, text: Result<String, AllocError>) -> Fault {
-    match text {
-        Ok(text) => Fault::Wrong(spot, text),
-        Err(_) => Fault::Memory,
-    }
-}
-
 /// The fault of a fixed text at a place.
 pub(crate) fn wrong(alloc: Global, spot: Spot, text: &str) -> Fault {
-    said(spot, String::from_str(alloc, text))
+    wrong_with(alloc, spot, text, &[])
 }
 
 /// The fault that a form says is at a place, with its words.
 pub(crate) fn wrong_with(alloc: Global, spot: Spot, form: &str, words: &[Word<'_>]) -> Fault {
-    said(spot, filled(alloc, form, words))
+    match filled(alloc, form, words) {
+        Ok(text) => Fault::Wrong(spot, text),
+        Err(_) => Fault::Memory,
+    }
 }
 
 /// The same with one or two texts as its words: the first one is cut where it is too long.

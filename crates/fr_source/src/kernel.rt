@@ -75,6 +75,20 @@ impl Kernel {
         Ok(text)
     }
 
+    /// The call's name, with what its arguments are.
+    pub(crate) fn shape(&self, alloc: Global) -> Result<String, AllocError> {
+        let mut shape = String::from_str(alloc, self.name)?;
+        shape.push_str("(")?;
+        let mut before = "";
+        for what in self.places {
+            shape.push_str(before)?;
+            shape.push_str(what.text())?;
+            before = ", ";
+        }
+        shape.push_str(")")?;
+        Ok(shape)
+    }
+
     /// Whether the call is for interrupts alone.
     pub(crate) fn is_of_interrupts(&self) -> bool {
         self.name.ends_with("FromISR") || self.name.ends_with("_FROM_ISR")
@@ -137,13 +151,9 @@ static CALLS: [Kernel; 40] = rows! {
     "xMessageBufferReset"            [Object] [Message] Success;
 };
 
-fn calls() -> &'static [Kernel] {
-    &CALLS
-}
-
 /// The call of the kernel with this name.
 pub(crate) fn kernel_named(name: &str) -> Option<&'static Kernel> {
-    for row in calls() {
+    for row in &CALLS {
         if row.name == name {
             return Some(row);
         }
@@ -153,7 +163,7 @@ pub(crate) fn kernel_named(name: &str) -> Option<&'static Kernel> {
 
 /// The name of a call of the kernel that a word is near to.
 pub(crate) fn kernel_near(word: &str) -> Option<&'static str> {
-    for row in calls() {
+    for row in &CALLS {
         if is_near(word, row.name) {
             return Some(row.name);
         }

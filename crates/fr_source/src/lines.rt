@@ -86,22 +86,8 @@ impl Lines {
         Ok(())
     }
 
-    /// Puts items before the one with this place.
-    pub(crate) fn insert(&mut self, place: usize, mut items: Vec<Item>) -> Result<(), Fault> {
-        let place = place.min(self.body.items.len());
-        let mut rest = self.body.items.split_off(place)?;
-        self.body.items.append(&mut items)?;
-        self.body.items.append(&mut rest)?;
-        Ok(())
-    }
-
     pub(crate) fn goto(&mut self, label: usize, spot: Spot) -> Result<(), Fault> {
         self.line(Action::Goto, Some(label), spot)
-    }
-
-    pub(crate) fn expand(&mut self, function: usize, spot: Spot) -> Result<(), Fault> {
-        self.body.items.push(Item::Expand { function, spot })?;
-        Ok(())
     }
 
     /// Sets a variable to this number.
@@ -196,7 +182,14 @@ impl Lines {
             }
             Condition::And(one, other) => self.branch_twice(tasks, branch, (one, other), true),
             Condition::Or(one, other) => self.branch_twice(tasks, branch, (one, other), false),
-            Condition::Works(call) => self.branch_on_call(branch, call),
+            Condition::Works(call) => {
+                self.line(Action::Call { answer: None, call }, Some(no), spot)?;
+                if branch.after == yes {
+                    Ok(())
+                } else {
+                    self.goto(yes, spot)
+                }
+            }
             Condition::Always(holds) => self.goto(if holds { yes } else { no }, spot),
             Condition::Compare {
                 before,
@@ -209,23 +202,6 @@ impl Lines {
                 }
                 self.branch_on_comparison(branch, left, comparison, right)
             }
-        }
-    }
-
-    /// Makes a call, and goes to `yes` if it works, else to `no`.
-    fn branch_on_call(&mut self, branch: Branch, call: Call) -> Result<(), Fault> {
-        let Branch {
-            spot,
-            yes,
-            no,
-            after,
-            ..
-        } = branch;
-        self.line(Action::Call { answer: None, call }, Some(no), spot)?;
-        if after == yes {
-            Ok(())
-        } else {
-            self.goto(yes, spot)
         }
     }
 

@@ -63,7 +63,7 @@ pub(crate) fn message_at(
     text: String,
 ) -> Result<Message, AllocError> {
     let Spot { line, column } = spot;
-    let shown = source.line_shown(alloc, spot)?;
+    let shown = plain(alloc, source.line_of(source.bytes, line))?;
     let mark = mark_under(alloc, shown.as_str(), column)?;
     Ok(Message {
         line,

@@ -53,14 +53,6 @@ pub(crate) struct Variable<'a> {
     pub(crate) function: Option<&'a str>,
 }
 
-impl Variable<'_> {
-    pub(crate) fn is_shared(&self) -> bool
-        ensures { result ≡ is_everyones (Some self.now) }
-    {
-        matches!(self.owner, Owner::Everyone)
-    }
-}
-
 #[derive(Clone, Copy)]
 pub(crate) enum ObjectKind {
     Queue,
@@ -300,17 +292,20 @@ impl Body {
     }
 }
 
+/// Whose a body is. An actor is a task or an interrupt.
 #[derive(Clone, Copy)]
-pub(crate) enum ActorKind {
+pub(crate) enum Home {
     Task,
     Interrupt,
+    Function,
 }
 
-impl ActorKind {
+impl Home {
     pub(crate) fn text(self) -> &'static str {
         match self {
-            ActorKind::Task => "task",
-            ActorKind::Interrupt => "interrupt",
+            Home::Task => "task",
+            Home::Interrupt => "interrupt",
+            Home::Function => "function",
         }
     }
 }
@@ -319,7 +314,7 @@ impl ActorKind {
 #[derive(Clone, Copy)]
 pub(crate) struct Actor<'a> {
     pub(crate) name: &'a str,
-    pub(crate) kind: ActorKind,
+    pub(crate) kind: Home,
     pub(crate) body: usize,
     pub(crate) end: Spot,
 }
@@ -346,22 +341,6 @@ impl<'a> Program<'a> {
         }
     }
 
-    /// The item with this place of a body.
-    pub(crate) fn item(&self, body: usize, place: usize) -> Option<Item> {
-        match self.bodies.get(body) {
-            Some(body) => body.items.get(place).copied(),
-            None => None,
-        }
-    }
-
-    /// The variable that a body declares in this place.
-    pub(crate) fn declared(&self, body: usize, place: usize) -> Option<usize> {
-        match self.bodies.get(body) {
-            Some(body) => body.variables.get(place).copied(),
-            None => None,
-        }
-    }
-
     /// The variable in this place. There is always one.
     pub(crate) fn variable(&self, place: usize) -> Variable<'a> {
         match self.variables.get(place) {
@@ -382,7 +361,7 @@ impl<'a> Program<'a> {
         ensures { result ≡ is_shared self.now.variables.items place }
     {
         match self.variables.get(place) {
-            Some(variable) => variable.is_shared(),
+            Some(variable) => matches!(variable.owner, Owner::Everyone),
             None => false,
         }
     }
@@ -408,14 +387,6 @@ impl<'a> Program<'a> {
         match operand {
             Operand::Number(_) => false,
             Operand::Variable(variable) => self.is_shared(variable),
-        }
-    }
-
-    /// The name of the object in this place.
-    pub(crate) fn object_name(&self, place: usize) -> &'a str {
-        match self.objects.get(place) {
-            Some(object) => object.name,
-            None => "",
         }
     }
 

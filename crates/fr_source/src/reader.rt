@@ -5,7 +5,7 @@ use crate::fault::{Fault, Spot, wrong, wrong_about, wrong_with};
 use crate::kernel::{Kernel, TYPES, is_among, is_reserved, kernel_named};
 use crate::lines::Lines;
 use crate::open::{Case, Open};
-use crate::program::Program;
+use crate::program::{Home, Program};
 use crate::scope::{Meaning, Scope};
 use crate::template::Template;
 use crate::texts::Word;
@@ -17,24 +17,6 @@ const LONGEST_NAME: usize = 32;
 
 /// The most constructs and brackets inside one another.
 pub(crate) const DEEPEST: usize = 40;
-
-/// Whose body is read.
-#[derive(Clone, Copy)]
-pub(crate) enum Home {
-    Task,
-    Interrupt,
-    Function,
-}
-
-impl Home {
-    pub(crate) fn text(self) -> &'static str {
-        match self {
-            Home::Task => "task",
-            Home::Interrupt => "interrupt",
-            Home::Function => "function",
-        }
-    }
-}
 
 /// A label that the source names. It may be named before it is there.
 #[derive(Clone, Copy)]
@@ -58,6 +40,7 @@ pub(crate) struct Reader<'a> {
     pub(crate) cases: Vec<Case>,
     /// The bodies with parameters.
     pub(crate) templates: Vec<Template<'a>>,
+    /// Whose body is read.
     pub(crate) home: Home,
     /// The name of the actor or function that is read.
     pub(crate) name: &'a str,
@@ -67,6 +50,28 @@ pub(crate) struct Reader<'a> {
     pub(crate) assertion: Option<usize>,
     /// The call whose arguments are read.
     pub(crate) call: Option<&'static Kernel>,
+}
+
+/// The fault that an argument isn't declared, where there are more than the call has.
+fn surplus(alloc: Global, token: Token<'_>, kernel: &Kernel) -> Fault {
+    let form = "'%' isn't declared: data pointers are left out, as in %";
+    match kernel.shape(alloc) {
+        Ok(shape) => wrong_about(alloc, token.spot, form, token.text, shape.as_str()),
+        Err(_) => Fault::Memory,
+    }
+}
+
+/// The fault that a name means something else than what is expected.
+pub(crate) fn other_meaning(
+    alloc: Global,
+    token: Token<'_>,
+    what: &str,
+    meaning: Meaning,
+) -> Fault {
+    let (shown, kind) = (token.text, meaning.text());
+    let form = "expected the name of %, and '%' is the name of %";
+    let words = &[Word::Text(what), Word::Text(shown), Word::Text(kind)];
+    wrong_with(alloc, token.spot, form, words)
 }
 
 impl<'a> Reader<'a> {
@@ -118,16 +123,17 @@ impl<'a> Reader<'a> {
         }
     }
 
-    /// What a name means here.
-    pub(crate) fn meaning_of(&self, token: Token<'a>) -> Result<Meaning, Fault> {
+    /// Takes a name, and gives it with what it means here. `what` is what is expected.
+    pub(crate) fn named(&mut self, what: &str) -> Result<(Token<'a>, Meaning), Fault> {
+        let token = self.cursor.word(what)?;
         match self.scope.meaning(token.text) {
-            Some(meaning) => Ok(meaning),
+            Some(meaning) => Ok((token, meaning)),
             None => Err(self.undeclared(token)),
         }
     }
 
     /// The fault that a name isn't declared.
-    fn undeclared(&self, token: Token<'a>) -> Fault {
+    pub(crate) fn undeclared(&self, token: Token<'a>) -> Fault {
         let Token { text, spot, .. } = token;
         let (form, more) = if kernel_named(text).is_some() {
             (
@@ -153,7 +159,7 @@ impl<'a> Reader<'a> {
             match (self.scope.near(text), self.call) {
                 (Some(near), _) => ("'%' isn't declared. Did you mean '%'?", near),
                 (None, Some(kernel)) if self.cursor.is_at_surplus(kernel.places.len()) => {
-                    return self.surplus(token, kernel);
+                    return surplus(self.alloc, token, kernel);
                 }
                 _ => ("'%' isn't declared", ""),
             }
@@ -161,29 +167,11 @@ impl<'a> Reader<'a> {
         wrong_about(self.alloc, spot, form, text, more)
     }
 
-    /// The fault that an argument isn't declared, where there are more than the call has.
-    fn surplus(&self, token: Token<'a>, kernel: &Kernel) -> Fault {
-        let form = "'%' isn't declared: data pointers are left out, as in %";
-        match self.shape(kernel) {
-            Ok(shape) => { wrong_about(self.alloc, token.spot, form, token.text, shape.as_str()) }
-            Err(_) => Fault::Memory,
-        }
-    }
-
-    /// The fault that a name means something else than what is expected.
-    pub(crate) fn other_meaning(&self, token: Token<'a>, what: &str, meaning: Meaning) -> Fault {
-        let (shown, kind) = (token.text, meaning.text());
-        let form = "expected the name of %, and '%' is the name of %";
-        let words = &[Word::Text(what), Word::Text(shown), Word::Text(kind)];
-        wrong_with(self.alloc, token.spot, form, words)
-    }
-
     /// Takes the name of a variable.
     pub(crate) fn variable_named(&mut self, what: &str) -> Result<usize, Fault> {
-        let token = self.cursor.word(what)?;
-        match self.meaning_of(token)? {
-            Meaning::Variable(variable) => Ok(variable),
-            meaning => Err(self.other_meaning(token, "a variable", meaning)),
+        match self.named(what)? {
+            (_, Meaning::Variable(variable)) => Ok(variable),
+            (token, meaning) => Err(other_meaning(self.alloc, token, "a variable", meaning)),
         }
     }
 }

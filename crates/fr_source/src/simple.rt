@@ -1,10 +1,11 @@
 // Simple statements: assignments and calls. Each is one line, but for a call whose answer is kept, a call of a function
 // and `configASSERT`.
 
-use crate::expression::{Term, Value};
+use crate::call::too_narrow;
+use crate::expression::{Term, Value, binary};
 use crate::fault::{Fault, Spot, wrong, wrong_about, wrong_with};
 use crate::kernel::Answer;
-use crate::program::{Action, Argument, Arithmetic, Call, Operand, Owner, Range, Variable};
+use crate::program::{Action, Argument, Arithmetic, Call, Item, Operand, Owner, Range, Variable};
 use crate::reader::Reader;
 use crate::scope::Meaning;
 use crate::texts::Word;
@@ -28,25 +29,6 @@ const ONE: Term = Term {
     spot: Spot { line: 1, column: 1 },
 };
 
-/// The sign that an operator like `+=` joins by.
-fn joining(operator: &str) -> Option<Arithmetic> {
-    match operator {
-        "+=" | "++" => Some(Arithmetic::Plus),
-        "-=" | "--" => Some(Arithmetic::Minus),
-        "*=" => Some(Arithmetic::Times),
-        _ => None,
-    }
-}
-
-/// Why a variable isn't given what has no number.
-fn why_unassigned(value: Value) -> &'static str {
-    match value {
-        Value::Null => "NULL is no number, and a variable has a number: write 0",
-        Value::Test(_) => "a condition is no value: write 'if (..) x = 1; else x = 0;'",
-        _ => "one line has one operator at most: give a part of this to a variable first",
-    }
-}
-
 impl<'a> Reader<'a> {
     /// Takes a simple statement.
     pub(crate) fn simple(&mut self) -> Result<Simple, Fault> {
@@ -56,21 +38,17 @@ impl<'a> Reader<'a> {
             return self.called(token);
         }
         match text {
-            "++" => self.changed_by_one(spot, Arithmetic::Plus),
-            "--" => self.changed_by_one(spot, Arithmetic::Minus),
+            "++" | "--" => {
+                self.cursor.advance();
+                let variable = self.variable_named("a variable")?;
+                self.changed(variable, spot, token, ONE)
+            }
             "(" => {
                 let text = "a statement doesn't begin with '(': leave out a cast like '(void)'";
                 Err(wrong(self.alloc, spot, text))
             }
             _ => self.assignment_here(spot),
         }
-    }
-
-    /// Takes a `++` or a `--` and the variable after it.
-    fn changed_by_one(&mut self, spot: Spot, sign: Arithmetic) -> Result<Simple, Fault> {
-        self.cursor.advance();
-        let variable = self.variable_named("a variable")?;
-        self.changed(variable, spot, sign, ONE, spot)
     }
 
     /// Takes a variable, and what it is given or how it is changed.
@@ -81,31 +59,38 @@ impl<'a> Reader<'a> {
             let term = self.expression()?;
             return self.assigned(variable, spot, term);
         }
-        let Some(sign) = joining(operator.text) else {
-            return Err(self.cursor.expected("'=', '+=', '-=', '*=', '++' or '--'"));
-        };
-        self.cursor.advance();
         let by = match operator.text {
-            "++" | "--" => ONE,
-            _ => self.expression()?,
+            "++" | "--" => {
+                self.cursor.advance();
+                ONE
+            }
+            "+=" | "-=" | "*=" => {
+                self.cursor.advance();
+                self.expression()?
+            }
+            _ => return Err(self.cursor.expected("'=', '+=', '-=', '*=', '++' or '--'")),
         };
-        self.changed(variable, spot, sign, by, operator.spot)
+        self.changed(variable, spot, operator, by)
     }
 
-    /// The statement that joins a variable with a term. The places are those of the variable and of the sign.
+    /// The statement that joins a variable with a term. `spot` is the place of the variable.
     fn changed(
         &self,
         variable: usize,
         spot: Spot,
-        sign: Arithmetic,
+        operator: Token<'a>,
         by: Term,
-        sign_spot: Spot,
     ) -> Result<Simple, Fault> {
+        let sign = match operator.text {
+            "+=" | "++" => Arithmetic::Plus,
+            "*=" => Arithmetic::Times,
+            _ => Arithmetic::Minus,
+        };
         let whole = Term {
             value: Value::Variable(variable),
             spot,
         };
-        let term = self.binary(whole, sign, by, sign_spot)?;
+        let term = binary(self.alloc, whole, sign, by, operator.spot)?;
         self.assigned(variable, spot, term)
     }
 
@@ -163,7 +148,13 @@ impl<'a> Reader<'a> {
             Value::Number(number) => self.set_to(variable, spot, Operand::Number(number), None),
             Value::Variable(other) => self.set_to(variable, spot, Operand::Variable(other), None),
             Value::Null | Value::Test(_) | Value::Given { .. } => {
-                Err(wrong(self.alloc, term.spot, why_unassigned(term.value)))
+                let why = match term.value {
+                    Value::Null => "NULL is no number, and a variable has a number: write 0",
+                    Value::Test(_) => "a condition is no value: write 'if (..) x = 1; else x = 0;'",
+                    _ =>
+                        "one line has one operator at most: give a part of this to a variable first",
+                };
+                Err(wrong(self.alloc, term.spot, why))
             }
         }
     }
@@ -222,7 +213,7 @@ impl<'a> Reader<'a> {
         let answers = Range { low: 0, high };
         if !target.range.includes(answers) {
             let form = "the range of '%', %..%, has to include %..%, which % can answer";
-            return Err(self.too_narrow(target, answers, form, call.kernel.name, spot));
+            return Err(too_narrow(self.alloc, target, answers, form, call.kernel.name, spot));
         }
         if call.kernel.may_fail() {
             return Ok(Simple::Keep { variable, call });
@@ -301,7 +292,10 @@ impl<'a> Reader<'a> {
             Simple::Line(action) => self.lines.line(action, None, spot),
             Simple::Keep { variable, call } => self.lines.keep(variable, call, spot),
             Simple::Assert { variable, test } => self.lines.assert(variable, test, spot),
-            Simple::Expand(function) => self.lines.expand(function, spot),
+            Simple::Expand(function) => {
+                self.lines.body.items.push(Item::Expand { function, spot })?;
+                Ok(())
+            }
         }
     }
 }

@@ -1,6 +1,5 @@
 // The text of a source: its lines, as comments and messages show them.
 
-use crate::fault::Spot;
 use std::alloc::{AllocError, Global};
 
 /// The most bytes of a line that a message or a comment looks at.
@@ -10,7 +9,7 @@ const LONGEST_LINE: usize = 240;
 #[derive(Drop)]
 pub(crate) struct Source<'a> {
     pub(crate) file: &'a str,
-    bytes: &'a [u8],
+    pub(crate) bytes: &'a [u8],
     pub(crate) blank: Vec<u8>,
     starts: Vec<usize>,
 }
@@ -36,7 +35,7 @@ impl<'a> Source<'a> {
     }
 
     /// What the line with this number, from 1, has of some bytes: its beginning, where it is long.
-    fn line_of<'b>(&self, bytes: &'b [u8], number: usize) -> &'b [u8] {
+    pub(crate) fn line_of<'b>(&self, bytes: &'b [u8], number: usize) -> &'b [u8] {
         let start = match self.starts.get(number.saturating_sub(1)) {
             Some(start) => *start,
             None => 0,
@@ -66,11 +65,6 @@ impl<'a> Source<'a> {
             shown.push(char::from(*byte))?;
         }
         Ok(shown)
-    }
-
-    /// The line of a place, with a question mark for each character that isn't plain.
-    pub(crate) fn line_shown(&self, alloc: Global, spot: Spot) -> Result<String, AllocError> {
-        plain(alloc, self.line_of(self.bytes, spot.line))
     }
 }
 

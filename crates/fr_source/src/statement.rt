@@ -3,14 +3,9 @@
 use crate::fault::{Fault, Spot, wrong, wrong_about};
 use crate::kernel::is_reserved;
 use crate::open::{Margin, Open, Step};
-use crate::program::MOST_ITEMS;
-use crate::reader::{Home, NamedLabel, Reader};
+use crate::program::{Home, MOST_ITEMS};
+use crate::reader::{NamedLabel, Reader};
 use crate::token::Token;
-
-/// Whether a construct holds statements up to its closing brace.
-fn holds_many(open: Option<&Open>) -> bool {
-    matches!(open, Some(Open::Block | Open::Switch { .. }))
-}
 
 impl<'a> Reader<'a> {
     /// Reads statements up to the closing brace of the body, and gives its place.
@@ -34,25 +29,19 @@ impl<'a> Reader<'a> {
 
     /// Reads a statement, or the head of a construct. Answers whether a statement ends here.
     fn statement(&mut self) -> Result<bool, Fault> {
+        let (holds_many, is_before_cases) = match self.open.last() {
+            Some(Open::Block) => (true, false),
+            Some(Open::Switch { first_case, .. }) => (true, self.cases.len() <= *first_case),
+            _ => (false, false),
+        };
         match self.cursor.token().text {
             "" => Err(self.cursor.expected("'}'")),
             "case" | "default" => self.case(),
-            "}" if holds_many(self.open.last()) => {
+            "}" if holds_many => {
                 self.cursor.advance();
-                match self.open.pop() {
-                    Some(
-                        Open::Switch {
-                            variable,
-                            end,
-                            first_item,
-                            first_case,
-                            spot,
-                        },
-                    ) => self.write_switch(variable, end, (first_item, first_case), spot),
-                    _ => Ok(true),
-                }
+                self.close_many()
             }
-            _ if self.is_before_cases() => Err(self.cursor.expected("'case' or 'default'")),
+            _ if is_before_cases => Err(self.cursor.expected("'case' or 'default'")),
             "{" => {
                 self.cursor.advance();
                 self.enter(Open::Block)
@@ -64,15 +53,11 @@ impl<'a> Reader<'a> {
             "if" | "while" | "do" | "for" | "switch" => self.construct(),
             // A label belongs to the statement after it.
             _ if self.cursor.is_before(":") => self.named_label(),
-            _ => self.jump_or_simple(),
-        }
-    }
-
-    /// Whether a switch is open that has no case yet.
-    fn is_before_cases(&self) -> bool {
-        match self.open.last() {
-            Some(Open::Switch { first_case, .. }) => self.cases.len() <= *first_case,
-            _ => false,
+            _ => {
+                self.jump()?;
+                self.cursor.take(";", " after the statement")?;
+                Ok(true)
+            }
         }
     }
 
@@ -89,8 +74,25 @@ impl<'a> Reader<'a> {
         self.cursor.advance();
         match text {
             "if" => self.if_head(spot),
-            "while" => self.while_head(spot),
-            "do" => self.do_head(),
+            "while" => {
+                let top = self.lines.label();
+                self.lines.place(top)?;
+                let test = self.condition()?;
+                self.loop_head(Some(test), top, None, "while", spot)
+            }
+            "do" => {
+                let top = self.lines.label();
+                let again = self.lines.label();
+                let end = self.lines.label();
+                self.lines.place(top)?;
+                let margin = self.margin("do")?;
+                self.enter(Open::Do {
+                    top,
+                    again,
+                    end,
+                    margin,
+                })
+            }
             "for" => self.for_head(spot),
             _ => self.switch_head(spot),
         }
@@ -104,13 +106,6 @@ impl<'a> Reader<'a> {
         self.lines.place(yes)?;
         let margin = self.margin("if")?;
         self.enter(Open::If { no, margin, spot })
-    }
-
-    fn while_head(&mut self, spot: Spot) -> Result<bool, Fault> {
-        let top = self.lines.label();
-        self.lines.place(top)?;
-        let test = self.condition()?;
-        self.loop_head(Some(test), top, None, "while", spot)
     }
 
     fn for_head(&mut self, spot: Spot) -> Result<bool, Fault> {
@@ -172,20 +167,6 @@ impl<'a> Reader<'a> {
         })
     }
 
-    fn do_head(&mut self) -> Result<bool, Fault> {
-        let top = self.lines.label();
-        let again = self.lines.label();
-        let end = self.lines.label();
-        self.lines.place(top)?;
-        let margin = self.margin("do")?;
-        self.enter(Open::Do {
-            top,
-            again,
-            end,
-            margin,
-        })
-    }
-
     /// Where the body of a construct begins.
     fn margin(&self, word: &'static str) -> Result<Margin, Fault> {
         let head = self.cursor.previous();
@@ -204,7 +185,14 @@ impl<'a> Reader<'a> {
     }
 
     /// Refuses what is after a body without braces and looks as if it belonged to it.
-    fn check_margin(&self, margin: Margin) -> Result<(), Fault> {
+    fn check_margin(&self, open: Open) -> Result<(), Fault> {
+        let (Open::If { margin, .. }
+        | Open::Else { margin, .. }
+        | Open::Loop { margin, .. }
+        | Open::Do { margin, .. }) = open
+        else {
+            return Ok(());
+        };
         let last = self.cursor.previous();
         let after = self.cursor.token();
         let is_apart = margin.has_braces
@@ -225,12 +213,12 @@ impl<'a> Reader<'a> {
     /// Closes the constructs that the end of a statement ends.
     fn close_all(&mut self) -> Result<(), Fault> {
         for _ in 0..=self.open.len() {
-            if self.open.is_empty() || holds_many(self.open.last()) {
-                break;
-            }
-            let Some(open) = self.open.pop() else {
-                break;
+            let open = match self.open.last() {
+                None | Some(Open::Block | Open::Switch { .. }) => break,
+                Some(open) => *open,
             };
+            let _ = self.open.pop();
+            self.check_margin(open)?;
             if !self.close_one(open)? {
                 break;
             }
@@ -241,9 +229,8 @@ impl<'a> Reader<'a> {
     /// Writes the end of a construct. Answers whether it ends here, and has no `else`.
     fn close_one(&mut self, open: Open) -> Result<bool, Fault> {
         match open {
-            Open::If { no, margin, spot } => self.close_if(no, margin, spot),
-            Open::Else { end, margin } => {
-                self.check_margin(margin)?;
+            Open::If { no, spot, .. } => self.close_if(no, spot),
+            Open::Else { end, .. } => {
                 self.lines.place(end)?;
                 Ok(true)
             }
@@ -252,10 +239,9 @@ impl<'a> Reader<'a> {
                 again,
                 end,
                 step,
-                margin,
                 spot,
+                ..
             } => {
-                self.check_margin(margin)?;
                 self.lines.place(again)?;
                 if let Some(Step { simple, spot }) = step {
                     self.write_simple(simple, spot)?;
@@ -268,14 +254,13 @@ impl<'a> Reader<'a> {
                 top,
                 again,
                 end,
-                margin,
-            } => self.close_do((top, again, end), margin),
+                ..
+            } => self.close_do(top, again, end),
             Open::Block | Open::Switch { .. } => Ok(true),
         }
     }
 
-    fn close_if(&mut self, no: usize, margin: Margin, spot: Spot) -> Result<bool, Fault> {
-        self.check_margin(margin)?;
+    fn close_if(&mut self, no: usize, spot: Spot) -> Result<bool, Fault> {
         if !self.cursor.accepts("else") {
             self.lines.place(no)?;
             return Ok(true);
@@ -287,9 +272,7 @@ impl<'a> Reader<'a> {
         self.enter(Open::Else { end, margin })
     }
 
-    fn close_do(&mut self, labels: (usize, usize, usize), margin: Margin) -> Result<bool, Fault> {
-        let (top, again, end) = labels;
-        self.check_margin(margin)?;
+    fn close_do(&mut self, top: usize, again: usize, end: usize) -> Result<bool, Fault> {
         if !self.cursor.accepts("while") {
             return Err(
                 self.cursor
@@ -307,13 +290,6 @@ impl<'a> Reader<'a> {
         Ok(true)
     }
 
-    /// Reads a jump or a simple statement, with its semicolon.
-    fn jump_or_simple(&mut self) -> Result<bool, Fault> {
-        self.jump()?;
-        self.cursor.take(";", " after the statement")?;
-        Ok(true)
-    }
-
     /// Reads a jump, or else a simple statement.
     fn jump(&mut self) -> Result<(), Fault> {
         let Token { text, spot, .. } = self.cursor.token();
@@ -328,7 +304,12 @@ impl<'a> Reader<'a> {
                 self.cursor.advance();
                 self.lines.goto(0, spot)
             }
-            "goto" => self.goto_here(spot),
+            "goto" => {
+                self.cursor.advance();
+                let name = self.cursor.word("a label")?;
+                let label = self.label_named(name, false)?;
+                self.lines.goto(label, spot)
+            }
             "var" | "static" => {
                 let form = "variables are declared at the beginning of the %";
                 Err(wrong_about(self.alloc, spot, form, self.home.text(), ""))
@@ -342,8 +323,8 @@ impl<'a> Reader<'a> {
         }
     }
 
-    /// The label that a `break` goes to, or else a `continue`.
-    fn label_outside(&self, is_break: bool) -> Option<usize> {
+    /// Takes a `break`, or else a `continue`.
+    fn leave_loop(&mut self, is_break: bool, spot: Spot) -> Result<(), Fault> {
         let mut label = None;
         for open in &self.open {
             match *open {
@@ -354,12 +335,7 @@ impl<'a> Reader<'a> {
                 _ => {}
             }
         }
-        label
-    }
-
-    /// Takes a `break`, or else a `continue`.
-    fn leave_loop(&mut self, is_break: bool, spot: Spot) -> Result<(), Fault> {
-        let Some(label) = self.label_outside(is_break) else {
+        let Some(label) = label else {
             let text = if is_break {
                 "'break' outside a loop and a switch"
             } else {
@@ -368,14 +344,6 @@ impl<'a> Reader<'a> {
             return Err(wrong(self.alloc, spot, text));
         };
         self.cursor.advance();
-        self.lines.goto(label, spot)
-    }
-
-    /// Takes a `goto` and its label.
-    fn goto_here(&mut self, spot: Spot) -> Result<(), Fault> {
-        self.cursor.advance();
-        let name = self.cursor.word("a label")?;
-        let label = self.label_named(name, false)?;
         self.lines.goto(label, spot)
     }
 
@@ -393,21 +361,13 @@ impl<'a> Reader<'a> {
         Ok(false)
     }
 
-    /// The place of the label with this name among those that are named.
-    fn place_of_label(&self, name: &str) -> Option<usize> {
-        for (place, one) in self.labels.iter().enumerate() {
-            if one.text == name {
-                return Some(place);
-            }
-        }
-        None
-    }
-
     /// The label with this name, which is placed here or only named.
     fn label_named(&mut self, name: Token<'a>, is_placed: bool) -> Result<usize, Fault> {
         let Token { text, spot, .. } = name;
-        let place = self.place_of_label(text).unwrap_or(self.labels.len());
-        if let Some(one) = self.labels.get_mut(place) {
+        for one in &mut self.labels {
+            if one.text != text {
+                continue;
+            }
             if one.is_placed && is_placed {
                 let form = "the label '%' is there already";
                 return Err(wrong_about(self.alloc, spot, form, text, ""));

@@ -25,20 +25,6 @@ fn last_of_all(cases: &[Case], range: Range) -> Option<i64> {
     if count == width { last } else { None }
 }
 
-/// The line that goes to a case if the variable has its value.
-fn test_item(variable: usize, value: i64, case: Case) -> Item {
-    let action = Action::If {
-        left: Operand::Variable(variable),
-        comparison: Comparison::Equal,
-        right: Operand::Number(value),
-    };
-    Item::Line {
-        action,
-        to: Some(case.label),
-        spot: case.spot,
-    }
-}
-
 /// The tests of a switch, one for each number but the last one of all, and the line after them.
 fn tests_of(
     alloc: Global,
@@ -48,10 +34,18 @@ fn tests_of(
     rest: Item,
 ) -> Result<Vec<Item>, AllocError> {
     let mut tests = Vec::new(alloc);
-    for case in cases {
-        match case.value {
-            Some(value) if last != case.value => tests.push(test_item(variable, value, *case))?,
-            _ => {}
+    for Case { value, label, spot } in cases {
+        if *value == last {
+            continue;
+        }
+        if let Some(number) = *value {
+            let action = Action::If {
+                left: Operand::Variable(variable),
+                comparison: Comparison::Equal,
+                right: Operand::Number(number),
+            };
+            let (to, spot) = (Some(*label), *spot);
+            tests.push(Item::Line { action, to, spot })?;
         }
     }
     tests.push(rest)?;
@@ -66,17 +60,6 @@ fn label_without_test(cases: &[Case], last: Option<i64>) -> Option<usize> {
         }
     }
     None
-}
-
-/// The fault that a case is there already.
-fn already(alloc: Global, value: Option<i64>, spot: Spot) -> Fault {
-    match value {
-        Some(number) => {
-            let form = "this case % is there already";
-            wrong_with(alloc, spot, form, &[Word::Number(number)])
-        }
-        None => wrong(alloc, spot, "this default is there already"),
-    }
 }
 
 impl<'a> Reader<'a> {
@@ -122,7 +105,11 @@ impl<'a> Reader<'a> {
         self.cursor.take(":", "")?;
         for case in self.cases.iter().skip(first_case) {
             if case.value == value {
-                return Err(already(self.alloc, value, spot));
+                let form = "this case % is there already";
+                return Err(match value {
+                    Some(number) => wrong_with(self.alloc, spot, form, &[Word::Number(number)]),
+                    None => wrong(self.alloc, spot, "this default is there already"),
+                });
             }
         }
         let label = self.lines.label();
@@ -131,15 +118,20 @@ impl<'a> Reader<'a> {
         Ok(false)
     }
 
-    /// Writes the tests of a switch before its bodies, and its end: a statement ends there.
-    pub(crate) fn write_switch(
-        &mut self,
-        variable: usize,
-        end: usize,
-        firsts: (usize, usize),
-        spot: Spot,
-    ) -> Result<bool, Fault> {
-        let (first_item, first_case) = firsts;
+    /// Closes a block or a switch: a statement ends there. The tests of a switch are put before its bodies.
+    pub(crate) fn close_many(&mut self) -> Result<bool, Fault> {
+        let Some(
+            Open::Switch {
+                variable,
+                end,
+                first_item,
+                first_case,
+                spot,
+            },
+        ) = self.open.pop()
+        else {
+            return Ok(true);
+        };
         let range = self.program.variable(variable).range;
         let Some(cases) = self.cases.get(first_case..) else {
             return Ok(true);
@@ -148,9 +140,12 @@ impl<'a> Reader<'a> {
         let action = Action::Goto;
         let to = Some(label_without_test(cases, last).unwrap_or(end));
         let rest = Item::Line { action, to, spot };
-        let tests = tests_of(self.alloc, variable, cases, last, rest)?;
+        let mut tests = tests_of(self.alloc, variable, cases, last, rest)?;
         self.cases.truncate(first_case);
-        self.lines.insert(first_item, tests)?;
+        let items = &mut self.lines.body.items;
+        let mut bodies = items.split_off(first_item.min(items.len()))?;
+        items.append(&mut tests)?;
+        items.append(&mut bodies)?;
         self.lines.place(end)?;
         Ok(true)
     }

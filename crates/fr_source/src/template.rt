@@ -1,12 +1,14 @@
 // Bodies with parameters. Such a body is no actor: it is noted and passed by. Each actor that is made of it reads its
 // tokens anew, with a value for each parameter.
 
+use crate::declare::check_count;
 use crate::fault::{Fault, wrong_about, wrong_with};
-use crate::program::ActorKind;
-use crate::reader::Reader;
+use crate::program::Home;
+use crate::reader::{Reader, other_meaning};
 use crate::scope::Meaning;
 use crate::texts::{Word, push_filled};
 use crate::token::Token;
+use std::alloc::Global;
 
 /// The most parameters of a body.
 const MOST_PARAMETERS: usize = 64;
@@ -16,7 +18,7 @@ const MOST_PARAMETERS: usize = 64;
 pub(crate) struct Template<'a> {
     name: Token<'a>,
     /// What can be made of it.
-    kind: ActorKind,
+    kind: Home,
     /// The place among the tokens where its parameters begin.
     start: usize,
     /// The number of its parameters.
@@ -25,16 +27,49 @@ pub(crate) struct Template<'a> {
     is_used: bool,
 }
 
+/// Refuses more or fewer values than the body with this name has parameters.
+fn check_values(alloc: Global, word: Token<'_>, count: usize, given: usize) -> Result<(), Fault> {
+    if count == given {
+        return Ok(());
+    }
+    let form = match (count, given) {
+        (1, _) => "'%' has % parameter, and this gives % values",
+        (_, 1) => "'%' has % parameters, and this gives % value",
+        _ => "'%' has % parameters, and this gives % values",
+    };
+    let words = &[
+        Word::Text(word.text),
+        Word::Count(count),
+        Word::Count(given),
+    ];
+    Err(wrong_with(alloc, word.spot, form, words))
+}
+
+/// A fault in a body with parameters, with the actor that it is read for.
+fn fault_for(alloc: Global, fault: Fault, name: Token<'_>) -> Fault {
+    match fault {
+        Fault::Wrong(spot, mut text) => {
+            let words = &[Word::Text(name.text), Word::Count(name.spot.line)];
+            let form = " (read for '%' of line %)";
+            match push_filled(alloc, &mut text, form, words) {
+                Ok(()) => Fault::Wrong(spot, text),
+                Err(_) => Fault::Memory,
+            }
+        }
+        Fault::Memory => Fault::Memory,
+    }
+}
+
 impl<'a> Reader<'a> {
     /// Notes a body with parameters, and passes it by.
-    pub(crate) fn template(&mut self, kind: ActorKind, name: Token<'a>) -> Result<(), Fault> {
+    pub(crate) fn template(&mut self, kind: Home, name: Token<'a>) -> Result<(), Fault> {
         let start = self.cursor.next;
         let mut count = 0usize;
         for _ in 0..self.cursor.left() {
             self.cursor.advance();
             let spot = self.cursor.spot();
             let parameter = self.new_name("the name of a parameter")?;
-            self.check_count("parameters", count, MOST_PARAMETERS, spot)?;
+            check_count(self.alloc, "parameters", count, MOST_PARAMETERS, spot)?;
             self.scope.add_inside(parameter.text, Meaning::Parameter)?;
             count = count.saturating_add(1);
             if !self.cursor.sees(",") {
@@ -56,13 +91,12 @@ impl<'a> Reader<'a> {
     }
 
     /// Reads what an actor is made of, after the `=`: a body with parameters, and a value for each of them.
-    pub(crate) fn made_actor(&mut self, kind: ActorKind, name: Token<'a>) -> Result<(), Fault> {
-        let word = self.cursor.word("the name of a body with parameters")?;
-        let template = self.template_named(kind, word)?;
+    pub(crate) fn made_actor(&mut self, kind: Home, name: Token<'a>) -> Result<(), Fault> {
+        let (word, template) = self.template_named(kind)?;
         self.cursor.take("(", " and the values of the parameters")?;
         let values = self.values()?;
         self.cursor.take(")", " or ',' after a value")?;
-        self.check_values(word, template.count, values.len())?;
+        check_values(self.alloc, word, template.count, values.len())?;
         self.cursor.take(";", " after the declaration")?;
         let after = self.cursor.next;
         self.cursor.next = template.start;
@@ -70,43 +104,25 @@ impl<'a> Reader<'a> {
         self.cursor.next = after;
         match read {
             Ok(()) => Ok(()),
-            Err(fault) => Err(self.fault_for(fault, name)),
+            Err(fault) => Err(fault_for(self.alloc, fault, name)),
         }
     }
 
-    /// Refuses more or fewer values than the body with this name has parameters.
-    fn check_values(&self, word: Token<'a>, count: usize, given: usize) -> Result<(), Fault> {
-        if count == given {
-            return Ok(());
-        }
-        let form = match (count, given) {
-            (1, _) => "'%' has % parameter, and this gives % values",
-            (_, 1) => "'%' has % parameters, and this gives % value",
-            _ => "'%' has % parameters, and this gives % values",
-        };
-        let words = &[
-            Word::Text(word.text),
-            Word::Count(count),
-            Word::Count(given),
-        ];
-        Err(wrong_with(self.alloc, word.spot, form, words))
-    }
-
-    /// The body with parameters that a word names, for an actor of this kind.
-    fn template_named(&mut self, kind: ActorKind, word: Token<'a>) -> Result<Template<'a>, Fault> {
-        let meaning = self.meaning_of(word)?;
+    /// Takes the name of a body with parameters, for an actor of this kind.
+    fn template_named(&mut self, kind: Home) -> Result<(Token<'a>, Template<'a>), Fault> {
+        let (word, meaning) = self.named("the name of a body with parameters")?;
         if let Meaning::Template(place) = meaning {
             if let Some(template) = self.templates.get_mut(place) {
                 template.is_used = true;
                 if template.kind.text() == kind.text() {
-                    return Ok(*template);
+                    return Ok((word, *template));
                 }
                 let form = "'%' begins with '%', and so does each actor that is made of it";
                 let (shown, kind) = (word.text, template.kind.text());
                 return Err(wrong_about(self.alloc, word.spot, form, shown, kind));
             }
         }
-        Err(self.other_meaning(word, "a body with parameters", meaning))
+        Err(other_meaning(self.alloc, word, "a body with parameters", meaning))
     }
 
     /// Reads the values of parameters.
@@ -145,21 +161,6 @@ impl<'a> Reader<'a> {
         }
         self.cursor.advance();
         Ok(())
-    }
-
-    /// A fault in a body with parameters, with the actor that it is read for.
-    fn fault_for(&self, fault: Fault, name: Token<'a>) -> Fault {
-        match fault {
-            Fault::Wrong(spot, mut text) => {
-                let words = &[Word::Text(name.text), Word::Count(name.spot.line)];
-                let form = " (read for '%' of line %)";
-                match push_filled(self.alloc, &mut text, form, words) {
-                    Ok(()) => Fault::Wrong(spot, text),
-                    Err(_) => Fault::Memory,
-                }
-            }
-            Fault::Memory => Fault::Memory,
-        }
     }
 
     /// Refuses a body with parameters that no actor is made of: nobody reads it.

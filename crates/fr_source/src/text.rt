@@ -2,9 +2,7 @@
 
 use crate::expand::{Code, Line, Place, caller};
 use crate::fault::{Fault, Spot, wrong};
-use crate::program::{
-    Action, Actor, Argument, Arithmetic, Call, Object, Operand, Owner, Program, Range, Variable,
-};
+use crate::program::{Action, Actor, Argument, Arithmetic, Call, Operand, Owner, Program, Range};
 use crate::renamed::names_of;
 use crate::source::Source;
 use crate::texts::{Word, filled, push_filled};
@@ -73,64 +71,41 @@ impl Writer {
     /// Writes the variables.
     fn variables(&mut self, program: &Program<'_>) -> Result<(), AllocError> {
         for place in &program.written {
-            self.variable(program, *place, program.variable(*place))?;
+            let variable = program.variable(*place);
+            let words = &[
+                name_in(&self.names, *place),
+                Word::Number(variable.range.low),
+                Word::Number(variable.range.high),
+                Word::Number(variable.first),
+            ];
+            let form = "\n[[variable]]\nname = \"%\"\nlo = %\nhi = %\ninit = %\n";
+            push_filled(self.alloc, &mut self.text, form, words)?;
+            if let Owner::Actor(number) = variable.owner {
+                let actor = program.actor_name(number);
+                self.write("owner = \"%\"\n", &[Word::Text(actor)])?;
+            }
         }
         Ok(())
-    }
-
-    fn variable(
-        &mut self,
-        program: &Program<'_>,
-        place: usize,
-        variable: Variable<'_>,
-    ) -> Result<(), AllocError> {
-        let words = &[
-            Word::Text(name_in(&self.names, place)),
-            Word::Number(variable.range.low),
-            Word::Number(variable.range.high),
-            Word::Number(variable.first),
-        ];
-        let form = "\n[[variable]]\nname = \"%\"\nlo = %\nhi = %\ninit = %\n";
-        push_filled(self.alloc, &mut self.text, form, words)?;
-        match variable.owner {
-            Owner::Actor(number) => {
-                let actor = program.actor_name(number);
-                self.write("owner = \"%\"\n", &[Word::Text(actor)])
-            }
-            _ => Ok(()),
-        }
     }
 
     /// Writes the objects.
     fn objects(&mut self, program: &Program<'_>) -> Result<(), AllocError> {
         for object in &program.objects {
-            self.object(*object)?;
+            let words = &[Word::Text(object.name), Word::Text(object.kind.text())];
+            self.write("\n[[object]]\nname = \"%\"\nkind = \"%\"\n", words)?;
+            if let Some(size) = object.size {
+                self.write("size = %\n", &[Word::Number(size)])?;
+            }
+            if let Some(Range { low, high }) = object.items {
+                self.write("lo = %\nhi = %\n", &[Word::Number(low), Word::Number(high)])?;
+            }
+            if let Some(first) = object.first {
+                self.write("first = %\n", &[Word::Number(first)])?;
+            }
+            let is_live = if object.is_live { "true" } else { "false" };
+            self.write("live = %\n", &[Word::Text(is_live)])?;
         }
         Ok(())
-    }
-
-    fn object(&mut self, object: Object<'_>) -> Result<(), AllocError> {
-        let Object {
-            name,
-            kind,
-            size,
-            items,
-            first,
-            is_live,
-        } = object;
-        let words = &[Word::Text(name), Word::Text(kind.text())];
-        self.write("\n[[object]]\nname = \"%\"\nkind = \"%\"\n", words)?;
-        if let Some(size) = size {
-            self.write("size = %\n", &[Word::Number(size)])?;
-        }
-        if let Some(Range { low, high }) = items {
-            self.write("lo = %\nhi = %\n", &[Word::Number(low), Word::Number(high)])?;
-        }
-        if let Some(first) = first {
-            self.write("first = %\n", &[Word::Number(first)])?;
-        }
-        let is_live = if is_live { "true" } else { "false" };
-        self.write("live = %\n", &[Word::Text(is_live)])
     }
 
     /// Writes an actor with its code.
@@ -196,11 +171,8 @@ impl Writer {
             } => self.set_said(variable, left, more),
             Action::Pick { variable, range } => {
                 let (low, high) = (Word::Number(range.low), Word::Number(range.high));
-                filled(
-                    self.alloc,
-                    "\"pick % % %\",",
-                    &[self.name(variable), low, high],
-                )
+                let words = &[name_in(&self.names, variable), low, high];
+                filled(self.alloc, "\"pick % % %\",", words)
             }
             Action::Call { answer, call } => (&*self).call_said(&*program, answer, call, line.to),
             Action::If {
@@ -225,7 +197,7 @@ impl Writer {
         left: Operand,
         more: Option<(Arithmetic, Operand)>,
     ) -> Result<String, AllocError> {
-        let (name, left) = (self.name(variable), self.operand(left));
+        let (name, left) = (name_in(&self.names, variable), self.operand(left));
         match more {
             Some((sign, right)) => {
                 let words = &[name, left, Word::Text(sign.text()), self.operand(right)];
@@ -235,14 +207,9 @@ impl Writer {
         }
     }
 
-    /// The name of a variable.
-    fn name(&self, variable: usize) -> Word<'_> {
-        Word::Text(name_in(&self.names, variable))
-    }
-
     fn operand(&self, operand: Operand) -> Word<'_> {
         match operand {
-            Operand::Variable(variable) => self.name(variable),
+            Operand::Variable(variable) => name_in(&self.names, variable),
             Operand::Number(number) => Word::Number(number),
         }
     }
@@ -250,7 +217,10 @@ impl Writer {
     fn argument<'b>(&'b self, program: &'b Program<'_>, argument: Argument) -> Word<'b> {
         match argument {
             Argument::Absent => Word::Text(""),
-            Argument::Object(place) => Word::Text(program.object_name(place)),
+            Argument::Object(place) => match program.objects.get(place) {
+                Some(object) => Word::Text(object.name),
+                None => Word::Text(""),
+            },
             Argument::Operand(operand) => self.operand(operand),
             Argument::Forever => Word::Text("portMAX_DELAY"),
             Argument::Null => Word::Text("NULL"),
@@ -271,7 +241,7 @@ impl Writer {
             _ => "\"%%%(%, %, %)%%\",",
         };
         let (given, is) = match answer {
-            Some(variable) => (self.name(variable), " = "),
+            Some(variable) => (name_in(&self.names, variable), " = "),
             None => (Word::Text(""), ""),
         };
         let (otherwise, target) = match to {
@@ -331,10 +301,10 @@ impl Writer {
 }
 
 /// The name of a variable among all names.
-fn name_in(names: &[String], variable: usize) -> &str {
+fn name_in(names: &[String], variable: usize) -> Word<'_> {
     match names.get(variable) {
-        Some(name) => name.as_str(),
-        None => "",
+        Some(name) => Word::Text(name.as_str()),
+        None => Word::Text(""),
     }
 }
 

@@ -12,19 +12,16 @@ pub(crate) enum Word<'a> {
     Blanks(usize),
 }
 
-/// Appends so many blanks.
-fn push_blanks(whole: &mut String, count: usize) -> Result<(), AllocError> {
-    for _ in 0..count {
-        whole.push(' ')?;
-    }
-    Ok(())
-}
-
 /// Appends a word.
 fn push_word(alloc: Global, whole: &mut String, word: Word<'_>) -> Result<(), AllocError> {
     let digits = match word {
         Word::Text(text) => return whole.push_str(text),
-        Word::Blanks(count) => return push_blanks(whole, count),
+        Word::Blanks(count) => {
+            for _ in 0..count {
+                whole.push(' ')?;
+            }
+            return Ok(());
+        }
         Word::Number(number) => format!(in alloc; "{number}")?,
         Word::Count(count) => format!(in alloc; "{count}")?,
     };

@@ -30,7 +30,7 @@ struct Tidying<'a> {
 /// The line that a way through this one comes to: the end of a goto, or the line itself.
 fn through(kept: &[Origin], number: usize) -> Option<usize> {
     let Origin { line, .. } = kept.get(number)?;
-    if line.is_goto() {
+    if matches!(line.action, Action::Goto) {
         line.to
     } else {
         Some(number)
@@ -68,7 +68,7 @@ fn shortened(kept: &[Origin], origin: Origin, first: usize) -> Origin {
         None => false,
     };
     let Origin { line, form, .. } = origin;
-    if line.is_goto() && is_return {
+    if matches!(line.action, Action::Goto) && is_return {
         let (action, to) = (Action::Return, None);
         Origin {
             line: Line { action, to, ..line },
@@ -176,7 +176,7 @@ fn change_at(program: &Program<'_>, kept: &[Origin], number: usize) -> Change {
     match line.action {
         Action::Call { .. } if leads_on => Change::Forget,
         Action::If { left, right, .. } => {
-            let can_turn = after.is_goto() && target == next.saturating_add(1);
+            let can_turn = matches!(after.action, Action::Goto) && target == next.saturating_add(1);
             match after.to {
                 Some(other) if can_turn && !is_aimed(kept, next) => Change::Turn(other),
                 _ if leads_on && !program.looks_at_shared(left, right) => Change::TakeOut,
@@ -188,22 +188,14 @@ fn change_at(program: &Program<'_>, kept: &[Origin], number: usize) -> Change {
     }
 }
 
-/// The `if` that asks for the opposite, and goes to this line.
-fn turned(origin: Origin, target: usize) -> Origin {
-    let Origin { line, from, form } = origin;
-    let form = match form {
+/// Makes an `if` ask for the opposite, and go to this line.
+fn turn(origin: &mut Origin, target: usize) {
+    origin.line.action = origin.line.action.turned();
+    origin.line.to = Some(target);
+    origin.form = match origin.form {
         Form::Turned => Form::Same,
         _ => Form::Turned,
     };
-    Origin {
-        line: Line {
-            action: line.action.turned(),
-            to: Some(target),
-            ..line
-        },
-        from,
-        form,
-    }
 }
 
 impl Tidying<'_> {
@@ -263,14 +255,6 @@ impl Tidying<'_> {
         Ok(has_changed)
     }
 
-    /// Turns an `if` around, and takes out the goto after it.
-    fn turn(&mut self, number: usize, target: usize) {
-        if let Some(slot) = self.kept.get_mut(number) {
-            *slot = turned(*slot, target);
-        }
-        self.take_out(number.saturating_add(1), Heir::Line(target));
-    }
-
     /// Makes the changes that can be made, up to the first one that takes out a line. Answers whether one was made.
     fn change_one(&mut self) -> bool {
         let mut has_changed = false;
@@ -288,16 +272,17 @@ impl Tidying<'_> {
                     return true;
                 }
                 Change::Turn(target) => {
-                    self.turn(number, target);
+                    if let Some(slot) = self.kept.get_mut(number) {
+                        turn(slot, target);
+                    }
+                    self.take_out(number.saturating_add(1), Heir::Line(target));
                     return true;
                 }
             }
         }
         has_changed
     }
-}
 
-impl Tidying<'_> {
     /// Makes all changes that can be made.
     fn tidy(&mut self, alloc: Global) -> Result<(), AllocError> {
         for _ in 0..=self.kept.len().saturating_mul(4) {

@@ -51,36 +51,29 @@ const START: Position = Position {
 };
 
 impl Position {
-    /// The position after a byte.
-    fn after(self, byte: u8) -> Position {
-        let Spot { line, column } = self.spot;
-        let (line, column, indent) = match byte {
-            b'\n' => (line.saturating_add(1), 1, 0),
-            b'\t' => (
-                line,
-                column.saturating_add(1),
-                (self.indent / 8).saturating_add(1).saturating_mul(8),
-            ),
-            0x80..=0xbf => (line, column, self.indent),
-            _ => (
-                line,
-                column.saturating_add(1),
-                self.indent.saturating_add(1),
-            ),
-        };
+    /// The position after some text.
+    fn past(self, text: &[u8]) -> Position {
+        let Position { spot, mut indent } = self;
+        let Spot {
+            mut line,
+            mut column,
+        } = spot;
+        for byte in text {
+            (line, column, indent) = match *byte {
+                b'\n' => (line.saturating_add(1), 1, 0),
+                b'\t' => (
+                    line,
+                    column.saturating_add(1),
+                    (indent / 8).saturating_add(1).saturating_mul(8),
+                ),
+                0x80..=0xbf => (line, column, indent),
+                _ => (line, column.saturating_add(1), indent.saturating_add(1)),
+            };
+        }
         Position {
             spot: Spot { line, column },
             indent,
         }
-    }
-
-    /// The position after some text.
-    fn past(self, text: &[u8]) -> Position {
-        let mut position = self;
-        for byte in text {
-            position = position.after(*byte);
-        }
-        position
     }
 }
 
@@ -139,25 +132,14 @@ fn number_length(text: &[u8]) -> usize {
     }
 }
 
-/// Whether the text begins with a sign of two characters.
-fn is_pair(text: &[u8]) -> bool {
-    for pair in &PAIRS {
-        if text.starts_with(pair) {
-            return true;
-        }
-    }
-    false
-}
-
 /// The length of the sign that the text begins with: 0 if it begins with none.
 fn sign_length(text: &[u8], first: u8) -> usize {
-    if is_pair(text) {
-        2
-    } else if b"-+*/%=!<>(){}[];:,".contains(&first) {
-        1
-    } else {
-        0
+    for pair in &PAIRS {
+        if text.starts_with(pair) {
+            return 2;
+        }
     }
+    usize::from(b"-+*/%=!<>(){}[];:,".contains(&first))
 }
 
 /// What the text begins with, and its length.
@@ -245,27 +227,6 @@ fn push_blanks(blank: &mut Vec<u8>, text: &[u8]) -> Result<(), AllocError> {
     Ok(())
 }
 
-/// The token that a piece of the source is.
-fn token_of<'a>(
-    alloc: Global,
-    kind: Kind,
-    position: Position,
-    text: &'a [u8],
-    after: &[u8],
-) -> Result<Token<'a>, Fault> {
-    let Position { spot, indent } = position;
-    if matches!(kind, Kind::Number) {
-        check_number(alloc, spot, text, after)?;
-    }
-    let text = std::str::from_utf8(text).unwrap_or("");
-    Ok(Token {
-        kind,
-        text,
-        spot,
-        indent,
-    })
-}
-
 impl<'a> Scan<'a> {
     /// Keeps a piece of the source. `after` is what is behind it.
     fn keep(
@@ -276,13 +237,23 @@ impl<'a> Scan<'a> {
         after: &[u8],
         position: Position,
     ) -> Result<(), Fault> {
+        let Position { spot, indent } = position;
         match piece {
             Piece::Comment => return Ok(push_blanks(&mut self.blank, text)?),
-            Piece::Unended => return Err(wrong(alloc, position.spot, "this comment doesn't end")),
-            Piece::Unknown => return Err(unknown_sign(alloc, position.spot, text)),
-            Piece::Token(kind) => self
-                .tokens
-                .push(token_of(alloc, kind, position, text, after)?)?,
+            Piece::Unended => return Err(wrong(alloc, spot, "this comment doesn't end")),
+            Piece::Unknown => return Err(unknown_sign(alloc, spot, text)),
+            Piece::Token(kind) => {
+                if matches!(kind, Kind::Number) {
+                    check_number(alloc, spot, text, after)?;
+                }
+                let text = std::str::from_utf8(text).unwrap_or("");
+                self.tokens.push(Token {
+                    kind,
+                    text,
+                    spot,
+                    indent,
+                })?;
+            }
             Piece::Space => {}
         }
         self.blank.extend_from_slice(text)?;

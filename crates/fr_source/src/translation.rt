@@ -5,7 +5,7 @@ use crate::declare::program_in;
 use crate::expand::{Code, Line, Place, code_of, outermost};
 use crate::fault::{Fault, Spot, wrong, wrong_about, wrong_with};
 use crate::message::{Message, Refused, message_at, refused_by};
-use crate::program::{Action, Actor, ActorKind, Program};
+use crate::program::{Action, Actor, Home, Program};
 use crate::source::{Source, plain};
 use crate::text::text_of;
 use crate::texts::{Word, filled};
@@ -39,7 +39,7 @@ fn check_calls(alloc: Global, actor: Actor<'_>, code: &Code) -> Result<(), Fault
     for line in &code.lines {
         if let Action::Call { call, .. } = line.action
             && call.kernel.is_of_interrupts()
-            && matches!(actor.kind, ActorKind::Task)
+            && matches!(actor.kind, Home::Task)
         {
             let spot = outermost(&code.calls, line.place);
             let form = "task '%' makes the call % here, which is for interrupts";
@@ -49,23 +49,15 @@ fn check_calls(alloc: Global, actor: Actor<'_>, code: &Code) -> Result<(), Fault
     Ok(())
 }
 
-/// Whether one of the lines is the end of a task.
-fn can_end(lines: &[Line]) -> bool {
-    for line in lines {
-        if matches!(line.action, Action::End) {
-            return true;
-        }
-    }
-    false
-}
-
 /// Refuses a task that can come to its end, and an actor with too many lines.
 fn check_code(alloc: Global, actor: Actor<'_>, code: &Code) -> Result<(), Fault> {
-    if can_end(&code.lines) {
-        let form =
-            "task '%' can come to its end here, and a task doesn't return (rule 11): write vTaskDelete(NULL) \
-            or an endless loop";
-        return Err(wrong_about(alloc, actor.end, form, actor.name, ""));
+    for line in &code.lines {
+        if matches!(line.action, Action::End) {
+            let form =
+                "task '%' can come to its end here, and a task doesn't return (rule 11): write vTaskDelete(NULL) \
+                or an endless loop";
+            return Err(wrong_about(alloc, actor.end, form, actor.name, ""));
+        }
     }
     if let Some(line) = code.lines.get(MOST_LINES) {
         let spot = outermost(&code.calls, line.place);
@@ -83,33 +75,33 @@ fn check_code(alloc: Global, actor: Actor<'_>, code: &Code) -> Result<(), Fault>
 /// Whether a way leads to a line of this place.
 fn is_reached(lines: &[Line], seen: &[bool], place: Place) -> bool {
     for (number, line) in lines.iter().enumerate() {
-        if seen.get(number) == Some(&true) && line.place.is(place) {
+        let Place { spot, call } = line.place;
+        if seen.get(number) == Some(&true)
+            && spot.line == place.spot.line
+            && spot.column == place.spot.column
+            && call == place.call
+        {
             return true;
         }
     }
     false
 }
 
-/// The places of lines that no way leads to, once for lines that follow each other.
-fn unreached(alloc: Global, lines: &[Line]) -> Result<Vec<Spot>, AllocError> {
-    let seen = reached(alloc, lines)?;
-    let mut spots = Vec::new(alloc);
-    let mut was_dropped = false;
-    for (number, line) in lines.iter().enumerate() {
-        if line.is_goto() || number.saturating_add(1) == lines.len() {
-            was_dropped = was_dropped && seen.get(number) != Some(&true);
-            continue;
-        }
-        let is_kept = is_reached(lines, &seen, line.place);
-        if !is_kept && !was_dropped {
-            spots.push(line.place.spot)?;
-        }
-        was_dropped = !is_kept;
-    }
-    Ok(spots)
+/// The warning that something is never reached in an actor.
+fn warning(
+    alloc: Global,
+    source: &Source<'_>,
+    actor: Actor<'_>,
+    spot: Spot,
+) -> Result<Message, AllocError> {
+    let form = "warning: this is never reached in % '%', and left out";
+    let words = &[Word::Text(actor.kind.text()), Word::Text(actor.name)];
+    let text = filled(alloc, form, words)?;
+    message_at(alloc, source, spot, text)
 }
 
-/// Adds the warnings of an actor: what is never reached in it. Refuses a task that makes a call of interrupts.
+/// Adds the warnings of an actor: what is never reached in it, once for lines that follow each other. Refuses a task that
+/// makes a call of interrupts.
 fn warn(
     alloc: Global,
     source: &Source<'_>,
@@ -118,27 +110,33 @@ fn warn(
     warnings: &mut Vec<Message>,
 ) -> Result<(), Fault> {
     check_calls(alloc, actor, code)?;
-    let spots = unreached(alloc, &code.lines)?;
-    let kind = actor.kind.text();
-    let name = actor.name;
-    for spot in &spots {
-        if warnings.len() >= MOST_WARNINGS {
-            break;
+    let seen = reached(alloc, &code.lines)?;
+    let mut was_dropped = false;
+    for (number, line) in code.lines.iter().enumerate() {
+        let is_last = number.saturating_add(1) == code.lines.len();
+        if is_last || matches!(line.action, Action::Goto) {
+            was_dropped = was_dropped && seen.get(number) != Some(&true);
+            continue;
         }
-        let form = "warning: this is never reached in % '%', and left out";
-        let text = filled(alloc, form, &[Word::Text(kind), Word::Text(name)])?;
-        warnings.push(message_at(alloc, source, *spot, text)?)?;
+        let is_kept = is_reached(&code.lines, &seen, line.place);
+        if !is_kept && !was_dropped && warnings.len() < MOST_WARNINGS {
+            warnings.push(warning(alloc, source, actor, line.place.spot)?)?;
+        }
+        was_dropped = !is_kept;
     }
     Ok(())
 }
 
-/// Tidies the code of an actor.
+/// Tidies the code of an actor, after its warnings.
 fn tidy(
     alloc: Global,
+    source: &Source<'_>,
     program: &Program<'_>,
     actor: Actor<'_>,
     code: &mut Code,
+    warnings: &mut Vec<Message>,
 ) -> Result<(), Fault> {
+    warn(alloc, source, actor, code, warnings)?;
     code.lines = tidied(alloc, program, &code.lines)?;
     check_code(alloc, actor, code)
 }
@@ -156,8 +154,7 @@ fn codes_of(
             break;
         };
         let mut code = code_of(alloc, program, actor, number)?;
-        warn(alloc, source, actor, &code, warnings)?;
-        tidy(alloc, program, actor, &mut code)?;
+        tidy(alloc, source, program, actor, &mut code, warnings)?;
         codes.push(code)?;
     }
     Ok(codes)
@@ -199,14 +196,6 @@ fn application_of(
     Ok(Translation { text, warnings })
 }
 
-/// The source without a byte order mark at its beginning.
-fn without_mark(source: &[u8]) -> &[u8] {
-    match source {
-        [0xef, 0xbb, 0xbf, rest @ ..] => rest,
-        _ => source,
-    }
-}
-
 /// Translates a source (docs/SOURCE.md) into the text of an application. `file` is the name of its file, as comments show
 /// it: of it, control characters and what isn't ASCII are question marks. The text has at most 1,048,576 bytes.
 ///
@@ -217,7 +206,11 @@ pub fn translated(alloc: Global, file: &str, source: &[u8]) -> Result<Translatio
     ensures { IfOk result (λ translation. length (string_bytes translation.text) ≤ 1048576) }
 {
     let file = plain(alloc, file.as_bytes())?;
-    let source = without_mark(source);
+    let source = match source {
+        // A byte order mark is passed by.
+        [0xef, 0xbb, 0xbf, rest @ ..] => rest,
+        _ => source,
+    };
     let mut text = Source::new(alloc, file.as_str(), source)?;
     match translation_of(alloc, &mut text, source) {
         Ok(translation) => Ok(translation),
