@@ -120,11 +120,7 @@ impl<'a> Expander<'a> {
         let Some(frame) = self.frames.last().copied() else {
             return Ok(false);
         };
-        let item = match program.bodies.get(frame.body) {
-            Some(body) => body.items.get(frame.next).copied(),
-            None => None,
-        };
-        let Some(item) = item else {
+        let Some(item) = program.item(frame.body, frame.next) else {
             let _ = self.frames.pop();
             return Ok(true);
         };
@@ -181,10 +177,7 @@ impl<'a> Expander<'a> {
     /// Gives the actor its own variables of a function, unless it has them.
     fn copy_variables(&mut self, program: &mut Program<'a>, function: usize) -> Result<(), Fault> {
         for place in 0..MOST_VARIABLES {
-            let Some(body) = program.bodies.get(function) else {
-                break;
-            };
-            let Some(declared) = body.variables.get(place).copied() else {
+            let Some(declared) = program.declared(function, place) else {
                 break;
             };
             if self.own_variable(declared) == declared {

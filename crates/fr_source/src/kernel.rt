@@ -151,9 +151,13 @@ static CALLS: [Kernel; 40] = rows! {
     "xMessageBufferReset"            [Object] [Message] Success;
 };
 
+fn calls() -> &'static [Kernel] {
+    &CALLS
+}
+
 /// The call of the kernel with this name.
 pub(crate) fn kernel_named(name: &str) -> Option<&'static Kernel> {
-    for row in &CALLS {
+    for row in calls() {
         if row.name == name {
             return Some(row);
         }
@@ -163,7 +167,7 @@ pub(crate) fn kernel_named(name: &str) -> Option<&'static Kernel> {
 
 /// The name of a call of the kernel that a word is near to.
 pub(crate) fn kernel_near(word: &str) -> Option<&'static str> {
-    for row in &CALLS {
+    for row in calls() {
         if is_near(word, row.name) {
             return Some(row.name);
         }

@@ -182,14 +182,7 @@ impl Lines {
             }
             Condition::And(one, other) => self.branch_twice(tasks, branch, (one, other), true),
             Condition::Or(one, other) => self.branch_twice(tasks, branch, (one, other), false),
-            Condition::Works(call) => {
-                self.line(Action::Call { answer: None, call }, Some(no), spot)?;
-                if branch.after == yes {
-                    Ok(())
-                } else {
-                    self.goto(yes, spot)
-                }
-            }
+            Condition::Works(call) => self.branch_on_call(branch, call),
             Condition::Always(holds) => self.goto(if holds { yes } else { no }, spot),
             Condition::Compare {
                 before,
@@ -202,6 +195,23 @@ impl Lines {
                 }
                 self.branch_on_comparison(branch, left, comparison, right)
             }
+        }
+    }
+
+    /// Makes a call, and goes to `yes` if it works, else to `no`.
+    fn branch_on_call(&mut self, branch: Branch, call: Call) -> Result<(), Fault> {
+        let Branch {
+            spot,
+            yes,
+            no,
+            after,
+            ..
+        } = branch;
+        self.line(Action::Call { answer: None, call }, Some(no), spot)?;
+        if after == yes {
+            Ok(())
+        } else {
+            self.goto(yes, spot)
         }
     }
 

@@ -341,6 +341,22 @@ impl<'a> Program<'a> {
         }
     }
 
+    /// The item with this place of a body.
+    pub(crate) fn item(&self, body: usize, place: usize) -> Option<Item> {
+        match self.bodies.get(body) {
+            Some(body) => body.items.get(place).copied(),
+            None => None,
+        }
+    }
+
+    /// The variable that a body declares in this place.
+    pub(crate) fn declared(&self, body: usize, place: usize) -> Option<usize> {
+        match self.bodies.get(body) {
+            Some(body) => body.variables.get(place).copied(),
+            None => None,
+        }
+    }
+
     /// The variable in this place. There is always one.
     pub(crate) fn variable(&self, place: usize) -> Variable<'a> {
         match self.variables.get(place) {

@@ -74,17 +74,23 @@ fn own_name(
     }
 }
 
-/// Whether a text can be a variable's name: it is short, no word of the notation or of the kernel, and no other name.
-fn is_free(program: &Program<'_>, names: &[String], text: &str) -> bool {
+/// Whether one of some names is this text.
+fn is_name_among(names: &[String], text: &str) -> bool {
     for name in names {
         if name.as_str() == text {
-            return false;
+            return true;
         }
     }
+    false
+}
+
+/// Whether a text can be a variable's name: it is short, no word of the notation or of the kernel, and no other name.
+fn is_free(program: &Program<'_>, names: &[String], text: &str) -> bool {
     text.len() <= LONGEST_NAME
         && !is_reserved(text)
         && kernel_named(text).is_none()
         && count_of(program, text) == 0
+        && !is_name_among(names, text)
 }
 
 /// A name for an actor's own variable that no other has.
@@ -106,12 +112,18 @@ fn free_name(
     Ok(text)
 }
 
-/// The name of each variable in the application, by its place: that in the source, unless it is in two places there.
-pub(crate) fn names_of(alloc: Global, program: &Program<'_>) -> Result<Vec<String>, AllocError> {
+/// The name of each variable in the source, by its place.
+fn names_in_source(alloc: Global, program: &Program<'_>) -> Result<Vec<String>, AllocError> {
     let mut names = Vec::new(alloc);
     for variable in &program.variables {
         names.push(String::from_str(alloc, variable.name)?)?;
     }
+    Ok(names)
+}
+
+/// The name of each variable in the application, by its place.
+pub(crate) fn names_of(alloc: Global, program: &Program<'_>) -> Result<Vec<String>, AllocError> {
+    let mut names = names_in_source(alloc, program)?;
     rename(alloc, program, &mut names)?;
     Ok(names)
 }

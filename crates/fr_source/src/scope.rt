@@ -43,6 +43,26 @@ pub(crate) struct Name<'a> {
     meaning: Meaning,
 }
 
+/// What the text means among some names.
+fn meaning_among(names: &[Name<'_>], text: &str) -> Option<Meaning> {
+    for name in names {
+        if name.text == text {
+            return Some(name.meaning);
+        }
+    }
+    None
+}
+
+/// The first of some names that a word is near to.
+fn near_among<'a>(names: &[Name<'a>], word: &str) -> Option<&'a str> {
+    for name in names {
+        if is_near(word, name.text) {
+            return Some(name.text);
+        }
+    }
+    None
+}
+
 /// The names outside, and those of the actor or function that is read.
 #[derive(Drop)]
 pub(crate) struct Scope<'a> {
@@ -60,22 +80,21 @@ impl<'a> Scope<'a> {
 
     /// What the text means here.
     pub(crate) fn meaning(&self, text: &str) -> Option<Meaning> {
-        for name in self.inside.iter().chain(self.outside.iter()) {
-            if name.text == text {
-                return Some(name.meaning);
-            }
+        match meaning_among(&self.inside, text) {
+            Some(meaning) => Some(meaning),
+            None => meaning_among(&self.outside, text),
         }
-        None
     }
 
     /// A name or a call of the kernel that a word is near to.
     pub(crate) fn near(&self, word: &str) -> Option<&'a str> {
-        for name in self.inside.iter().chain(self.outside.iter()) {
-            if is_near(word, name.text) {
-                return Some(name.text);
-            }
+        match near_among(&self.inside, word) {
+            Some(name) => Some(name),
+            None => match near_among(&self.outside, word) {
+                Some(name) => Some(name),
+                None => kernel_near(word),
+            },
         }
-        kernel_near(word)
     }
 
     pub(crate) fn add_outside(&mut self, text: &'a str, meaning: Meaning) -> Result<(), Fault> {
