@@ -10,18 +10,12 @@ use Rattle.std.specs.List.{concat}
 use Rattle.fr_formats.specs.declared.answer.AnswerShown.{AnswerShown}
 use Rattle.fr_list.specs.Means.{Entry}
 use Rattle.fr_list.specs.Beside.{beside}
-use Rattle.fr_answer.specs.Inputs.{Reading}
+use Rattle.fr_inputs.specs.Inputs.{Reading}
 use Rattle.fr_outcome.specs.declared.answer.What.{What}
 use Rattle.fr_outcome.specs.Answers.{what_status}
 use Rattle.fr_answer.specs.Commands.{AreAnswered, AreLinesPrinted, IsLineAdded, IsLineAnswer, IsLinePrinted, IsLineText, LineAnswer, Shows, greater_status}
-use Rattle.fr_answer.specs.Each.{Each, IsAdded}
-
--- two more
-pub each-more : {A B : Type 0} (Is : A → B → Type 0) (xs : List A) (ys : List B) (x : A) (y : B) → Each Is xs ys → Is x y → Each Is (xs ++ x ∷ []) (ys ++ y ∷ [])
-each-more Is [] [] x y h own = (own, tt)
-each-more Is [] (b ∷ ys) x y h own = absurd h
-each-more Is (a ∷ xs) [] x y h own = absurd h
-each-more Is (a ∷ xs) (b ∷ ys) x y h own = (h.0, each-more Is xs ys x y h.1 own)
+use Rattle.fr_outcome.specs.Each.{Each, IsAdded}
+use Rattle.fr_outcome.proofs.Printed.{each-more}
 
 -- the text of one line more
 pub printed-more : (explains : Bool) (list : List ℕ) (lines : List LineAnswer) (line : LineAnswer) (text : List ℕ) (old mid new : Option (List ℕ)) → AreLinesPrinted None explains list lines old mid

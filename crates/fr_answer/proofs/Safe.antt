@@ -34,7 +34,7 @@ use Rattle.fr_list.specs.Beside.{beside}
 use Rattle.fr_request.specs.declared.format.Format.{Format}
 use Rattle.fr_request.specs.declared.request.Judged.{Judged as Named}
 use Rattle.fr_request.specs.declared.request.Judged.TheVariants.{One, Listed}
-use Rattle.fr_answer.specs.Inputs.{Reading}
+use Rattle.fr_inputs.specs.Inputs.{Reading}
 use Rattle.fr_outcome.specs.declared.answer.What.{What}
 use Rattle.fr_outcome.specs.declared.answer.What.TheVariants.{Judged, Searched, Refused}
 use Rattle.fr_outcome.specs.Checked.{IsFreeText, IsSafeText}
@@ -117,23 +117,6 @@ settled-found asks a (Refused r) h = absurd h
 pub proof-safe : (asks : Bool) (a : List ℕ) (searches : Bool) (c : List ℕ) (what : What) → IsProofOf asks a searches c what → what_status what ≡ 0 → IsGood asks a
 proof-safe asks a searches c what (inl h) e = verdict-safe asks a c what h e
 proof-safe asks a searches c what (inr h) e = search-safe asks a what (settled-found asks a what h.4) e
-
--- an exit status is 3 at the most
-pub status-most : (kind : AnswerKind) → kind_status kind ≤ 3
-status-most Yes = omega arith
-status-most No = omega arith
-status-most MayDeadlock = omega arith
-status-most Breach = omega arith
-status-most Deadlock = omega arith
-status-most NoBreach = omega arith
-status-most StatesLeft = omega arith
-status-most Followed = omega arith
-status-most FollowedApart = omega arith
-status-most NotFollowed = omega arith
-status-most NotListed = omega arith
-status-most GaveUp = omega arith
-status-most NoVerdict = omega arith
-status-most Machine = omega arith
 
 -- what holds of an answer with the status 0 holds of what is answered so
 pub safe-by : {Y : Type 0} (A : ℕ → Type 0) (B : Type 0) (r : Result ℕ Y) → IfOk r A → ((s : ℕ) → s ≡ 0 → A s → B) → IfOk r (λ s. s ≡ 0 → B)

@@ -11,7 +11,7 @@ use Rattle.fr_program.specs.Program.{Program}
 use Rattle.fr_text.specs.Texts.{IsJudged}
 use Rattle.fr_list.specs.Beside.{beside}
 use Rattle.fr_request.specs.declared.format.Format.{Format}
-use Rattle.fr_answer.specs.Inputs.{Reading}
+use Rattle.fr_inputs.specs.Inputs.{Reading}
 use Rattle.fr_outcome.specs.declared.answer.Answer.{Answer}
 use Rattle.fr_outcome.specs.declared.answer.Refusal.{Refusal}
 use Rattle.fr_outcome.specs.declared.answer.What.{What}
@@ -36,12 +36,6 @@ pub shown-none : {Y : Type 0} (Is : What → Type 0) (shown format : Option Form
 shown-none Is shown format named path old new (Ok status) is same s =
     (s.0, (λ le. absurd (s.1 le)), s.2, subst (λ f. IsPrinted f path s.0 old new) same (subst (λ p. IsPrinted shown p s.0 old new) is s.3))
 shown-none Is shown format named path old new (Err e) is same s = tt
-
--- an output that is looked at is the one that is asked for
-pub may-of : (May : List ℕ → Type 0) (output : Option Output) (path : Option (List ℕ)) → option_map (λ o. o.path.now) output ≡ path → ((o : Output) → output ≡ Some o → May o.path.now)
-    → (p : List ℕ) → path ≡ Some p → May p
-may-of May None path e h p is = let no : ⊥ = cc in absurd no
-may-of May (Some o) path e h p is = subst May (same_Some o.path.now p (e ∙ is)) (h o refl)
 
 -- the answer to a line is what was found
 pub line-found : {X E Y : Type 0} (Is : What → Type 0) (found : Result (X × What) E) (r : Result Answer Y) → IfOk r (λ a. what_status a.what ≤ 1 → HasFound found a.what)

@@ -45,15 +45,15 @@ use Rattle.fr_request.specs.declared.request.Request.{Request}
 use Rattle.fr_request.specs.declared.request.Request.TheVariants.{Check, Find, Prove, Points, Refute, Run, Translate, Follow}
 use Rattle.fr_outcome.specs.declared.answer.What.{What}
 use Rattle.fr_findings.specs.declared.found.Found.{Found}
-use Rattle.fr_answer.specs.Inputs.{Reading, AsApp, AsCertificate, AsList, AsSource}
+use Rattle.fr_inputs.specs.Inputs.{Reading, AsApp, AsCertificate, AsList, AsSource}
 use Rattle.fr_outcome.specs.Answers.{AreLinesOf, IsProofOf, IsSearchOf, IsTextOf, IsVerdictOn, IsYes, first_line, second_text, shown_line, kind_of, what_status}
 use Rattle.fr_outcome.specs.Checked.{IsFreeText, IsSafeText}
 use Rattle.fr_shown.specs.Pages.{IsPageOf}
 use Rattle.fr_findings.specs.Found.{IsCertificateFor, IsFound, found_line, found_status}
 use Rattle.fr_findings.specs.Ran.{IsRunText}
-use Rattle.fr_answer.specs.Heading.{heading}
-use Rattle.fr_answer.specs.Each.{Each, IsAdded}
-use Rattle.fr_answer.specs.Traces.{IsTracesAnswered, PutsBoth}
+use Rattle.fr_outcome.specs.Heading.{heading}
+use Rattle.fr_outcome.specs.Each.{Each, IsAdded}
+use Rattle.fr_traces.specs.Traces.{IsTracesAnswered, PutsBoth}
 use Rattle.fr_findings.specs.Words.{AreWords}
 
 -- what is asked for, and where a machine reads the answer never less than what matters

@@ -2,11 +2,10 @@
 ghost use Rattle.std.specs.Prelude.{◌≡◌, ◌≤◌, ◌⊎◌, IfErr, IfOk};
 ghost use Rattle.fr_outcome.specs.Checked.{fault_status};
 ghost use Rattle.fr_answer.specs.Commands.{AreSafe, IsAnswered, IsDone, IsText, IsWritten};
-ghost use Rattle.fr_answer.specs.Inputs.{Reads};
+ghost use Rattle.fr_inputs.specs.Inputs.{Reads};
 
 mod check;
 mod find;
-mod follow;
 mod list;
 mod points;
 mod prove;
@@ -14,13 +13,13 @@ mod refute;
 mod run_files;
 mod translate;
 
-use crate::files::Files;
 use crate::printing::refuse;
 use check::check;
 use find::find;
-use follow::follow_traces;
+use fr_inputs::Files;
 use fr_outcome::Refusal;
 use fr_request::Request;
+use fr_traces::follow_traces;
 use points::points;
 use prove::prove;
 use refute::refute;

@@ -5,15 +5,13 @@
 #![tactic(auto)]
 
 mod commands;
-mod files;
 mod printing;
 mod reading;
-mod source;
 mod ways;
 
 pub use commands::run;
-pub use files::Files;
 pub use fr_findings::{Found, WordsFault, check_to, check_with, find_bytes, run_to, words_of};
+pub use fr_inputs::Files;
 pub use fr_outcome::{
     Answer, CheckFault, DONE, Judged, MACHINE, NO, REFUSED, Refusal, What, fault_line, status,
 };

@@ -1,34 +1,24 @@
 // How an answer is printed, and shown as a page.
 ghost use Rattle.std.specs.Prelude.{◌≡◌, ◌≤◌, ◌⊎◌, ℕ, List, IfOk, IfErr, None, Some, option_copied, string_bytes};
 ghost use Rattle.std.specs.Io.KnownBytes.{Appends};
-ghost use Rattle.fr_formats.specs.Reports.{IsReport};
 ghost use Rattle.fr_outcome.specs.Answers.{HasFound, IsTextOf, what_status};
 ghost use Rattle.fr_outcome.specs.Checked.{fault_status};
 ghost use Rattle.fr_answer.specs.Commands.{IsPaged, IsPrinted, IsShown, IsTextPrinted};
 
-use crate::files::Files;
 use crate::ways::Asked;
 use fr_files::OutputFault;
-use fr_formats::{AnswerShown, Source, answers_text};
-use fr_outcome::{Answer, Boxed, CheckFault, MACHINE, NO, REFUSED, Refusal, What};
+use fr_formats::Source;
+use fr_inputs::{Files, refusal_of_file, refusal_of_outputs};
+use fr_outcome::{
+    Answer, AppText, Boxed, CheckFault, MACHINE, NO, REFUSED, Refusal, What, put, put_report,
+};
 use fr_place::is_unknown_word;
 use fr_report::text_of;
 use fr_request::{Format, Warns};
-use fr_shown::{AppText, answer_to, page_of, refusal_of_file, refusal_of_outputs, shown_of};
+use fr_shown::{answer_to, page_of, shown_of};
 use std::alloc::{AllocError, Global};
 use std::io::Write;
 use std::slice;
-
-/// Writes a text, whole.
-pub(crate) fn put<W: Write>(text: &str, writer: &mut W) -> Result<(), CheckFault>
-    ensures put { IfOk result (λ _. Appends (W.contents writer.old) (W.contents writer.new) text.now) }
-    ensures fault { IfErr result (λ fault. fault ≡ CheckFault.Write) }
-{
-    match writer.write_all(text.as_bytes()) {
-        Ok(()) => Ok(()),
-        Err(_) => Err(CheckFault::Write),
-    }
-}
 
 /// Prints that there is no memory for the text of an answer, and gives the exit status of that.
 fn say_no_memory<E: Write>(err: &mut E) -> u8
@@ -104,19 +94,6 @@ fn print_text<O: Write, E: Write>(
     } else {
         put(&refusal_text(alloc, what, asked)?, err)
     }
-}
-
-/// Writes a report of these answers in this form.
-pub(crate) fn put_report<O: Write>(
-    alloc: Global,
-    format: Format,
-    answers: &[AnswerShown],
-    out: &mut O,
-) -> Result<(), CheckFault>
-    ensures report { IfOk result (λ _. (text : List ℕ) × IsReport format answers.now text × Appends (O.contents out.old) (O.contents out.new) text) }
-    ensures fault { IfErr result (λ fault. fault_status fault ≡ 3) }
-{
-    put(&answers_text(alloc, format, answers)?, out)
 }
 
 /// Prints the answer in a form that machines read.

@@ -2,62 +2,17 @@
 ghost use Rattle.std.specs.Prelude.{◌≤◌, ◌<◌, ◌≡◌, ◌^◌, ℕ, List, true, IfOk, IfErr, string_bytes};
 ghost use Rattle.fr_outcome.specs.Checked.{fault_status};
 ghost use Rattle.fr_answer.specs.Commands.{IsCheckOf, IsProofAt, IsSearchAt};
-ghost use Rattle.fr_answer.specs.Inputs.{AsApp, Reads};
+ghost use Rattle.fr_inputs.specs.Inputs.{AsApp, Reads};
 
-use crate::files::Files;
-use crate::source::{is_source, translation};
 use fr_cert::MOST_BYTES as MOST_CERTIFICATE_BYTES;
 use fr_findings::{Ways, judged_texts, proved_text, searched_text};
-use fr_outcome::{CheckFault, Refusal, What};
+use fr_inputs::{Files, application, input, refusal_of_texts};
+use fr_outcome::{AppText, CheckFault, Refusal, What};
 use fr_parallel::Open;
 use fr_place::is_unknown_word;
-use fr_reader::MOST_BYTES as MOST_APP_BYTES;
-use fr_shown::{AppText, refusal_of_file, refusal_of_texts};
-use fr_source::Translation;
 use std::alloc::Global;
 use std::sync::Wait;
 use std::thread::Threads;
-
-/// The bytes of a file that a command reads, at most one more than the limit.
-pub(crate) fn input<F: Files>(
-    alloc: Global,
-    files: &F,
-    path: &str,
-    limit: usize,
-    names: bool,
-) -> Result<Vec<u8>, Refusal>
-    requires { limit < 2 ^ 32 }
-    ensures gives { IfOk result (λ bytes. F.Gives files.now path.now limit bytes.items) }
-    ensures fault { IfErr result (λ refusal. fault_status refusal.fault ≡ 3) }
-{
-    match files.read(path, limit) {
-        Ok(bytes) => Ok(bytes),
-        Err(fault) => Err(refusal_of_file(alloc, &fault, names)),
-    }
-}
-
-/// The text of the application in this file, or that the source in it means.
-pub(crate) fn application<F: Files>(
-    alloc: Global,
-    files: &F,
-    path: &str,
-    names: bool,
-) -> Result<AppText, Refusal>
-    ensures reads { IfOk result (λ text. Reads (F.Gives files.now) F.Means AsApp path.now text.bytes.items) }
-    ensures fault { IfErr result (λ refusal. 2 ≤ fault_status refusal.fault) }
-{
-    if is_source(path) {
-        let Translation { text, warnings } = translation(alloc, files, path, names)?;
-        return Ok(AppText {
-            bytes: text.into_bytes(),
-            left_out: warnings,
-        });
-    }
-    Ok(AppText {
-        bytes: input(alloc, files, path, MOST_APP_BYTES, names)?,
-        left_out: Vec::new(alloc),
-    })
-}
 
 /// The verdict on the application and the certificate in these files, with the application's text.
 pub(crate) fn checked_files<R: Threads + Wait + Sync, F: Files>(

@@ -1,8 +1,7 @@
 // What a command does where its words don't say it, and how its answer is to be printed.
-ghost use Rattle.std.specs.Prelude.{◌≡◌, option_copied, option_map};
+ghost use Rattle.std.specs.Prelude.{◌≡◌};
 ghost use Rattle.fr_answer.specs.Commands.{detail_in};
 
-use fr_files::{Holds, Output};
 use fr_request::{Detail, Format};
 
 /// How many states a search for a breach keeps at the most, where the words don't say how many.
@@ -38,15 +37,5 @@ pub(crate) fn detail_in(format: Option<Format>, detail: Option<Detail>) -> Optio
     match (format, detail) {
         (Some(_), None) => Some(Detail::Told),
         _ => detail,
-    }
-}
-
-/// The file at this path as an output that replaces what this says; None where no file is asked for.
-pub(crate) fn output_at(path: Option<&str>, replaces: Holds) -> Option<Output<'_>>
-    ensures { option_map (λ output. output.path.now) result ≡ option_copied path.entry }
-{
-    match path {
-        Some(path) => Some(Output { path, replaces }),
-        None => None,
     }
 }

@@ -6,12 +6,12 @@ ghost use Rattle.fr_order.specs.Order.{IsOrderOf};
 ghost use Rattle.fr_outcome.specs.Answers.{IsAnsweredFor, IsVerdictOn};
 ghost use Rattle.fr_outcome.specs.Checked.{CanRefuse};
 
+use fr_code::places_in_source;
 use fr_ends::Certificate;
 use fr_judge::{Judging, Lists, Verdict};
 use fr_order::{Order, order_of};
 use fr_outcome::{Boxed, CheckFault, Judged, What};
 use fr_parallel::{Gate, judge_reading};
-use fr_place::places_in_source;
 use fr_program::App;
 use fr_reasons::explain;
 use fr_report::{Explained, Explanation, Sources, verdict_line};

@@ -1,3 +1,5 @@
 pub mod Checked
 pub mod Judged
 pub mod Answers
+pub mod Each
+pub mod Heading

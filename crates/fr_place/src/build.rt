@@ -4,9 +4,9 @@ use crate::lines::Lines;
 use crate::scope::boxed_names;
 use crate::shown::push_start;
 use crate::table::{
-    code_of, entries_at, entry_at, line_at, lines_of, name_at, number_at, push_entry, text_at,
-    text_or_none,
+    entry_at, line_at, lines_of, name_at, number_at, push_entry, text_at, text_or_none,
 };
+use fr_code::{code_of, entries_at};
 use fr_instr::{LineFault, Names, read_line};
 use fr_program::{
     Act, ActorId, App, Attempt, BuildFault, Call, CodeLine, Instr, MOST_SIZE, Operand, VarId,

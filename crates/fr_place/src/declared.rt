@@ -1,5 +1,6 @@
 // The names that an application's text declares, for reading its lines.
-use crate::table::{entries_at, name_in};
+use crate::table::name_in;
+use fr_code::entries_at;
 use fr_program::{Actor, ActorKind, App, BuildFault, Instr, Kind, Object, Parts, Variable};
 use fr_reader::Key;
 use std::alloc::{AllocError, Global};

@@ -3,9 +3,9 @@ use crate::lines::Lines;
 use crate::nearness::push_nearest;
 use crate::shown::{push_listed, push_quoted};
 use crate::table::{
-    entries_at, entry_at, has_name, lines_of, names_at, push_table, push_value, table_named,
-    text_or_none,
+    entry_at, has_name, lines_of, names_at, push_table, push_value, table_named, text_or_none,
 };
+use fr_code::entries_at;
 use fr_reader::{Key, TableName};
 use toml::{Table, Value};
 

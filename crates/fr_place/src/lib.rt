@@ -1,15 +1,13 @@
 // Where a refusal is, in plain words: the text that follows the one line of a refusal. Given the bytes that were refused and
 // the fault, the bytes are read again, and what is at the fault's place is told: line and column, table and key, a line of
-// code with a mark below it, the path to a note with its point's name. Nothing is told that isn't known. Where the lines of
-// code stand in a text is told by numbers, too, and from which lines of a source they come. The words are presentation; the contracts
-// promise that nothing in a line steers a terminal (`Place` of fr_escape), and that `nearest` is exact.
+// code with a mark below it, the path to a note with its point's name. Nothing is told that isn't known. The words are presentation;
+// the contracts promise that nothing in a line steers a terminal (`Place` of fr_escape), and that `nearest` is exact.
 #![tactic(auto)]
 
 mod app;
 mod build;
 mod calls;
 mod certificate;
-mod code;
 mod declared;
 mod faulty;
 mod guard;
@@ -23,15 +21,12 @@ mod position;
 mod recipe;
 mod scope;
 mod shown;
-mod source;
 mod swap;
 mod table;
 mod words;
 
 pub use app::{is_unknown_word, place_of_app};
 pub use certificate::place_of_certificate;
-pub use code::{CodePlace, lines_of_code, places_of_code};
 pub use nearness::nearest;
 pub use recipe::recipe_at;
-pub use source::{CodeSource, places_in_source, source_texts, sources_of_code};
 pub use swap::{place_of_swapped, seem_swapped};

@@ -1,17 +1,10 @@
 // The tables of an application's text.
 use crate::lines::Lines;
 use crate::shown::{push_quoted, push_start};
+use fr_code::entries_at;
 use fr_reader::{Key, TableName};
 use std::alloc::{AllocError, Global};
 use toml::{Table, Value};
-
-/// The entries of the list at this key, none where there is no list.
-pub(crate) fn entries_at(whole: &Table, key: Key) -> &[Value] {
-    match whole.get(key.text()) {
-        Some(Value::Array(list)) => list.as_slice(),
-        _ => &[],
-    }
-}
 
 /// The table with this place in the list at this key.
 pub(crate) fn entry_at(whole: &Table, key: Key, index: usize) -> Option<&Table> {
@@ -72,14 +65,6 @@ pub(crate) fn number_at(table: &Table, key: Key) -> Option<i64> {
 /// The lines of an actor's code.
 pub(crate) fn lines_of(actor: &Table) -> &[Value] {
     entries_at(actor, Key::Code)
-}
-
-/// The same of a table, and none of another value.
-pub(crate) fn code_of(actor: &Value) -> &[Value] {
-    match actor.as_table() {
-        Some(table) => lines_of(table),
-        None => &[],
-    }
 }
 
 /// The text of the line with this number.

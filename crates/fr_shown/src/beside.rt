@@ -4,28 +4,10 @@ ghost use Rattle.fr_outcome.specs.Answers.{HasFound, what_status};
 
 use crate::hidden::said_beside;
 use fr_formats::{Source, WarningShown};
-use fr_outcome::{Answer, Boxed, Refusal, What};
+use fr_outcome::{Answer, AppText, Boxed, Refusal, What};
 use fr_request::Warns;
 use fr_source::Message;
 use std::alloc::{AllocError, Global};
-
-/// The text of an application.
-#[derive(Drop)]
-pub struct AppText {
-    pub bytes: Vec<u8>,
-    /// What is never reached in the source that the application was translated from, and left out.
-    pub left_out: Vec<Message>,
-}
-
-impl AppText {
-    /// No text.
-    fn none(alloc: Global) -> AppText {
-        AppText {
-            bytes: Vec::new(alloc),
-            left_out: Vec::new(alloc),
-        }
-    }
-}
 
 /// What an answer has besides what was found out.
 #[derive(Drop)]

@@ -1,46 +1,17 @@
 // An answer as a page to look at.
-ghost use Rattle.std.specs.Prelude.{◌≡◌, IfOk, string_bytes};
-ghost use Rattle.fr_shown.specs.Pages.{IsPageOf, page_kind};
+ghost use Rattle.std.specs.Prelude.{IfOk, string_bytes};
+ghost use Rattle.fr_shown.specs.Pages.{IsPageOf};
 
-mod actors;
-mod code;
 mod points;
-mod steps;
 
-pub use actors::{count_text, put_actors};
-pub use code::Code;
 use fr_formats::{AnswerKind, Command};
+use fr_lanes::{Body, Code, empty_body, page_kind, page_with, put_actors, put_deadlock, put_run};
 use fr_outcome::{Answer, What};
-use fr_page::{ActorShown, Kind, Page, StepShown, WaitShown, page_text};
+use fr_page::page_text;
 use fr_program::App;
 use fr_refuter::Finding;
 use points::put_judged;
 use std::alloc::{AllocError, Global};
-pub use steps::{
-    Spot, is_shown, omitted_before, put_end, put_start, put_step, put_tracks, row_of, rule_told,
-};
-use steps::{put_deadlock, put_run};
-
-/// The heading of a page for an answer of this kind.
-pub fn page_kind(kind: AnswerKind) -> Kind
-    ensures { result ≡ page_kind kind }
-{
-    match kind {
-        AnswerKind::Yes => Kind::Yes,
-        AnswerKind::No => Kind::No,
-        AnswerKind::MayDeadlock => Kind::MayDeadlock,
-        AnswerKind::Breach => Kind::Breach,
-        AnswerKind::Deadlock => Kind::Deadlock,
-        AnswerKind::NoBreach => Kind::Safe,
-        AnswerKind::StatesLeft => Kind::Unknown,
-        AnswerKind::Followed => Kind::Followed,
-        AnswerKind::FollowedApart => Kind::FollowedApart,
-        AnswerKind::NotFollowed => Kind::NotFollowed,
-        AnswerKind::NotListed => Kind::NotListed,
-        AnswerKind::GaveUp => Kind::GaveUp,
-        AnswerKind::Refused | AnswerKind::Machine => Kind::Refused,
-    }
-}
 
 /// The words of the command with its files.
 fn command_text(alloc: Global, answer: &Answer) -> Result<String, AllocError> {
@@ -51,33 +22,6 @@ fn command_text(alloc: Global, answer: &Answer) -> Result<String, AllocError> {
         (Command::Prove, _) => format!(in alloc; "prove {app}"),
         (Command::Refute, _) => format!(in alloc; "refute {app}"),
         (Command::Follow, _) => format!(in alloc; "follow {app}"),
-    }
-}
-
-/// What a page shows below the answer.
-#[derive(Drop)]
-pub struct Body {
-    /// Lines that say whether actors can deadlock, or where a text is refused.
-    pub details: Vec<String>,
-    /// Numbers in words.
-    pub counts: Vec<String>,
-    /// What is left out.
-    pub omissions: Vec<String>,
-    pub actors: Vec<ActorShown>,
-    pub steps: Vec<StepShown>,
-    /// Which actors wait for one another after the steps.
-    pub waits: Vec<WaitShown>,
-}
-
-/// Nothing below the answer.
-pub fn empty_body(alloc: Global) -> Body {
-    Body {
-        details: Vec::new(alloc),
-        counts: Vec::new(alloc),
-        omissions: Vec::new(alloc),
-        actors: Vec::new(alloc),
-        steps: Vec::new(alloc),
-        waits: Vec::new(alloc),
     }
 }
 
@@ -135,24 +79,6 @@ fn body_of(alloc: Global, answer: &Answer) -> Result<Body, AllocError> {
     let mut body = empty_body(alloc);
     put_below(alloc, &mut body, answer, &code)?;
     Ok(body)
-}
-
-/// The page with this heading and the words of the command, with this line and this below it.
-pub fn page_with(kind: Kind, command: String, line: String, body: Body) -> Page
-    ensures kind { result.kind ≡ kind }
-    ensures line { result.answer ≡ line }
-{
-    Page {
-        kind,
-        command,
-        answer: line,
-        details: body.details,
-        counts: body.counts,
-        omissions: body.omissions,
-        actors: body.actors,
-        steps: body.steps,
-        waits: body.waits,
-    }
 }
 
 /// The page of an answer, as one HTML file. Its heading is that of the answer's kind, and the line below it is the one that

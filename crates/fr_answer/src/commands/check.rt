@@ -10,16 +10,16 @@ ghost use Rattle.fr_answer.specs.Commands.{
   IsPaged,
   IsShown,
 };
-ghost use Rattle.fr_answer.specs.Inputs.{Reads};
+ghost use Rattle.fr_inputs.specs.Inputs.{Reads};
 
 use crate::commands::list::check_list;
-use crate::files::Files;
 use crate::printing::{show_found, show_outputs_refused};
 use crate::reading::checked_files;
-use crate::ways::{Asked, MOST_STATE_BYTES, MOST_STATES, detail_in, output_at};
+use crate::ways::{Asked, MOST_STATE_BYTES, MOST_STATES, detail_in};
 use fr_files::Holds;
 use fr_findings::Ways;
 use fr_formats::{Command, Source};
+use fr_inputs::{Files, output_at};
 use fr_outcome::Refusal;
 use fr_request::{CheckRequest, Judged, Warns};
 use std::alloc::Global;

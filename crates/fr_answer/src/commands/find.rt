@@ -2,16 +2,13 @@
 ghost use Rattle.std.specs.Prelude.{◌≡◌, ◌≤◌, IfErr, IfOk};
 ghost use Rattle.fr_outcome.specs.Checked.{fault_status};
 ghost use Rattle.fr_answer.specs.Commands.{IsAnswered, IsDone, IsWritten};
-ghost use Rattle.fr_answer.specs.Inputs.{Reads};
+ghost use Rattle.fr_inputs.specs.Inputs.{Reads};
 
-use crate::files::Files;
-use crate::printing::put;
-use crate::reading::application;
 use fr_files::{Holds, Output};
 use fr_findings::{Found, find_bytes};
-use fr_outcome::Refusal;
+use fr_inputs::{Files, application, refusal_of_file, refusal_of_outputs, refusal_of_texts};
+use fr_outcome::{Refusal, put};
 use fr_request::{FindRequest, Request};
-use fr_shown::{refusal_of_file, refusal_of_outputs, refusal_of_texts};
 use std::alloc::Global;
 use std::io::Write;
 use std::thread::Threads;

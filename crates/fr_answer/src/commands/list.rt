@@ -19,19 +19,17 @@ ghost use Rattle.fr_answer.specs.Commands.{
   IsListAnswered,
   Shows,
 };
-ghost use Rattle.fr_answer.specs.Each.{Each, IsAdded};
-ghost use Rattle.fr_answer.specs.Heading.{heading};
-ghost use Rattle.fr_answer.specs.Inputs.{Reads};
+ghost use Rattle.fr_outcome.specs.Each.{Each, IsAdded};
+ghost use Rattle.fr_inputs.specs.Inputs.{Reads};
 
-use crate::files::Files;
-use crate::printing::{put, put_report, warn};
-use crate::reading::{checked_files, input, proved_alone};
+use crate::printing::warn;
+use crate::reading::{checked_files, proved_alone};
 use crate::ways::{MOST_STATE_BYTES, MOST_STATES, detail_in};
-use fr_escape::push_plain;
 use fr_findings::Ways;
 use fr_formats::{AnswerShown, Command, Source};
+use fr_inputs::{Files, input};
 use fr_list::{Listed, MOST_LIST_BYTES, listed_in, path_beside};
-use fr_outcome::{Answer, CheckFault, Refusal, What};
+use fr_outcome::{Answer, CheckFault, Refusal, What, heading, put, put_report};
 use fr_report::text_of;
 use fr_request::{CheckRequest, Format, Warns};
 use fr_shown::{answer_to, shown_of};
@@ -117,17 +115,6 @@ fn answer_line<R: Threads + Wait + Sync, F: Files>(
         }
         None => proved_line(rt, alloc, list, listed.application, ways, files),
     }
-}
-
-/// How a path begins a line: as a text without control characters, and never as `::`, which build servers take for a command.
-pub(super) fn heading(alloc: Global, path: &str) -> Result<String, AllocError>
-    ensures { IfOk result (λ text. string_bytes text ≡ heading path.now) }
-{
-    let is_command = path.as_bytes().starts_with(b"::");
-    let mut text = String::from_str(alloc, if is_command { "./" } else { "" })?;
-    push_plain(&mut text, path)?;
-    text.push_str(": ")?;
-    Ok(text)
 }
 
 /// The lines that follow the first one: whether actors can deadlock, and the others where they are asked for.

@@ -3,17 +3,15 @@ ghost use Rattle.std.specs.Prelude.{◌≡◌, ℕ, List, IfErr, IfOk, string_by
 ghost use Rattle.std.specs.Io.KnownBytes.{Appends};
 ghost use Rattle.fr_outcome.specs.Checked.{fault_status};
 ghost use Rattle.fr_answer.specs.Commands.{AreShown, IsListed, IsListing};
-ghost use Rattle.fr_answer.specs.Inputs.{Reads};
+ghost use Rattle.fr_inputs.specs.Inputs.{Reads};
 
-use crate::files::Files;
-use crate::printing::put;
-use crate::reading::application;
-use fr_outcome::{CheckFault, DONE, Refusal};
-use fr_place::{is_unknown_word, places_in_source};
+use fr_code::places_in_source;
+use fr_inputs::{Files, application, refusal_of_texts};
+use fr_outcome::{AppText, CheckFault, DONE, Refusal, put};
+use fr_place::is_unknown_word;
 use fr_program::App;
 use fr_reader::read_app;
 use fr_report::{Sources, points_text};
-use fr_shown::{AppText, refusal_of_texts};
 use std::alloc::{AllocError, Global};
 use std::io::Write;
 

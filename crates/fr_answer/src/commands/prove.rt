@@ -2,18 +2,17 @@
 ghost use Rattle.std.specs.Prelude.{◌≡◌, ◌≤◌, ℕ, List, IfErr, IfOk, IsErr, None, Some, option_copied, string_bytes};
 ghost use Rattle.fr_outcome.specs.Checked.{fault_status};
 ghost use Rattle.fr_answer.specs.Commands.{IsAnswered, IsGiven, IsWritten};
-ghost use Rattle.fr_answer.specs.Inputs.{Reads};
+ghost use Rattle.fr_inputs.specs.Inputs.{Reads};
 
-use crate::files::Files;
 use crate::printing::{show_found, show_outputs_refused};
 use crate::reading::proved_file;
-use crate::ways::{Asked, detail_in, mebibytes, output_at};
+use crate::ways::{Asked, detail_in, mebibytes};
 use fr_files::Holds;
 use fr_findings::Ways;
 use fr_formats::{Command, Source};
-use fr_outcome::{Refusal, What};
+use fr_inputs::{Files, output_at, refusal_of_file};
+use fr_outcome::{AppText, Refusal, What};
 use fr_request::{ProveRequest, Request, Warns};
-use fr_shown::{AppText, refusal_of_file};
 use std::alloc::Global;
 use std::io::Write;
 use std::sync::Wait;

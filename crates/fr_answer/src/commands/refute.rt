@@ -2,15 +2,15 @@
 ghost use Rattle.std.specs.Prelude.{◌≡◌, ◌≤◌, ℕ, List, IfErr, IfOk, None, Some, option_copied};
 ghost use Rattle.fr_outcome.specs.Checked.{fault_status};
 ghost use Rattle.fr_answer.specs.Commands.{IsAnswered, IsPaged, IsSearchAt};
-ghost use Rattle.fr_answer.specs.Inputs.{Reads};
+ghost use Rattle.fr_inputs.specs.Inputs.{Reads};
 
-use crate::files::Files;
 use crate::printing::{show_found, show_outputs_refused};
 use crate::reading::searched_file;
-use crate::ways::{Asked, mebibytes, output_at};
+use crate::ways::{Asked, mebibytes};
 use fr_files::Holds;
 use fr_findings::Ways;
 use fr_formats::{Command, Source};
+use fr_inputs::{Files, output_at};
 use fr_outcome::Refusal;
 use fr_request::{Detail, RefuteRequest, Request, Warns};
 use std::alloc::Global;

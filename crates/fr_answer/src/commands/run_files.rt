@@ -2,17 +2,14 @@
 ghost use Rattle.std.specs.Prelude.{◌≡◌, ◌≤◌, IfErr, IfOk, option_copied};
 ghost use Rattle.fr_outcome.specs.Checked.{fault_status};
 ghost use Rattle.fr_answer.specs.Commands.{AreRunWords, IsAnswered, IsSafeIn};
-ghost use Rattle.fr_answer.specs.Inputs.{Reads};
+ghost use Rattle.fr_inputs.specs.Inputs.{Reads};
 
-use crate::files::Files;
-use crate::printing::put;
-use crate::reading::{application, input};
 use fr_cert::MOST_BYTES as MOST_CERTIFICATE_BYTES;
 use fr_findings::{WordsFault, ran_texts, words_of};
-use fr_outcome::{CheckFault, Refusal};
+use fr_inputs::{Files, application, input, refusal_of_texts};
+use fr_outcome::{AppText, CheckFault, Refusal, put};
 use fr_parallel::Open;
 use fr_request::{Request, RunRequest};
-use fr_shown::{AppText, refusal_of_texts};
 use std::alloc::Global;
 use std::io::Write;
 use std::sync::Wait;

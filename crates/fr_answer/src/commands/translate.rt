@@ -2,16 +2,13 @@
 ghost use Rattle.std.specs.Prelude.{◌≡◌, ◌≤◌, ◌⊎◌, IfErr, IfOk, None, string_bytes};
 ghost use Rattle.fr_outcome.specs.Checked.{fault_status};
 ghost use Rattle.fr_answer.specs.Commands.{IsAnswered, IsApplication, IsDone, IsTranslated, IsWritten, PutsTranslated};
-ghost use Rattle.fr_answer.specs.Inputs.{AsSource, Reads};
+ghost use Rattle.fr_inputs.specs.Inputs.{AsSource, Reads};
 
-use crate::files::Files;
-use crate::printing::put;
-use crate::source::translation;
 use fr_files::{Holds, Output};
-use fr_outcome::{CheckFault, DONE, Refusal};
+use fr_inputs::{Files, refusal_of_file, refusal_of_outputs, translation};
+use fr_outcome::{CheckFault, DONE, Refusal, put};
 use fr_reader::read_app;
 use fr_request::{Request, TranslateRequest};
-use fr_shown::{refusal_of_file, refusal_of_outputs};
 use fr_source::{Message, Translation};
 use std::alloc::{AllocError, Global};
 use std::io::Write;

@@ -3,11 +3,9 @@ ghost use Rattle.std.specs.Prelude.{◌≡◌, ◌<◌, length};
 ghost use Rattle.fr_program.specs.Points.{points_of};
 ghost use Rattle.fr_ends.specs.Fits.{CertificateFits};
 
-use super::Body;
-use super::actors::{count_text, put_point};
-use super::code::Code;
 use fr_ends::Certificate;
 use fr_judge::{Judging, Lists, Part, Verdict};
+use fr_lanes::{Body, Code, count_text, put_point};
 use fr_outcome::Judged;
 use fr_page::{PointShown, Reason, Standing};
 use fr_program::{App, ObjId, Point};

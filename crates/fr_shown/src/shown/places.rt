@@ -1,8 +1,8 @@
 // Points of an application as reports for machines show them.
 ghost use Rattle.std.specs.Prelude.{◌≡◌, IfOk};
 
+use fr_code::{CodePlace, CodeSource, places_of_code, source_texts, sources_of_code};
 use fr_formats::{PlaceShown, SideShown, SourceShown};
-use fr_place::{CodePlace, CodeSource, places_of_code, source_texts, sources_of_code};
 use fr_program::{App, Point, Side};
 use fr_report::{Sources, actor_name, line_of_code};
 use std::alloc::{AllocError, Global};

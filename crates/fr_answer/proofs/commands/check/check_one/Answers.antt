@@ -1,9 +1,10 @@
 -- The page's file passed.
 use Rattle.std.proofs.Common.{refl, rules}
 use Rattle.std.specs.Prelude.{option_copied}
-use Rattle.fr_answer.specs.Inputs.{Reads}
+use Rattle.fr_inputs.specs.Inputs.{Reads}
 use Rattle.fr_answer.specs.Commands.{IsCheckOf}
-use Rattle.fr_answer.proofs.Showing.{may-of, shown-none}
+use Rattle.fr_answer.proofs.Showing.{shown-none}
+use Rattle.fr_inputs.proofs.Looking.{may-of}
 use Rattle.fr_answer.proofs.commands.check.check_one.Goals as goal
 
 pub check_looked-requires : goal.check_looked-requires

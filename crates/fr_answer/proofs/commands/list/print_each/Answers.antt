@@ -6,10 +6,10 @@ use Rattle.std.proofs.lemmas.List.Elements.{All-nil}
 use Rattle.std.specs.Option.{is_some}
 use Rattle.fr_list.specs.Means.{shown}
 use Rattle.fr_outcome.specs.Answers.{kind_of, what_status}
-use Rattle.fr_answer.specs.Inputs.{Reads}
+use Rattle.fr_inputs.specs.Inputs.{Reads}
 use Rattle.fr_answer.specs.Commands.{IsLineAnswer}
 use Rattle.fr_answer.proofs.Listing.{answered-at, printed-line}
-use Rattle.fr_answer.proofs.Safe.{status-most}
+use Rattle.fr_outcome.proofs.Printed.{status-most}
 use Rattle.fr_answer.proofs.commands.list.print_each.Goals as goal
 
 pub loop-entry-init : goal.loop-entry-init

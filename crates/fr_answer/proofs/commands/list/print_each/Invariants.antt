@@ -1,7 +1,7 @@
 use Rattle.std.proofs.Common.{◌≤◌, None, map, take}
 use Rattle.std.specs.Option.{is_some}
 use Rattle.fr_list.specs.Means.{shown}
-use Rattle.fr_answer.specs.Inputs.{Reads}
+use Rattle.fr_inputs.specs.Inputs.{Reads}
 use Rattle.fr_answer.specs.Commands.{AreAnswered, AreLinesPrinted}
 use Rattle.fr_answer.proofs.commands.list.print_each.Given as goal
 

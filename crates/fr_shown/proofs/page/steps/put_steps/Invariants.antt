@@ -1,6 +1,0 @@
--- The state is one of the application, after each step.
-use Rattle.fr_calls.specs.State.{IsWellFormed}
-use Rattle.fr_shown.proofs.page.steps.put_steps.Given as goal
-
-abbrev pub invariant-loop-number : goal.invariant-loop-number
-invariant-loop-number l = IsWellFormed l.app l.state

@@ -1,0 +1,36 @@
+-- All that is named is answered for the application that was read, and what is written is of that.
+use Rattle.std.proofs.Common.{◌≤◌, arith, inl, refl}
+use Rattle.fr_inputs.specs.Inputs.{Reads}
+use Rattle.fr_traces.proofs.Following.{puts-both}
+use Rattle.fr_traces.proofs.follow.follow_traces.Goals as goal
+
+pub returns-clause-answered : goal.returns-clause-answered
+returns-clause-answered g c = (_, c.in_ok-app.ensures.read, _, c.in_ok-status.ensures.answered, c.in_ok-cover.ensures.covered)
+
+pub returns-clause-kept : goal.returns-clause-kept
+returns-clause-kept g c = λ least text one. (let most : c.in_ok-status.status ≤ 1 = c.in_ok-status.ensures.kept text one in let no : ⊥ = omega (arith, least, most) in absurd no)
+
+pub returns-clause-files : goal.returns-clause-files
+returns-clause-files g c =
+    puts-both (Reads (g.F.Files.Gives c.args.files.now) g.F.Files.Means) c.args.asked.now _ g.F.Files.Puts c.in_ok-status.answer c.args.files.now c.put_outputs.new.files
+    c.in_ok-app.ensures.read c.in_ok-status.ensures.by c.in_ok-status.ensures.run c.put_outputs.ensures.put
+
+pub returns-in_err-look_at_outputs-clause-files : goal.returns-in_err-look_at_outputs-clause-files
+returns-in_err-look_at_outputs-clause-files g c = (_, inl refl, inl refl)
+
+pub returns-in_err-app-clause-files : goal.returns-in_err-app-clause-files
+returns-in_err-app-clause-files g c = (_, inl refl, inl refl)
+
+pub returns-in_err-coverage-clause-files : goal.returns-in_err-coverage-clause-files
+returns-in_err-coverage-clause-files g c = (_, inl refl, inl refl)
+
+pub returns-in_err-status-clause-files : goal.returns-in_err-status-clause-files
+returns-in_err-status-clause-files g c = (_, inl refl, inl refl)
+
+pub returns-in_err-cover-clause-files : goal.returns-in_err-cover-clause-files
+returns-in_err-cover-clause-files g c = (_, inl refl, inl refl)
+
+pub returns-in_err-put_outputs-clause-files : goal.returns-in_err-put_outputs-clause-files
+returns-in_err-put_outputs-clause-files g c =
+    puts-both (Reads (g.F.Files.Gives c.args.files.now) g.F.Files.Means) c.args.asked.now _ g.F.Files.Puts c.in_ok-status.answer c.args.files.now c.put_outputs.new.files
+    c.in_ok-app.ensures.read c.in_ok-status.ensures.by c.in_ok-status.ensures.run c.put_outputs.ensures.put

@@ -1,0 +1,30 @@
+-- One trace more is answered and printed.
+use Rattle.std.proofs.Common.{◌≡◌, ◌≤◌, ◌∙◌, None, true, ap, arith, map, max, string_bytes, take}
+use Rattle.std.proofs.KnownBytes.{Appends-nil}
+use Rattle.std.proofs.lemmas.List.{map-append, take_more}
+use Rattle.fr_formats.specs.Answers.{status_of as kind_status}
+use Rattle.fr_report.specs.Lines.{lines_text}
+use Rattle.fr_inputs.specs.Inputs.{Reads}
+use Rattle.fr_traces.specs.Traces.{AreTracesPrinted, TraceAnswerAt}
+use Rattle.fr_traces.proofs.Following.{answers-at, none-yet, of-same, printed-trace}
+use Rattle.fr_outcome.proofs.Printed.{status-most}
+use Rattle.fr_traces.proofs.printed.print_each.Goals as goal
+
+pub loop-path-init : goal.loop-path-init
+loop-path-init g c =
+    let out = g.O.Write.contents c.args.out.now in
+    (none-yet (Reads (g.F.Files.Gives c.args.files.now) g.F.Files.Means) c.args.asked.now c.args.app.now (AreTracesPrinted None c.args.asked.now.app.now true out out) (Appends-nil out), omega arith)
+
+pub loop-path-preserved : goal.loop-path-preserved
+loop-path-preserved g c =
+    let reads = Reads (g.F.Files.Gives c.args.files.now) g.F.Files.Means in
+    let before = take c.loop-path.path-index c.args.paths.now in
+    let answer = c.get.result.now in
+    let by = of-same reads c.args.asked.now c.args.app.now _ _ answer c.get.ensures c.in_ok-answer.ensures.by in
+    let t : TraceAnswerAt = record { path = _; kind = answer.kind; line = string_bytes answer.line; more = lines_text answer.why.items } in
+    let more = printed-trace reads c.args.asked.now c.args.app.now true (map (λ s. s.now) before) c.loop-path.greatest t _ _ _ c.loop-path.invariant.0 by c.in_ok-status.ensures.printed in
+    let on = ap (map (λ s. s.now)) (take_more c.args.paths.now c.loop-path.path-index _ c.loop-path-test.true) ∙ map-append (λ s. s.now) before _ in
+    let next : c.max-greatest.result ≡ max c.loop-path.greatest (kind_status answer.kind) = c.max-greatest.ensures ∙ ap (max c.loop-path.greatest) c.in_ok-status.ensures.status in
+    let least : kind_status answer.kind ≤ 3 = status-most answer.kind in
+    let was : c.loop-path.greatest ≤ 3 = c.loop-path.invariant.1 in
+    (answers-at reads c.args.asked.now c.args.app.now _ _ _ _ _ on next more, omega (arith, next, least, was))
