@@ -1,6 +1,6 @@
 // Where a fault is, in lines that can be shown.
-ghost use Rattle.std.specs.Prelude.{◌≡◌, ◌++◌, [], ◌∷◌, IfOk, OnOk, string_bytes};
-ghost use Rattle.fr_escape.specs.Place.{IsPlaceLine};
+ghost use Rattle.std.specs.Prelude.{◌≡◌, ◌++◌, [], ◌∷◌, IfOk, OnOk, map, string_bytes};
+ghost use Rattle.fr_escape.specs.Place.{IsPlaceLine, place_line};
 
 use crate::plain::push_plain;
 use std::alloc::{AllocError, Global};
@@ -54,16 +54,18 @@ impl Place {
 
 /// The text as a line of a place, with what would steer a terminal written as in a literal.
 fn line_of(alloc: Global, text: &str) -> Result<String, AllocError>
-    ensures { IfOk result (λ line. IsPlaceLine (string_bytes line)) }
+    ensures { IfOk result (λ line. string_bytes line ≡ place_line text.now) }
 {
     let mut line = String::from_str(alloc, "  ")?;
     push_plain(&mut line, text)?;
     Ok(line)
 }
 
-/// The texts as the lines of a place, with what would steer a terminal written as in a literal. Its error is that an allocation was
-/// refused.
-pub fn place_of_texts(alloc: Global, texts: &[String]) -> Result<Place, AllocError> {
+/// The texts as the lines of a place, in order, with what would steer a terminal written as in a literal. Its error is that an allocation
+/// was refused.
+pub fn place_of_texts(alloc: Global, texts: &[String]) -> Result<Place, AllocError>
+    ensures { IfOk result (λ place. map (λ line. string_bytes line) place ≡ map (λ text. place_line (string_bytes text)) texts.now) }
+{
     let mut place = Place::new(alloc);
     for text in texts {
         place.add(line_of(alloc, text)?)?;
