@@ -1,5 +1,5 @@
 // Reading the files that a command names.
-ghost use Rattle.std.specs.Prelude.{◌≤◌, ◌<◌, ◌^◌, IfOk, IfErr};
+ghost use Rattle.std.specs.Prelude.{◌≡◌, ◌≤◌, ◌<◌, ◌^◌, IfOk, IfErr};
 ghost use Rattle.fr_outcome.specs.Checked.{fault_status};
 ghost use Rattle.fr_inputs.specs.Inputs.{AsApp, Reads};
 
