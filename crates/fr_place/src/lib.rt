@@ -7,10 +7,8 @@
 
 mod app;
 mod build;
-mod calls;
 mod certificate;
 mod code;
-mod declared;
 mod faulty;
 mod guard;
 mod line;
@@ -18,7 +16,6 @@ mod lines;
 mod nearness;
 mod note;
 mod path;
-mod piece;
 mod position;
 mod recipe;
 mod scope;
