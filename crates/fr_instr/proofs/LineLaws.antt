@@ -1,6 +1,6 @@
 -- A text is one line at the most, and no line where a fault is present in it: each word and each number means one
 -- thing of its kind, a call's name for one call, and a fault in a place says that nothing is there.
-use Rattle.std.proofs.Common.{◌≡◌, ◌<◌, ◌^◌, ℕ, ℤ, pos, List, [], ◌∷◌, length, Option, Some, None, Result, Ok, Err, refl, sym, ap, ◌∙◌, subst, inl, inr, arith, lit<}
+use Rattle.std.proofs.Common.{◌≡◌, ◌<◌, ◌^◌, ℕ, ℤ, pos, List, [], ◌∷◌, Bool, true, false, length, Option, Some, None, Result, Ok, Err, refl, sym, ap, ◌∙◌, subst, inl, inr, arith, lit<}
 use Rattle.std.proofs.lemmas.Bool.{false≢true}
 use Rattle.std.proofs.lemmas.Option.{same_Some}
 use Rattle.std.proofs.lemmas.List.Quantifiers.{position-Some}
@@ -17,6 +17,7 @@ use Rattle.fr_instr.specs.Calls.{Row, row_named, row_for, made, given_of, put}
 use Rattle.fr_instr.specs.Lines.{IsVariable, IsObject, IsOperand, IsBlockTime, Says, AreGiven, IsElse, IsInto, IsCall, IsLineOf, IsLine, OperandIn, GivenIn, AreGivenIn, ElseIn, IntoIn, IsCallIn, IsLineIn}
 use Rattle.fr_instr.specs.Faults.{IsWrongKind, NamesNothing, IsBadNumber, InNaming, InPlain, InPlace, InArgs, InPlaces, InVariable, InElse, InInto, InNamed, InCall, InShape, Stands}
 use Rattle.fr_instr.specs.declared.fault.LineFault.{LineFault}
+use Rattle.fr_instr.specs.declared.fault.LineFaultAt.{LineFaultAt}
 use Rattle.fr_instr.specs.declared.fault.LineFault.TheVariants.{Memory, Syntax, UnknownName, UnknownCall, ArgCount, BadNumber}
 use Rattle.fr_program.specs.Limits.{BlockTimeInLimits}
 use Rattle.fr_program.specs.declared.instr.Instr.{Instr}
@@ -387,26 +388,27 @@ line_in N text l (s, h, i) = line_in_of N s l i
 
 -- ---- what reading gives
 
-pub line_ok : (N : NamesOf) (text : List ℕ) (ts : List Tok) (s : Shape) (r : Result Instr LineFault) → Spells text ts → Some s ≡ shape_at ts → IfOk r (IsLineOf N s) → IfOk r (IsLine N text)
-line_ok N text ts s (Ok l) h e i = (s, shape_spells text ts s h e, i)
-line_ok N text ts s (Err d) h e i = tt
+pub line_ok : (N : NamesOf) (text : List ℕ) (ts : List Tok) (s : Shape) (l : Instr) → Spells text ts → Some s ≡ shape_at ts → IsLineOf N s l → IsLine N text l
+line_ok N text ts s l h e i = (s, shape_spells text ts s h e, i)
 
-pub line_one : (N : NamesOf) (text : List ℕ) (r : Result Instr LineFault) → IfOk r (IsLine N text) → IfOk r (λ l. (m : Instr) → IsLine N text m → m ≡ l)
+pub line_one : (N : NamesOf) (text : List ℕ) {E : Type 0} (r : Result Instr E) → IfOk r (IsLine N text) → IfOk r (λ l. (m : Instr) → IsLine N text m → m ≡ l)
 line_one N text (Ok l) h = λ m k. one_line N text l m h k
 line_one N text (Err d) h = tt
 
-pub line_within : (N : NamesOf) (text : List ℕ) (r : Result Instr LineFault) → IfOk r (IsLine N text) → IfOk r (IsLineIn N)
+pub line_within : (N : NamesOf) (text : List ℕ) {E : Type 0} (r : Result Instr E) → IfOk r (IsLine N text) → IfOk r (IsLineIn N)
 line_within N text (Ok l) h = line_in N text l h
 line_within N text (Err d) h = tt
 
-pub line_err : (N : NamesOf) (text : List ℕ) (ts : List Tok) (s : Shape) (r : Result Instr LineFault) → Spells text ts → Some s ≡ shape_at ts → IfErr r (InShape N s)
-    → IfErr r (λ d. (d ≡ Memory → ⊥) → Stands N text d)
-line_err N text ts s (Ok l) h e i = tt
-line_err N text ts s (Err d) h e i = λ _. inr (s, shape_spells text ts s h e, i)
+pub line_err : (N : NamesOf) (text : List ℕ) (ts : List Tok) (s : Shape) (f : LineFault) → Spells text ts → Some s ≡ shape_at ts → InShape N s f → Stands N text f
+line_err N text ts s f h e i = inr (s, shape_spells text ts s h e, i)
 
-pub line_none : (N : NamesOf) (text : List ℕ) (r : Result Instr LineFault) → IfErr r (λ d. (d ≡ Memory → ⊥) → Stands N text d) → IfErr r (λ d. (d ≡ Memory → ⊥) → (l : Instr) → IsLine N text l → ⊥)
+pub no_tokens : (N : NamesOf) (text : List ℕ) → ((us : List Tok) → Spells text us → ⊥) → Stands N text Syntax
+no_tokens N text none = inl (refl, λ s. none (shape_toks s))
+
+pub line_none : (N : NamesOf) (text : List ℕ) (r : Result Instr LineFaultAt) → IfErr r (λ d. (d.fault ≡ Memory → ⊥) → Stands N text d.fault) → IfErr r (λ d. (d.fault ≡ Memory → ⊥) → (l : Instr) → IsLine N text l → ⊥)
 line_none N text (Ok l) h = tt
-line_none N text (Err d) h = λ not_memory l k. no_line N text d l (h not_memory) k
+line_none N text (Err d) h = λ not_memory l k. no_line N text d.fault l (h not_memory) k
 
-pub no_shape : (N : NamesOf) (text : List ℕ) (ts : List Tok) → Spells text ts → None ≡ shape_at ts → Stands N text Syntax
-no_shape N text ts h e = inl (refl, no_shape_spells text ts h e)
+pub no_shape : (N : NamesOf) (text : List ℕ) (ts : List Tok) (is_whole : Bool) → (is_whole ≡ true → Spells text ts) → (is_whole ≡ false → (us : List Tok) → Spells text us → ⊥) → None ≡ shape_at ts → Stands N text Syntax
+no_shape N text ts true h b e = inl (refl, no_shape_spells text ts (h refl) e)
+no_shape N text ts false h b e = no_tokens N text (b refl)

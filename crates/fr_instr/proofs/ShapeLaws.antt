@@ -7,7 +7,7 @@ use Rattle.std.proofs.lemmas.Slice.Eq.{bytes_eq-Decides}
 use Rattle.std.specs.Str.{bytes_eq}
 use Rattle.fr_instr.specs.Tokens.{Tok, word, number, sign}
 use Rattle.fr_instr.specs.Shapes.{Word, name, numeral, Shape, set, set_to, branch, jump, pick, leave, call, word_tok, operator_sign, comparison_sign, more_toks, args_toks, else_toks, into_toks, shape_toks}
-use Rattle.fr_instr.specs.ShapeReading.{operator_of, comparison_of, is_open, is_close, is_comma, is_assign, take_word, take_number, take_value, take_sign, at_end, set_tail, set_at, branch_at, jump_at, pick_at, keyword_at, behind_open, behind_close, with_arg, arg_then, some_args, args_or, args_at, target_end, else_tail, else_at, call_at, head_at, counted_at, shape_behind, shape_at}
+use Rattle.fr_instr.specs.ShapeReading.{operator_of, comparison_of, is_open, is_close, is_comma, is_assign, take_word, take_number, take_value, take_sign, at_end, number_behind, set_tail, set_at, branch_at, jump_at, pick_at, keyword_at, behind_open, behind_close, with_arg, arg_then, some_args, args_or, args_at, target_end, else_tail, else_at, call_at, head_at, counted_at, shape_behind, shape_at}
 use Rattle.fr_instr.specs.declared.token.Sign.{Sign}
 use Rattle.fr_instr.specs.declared.token.Sign.TheVariants.{Open, Close, Comma, Assign, Plus, Minus, Times, Less, LessEqual, Greater, GreaterEqual, Equal, NotEqual, Question}
 use Rattle.fr_program.specs.declared.instr.Operator.{Operator}
@@ -51,7 +51,7 @@ args_again (name w ∷ bs) rest = some_again (name w) bs rest
 args_again (numeral d ∷ bs) rest = some_again (numeral d) bs rest
 
 else_again : (e : Option (List ℕ)) → else_at (else_toks e) ≡ Some e
-unfolding else_tail
+unfolding else_tail number_behind
 else_again None = refl
 else_again (Some l) = refl
 
@@ -60,7 +60,7 @@ unfolding call_at
 call_again v k bs e = rw (args_again bs (else_toks e), else_again e) refl
 
 pub shape_again : (s : Shape) → shape_at (shape_toks s) ≡ Some s
-unfolding shape_at keyword_at set_at set_tail branch_at jump_at pick_at counted_at head_at
+unfolding shape_at keyword_at set_at set_tail number_behind branch_at jump_at pick_at counted_at head_at
 shape_again (set x a) = rw (value_again a []) refl
 shape_again (set_to x a op b) = rw (value_again a (sign (operator_sign op) ∷ word_tok b ∷ []), operator_again op, value_again b []) refl
 shape_again (branch a c b l) =
@@ -211,6 +211,15 @@ assign_found Equal e = absurd (false≢true e)
 assign_found NotEqual e = absurd (false≢true e)
 assign_found Question e = absurd (false≢true e)
 
+number_behind_found : (k : List ℕ) (ts : List Tok) (p : List ℕ × List Tok) → number_behind k ts ≡ Some p → ts ≡ word k ∷ number p.0 ∷ p.1
+unfolding number_behind
+number_behind_found k ts p e =
+    let w = bound (take_word ts) _ p e in
+    elim (chosen (bytes_eq w.0.0 k) _ _ _ w.2) [
+      | inr other ↦ absurd (never p other.1)
+      | inl is ↦ word_found ts w.0 w.1 ∙ ap (λ x. word x ∷ w.0.1) ((bytes_eq-Decides w.0.0 k).0 is.0) ∙ ap (λ x. word k ∷ x) (number_found w.0.1 p is.1)
+    ]
+
 jump_found : (ts : List Tok) (f : Shape) → jump_at ts ≡ Some f → word (codes "goto") ∷ ts ≡ shape_toks f
 unfolding jump_at
 jump_found ts f e =
@@ -218,9 +227,9 @@ jump_found ts f e =
     let end = end_found (jump l.0.0) l.0.1 f l.2 in
     rw (number_found ts l.0 l.1, end.0) (ap shape_toks end.1)
 
-branch_whole : (ts r1 r2 r3 r4 r5 : List Tok) (a : Word) (s : Sign) (c : Comparison) (b : Word) (g l : List ℕ) → ts ≡ word_tok a ∷ r1 → r1 ≡ sign s ∷ r2 → s ≡ comparison_sign c → r2 ≡ word_tok b ∷ r3
-    → r3 ≡ word g ∷ r4 → r4 ≡ number l ∷ r5 → r5 ≡ [] → g ≡ codes "goto" → word (codes "if") ∷ ts ≡ shape_toks (branch a c b l)
-branch_whole ts r1 r2 r3 r4 r5 a s c b g l e1 e2 e3 e4 e5 e6 e7 e8 = rw (e1, e2, e3, e4, e5, e6, e7, e8) refl
+branch_whole : (ts r1 r2 r3 r4 : List Tok) (a : Word) (s : Sign) (c : Comparison) (b : Word) (l : List ℕ) → ts ≡ word_tok a ∷ r1 → r1 ≡ sign s ∷ r2 → s ≡ comparison_sign c → r2 ≡ word_tok b ∷ r3
+    → r3 ≡ word (codes "goto") ∷ number l ∷ r4 → r4 ≡ [] → word (codes "if") ∷ ts ≡ shape_toks (branch a c b l)
+branch_whole ts r1 r2 r3 r4 a s c b l e1 e2 e3 e4 e5 e6 = rw (e1, e2, e3, e4, e5, e6) refl
 
 branch_found : (ts : List Tok) (f : Shape) → branch_at ts ≡ Some f → word (codes "if") ∷ ts ≡ shape_toks f
 unfolding branch_at
@@ -229,15 +238,10 @@ branch_found ts f e =
     let s = bound (take_sign a.0.1) _ f a.2 in
     let c = bound (comparison_of s.0.0) _ f s.2 in
     let b = bound (take_value s.0.1) _ f c.2 in
-    let g = bound (take_word b.0.1) _ f b.2 in
-    let l = bound (take_number g.0.1) _ f g.2 in
-    elim (chosen (bytes_eq g.0.0 (codes "goto")) _ _ _ l.2) [
-      | inr no_goto ↦ absurd (never f no_goto.1)
-      | inl goto ↦
-          let end = end_found (branch a.0.0 c.0 b.0.0 l.0.0) l.0.1 f goto.1 in
-          branch_whole ts a.0.1 s.0.1 b.0.1 g.0.1 l.0.1 a.0.0 s.0.0 c.0 b.0.0 g.0.0 l.0.0 (value_found ts a.0 a.1) (sign_found a.0.1 s.0 s.1) (comparison_found s.0.0 c.0 c.1)
-          (value_found s.0.1 b.0 b.1) (word_found b.0.1 g.0 g.1) (number_found g.0.1 l.0 l.1) end.0 ((bytes_eq-Decides g.0.0 (codes "goto")).0 goto.0) ∙ ap shape_toks end.1
-    ]
+    let l = bound (number_behind (codes "goto") b.0.1) _ f b.2 in
+    let end = end_found (branch a.0.0 c.0 b.0.0 l.0.0) l.0.1 f l.2 in
+    branch_whole ts a.0.1 s.0.1 b.0.1 l.0.1 a.0.0 s.0.0 c.0 b.0.0 l.0.0 (value_found ts a.0 a.1) (sign_found a.0.1 s.0 s.1) (comparison_found s.0.0 c.0 c.1)
+    (value_found s.0.1 b.0 b.1) (number_behind_found (codes "goto") b.0.1 l.0 l.1) end.0 ∙ ap shape_toks end.1
 
 set_to_whole : (ts r s t : List Tok) (x : List ℕ) (a : Word) (sg : Sign) (op : Operator) (b : Word) → ts ≡ sign sg ∷ r → sg ≡ operator_sign op → r ≡ word_tok b ∷ s → s ≡ []
     → word (codes "set") ∷ word x ∷ sign Assign ∷ word_tok a ∷ ts ≡ shape_toks (set_to x a op b)
@@ -262,11 +266,11 @@ unfolding set_at
 set_found ts f e =
     let x = bound (take_word ts) _ f e in
     let s = bound (take_sign x.0.1) _ f x.2 in
-    let a = bound (take_value s.0.1) _ f s.2 in
-    elim (chosen (is_assign s.0.0) _ _ _ a.2) [
+    elim (chosen (is_assign s.0.0) _ _ _ s.2) [
       | inr other ↦ absurd (never f other.1)
-      | inl assign ↦ set_whole ts x.0.1 s.0.1 a.0.1 (shape_toks f) x.0.0 s.0.0 a.0.0 (word_found ts x.0 x.1) (sign_found x.0.1 s.0 s.1) (assign_found s.0.0 assign.0) (value_found s.0.1 a.0 a.1)
-          (tail_found x.0.0 a.0.0 a.0.1 f assign.1)
+      | inl assign ↦ let a = bound (take_value s.0.1) _ f assign.1 in
+          set_whole ts x.0.1 s.0.1 a.0.1 (shape_toks f) x.0.0 s.0.0 a.0.0 (word_found ts x.0 x.1) (sign_found x.0.1 s.0 s.1) (assign_found s.0.0 assign.0) (value_found s.0.1 a.0 a.1)
+          (tail_found x.0.0 a.0.0 a.0.1 f a.2)
     ]
 
 pick_whole : (ts r s t : List Tok) (x lo hi : List ℕ) → ts ≡ word x ∷ r → r ≡ number lo ∷ s → s ≡ number hi ∷ t → t ≡ [] → word (codes "pick") ∷ ts ≡ shape_toks (pick x lo hi)
@@ -358,19 +362,15 @@ target_found : (l : List ℕ) (ts : List Tok) (d : List ℕ) → target_end l ts
 target_found l [] d e = (refl, same_Some l d e)
 target_found l (t ∷ ts) d e = absurd (never d e)
 
-else_whole : (ts r s : List Tok) (w l d : List ℕ) → ts ≡ word w ∷ r → w ≡ codes "else" → r ≡ number l ∷ s → s ≡ [] → l ≡ d → ts ≡ else_toks (Some d)
-else_whole ts r s w l d e1 e2 e3 e4 e5 = rw (e1, e2, e3, e4, e5) refl
+else_whole : (ts s : List Tok) (l d : List ℕ) → ts ≡ word (codes "else") ∷ number l ∷ s → s ≡ [] → l ≡ d → ts ≡ else_toks (Some d)
+else_whole ts s l d e1 e2 e3 = rw (e1, e2, e3) refl
 
 tail_of_else : (ts : List Tok) (d : List ℕ) → else_tail ts ≡ Some d → ts ≡ else_toks (Some d)
 unfolding else_tail
 tail_of_else ts d e =
-    let w = bound (take_word ts) _ d e in
-    let l = bound (take_number w.0.1) _ d w.2 in
-    elim (chosen (bytes_eq w.0.0 (codes "else")) _ _ _ l.2) [
-      | inr other ↦ absurd (never d other.1)
-      | inl is ↦ let end = target_found l.0.0 l.0.1 d is.1 in
-          else_whole ts w.0.1 l.0.1 w.0.0 l.0.0 d (word_found ts w.0 w.1) ((bytes_eq-Decides w.0.0 (codes "else")).0 is.0) (number_found w.0.1 l.0 l.1) end.0 end.1
-    ]
+    let l = bound (number_behind (codes "else") ts) _ d e in
+    let end = target_found l.0.0 l.0.1 d l.2 in
+    else_whole ts l.0.1 l.0.0 d (number_behind_found (codes "else") ts l.0 l.1) end.0 end.1
 
 else_found : (ts : List Tok) (e : Option (List ℕ)) → else_at ts ≡ Some e → ts ≡ else_toks e
 else_found [] e h = ap else_toks (same_Some None e h)

@@ -7,6 +7,7 @@
 -- | is_open, is_close, is_comma, is_assign        | whether a sign is `(`, `)`, `,`, `=`                             |
 -- | take_word, take_number, take_value, take_sign | a token of this sort at the front, and what follows it           |
 -- | at_end, target_end                            | a shape, a target, behind which nothing is                       |
+-- | number_behind                                 | the number behind this word, and what follows it                 |
 -- | set_tail, set_at, branch_at, jump_at, pick_at | a line behind its keyword                                        |
 -- | keyword_at                                    | the same by the keyword                                          |
 -- | behind_open, behind_close                     | what follows a bracket                                           |
@@ -21,7 +22,7 @@ use Rattle.std.specs.Str.{bytes_eq}
 use Rattle.fr_instr.specs.Tokens.{Tok, word, number, sign}
 use Rattle.fr_instr.specs.Shapes.{Word, name, numeral, Shape, set, set_to, branch, jump, pick, leave, call}
 use Rattle.fr_instr.specs.declared.token.Sign.{Sign}
-use Rattle.fr_instr.specs.declared.token.Sign.TheVariants.{Open, Close, Comma, Assign, Plus, Minus, Times, Less, LessEqual, Greater, GreaterEqual, Equal, NotEqual, Question}
+use Rattle.fr_instr.specs.declared.token.Sign.TheVariants.{Open, Close, Comma, Assign, Plus, Minus, Times, Less, LessEqual, Greater, GreaterEqual, Equal, NotEqual}
 use Rattle.fr_program.specs.declared.instr.Operator.{Operator}
 use Rattle.fr_program.specs.declared.instr.Operator.TheVariants as operator
 use Rattle.fr_program.specs.declared.instr.Comparison.{Comparison}
@@ -102,6 +103,12 @@ abbrev pub at_end : Shape → List Tok → Option Shape
 at_end s [] = Some s
 at_end s (t ∷ ts) = None
 
+-- the number behind this word, and what follows it
+unfoldable pub number_behind : List ℕ → List Tok → Option (List ℕ × List Tok)
+number_behind k ts = do
+  w ← take_word ts
+  if bytes_eq w.0 k then take_number w.1 else None
+
 -- a `set` of this variable, behind its first operand: with no other operand, or with an operator and a second one
 unfoldable pub set_tail : List ℕ → Word → List Tok → Option Shape
 set_tail x a [] = Some (set x a)
@@ -116,8 +123,7 @@ unfoldable pub set_at : List Tok → Option Shape
 set_at ts = do
   x ← take_word ts
   s ← take_sign x.1
-  a ← take_value s.1
-  if is_assign s.0 then set_tail x.0 a.0 a.1 else None
+  if is_assign s.0 then (take_value s.1 >>= λ a. set_tail x.0 a.0 a.1) else None
 
 -- an `if`, behind its keyword
 unfoldable pub branch_at : List Tok → Option Shape
@@ -126,9 +132,8 @@ branch_at ts = do
   s ← take_sign a.1
   c ← comparison_of s.0
   b ← take_value s.1
-  g ← take_word b.1
-  l ← take_number g.1
-  if bytes_eq g.0 (codes "goto") then at_end (branch a.0 c b.0 l.0) l.1 else None
+  l ← number_behind (codes "goto") b.1
+  at_end (branch a.0 c b.0 l.0) l.1
 
 -- a `goto`, behind its keyword
 unfoldable pub jump_at : List Tok → Option Shape
@@ -209,9 +214,8 @@ target_end l (t ∷ ts) = None
 -- the text of the target of an `else`, where nothing follows
 unfoldable pub else_tail : List Tok → Option (List ℕ)
 else_tail ts = do
-  w ← take_word ts
-  l ← take_number w.1
-  if bytes_eq w.0 (codes "else") then target_end l.0 l.1 else None
+  l ← number_behind (codes "else") ts
+  target_end l.0 l.1
 
 -- what is behind a call: nothing, or `else` with its target
 abbrev pub else_at : List Tok → Option (Option (List ℕ))

@@ -133,7 +133,7 @@ static CALLS: [Row; 40] = rows! {
 
 /// The rows, as the table that clauses speak of.
 #[tactic(auto, unfolding(crate::specs::Calls::table))]
-fn rows() -> &'static [Row]
+pub fn rows() -> &'static [Row]
     ensures { map row_view result.now ≡ table }
 {
     &CALLS

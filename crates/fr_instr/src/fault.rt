@@ -1,5 +1,5 @@
 // Why a text is no line.
-ghost use Rattle.std.specs.Prelude.{◌≡◌, Some};
+ghost use Rattle.std.specs.Prelude.{◌≡◌, Some, Ok, Err, IfOk, IfErr};
 ghost use Rattle.fr_instr.specs.declared.fault.LineFault.TheVariants.{Memory};
 
 use std::alloc::{AllocError, AllocFailed};
@@ -24,8 +24,42 @@ pub enum LineFault {
     BadNumber,
 }
 
+/// Why a text is no line, and where.
+#[derive(Clone, Copy, Debug, PartialEq, Eq)]
+pub struct LineFaultAt {
+    pub fault: LineFault,
+    /// Where in the text the token at fault begins, in bytes. It is the text's end where the line ends too soon, and 0 where
+    /// an allocation was refused.
+    pub at: usize,
+}
+
+/// Why tokens are no line, and how many of them are left where the fault is, the one at fault among them.
+#[derive(Clone, Copy)]
+pub(crate) struct TokenFault {
+    pub fault: LineFault,
+    pub left: usize,
+}
+
+/// What is read, or its fault at a token with which so many are left.
+pub(crate) fn at<T>(left: usize, read: Result<T, LineFault>) -> Result<T, TokenFault>
+    ensures ok { IfOk result (λ x. read ≡ Ok x) }
+    ensures err { IfErr result (λ f. read ≡ Err f.fault) }
+{
+    match read {
+        Ok(x) => Ok(x),
+        Err(fault) => Err(fault.at(left)),
+    }
+}
+
 impl LineFault {
     ghost use Rattle.fr_instr.specs.FaultText.{text_of};
+
+    /// The fault at a token with which so many are left.
+    pub(crate) fn at(self, left: usize) -> TokenFault
+        ensures { result.fault ≡ self }
+    {
+        TokenFault { fault: self, left }
+    }
 
     /// The number and the name, as a refusal's line shows them.
     pub fn text(self) -> &'static str
@@ -67,5 +101,16 @@ impl<T: Drop> From<AllocFailed<T>> for LineFault {
 
     fn from(_refused: AllocFailed<T>) -> LineFault {
         LineFault::Memory
+    }
+}
+
+impl From<AllocError> for LineFaultAt {
+    ghost from_gives = { λ _ e. (e.fault ≡ Memory) × (e.at ≡ 0) };
+
+    fn from(_refused: AllocError) -> LineFaultAt {
+        LineFaultAt {
+            fault: LineFault::Memory,
+            at: 0,
+        }
     }
 }

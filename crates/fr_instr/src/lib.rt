@@ -18,13 +18,13 @@ mod token;
 mod writing;
 
 pub use app_names::names_of;
-pub use call::{Deed, Place, Row, Tail, Verb, When, row_named};
-pub use fault::LineFault;
+pub use call::{Deed, Place, Row, Tail, Verb, When, row_named, rows};
+pub use fault::{LineFault, LineFaultAt};
 pub use fr_program::Instr as Line;
 pub use given::{Given, given_of, verb_of};
 pub use names::Names;
 pub use number::integer_of;
-pub use reading::read_line;
+pub use reading::{read_line, read_line_at};
 pub use shape::{head_behind, take_number, take_word};
 pub use token::{Sign, Token, next_token, tokens};
 pub use writing::write_line;

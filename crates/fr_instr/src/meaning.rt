@@ -6,7 +6,7 @@ ghost use Rattle.fr_instr.specs.Lines.{IsVariable, IsOperand, IsBlockTime, SaysL
 ghost use Rattle.fr_instr.specs.Faults.{InVariable, InPlace, InPlain, InArgs, InPlaces};
 
 use crate::call::Place;
-use crate::fault::LineFault;
+use crate::fault::{LineFault, TokenFault, at};
 use crate::given::{Given, NOTHING};
 use crate::names::Names;
 use crate::number;
@@ -160,37 +160,52 @@ pub(crate) fn given_at(
     }
 }
 
-/// What these words and numbers give in these places, as many, beside what was given before.
+/// How many tokens are left at the first of these arguments, where so many are behind their closing bracket.
+fn left_at_args(values: &[Value<'_>], behind: usize) -> usize {
+    values.len().saturating_mul(2).saturating_add(behind)
+}
+
+/// The same at the name of the call that has all of them.
+pub(crate) fn left_at_name(values: &[Value<'_>], behind: usize) -> usize {
+    let brackets = if values.is_empty() { 3 } else { 2 };
+    left_at_args(values, behind).saturating_add(brackets)
+}
+
+/// What these words and numbers give in these places, as many, beside what was given before. So many tokens are behind
+/// their closing bracket.
 fn more_given(
     names: &Names,
     places: &[Place],
     values: &[Value<'_>],
+    behind: usize,
     given: Given,
-) -> Result<Given, LineFault>
+) -> Result<Given, TokenFault>
     requires { list_length places.now ≡ list_length values.now }
-    ensures { MatchResult result (AreGiven names.now places.now (words values.now) given) (InArgs names.now places.now (words values.now)) }
+    ensures { MatchResult result (AreGiven names.now places.now (words values.now) given) (λ f. InArgs names.now places.now (words values.now) f.fault) }
 {
+    let left = left_at_args(values, behind);
     let Some((place, places)) = places.split_first() else {
         return Ok(given);
     };
     let Some((value, values)) = values.split_first() else {
         return Ok(given);
     };
-    let given = given_at(names, *place, *value, given)?;
-    more_given(names, places, values, given)
+    let given = at(left, given_at(names, *place, *value, given))?;
+    more_given(names, places, values, behind, given)
 }
 
-/// What the arguments of a call give in the places of its row.
+/// What the arguments of a call give in the places of its row. So many tokens are behind their closing bracket.
 pub(crate) fn args_given(
     names: &Names,
     places: &[Place],
     values: &[Value<'_>],
-) -> Result<Given, LineFault>
-    ensures { MatchResult result (AreGiven names.now places.now (words values.now) NOTHING) (InPlaces names.now places.now (words values.now)) }
+    behind: usize,
+) -> Result<Given, TokenFault>
+    ensures { MatchResult result (AreGiven names.now places.now (words values.now) NOTHING) (λ f. InPlaces names.now places.now (words values.now) f.fault) }
 {
     if places.len() == values.len() {
-        more_given(names, places, values, NOTHING)
+        more_given(names, places, values, behind, NOTHING)
     } else {
-        Err(LineFault::ArgCount)
+        Err(LineFault::ArgCount.at(left_at_name(values, behind)))
     }
 }

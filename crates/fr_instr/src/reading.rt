@@ -1,5 +1,5 @@
 // Reading: the line that a text is.
-ghost use Rattle.std.specs.Prelude.{◌≡◌, ◌≢◌, IfOk, IfErr, MatchResult};
+ghost use Rattle.std.specs.Prelude.{◌≡◌, ◌≢◌, ◌≤◌, length, IfOk, IfErr, MatchResult};
 ghost use Rattle.fr_instr.specs.Views.{word_of, words, text_in, shape_view};
 ghost use Rattle.fr_instr.specs.Shapes.{set, set_to, branch, jump, pick, call};
 ghost use Rattle.fr_instr.specs.Numbers.{IsInteger, IsTarget};
@@ -9,7 +9,7 @@ ghost use Rattle.fr_instr.specs.declared.fault.LineFault.TheVariants.{Memory};
 ghost use Rattle.fr_program.specs.declared.instr.Instr.{Instr};
 
 use crate::call::{self, Tail};
-use crate::fault::LineFault;
+use crate::fault::{LineFault, LineFaultAt, TokenFault, at};
 use crate::names::Names;
 use crate::shape::{self, CallShape, Shape, Value};
 use crate::{direct, given, meaning, number, token};
@@ -37,44 +37,49 @@ fn integer_at(text: &[u8]) -> Result<i64, LineFault>
 }
 
 /// The target behind `else`, which is only where the call may fail.
-fn else_of(tail: Tail, or_else: Option<&[u8]>) -> Result<Option<usize>, LineFault>
-    ensures { MatchResult result (IsElse tail (text_in or_else.entry)) (InElse tail (text_in or_else.entry)) }
+fn else_of(tail: Tail, or_else: Option<&[u8]>) -> Result<Option<usize>, TokenFault>
+    ensures { MatchResult result (IsElse tail (text_in or_else.entry)) (λ f. InElse tail (text_in or_else.entry) f.fault) }
 {
     match or_else {
         None => Ok(None),
-        Some(text) if tail.may_fail() => match number::target_of(text) {
-            Some(target) => Ok(Some(target)),
-            None => Err(LineFault::BadNumber),
-        },
-        Some(_) => Err(LineFault::Syntax),
+        Some(text) if tail.may_fail() => Ok(Some(at(1, target_at(text))?)),
+        Some(_) => Err(LineFault::Syntax.at(2)),
     }
 }
 
-/// The variable before `=`, which is only where the call answers a number.
-fn into_of(names: &Names, tail: Tail, into: Option<&[u8]>) -> Result<Option<VarId>, LineFault>
-    ensures { MatchResult result (IsInto names.now tail (text_in into.entry)) (InInto names.now tail (text_in into.entry)) }
+/// The variable before `=`, which is only where the call answers a number. So many tokens are left at the call's name.
+fn into_of(
+    names: &Names,
+    tail: Tail,
+    into: Option<&[u8]>,
+    left: usize,
+) -> Result<Option<VarId>, TokenFault>
+    ensures { MatchResult result (IsInto names.now tail (text_in into.entry)) (λ f. InInto names.now tail (text_in into.entry) f.fault) }
 {
     match into {
         None => Ok(None),
-        Some(word) if tail.may_answer() => match names.variable_named(word) {
-            Some(variable) => Ok(Some(variable)),
-            None => Err(LineFault::UnknownName),
-        },
-        Some(_) => Err(LineFault::Syntax),
+        Some(word) if tail.may_answer() => {
+            let variable = at(left.saturating_add(2), meaning::variable_of(names, word))?;
+            Ok(Some(variable))
+        }
+        Some(_) => Err(LineFault::Syntax.at(left)),
     }
 }
 
 /// The call that a name and its arguments mean, as a line.
-fn call_of(names: &Names, shape: &CallShape<'_>) -> Result<Line, LineFault>
+fn call_of(names: &Names, shape: &CallShape<'_>) -> Result<Line, TokenFault>
     ensures ok { IfOk result (IsLineOf names.now (call (text_in shape.now.into) shape.now.name.now (words shape.now.args.items) (text_in shape.now.or_else))) }
-    ensures err { IfErr result (InCall names.now (text_in shape.now.into) shape.now.name.now (words shape.now.args.items) (text_in shape.now.or_else)) }
+    ensures err { IfErr result (λ f. InCall names.now (text_in shape.now.into) shape.now.name.now (words shape.now.args.items) (text_in shape.now.or_else) f.fault) }
 {
+    let args = shape.args.as_slice();
+    let behind = if shape.or_else.is_some() { 2 } else { 0 };
+    let name = meaning::left_at_name(args, behind);
     let Some((_, verb, places, tail)) = call::row_named(shape.name) else {
-        return Err(LineFault::UnknownCall);
+        return Err(LineFault::UnknownCall.at(name));
     };
     let or_else = else_of(tail, shape.or_else)?;
-    let into = into_of(names, tail, shape.into)?;
-    let given = meaning::args_given(names, places, shape.args.as_slice())?;
+    let into = into_of(names, tail, shape.into, name)?;
+    let given = meaning::args_given(names, places, args, behind)?;
     Ok(Line::Call(given::made_beside(verb, given, or_else, into)))
 }
 
@@ -85,13 +90,13 @@ fn set_of(
     left: Value<'_>,
     operator: Operator,
     right: Value<'_>,
-) -> Result<Line, LineFault>
+) -> Result<Line, TokenFault>
     ensures ok { IfOk result (IsLineOf names.now (set_to target.now (word_of left.entry) operator (word_of right.entry))) }
-    ensures err { IfErr result (InShape names.now (set_to target.now (word_of left.entry) operator (word_of right.entry))) }
+    ensures err { IfErr result (λ f. InShape names.now (set_to target.now (word_of left.entry) operator (word_of right.entry)) f.fault) }
 {
-    let target = meaning::variable_of(names, target)?;
-    let left = meaning::operand_at(names, left)?;
-    let right = meaning::operand_at(names, right)?;
+    let target = at(5, meaning::variable_of(names, target))?;
+    let left = at(3, meaning::operand_at(names, left))?;
+    let right = at(1, meaning::operand_at(names, right))?;
     Ok(Line::Set {
         target,
         left,
@@ -101,12 +106,12 @@ fn set_of(
 }
 
 /// A `set` of one operand adds 0 to it.
-fn short_set_of(names: &Names, target: &[u8], left: Value<'_>) -> Result<Line, LineFault>
+fn short_set_of(names: &Names, target: &[u8], left: Value<'_>) -> Result<Line, TokenFault>
     ensures ok { IfOk result (IsLineOf names.now (set target.now (word_of left.entry))) }
-    ensures err { IfErr result (InShape names.now (set target.now (word_of left.entry))) }
+    ensures err { IfErr result (λ f. InShape names.now (set target.now (word_of left.entry)) f.fault) }
 {
-    let target = meaning::variable_of(names, target)?;
-    let left = meaning::operand_at(names, left)?;
+    let target = at(3, meaning::variable_of(names, target))?;
+    let left = at(1, meaning::operand_at(names, left))?;
     Ok(Line::Set {
         target,
         left,
@@ -122,13 +127,13 @@ fn if_of(
     comparison: Comparison,
     right: Value<'_>,
     target: &[u8],
-) -> Result<Line, LineFault>
+) -> Result<Line, TokenFault>
     ensures ok { IfOk result (IsLineOf names.now (branch (word_of left.entry) comparison (word_of right.entry) target.now)) }
-    ensures err { IfErr result (InShape names.now (branch (word_of left.entry) comparison (word_of right.entry) target.now)) }
+    ensures err { IfErr result (λ f. InShape names.now (branch (word_of left.entry) comparison (word_of right.entry) target.now) f.fault) }
 {
-    let left = meaning::operand_at(names, left)?;
-    let right = meaning::operand_at(names, right)?;
-    let target = target_at(target)?;
+    let left = at(5, meaning::operand_at(names, left))?;
+    let right = at(3, meaning::operand_at(names, right))?;
+    let target = at(1, target_at(target))?;
     Ok(Line::If {
         left,
         comparison,
@@ -138,30 +143,30 @@ fn if_of(
 }
 
 /// The `pick` that these words and numbers mean.
-fn pick_of(names: &Names, target: &[u8], lo: &[u8], hi: &[u8]) -> Result<Line, LineFault>
+fn pick_of(names: &Names, target: &[u8], lo: &[u8], hi: &[u8]) -> Result<Line, TokenFault>
     ensures ok { IfOk result (IsLineOf names.now (pick target.now lo.now hi.now)) }
-    ensures err { IfErr result (InShape names.now (pick target.now lo.now hi.now)) }
+    ensures err { IfErr result (λ f. InShape names.now (pick target.now lo.now hi.now) f.fault) }
 {
-    let target = meaning::variable_of(names, target)?;
-    let lo = integer_at(lo)?;
-    let hi = integer_at(hi)?;
+    let target = at(3, meaning::variable_of(names, target))?;
+    let lo = at(2, integer_at(lo))?;
+    let hi = at(1, integer_at(hi))?;
     Ok(Line::Pick { target, lo, hi })
 }
 
 /// The `goto` to this target.
-fn goto_of(names: &Names, target: &[u8]) -> Result<Line, LineFault>
+fn goto_of(names: &Names, target: &[u8]) -> Result<Line, TokenFault>
     ensures ok { IfOk result (IsLineOf names.now (jump target.now)) }
-    ensures err { IfErr result (InShape names.now (jump target.now)) }
+    ensures err { IfErr result (λ f. InShape names.now (jump target.now) f.fault) }
 {
     let _ = names;
-    let target = target_at(target)?;
+    let target = at(1, target_at(target))?;
     Ok(Line::Goto { target })
 }
 
 /// The line that the shape means.
-fn line_of(names: &Names, shape: &Shape<'_>) -> Result<Line, LineFault>
+fn line_of(names: &Names, shape: &Shape<'_>) -> Result<Line, TokenFault>
     ensures ok { IfOk result (IsLineOf names.now (shape_view shape.now)) }
-    ensures err { IfErr result (InShape names.now (shape_view shape.now)) }
+    ensures err { IfErr result (λ f. InShape names.now (shape_view shape.now) f.fault) }
 {
     match shape {
         Shape::Set(target, left) => short_set_of(names, target, *left),
@@ -178,17 +183,48 @@ fn line_of(names: &Names, shape: &Shape<'_>) -> Result<Line, LineFault>
     }
 }
 
-/// The line that the text is, found by its tokens and their shape.
-fn line_by_tokens(alloc: Global, text: &str, names: &Names) -> Result<Line, LineFault>
-    ensures ok { IfOk result (IsLine names.now text.now) }
-    ensures err { IfErr result (λ f. f ≢ Memory → Stands names.now text.now f) }
+/// The fault at its place in the text, which begins with so many tokens.
+fn placed(text: &[u8], tokens: usize, fault: TokenFault) -> LineFaultAt
+    ensures fault { result.fault ≡ fault.fault }
+    ensures inside { result.at ≤ length text.now }
 {
-    let tokens = token::tokens(alloc, text.as_bytes())?;
-    let found = shape::shape_at(alloc, tokens.as_slice())?;
-    match found {
-        Some(shape) => line_of(names, &shape),
-        None => Err(LineFault::Syntax),
+    LineFaultAt {
+        fault: fault.fault,
+        at: token::place_of(text, tokens.saturating_sub(fault.left)),
     }
+}
+
+/// The line that the text is, found by its tokens and their shape.
+fn line_by_tokens(alloc: Global, text: &str, names: &Names) -> Result<Line, LineFaultAt>
+    ensures ok { IfOk result (IsLine names.now text.now) }
+    ensures err { IfErr result (λ e. e.fault ≢ Memory → Stands names.now text.now e.fault) }
+    ensures inside { IfErr result (λ e. e.at ≤ length text.now) }
+{
+    let bytes = text.as_bytes();
+    let (tokens, rest) = token::first_tokens(alloc, bytes)?;
+    match shape::shape_at(alloc, tokens.as_slice())? {
+        Ok(shape) if token::is_blank(rest) => match line_of(names, &shape) {
+            Ok(line) => Ok(line),
+            Err(fault) => Err(placed(bytes, tokens.len(), fault)),
+        },
+        Ok(_) => Err(placed(bytes, tokens.len(), LineFault::Syntax.at(0))),
+        Err(left) => Err(placed(bytes, tokens.len(), LineFault::Syntax.at(left.0))),
+    }
+}
+
+/// The same as `read_line`, and where the fault is.
+pub fn read_line_at(alloc: Global, text: &str, names: &Names) -> Result<Line, LineFaultAt>
+    ensures ok { IfOk result (IsLine names.now text.now) }
+    ensures one { IfOk result (λ l. (m : Instr) → IsLine names.now text.now m → m ≡ l) }
+    ensures within { IfOk result (IsLineIn names.now) }
+    ensures none { IfErr result (λ e. e.fault ≢ Memory → (l : Instr) → ¬ IsLine names.now text.now l) }
+    ensures err { IfErr result (λ e. e.fault ≢ Memory → Stands names.now text.now e.fault) }
+    ensures inside { IfErr result (λ e. e.at ≤ length text.now) }
+{
+    if let Some(call) = direct::read_call(names, text.as_bytes()) {
+        return Ok(Line::Call(call));
+    }
+    line_by_tokens(alloc, text, names)
 }
 
 /// The line that the text is, with these names.
@@ -212,8 +248,8 @@ pub fn read_line(alloc: Global, text: &str, names: &Names) -> Result<Line, LineF
     ensures none { IfErr result (λ f. f ≢ Memory → (l : Instr) → ¬ IsLine names.now text.now l) }
     ensures err { IfErr result (λ f. f ≢ Memory → Stands names.now text.now f) }
 {
-    if let Some(call) = direct::read_call(names, text.as_bytes()) {
-        return Ok(Line::Call(call));
+    match read_line_at(alloc, text, names) {
+        Ok(line) => Ok(line),
+        Err(error) => Err(error.fault),
     }
-    line_by_tokens(alloc, text, names)
 }

@@ -1,5 +1,5 @@
 // The tokens of a line: words, numbers and signs.
-ghost use Rattle.std.specs.Prelude.{◌≡◌, ◌+◌, ◌<◌, ◌≤◌, Some, IfSome, IfNone, IfOk, IfErr, ℕ, List, length, option_map, slice_index};
+ghost use Rattle.std.specs.Prelude.{◌≡◌, ◌+◌, ◌<◌, ◌≤◌, Some, true, false, IfSome, IfNone, IfOk, IfErr, ℕ, List, length, option_map, slice_index};
 ghost use Rattle.fr_instr.specs.Tokens.{Tok, is_letter, is_word_byte, is_space, Begins, Spells};
 ghost use Rattle.std.specs.List.{list_all};
 ghost use Rattle.fr_instr.specs.declared.fault.LineFault.TheVariants.{Memory, Syntax};
@@ -7,7 +7,7 @@ ghost use Rattle.fr_instr.specs.Reading.{front, after, sign_at, token_at};
 ghost use Rattle.fr_instr.specs.Views.{tok, toks, is_of};
 
 use crate::fault::LineFault;
-use std::alloc::Global;
+use std::alloc::{AllocError, Global};
 
 /// A sign between words and numbers.
 #[derive(Clone, Copy)]
@@ -170,10 +170,13 @@ pub(crate) fn is_blank(text: &[u8]) -> bool
     text.iter().all(|b| *b == b' ')
 }
 
-/// The tokens that the text spells.
-pub fn tokens(alloc: Global, text: &[u8]) -> Result<Vec<Token<'_>>, LineFault>
-    ensures ok { IfOk result (λ v. Spells text.now (toks v.items)) }
-    ensures err { IfErr result (λ f. ¬ (f ≡ Memory) → (f ≡ Syntax) × ((ts : List Tok) → ¬ Spells text.now ts)) }
+/// The tokens that the text begins with, and what is left of it, which begins with no further one.
+pub(crate) fn first_tokens(
+    alloc: Global,
+    text: &[u8],
+) -> Result<(Vec<Token<'_>>, &[u8]), AllocError>
+    ensures whole { IfOk result (λ p. list_all is_space p.1.now ≡ true → Spells text.now (toks p.0.items)) }
+    ensures broken { IfOk result (λ p. list_all is_space p.1.now ≡ false → (ts : List Tok) → ¬ Spells text.now ts) }
 {
     let mut found = Vec::new(alloc);
     let mut rest = text;
@@ -181,9 +184,34 @@ pub fn tokens(alloc: Global, text: &[u8]) -> Result<Vec<Token<'_>>, LineFault>
         found.push(token)?;
         rest = more;
     }
+    Ok((found, rest))
+}
+
+/// The tokens that the text spells.
+pub fn tokens(alloc: Global, text: &[u8]) -> Result<Vec<Token<'_>>, LineFault>
+    ensures ok { IfOk result (λ v. Spells text.now (toks v.items)) }
+    ensures err { IfErr result (λ f. ¬ (f ≡ Memory) → (f ≡ Syntax) × ((ts : List Tok) → ¬ Spells text.now ts)) }
+{
+    let (found, rest) = first_tokens(alloc, text)?;
     if is_blank(rest) {
         Ok(found)
     } else {
         Err(LineFault::Syntax)
     }
+}
+
+/// Where in the text the token with this number begins, from 0: in bytes. For a number past the last token it is where what is
+/// no token begins, or the text's end.
+pub(crate) fn place_of(text: &[u8], number: usize) -> usize
+    ensures { result ≤ length text.now }
+{
+    let mut rest = text;
+    for _ in 0..number {
+        match next_token(rest) {
+            Some((_, more)) => rest = more,
+            None => break,
+        }
+    }
+    let (_gap, rest) = split_class(rest, Class::Space);
+    text.len().saturating_sub(rest.len())
 }

@@ -1,18 +1,15 @@
 // The place of an application's refusal.
 use crate::build::push_build;
-use crate::declared::app_of_names;
 use crate::faulty::{push_missing, push_named, push_unknown_key, push_wrong_type};
 use crate::line::{push_line, push_plain};
 use crate::lines::Lines;
 use crate::position::{position_at, push_marked, push_position};
-use crate::scope::{Scope, boxed_names};
 use crate::shown::push_start;
 use crate::table::{has_name, line_at};
 use fr_code::entries_at;
 use fr_escape::Place;
 use fr_instr::LineFault;
-use fr_program::App;
-use fr_reader::{Key, MOST_BYTES, ReadFault};
+use fr_reader::{Key, MOST_BYTES, ReadFault, names_in};
 use std::alloc::{AllocError, Global};
 use toml::Table;
 
@@ -37,33 +34,18 @@ fn line_of<'a>(whole: &'a Table, actor: &str, index: usize) -> Option<&'a str> {
     None
 }
 
-/// Appends what is wrong with a line, for an application with these names.
-fn push_line_of(out: &mut Lines, app: &App, line: &str, fault: LineFault) {
-    match boxed_names(out.alloc, app) {
-        Ok(names) => {
-            let scope = Scope {
-                alloc: out.alloc,
-                app,
-                names: &names,
-            };
-            push_line(&scope, out, line.as_bytes(), fault);
-        }
-        Err(_) => out.refuse(),
-    }
-}
-
 /// Appends a line that can't be read, with its place.
-fn push_bad_line(out: &mut Lines, whole: &Table, actor: &str, index: usize, fault: LineFault) {
+fn push_bad_line(out: &mut Lines, whole: &Table, actor: &str, index: usize) {
     let Some(line) = line_of(whole, actor, index) else {
         return;
     };
     push_start(out, actor.as_bytes());
     out.number(" ", index as i128);
     out.say(":");
-    match app_of_names(out.alloc, whole) {
-        Ok(Some(app)) => push_line_of(out, &app, line, fault),
-        Ok(None) => push_plain(out, line.as_bytes()),
-        Err(_) => out.refuse(),
+    match names_in(out.alloc, whole) {
+        Ok(names) => push_line(out, whole, &names, line),
+        Err(error) if error.is_memory() => out.refuse(),
+        Err(_) => push_plain(out, line),
     }
 }
 
@@ -81,11 +63,7 @@ fn push_fault(out: &mut Lines, whole: &Table, fault: &ReadFault) {
                 "a name has 1 to 32 letters, digits and underscores, no digit first, and is no word of the lines",
             );
         }
-        ReadFault::Line {
-            actor,
-            index,
-            fault,
-        } => push_bad_line(out, whole, actor.as_str(), *index, *fault),
+        ReadFault::Line { actor, index, .. } => push_bad_line(out, whole, actor.as_str(), *index),
         ReadFault::Build(fault) => push_build(out, whole, *fault),
     }
 }

@@ -1,18 +1,16 @@
 // What stands against what, where the parts are no application.
-use crate::declared::app_of_names;
 use crate::lines::Lines;
-use crate::scope::boxed_names;
+use crate::note::kind_text;
 use crate::shown::push_start;
 use crate::table::{
-    entry_at, line_at, lines_of, name_at, number_at, push_entry, text_at, text_or_none,
+    entry_at, line_at, lines_of, number_at, push_entry, text_or_none,
 };
 use fr_code::{code_of, entries_at};
-use fr_instr::{LineFault, Names, read_line};
 use fr_program::{
-    Act, ActorId, App, Attempt, BuildFault, Call, CodeLine, Instr, MOST_SIZE, Operand, VarId,
+    Act, Actor, ActorId, Attempt, BuildFault, Call, CodeLine, Instr, Kind, MOST_SIZE, Operand,
+    Parts, VarId, Variable,
 };
-use fr_reader::Key;
-use std::alloc::{AllocError, Global};
+use fr_reader::{Key, parts_in};
 use toml::Table;
 
 /// The variable that the operand is.
@@ -50,108 +48,74 @@ fn variables_of(instr: Instr) -> [Option<VarId>; 3] {
     }
 }
 
-/// The name that a variable's table gives.
-fn variable_name(whole: &Table, x: VarId) -> &str {
-    match name_at(whole, Key::Variable, x.0) {
-        Some(name) => name,
-        None => "",
-    }
-}
-
-/// The owner that a variable's table gives.
-fn owner_of(whole: &Table, x: VarId) -> Option<&str> {
-    match entry_at(whole, Key::Variable, x.0) {
-        Some(table) => text_at(table, Key::Owner),
-        None => None,
-    }
-}
-
-/// The range that a table gives.
-fn range_in(table: &Table) -> Option<(i64, i64)> {
-    match (number_at(table, Key::Lo), number_at(table, Key::Hi)) {
-        (Some(lo), Some(hi)) => Some((lo, hi)),
-        _ => None,
-    }
-}
-
-/// The range that the table with this place gives.
-fn range_at(whole: &Table, key: Key, index: usize) -> Option<(i64, i64)> {
-    match entry_at(whole, key, index) {
-        Some(table) => range_in(table),
-        None => None,
-    }
+/// The variable with this number.
+fn variable_at(parts: &Parts, x: Option<VarId>) -> Option<&Variable> {
+    parts.variables.get(x?.0)
 }
 
 /// Appends each shared variable of the instruction, place by place.
-fn push_shared(out: &mut Lines, whole: &Table, instr: Instr) {
+fn push_shared(out: &mut Lines, parts: &Parts, instr: Instr) {
     out.text("shared here: ");
     let mut between = "";
     for x in &variables_of(instr) {
-        if let Some(x) = x
-            && owner_of(whole, *x).is_none()
+        if let Some(variable) = variable_at(parts, *x)
+            && variable.owner.is_none()
         {
             out.text(between);
-            out.text(variable_name(whole, *x));
+            out.text(variable.name.as_str());
             between = ", ";
         }
     }
     out.say("; a line has one shared variable at most, in one place");
 }
 
-/// Appends the variable with its owner, where that is another actor.
-fn push_owner(out: &mut Lines, whole: &Table, actor: &str, x: VarId) {
-    if let Some(owner) = owner_of(whole, x)
-        && owner != actor
-    {
-        out.say_all(&[variable_name(whole, x), " is owned by ", owner]);
-    }
-}
-
-/// Appends each variable of the instruction that belongs to another actor.
-fn push_owners(out: &mut Lines, whole: &Table, actor: &str, instr: Instr) {
+/// Appends each variable of the instruction that belongs to another actor than this one.
+fn push_owners(out: &mut Lines, parts: &Parts, actor: ActorId, instr: Instr) {
     for x in &variables_of(instr) {
-        if let Some(x) = x {
-            push_owner(out, whole, actor, *x);
+        if let Some(variable) = variable_at(parts, *x)
+            && let Some(owner) = variable.owner
+            && owner.0 != actor.0
+            && let Some(other) = parts.actors.get(owner.0)
+        {
+            let name = variable.name.as_str();
+            out.say_all(&[name, " is owned by ", other.name.as_str()]);
         }
     }
 }
 
 /// Appends the object of the instruction with its kind.
-fn push_kind(out: &mut Lines, whole: &Table, instr: Instr) {
+fn push_kind(out: &mut Lines, parts: &Parts, instr: Instr) {
     if let Instr::Call(call) = instr
-        && let Some(object) = call.object()
-        && let Some(table) = entry_at(whole, Key::Object, object.0)
+        && let Some(id) = call.object()
+        && let Some(object) = parts.objects.get(id.0)
     {
-        out.say_all(&[
-            text_or_none(table, Key::Name),
-            " has the kind ",
-            text_or_none(table, Key::Kind),
-            ", which this call isn't for",
-        ]);
+        out.texts(&[object.name.as_str(), " has the kind "]);
+        out.say_all(&[kind_text(object.kind), ", which this call isn't for"]);
     }
 }
 
 /// The range of what an instruction gives to its variable.
-fn range_given(whole: &Table, instr: Instr) -> Option<(i64, i64)> {
+fn range_given(parts: &Parts, instr: Instr) -> Option<(i64, i64)> {
     match instr {
         Instr::Pick { lo, hi, .. } => Some((lo, hi)),
-        Instr::Call(Call::On(call)) => match call.act {
-            Act::Try { .. } => range_at(whole, Key::Object, call.object.0),
-            Act::Move { length, .. } => Some((0, i64::from(length))),
+        Instr::Call(Call::On(call)) => match (call.act, parts.objects.get(call.object.0)?.kind) {
+            (Act::Move { length, .. }, _) => Some((0, i64::from(length))),
+            (_, Kind::Queue { lo, hi, .. }) => Some((lo, hi)),
+            _ => None,
         },
         _ => None,
     }
 }
 
 /// Appends the range of the instruction's variable, and of what it is given.
-fn push_ranges(out: &mut Lines, whole: &Table, instr: Instr) {
-    if let [Some(x), _, _] = variables_of(instr)
-        && let Some((lo, hi)) = range_at(whole, Key::Variable, x.0)
-        && let Some((least, most)) = range_given(whole, instr)
+fn push_ranges(out: &mut Lines, parts: &Parts, instr: Instr) {
+    let [target, _, _] = variables_of(instr);
+    if let Some(variable) = variable_at(parts, target)
+        && let Some((least, most)) = range_given(parts, instr)
     {
-        out.text(variable_name(whole, x));
-        out.number(" is declared from ", lo as i128);
-        out.number(" to ", hi as i128);
+        out.text(variable.name.as_str());
+        out.number(" is declared from ", variable.lo as i128);
+        out.number(" to ", variable.hi as i128);
         out.number(", and is given ", least as i128);
         out.number(" to ", most as i128);
         out.end();
@@ -164,51 +128,33 @@ fn last_of(lines: usize) -> usize {
 }
 
 /// Appends how many lines the actor has.
-fn push_length(out: &mut Lines, actor: &Table, name: &str) {
-    let lines = lines_of(actor).len();
-    out.texts(&["lines of ", name]);
+fn push_length(out: &mut Lines, actor: &Actor) {
+    let lines = actor.code.len();
+    out.texts(&["lines of ", actor.name.as_str()]);
     out.number(": ", lines as i128);
     out.number(", from 0 to ", last_of(lines) as i128);
     out.end();
 }
 
-/// The instruction that the line is, with these names.
-fn instr_with(alloc: Global, names: &Names, line: &str) -> Result<Option<Instr>, AllocError> {
-    match read_line(alloc, line, names) {
-        Ok(instr) => Ok(Some(instr)),
-        Err(LineFault::Memory) => Err(AllocError),
-        Err(_) => Ok(None),
-    }
-}
-
-/// The same, for an application with these names.
-fn instr_among(alloc: Global, app: &App, line: &str) -> Result<Option<Instr>, AllocError> {
-    let names = boxed_names(alloc, app)?;
-    instr_with(alloc, &names, line)
-}
-
-/// The instruction that the line is.
-fn instr_of(alloc: Global, whole: &Table, line: &str) -> Result<Option<Instr>, AllocError> {
-    match app_of_names(alloc, whole)? {
-        Some(app) => instr_among(alloc, &app, line),
-        None => Ok(None),
-    }
-}
-
-/// Appends what stands against what in this line of this actor.
-fn push_reason(out: &mut Lines, whole: &Table, actor: &Table, instr: Instr, fault: BuildFault) {
-    let name = text_or_none(actor, Key::Name);
+/// Appends what stands against what in the line with this number of this actor.
+fn push_reason(out: &mut Lines, parts: &Parts, at: CodeLine, fault: BuildFault) {
+    let Some(actor) = parts.actors.get(at.actor.0) else {
+        return;
+    };
+    let Some(instr) = actor.code.get(at.pc) else {
+        return;
+    };
     match fault {
         BuildFault::BadRange(_) => out.say("the first number is above the second"),
-        BuildFault::BadTarget(_) => push_length(out, actor, name),
-        BuildFault::TwoShared(_) => push_shared(out, whole, instr),
-        BuildFault::NotOwner(_) => push_owners(out, whole, name, instr),
-        BuildFault::KindMismatch(_) => push_kind(out, whole, instr),
+        BuildFault::BadTarget(_) => push_length(out, actor),
+        BuildFault::TwoShared(_) => push_shared(out, parts, *instr),
+        BuildFault::NotOwner(_) => push_owners(out, parts, at.actor, *instr),
+        BuildFault::KindMismatch(_) => push_kind(out, parts, *instr),
         BuildFault::FromIsrInTask(_) => out.say_all(&[
-            name,
+            actor.name.as_str(),
             " is a task, and this call is for interrupts",
         ]),
-        BuildFault::ResultRange(_) => push_ranges(out, whole, instr),
+        BuildFault::ResultRange(_) => push_ranges(out, parts, *instr),
         BuildFault::Operands(_) => out.say(
             "its operands are one variable twice, or two variables of a product",
         ),
@@ -234,15 +180,18 @@ fn push_at_line(out: &mut Lines, whole: &Table, at: CodeLine, fault: BuildFault)
         return;
     };
     push_code_line(out, actor, at.pc, line);
-    match instr_of(out.alloc, whole, line) {
-        Ok(Some(instr)) => push_reason(out, whole, actor, instr, fault),
-        Ok(None) => {}
-        Err(_) => out.refuse(),
+    match parts_in(out.alloc, whole) {
+        Ok(parts) => push_reason(out, &parts, at, fault),
+        Err(error) if error.is_memory() => out.refuse(),
+        Err(_) => {}
     }
 }
 
-/// Appends that this actor's code has no end.
-fn push_last(out: &mut Lines, actor: &Table) {
+/// Appends that the code of the actor with this number has no end.
+fn push_falling_off(out: &mut Lines, whole: &Table, actor: ActorId) {
+    let Some(actor) = entry_at(whole, Key::Actor, actor.0) else {
+        return;
+    };
     let last = last_of(lines_of(actor).len());
     match line_at(actor, last) {
         Some(line) => {
@@ -250,13 +199,6 @@ fn push_last(out: &mut Lines, actor: &Table) {
             out.say("the last line has to be a goto, a return or vTaskDelete(NULL)");
         }
         None => out.say_all(&[text_or_none(actor, Key::Name), " has no line"]),
-    }
-}
-
-/// The same of the actor with this number.
-fn push_falling_off(out: &mut Lines, whole: &Table, actor: ActorId) {
-    if let Some(table) = entry_at(whole, Key::Actor, actor.0) {
-        push_last(out, table);
     }
 }
 
@@ -287,20 +229,17 @@ fn push_counts(out: &mut Lines, whole: &Table) {
     out.say(", at most 512");
 }
 
-/// The number at the key of a table, and this one where there is none.
-fn number_or(table: &Table, key: Key, other: i64) -> i64 {
-    match number_at(table, key) {
-        Some(number) => number,
-        None => other,
-    }
+/// The range that a table gives.
+fn range_in(table: &Table) -> Option<(i64, i64)> {
+    Some((number_at(table, Key::Lo)?, number_at(table, Key::Hi)?))
 }
 
 /// Whether the numbers of a variable or an object are in their limits.
 fn is_in_limits(table: &Table) -> bool {
     let (lo, hi) = range_in(table).unwrap_or((0, 0));
-    let init = number_or(table, Key::Init, lo);
-    let size = number_or(table, Key::Size, 1);
-    let first = number_or(table, Key::First, 0);
+    let init = number_at(table, Key::Init).unwrap_or(lo);
+    let size = number_at(table, Key::Size).unwrap_or(1);
+    let first = number_at(table, Key::First).unwrap_or(0);
     lo <= init
         && init <= hi
         && 1 <= size

@@ -1,9 +1,9 @@
 // What is wrong with a table of an application's text.
 use crate::lines::Lines;
-use crate::nearness::push_nearest;
+use crate::nearness::{push_nearest, push_nearest_at};
 use crate::shown::{push_listed, push_quoted};
 use crate::table::{
-    entry_at, has_name, lines_of, names_at, push_table, push_value, table_named, text_or_none,
+    entry_at, has_name, lines_of, push_table, push_value, table_named, text_or_none,
 };
 use fr_code::entries_at;
 use fr_reader::{Key, TableName};
@@ -61,19 +61,11 @@ fn wanted_at(name: TableName, key: Key) -> &'static str {
     }
 }
 
-/// Appends the nearest of the actors' names, and ends the line.
-fn push_nearest_actor(out: &mut Lines, whole: &Table, word: &str) {
-    match names_at(out.alloc, whole, Key::Actor) {
-        Ok(actors) => push_nearest(out, word, &actors),
-        Err(_) => out.refuse(),
-    }
-}
-
 /// Appends the nearest of the words of which one has to be at the key of a table, if there are such words, and ends
 /// the line.
 fn push_nearest_word(out: &mut Lines, whole: &Table, name: TableName, key: Key, word: &str) {
     match (key, name) {
-        (Key::Owner, _) => push_nearest_actor(out, whole, word),
+        (Key::Owner, _) => push_nearest_at(out, whole, Key::Actor, word),
         (Key::Kind, TableName::Actor(_)) => push_nearest(out, word, &ACTOR_KINDS),
         (Key::Kind, _) => push_nearest(out, word, &OBJECT_KINDS),
         _ => out.end(),

@@ -6,9 +6,7 @@
 
 mod app;
 mod build;
-mod calls;
 mod certificate;
-mod declared;
 mod faulty;
 mod guard;
 mod line;
@@ -16,7 +14,6 @@ mod lines;
 mod nearness;
 mod note;
 mod path;
-mod piece;
 mod position;
 mod recipe;
 mod scope;

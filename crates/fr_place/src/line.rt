@@ -1,361 +1,205 @@
 // A line of code that can't be read: where it goes wrong, and what is wrong there.
-use crate::calls::{CALLS, arguments_of};
 use crate::lines::Lines;
-use crate::nearness::{push_nearest, push_nearest_name};
-use crate::piece::{Piece, pieces_of};
+use crate::nearness::{push_nearest, push_nearest_at};
 use crate::position::push_marked;
 use crate::recipe::recipe_for;
-use crate::scope::{Scope, Thing};
 use crate::shown::push_start;
-use fr_instr::LineFault;
-use fr_program::is_name;
-use std::alloc::AllocError;
+use crate::table::has_name;
+use fr_code::entries_at;
+use fr_instr::{LineFault, Names, Sign, Token, next_token, read_line_at, row_named, rows};
+use fr_reader::Key;
+use std::alloc::{AllocError, Global};
+use toml::Table;
 
-/// The most bytes of a line that is looked into.
-const MOST_BYTES: usize = 512;
-
-/// The most bytes of a name.
-const LONGEST_NAME: usize = 32;
-
-/// What can follow the front part of a line, so that the two are a line, or are one but for its names and numbers.
-static ENDINGS: [&str; 30] = [
-    "",
-    " 0",
-    "()",
-    ")",
-    " 0)",
-    ", 0)",
-    " = 0",
-    " goto 0",
-    " x = 0",
-    " 0 < 0 goto 0",
-    " < 0 goto 0",
-    " 0 goto 0",
-    " x 0 0",
-    " 0 0",
-    " f()",
-    "(0)",
-    "(NULL)",
-    "(o)",
-    "(o, 0)",
-    "(o, 0, 0)",
-    " NULL)",
-    " o)",
-    " o, 0)",
-    " o, 0, 0)",
-    ", v)",
-    ", 0, 0)",
-    ", v, 0)",
-    " v)",
-    " 0, 0)",
-    " v, 0)",
-];
-
-/// Why the line is none with the text in place of its bytes from `start` to `end`; None where it is one.
-fn fault_with(
-    scope: &Scope,
-    line: &[u8],
-    start: usize,
-    end: usize,
-    text: &[u8],
-) -> Result<Option<LineFault>, AllocError> {
-    let (front, _) = line.split_at(start.min(line.len()));
-    let (_, back) = line.split_at(end.min(line.len()));
-    let mut changed = Vec::from_slice(scope.alloc, front)?;
-    changed.extend_from_slice(text)?;
-    changed.extend_from_slice(back)?;
-    scope.fault_in(&changed)
+/// The bytes as a text, and no text where they are none.
+fn text_of(bytes: &[u8]) -> &str {
+    std::str::from_utf8(bytes).unwrap_or("")
 }
 
-/// Whether some line begins with the bytes of this one up to `end`, names and numbers aside.
-fn begins_a_line(scope: &Scope, line: &[u8], end: usize) -> Result<bool, AllocError> {
-    for ending in &ENDINGS {
-        match fault_with(scope, line, end, line.len(), ending.as_bytes())? {
-            Some(LineFault::Syntax | LineFault::ArgCount) => {}
-            _ => return Ok(true),
+/// The word or the number that the text begins with, and no text where it begins with neither.
+fn word_of(text: &str) -> &str {
+    match next_token(text.as_bytes()) {
+        Some((Token::Word(word) | Token::Number(word), _)) => text_of(word),
+        _ => "",
+    }
+}
+
+/// The name of the call that begins with this token, with this text behind it, and no text where none does.
+fn called<'a>(token: Token<'a>, behind: &[u8]) -> &'a str {
+    match (token, next_token(behind)) {
+        (Token::Word(word), Some((Token::Sign(Sign::Open), _))) => text_of(word),
+        _ => "",
+    }
+}
+
+/// The first call in the line for which there is a recipe, since no line has it: its name, and where it begins. A byte with which no
+/// token begins is passed over.
+fn call_with_recipe(line: &str) -> Option<(&str, usize)> {
+    let mut text = line.as_bytes();
+    while let Some((_, others)) = text.split_first() {
+        let Some((token, rest)) = next_token(text) else {
+            text = others;
+            continue;
+        };
+        let name = called(token, rest);
+        if recipe_for(name).is_some() {
+            let left = name.len().saturating_add(rest.len());
+            return Some((name, line.len().saturating_sub(left)));
+        }
+        text = rest;
+    }
+    None
+}
+
+/// A thing of the sort of which the tables at this key are.
+fn one_of(key: Key) -> &'static str {
+    match key {
+        Key::Variable => "a variable",
+        Key::Object => "an object",
+        _ => "an actor",
+    }
+}
+
+/// Whether a table in the list at the key has the name.
+fn is_named(whole: &Table, key: Key, name: &str) -> bool {
+    for value in entries_at(whole, key) {
+        if has_name(value, name) {
+            return true;
         }
     }
-    Ok(false)
+    false
 }
 
-/// The number of the first piece with which no line can go on, or how many there are.
-fn first_unfit(
-    scope: &Scope,
-    line: &[u8],
-    pieces: &[Piece<'_>],
-) -> Result<Option<usize>, AllocError> {
-    for (index, piece) in pieces.iter().enumerate() {
-        if !begins_a_line(scope, line, piece.end)? {
-            return Ok(Some(index));
+/// The list with a table that has the name.
+fn list_with(whole: &Table, name: &str) -> Option<Key> {
+    for key in &[Key::Variable, Key::Object, Key::Actor] {
+        if is_named(whole, *key, name) {
+            return Some(*key);
         }
     }
-    Ok(Some(pieces.len()))
+    None
 }
 
-/// Whether the piece with this number is this sign.
-fn is_sign_at(pieces: &[Piece<'_>], index: usize, sign: u8) -> bool {
-    match pieces.get(index) {
-        Some(piece) => piece.is(sign),
-        None => false,
-    }
-}
-
-/// Whether the piece behind this one is this sign.
-fn is_before(pieces: &[Piece<'_>], index: usize, sign: u8) -> bool {
-    is_sign_at(pieces, index.saturating_add(1), sign)
-}
-
-/// Whether the piece in front of this one is this sign.
-fn is_behind(pieces: &[Piece<'_>], index: usize, sign: u8) -> bool {
-    index > 0 && is_sign_at(pieces, index.saturating_sub(1), sign)
-}
-
-/// Whether the word is one that lines have for themselves.
-fn is_reserved(word: &str) -> bool {
-    word.len() <= LONGEST_NAME && !is_name(word)
-}
-
-/// What the piece with this number has to name: an object where it is a call's first argument, else a variable. None
-/// where it is no name.
-fn thing_wanted(pieces: &[Piece<'_>], index: usize, piece: Piece<'_>) -> Option<Thing> {
-    if !piece.is_word() || is_reserved(piece.word()) || is_before(pieces, index, b'(') {
-        None
-    } else if is_behind(pieces, index, b'(') {
-        Some(Thing::Object)
-    } else if index > 0 || is_before(pieces, index, b'=') {
-        Some(Thing::Variable)
+/// Appends what is wrong with a name: what else it names, or which name is nearest. An object's name has to be behind an opening
+/// bracket, and a variable's anywhere else.
+fn push_unknown_name(out: &mut Lines, whole: &Table, before: &str, word: &str) {
+    let wanted = if before.trim_end().ends_with('(') {
+        Key::Object
     } else {
-        None
-    }
-}
-
-/// The number of the first piece that has to name something and doesn't.
-fn unknown_name(scope: &Scope, pieces: &[Piece<'_>]) -> Option<usize> {
-    for (index, piece) in pieces.iter().enumerate() {
-        if let Some(thing) = thing_wanted(pieces, index, *piece)
-            && !scope.has(thing, piece.word())
-        {
-            return Some(index);
-        }
-    }
-    None
-}
-
-/// The number of the piece that has a call's place.
-fn called(pieces: &[Piece<'_>]) -> Option<usize> {
-    for (index, piece) in pieces.iter().enumerate() {
-        if piece.is_word() && is_before(pieces, index, b'(') {
-            return Some(index);
-        }
-    }
-    None
-}
-
-/// What to write in place of the piece, where it is a call that no line has.
-fn recipe_of(pieces: &[Piece<'_>], index: usize, piece: Piece<'_>) -> Option<&'static str> {
-    if is_before(pieces, index, b'(') {
-        recipe_for(piece.word())
-    } else {
-        None
-    }
-}
-
-/// The number of the first piece for which there is such a recipe.
-fn call_with_recipe(pieces: &[Piece<'_>]) -> Option<usize> {
-    for (index, piece) in pieces.iter().enumerate() {
-        if recipe_of(pieces, index, *piece).is_some() {
-            return Some(index);
-        }
-    }
-    None
-}
-
-/// The number of the first piece that is a number, where the line with 1 in its place has no bad number.
-fn bad_number(
-    scope: &Scope,
-    line: &[u8],
-    pieces: &[Piece<'_>],
-) -> Result<Option<usize>, AllocError> {
-    for (index, piece) in pieces.iter().enumerate() {
-        if piece.is_number() {
-            let fault = fault_with(scope, line, piece.start, piece.end, b"1")?;
-            if !matches!(fault, Some(LineFault::BadNumber)) {
-                return Ok(Some(index));
-            }
-        }
-    }
-    Ok(None)
-}
-
-/// The number of the piece that is at fault, or how many there are where one is missing behind them. A call that no line has is at
-/// fault, whatever else is.
-fn piece_at_fault(
-    scope: &Scope,
-    line: &[u8],
-    pieces: &[Piece<'_>],
-    fault: LineFault,
-) -> Result<Option<usize>, AllocError> {
-    if let Some(index) = call_with_recipe(pieces) {
-        return Ok(Some(index));
-    }
-    match fault {
-        LineFault::Memory => Ok(None),
-        LineFault::Syntax => first_unfit(scope, line, pieces),
-        LineFault::UnknownName => Ok(unknown_name(scope, pieces)),
-        LineFault::UnknownCall | LineFault::ArgCount => Ok(called(pieces)),
-        LineFault::BadNumber => bad_number(scope, line, pieces),
-    }
-}
-
-/// Appends what is wrong with a name: what else it names, or which name is nearest.
-fn push_unknown_name(scope: &Scope, out: &mut Lines, word: &str, wanted: Thing) {
-    match scope.thing_named(word) {
-        Some(thing) => {
+        Key::Variable
+    };
+    match list_with(whole, word) {
+        Some(key) => {
             out.text(word);
-            out.texts(&[" is ", thing.one(), ", and "]);
-            out.say_all(&[wanted.one(), " is wanted here"]);
+            out.texts(&[" is ", one_of(key), ", and "]);
+            out.say_all(&[one_of(wanted), " is wanted here"]);
         }
         None => {
             out.texts(&["no ", wanted.text(), " has the name "]);
             out.text(word);
-            push_nearest_name(scope, out, word, wanted);
+            push_nearest_at(out, whole, wanted, word);
         }
     }
 }
 
-/// How many commas there are.
-fn commas(pieces: &[Piece<'_>]) -> usize {
-    let mut count = 0usize;
-    for piece in pieces {
-        if piece.is(b',') {
-            count = count.saturating_add(1);
-        }
+/// The names of the calls that lines have.
+fn call_names(alloc: Global) -> Result<Vec<&'static str>, AllocError> {
+    let mut names = Vec::new(alloc);
+    for row in rows() {
+        names.push(row.0)?;
     }
-    count
+    Ok(names)
 }
 
-/// How many arguments are between the brackets behind the call with this number.
-fn arguments_given(pieces: &[Piece<'_>], index: usize) -> usize {
-    if is_sign_at(pieces, index.saturating_add(2), b')') {
-        0
-    } else {
-        commas(pieces).saturating_add(1)
+/// Appends that no call has the name, and the nearest one.
+fn push_unknown_call(out: &mut Lines, word: &str) {
+    out.texts(&["no call has the name ", word]);
+    match call_names(out.alloc) {
+        Ok(names) => push_nearest(out, word, &names),
+        Err(_) => out.refuse(),
     }
 }
 
-/// Appends how many arguments a call has, and how many it is given.
-fn push_arguments(out: &mut Lines, word: &str, given: usize) {
-    if let Some(wanted) = arguments_of(word) {
+/// How many arguments are between the brackets of the call that the text begins with.
+fn arguments_in(text: &str) -> usize {
+    let Some((_, inside)) = text.split_once('(') else {
+        return 0;
+    };
+    match inside.split_once(')') {
+        Some((arguments, _)) if !arguments.trim().is_empty() => arguments.split(',').count(),
+        _ => 0,
+    }
+}
+
+/// Appends how many arguments the call has that the text begins with, and how many it is given.
+fn push_arguments(out: &mut Lines, text: &str, word: &str) {
+    if let Some((_, _, places, _)) = row_named(word.as_bytes()) {
         out.texts(&["arguments of ", word]);
-        out.number(": ", wanted as i128);
-        out.number(" wanted, ", given as i128);
+        out.number(": ", places.len() as i128);
+        out.number(" wanted, ", arguments_in(text) as i128);
         out.say(" given");
     }
 }
 
-/// Appends why the number is a bad one.
-fn push_bad_number(out: &mut Lines, number: &[u8]) {
-    out.say(if has_leading_zero(number) {
-        "a number has no leading zero, and 0 no sign"
-    } else {
-        "this number is out of the limits of its place"
-    });
+/// Whether the number is written with a zero in front, or is 0 with a sign.
+fn has_leading_zero(number: &str) -> bool {
+    let digits = number.strip_prefix('-').unwrap_or(number);
+    digits.starts_with('0') && number != "0"
 }
 
-/// Appends what is wrong with this piece, which has this number.
-fn push_fault(
-    scope: &Scope,
-    out: &mut Lines,
-    pieces: &[Piece<'_>],
-    index: usize,
-    piece: Piece<'_>,
-    fault: LineFault,
-) {
-    let word = piece.word();
+/// Appends what is wrong at a place of a line, with what is before it and behind it.
+fn push_reason(out: &mut Lines, whole: &Table, before: &str, behind: &str, fault: LineFault) {
+    let word = word_of(behind);
     match fault {
         LineFault::Memory => {}
-        LineFault::Syntax => out.say("this doesn't fit here"),
-        LineFault::UnknownName => if let Some(wanted) = thing_wanted(pieces, index, piece) {
-            push_unknown_name(scope, out, word, wanted);
-        },
-        LineFault::UnknownCall => {
-            out.texts(&["no call has the name ", word]);
-            push_nearest(out, word, &CALLS);
+        LineFault::Syntax => out.say(if behind.is_empty() {
+            "the line ends too soon"
+        } else {
+            "this doesn't fit here"
+        }),
+        LineFault::UnknownName => push_unknown_name(out, whole, before, word),
+        LineFault::UnknownCall => push_unknown_call(out, word),
+        LineFault::ArgCount => push_arguments(out, behind, word),
+        LineFault::BadNumber => out.say(if has_leading_zero(word) {
+            "a number has no leading zero, and 0 no sign"
+        } else {
+            "this number is out of the limits of its place"
+        }),
+    }
+}
+
+/// Appends the line with a mark at this place, and returns what is before it and behind it.
+fn push_split<'a>(out: &mut Lines, line: &'a str, at: usize) -> (&'a str, &'a str) {
+    let (before, behind) = line.split_at_checked(at).unwrap_or((line, ""));
+    push_marked(out, before.as_bytes(), behind.as_bytes());
+    (before, behind)
+}
+
+/// Appends the line with a mark under this call at this place, and the recipe for it.
+fn push_recipe(out: &mut Lines, line: &str, name: &str, at: usize) {
+    push_split(out, line, at);
+    out.texts(&["no line has ", name, ": "]);
+    out.say(recipe_for(name).unwrap_or(""));
+}
+
+/// Appends the line with a mark under what is at fault, and what is wrong there. A call that no line has is at fault, whatever
+/// else is.
+pub(crate) fn push_line(out: &mut Lines, whole: &Table, names: &Names, line: &str) {
+    if let Some((name, at)) = call_with_recipe(line) {
+        return push_recipe(out, line, name, at);
+    }
+    match read_line_at(out.alloc, line, names) {
+        Ok(_) => push_plain(out, line),
+        Err(error) if error.fault == LineFault::Memory => out.refuse(),
+        Err(error) => {
+            let (before, behind) = push_split(out, line, error.at);
+            push_reason(out, whole, before, behind, error.fault);
         }
-        LineFault::ArgCount => push_arguments(out, word, arguments_given(pieces, index)),
-        LineFault::BadNumber => push_bad_number(out, piece.text),
-    }
-}
-
-/// Appends what is wrong with the piece at fault.
-fn push_reason(
-    scope: &Scope,
-    out: &mut Lines,
-    pieces: &[Piece<'_>],
-    index: usize,
-    fault: LineFault,
-) {
-    let Some(piece) = pieces.get(index) else {
-        return out.say("the line ends too soon");
-    };
-    match recipe_of(pieces, index, *piece) {
-        Some(instead) => {
-            out.texts(&["no line has ", piece.word(), ": "]);
-            out.say(instead);
-        }
-        None => push_fault(scope, out, pieces, index, *piece, fault),
-    }
-}
-
-/// Whether the number is written with a zero in front, or is 0 with a sign.
-fn has_leading_zero(number: &[u8]) -> bool {
-    match number {
-        [b'0', _, ..] => true,
-        [b'-', b'0', ..] => true,
-        _ => false,
-    }
-}
-
-/// The place in the line where the piece with this number begins, or the line's end.
-fn start_of(line: &[u8], pieces: &[Piece<'_>], index: usize) -> usize {
-    match pieces.get(index) {
-        Some(piece) => piece.start,
-        None => line.len(),
-    }
-}
-
-/// Appends the line of these pieces with a mark under what is at fault, and what is wrong there.
-fn push_pieces(
-    scope: &Scope,
-    out: &mut Lines,
-    line: &[u8],
-    pieces: &[Piece<'_>],
-    fault: LineFault,
-) {
-    match piece_at_fault(scope, line, pieces, fault) {
-        Ok(Some(index)) => {
-            let (before, behind) = line.split_at(start_of(line, pieces, index).min(line.len()));
-            push_marked(out, before, behind);
-            push_reason(scope, out, pieces, index, fault);
-        }
-        Ok(None) => push_plain(out, line),
-        Err(_) => out.refuse(),
-    }
-}
-
-/// Appends the line with a mark under what is at fault, and what is wrong there.
-pub(crate) fn push_line(scope: &Scope, out: &mut Lines, line: &[u8], fault: LineFault) {
-    if line.len() > MOST_BYTES {
-        return push_plain(out, line);
-    }
-    match pieces_of(scope.alloc, line) {
-        Ok(pieces) => push_pieces(scope, out, line, &pieces, fault),
-        Err(_) => out.refuse(),
     }
 }
 
 /// Appends the start of the line.
-pub(crate) fn push_plain(out: &mut Lines, line: &[u8]) {
-    push_start(out, line);
+pub(crate) fn push_plain(out: &mut Lines, line: &str) {
+    push_start(out, line.as_bytes());
     out.end();
 }

@@ -1,5 +1,5 @@
 // What lines and notes are read with: an application's names.
-use fr_instr::{LineFault, Names, names_of, read_line};
+use fr_instr::{Names, names_of};
 use fr_program::{App, Kind, Variable};
 use std::alloc::{AllocError, Global};
 
@@ -20,19 +20,7 @@ impl Thing {
             Thing::Actor => "actor",
         }
     }
-
-    /// The word for such a thing behind an article.
-    pub(crate) fn one(self) -> &'static str {
-        match self {
-            Thing::Variable => "a variable",
-            Thing::Object => "an object",
-            Thing::Actor => "an actor",
-        }
-    }
 }
-
-/// What a name can be the name of, in order.
-static THINGS: [Thing; 3] = [Thing::Variable, Thing::Object, Thing::Actor];
 
 /// An application with its names.
 #[derive(Clone, Copy)]
@@ -48,68 +36,23 @@ pub(crate) fn boxed_names(alloc: Global, app: &App) -> Result<Box<Names>, AllocE
 }
 
 impl Scope<'_> {
-    /// Why the text is no line; None where it is one.
-    pub(crate) fn fault_in(&self, text: &[u8]) -> Result<Option<LineFault>, AllocError> {
-        let Ok(text) = std::str::from_utf8(text) else {
-            return Ok(Some(LineFault::Syntax));
-        };
-        match read_line(self.alloc, text, self.names) {
-            Ok(_) => Ok(None),
-            Err(LineFault::Memory) => Err(AllocError),
-            Err(fault) => Ok(Some(fault)),
-        }
-    }
-
-    /// Whether a thing of this sort has the name.
-    pub(crate) fn has(&self, thing: Thing, name: &str) -> bool {
-        match thing {
-            Thing::Variable => self.names.variable(name).is_some(),
-            Thing::Object => self.names.object(name).is_some(),
-            Thing::Actor => self.names.actor(name).is_some(),
-        }
-    }
-
-    /// What the name is the name of.
-    pub(crate) fn thing_named(&self, name: &str) -> Option<Thing> {
-        for thing in &THINGS {
-            if self.has(*thing, name) {
-                return Some(*thing);
-            }
-        }
-        None
-    }
-
     /// The variable with this name.
     pub(crate) fn variable_named(&self, name: &str) -> Option<&Variable> {
-        match self.names.variable(name) {
-            Some(variable) => self.app.variables().get(variable.0),
-            None => None,
-        }
+        self.app.variables().get(self.names.variable(name)?.0)
     }
 
     /// The kind of the object with this name.
     pub(crate) fn kind_named(&self, name: &str) -> Option<Kind> {
-        match self.names.object(name) {
-            Some(object) => Some(self.app.objects().get(object.0)?.kind),
-            None => None,
-        }
+        let object = self.names.object(name)?;
+        Some(self.app.objects().get(object.0)?.kind)
     }
 
     /// The name of the thing of this sort with this number.
     fn name_of(&self, thing: Thing, index: usize) -> Option<&str> {
         match thing {
-            Thing::Variable => match self.app.variables().get(index) {
-                Some(variable) => Some(variable.name.as_str()),
-                None => None,
-            },
-            Thing::Object => match self.app.objects().get(index) {
-                Some(object) => Some(object.name.as_str()),
-                None => None,
-            },
-            Thing::Actor => match self.app.actors().get(index) {
-                Some(actor) => Some(actor.name.as_str()),
-                None => None,
-            },
+            Thing::Variable => Some(self.app.variables().get(index)?.name.as_str()),
+            Thing::Object => Some(self.app.objects().get(index)?.name.as_str()),
+            Thing::Actor => Some(self.app.actors().get(index)?.name.as_str()),
         }
     }
 

@@ -8,34 +8,22 @@ use toml::{Table, Value};
 
 /// The table with this place in the list at this key.
 pub(crate) fn entry_at(whole: &Table, key: Key, index: usize) -> Option<&Table> {
-    match entries_at(whole, key).get(index) {
-        Some(value) => value.as_table(),
-        None => None,
-    }
+    entries_at(whole, key).get(index)?.as_table()
 }
 
 /// The text at this key.
-pub(crate) fn text_at(table: &Table, key: Key) -> Option<&str> {
-    match table.get(key.text()) {
-        Some(value) => value.as_str(),
-        None => None,
-    }
+fn text_at(table: &Table, key: Key) -> Option<&str> {
+    table.get(key.text())?.as_str()
 }
 
 /// The text at this key, and no text where there is none.
 pub(crate) fn text_or_none(table: &Table, key: Key) -> &str {
-    match text_at(table, key) {
-        Some(text) => text,
-        None => "",
-    }
+    text_at(table, key).unwrap_or("")
 }
 
 /// The name that a table gives itself.
-pub(crate) fn name_in(value: &Value) -> Option<&str> {
-    match value.as_table() {
-        Some(table) => text_at(table, Key::Name),
-        None => None,
-    }
+fn name_in(value: &Value) -> Option<&str> {
+    text_at(value.as_table()?, Key::Name)
 }
 
 /// Whether a table gives itself this name.
@@ -47,19 +35,13 @@ pub(crate) fn has_name(value: &Value, name: &str) -> bool {
 }
 
 /// The name of the table with this place in the list at this key.
-pub(crate) fn name_at(whole: &Table, key: Key, index: usize) -> Option<&str> {
-    match entries_at(whole, key).get(index) {
-        Some(value) => name_in(value),
-        None => None,
-    }
+fn name_at(whole: &Table, key: Key, index: usize) -> Option<&str> {
+    name_in(entries_at(whole, key).get(index)?)
 }
 
 /// The number at this key.
 pub(crate) fn number_at(table: &Table, key: Key) -> Option<i64> {
-    match table.get(key.text()) {
-        Some(value) => value.as_integer(),
-        None => None,
-    }
+    table.get(key.text())?.as_integer()
 }
 
 /// The lines of an actor's code.
@@ -69,10 +51,7 @@ pub(crate) fn lines_of(actor: &Table) -> &[Value] {
 
 /// The text of the line with this number.
 pub(crate) fn line_at(actor: &Table, index: usize) -> Option<&str> {
-    match lines_of(actor).get(index) {
-        Some(line) => line.as_str(),
-        None => None,
-    }
+    lines_of(actor).get(index)?.as_str()
 }
 
 /// The list that has the table, and its place there.

@@ -2,14 +2,17 @@
 ghost use Rattle.std.specs.Prelude.{◌≡◌, ℕ, List, Bool, false, IfOk, IfErr};
 ghost use Rattle.toml.specs.View.{table_view};
 ghost use Rattle.fr_program.specs.Program.{Program};
-ghost use Rattle.fr_reader.specs.Meaning.{IsTableText, Means};
+ghost use Rattle.fr_program.specs.View.{program_of};
+ghost use Rattle.fr_reader.specs.Texts.{Texts, AreTexts};
+ghost use Rattle.fr_reader.specs.Meaning.{IsTableText, Means, Says, lists_in};
 ghost use Rattle.fr_reader.specs.Faults.{Standing, is_memory};
 ghost use Rattle.fr_reader.specs.Stands.{InBytes, Stands};
 ghost use Rattle.fr_reader.specs.declared.fault.ReadFault.{ReadFault as Refusal};
 
 use crate::fault::ReadFault;
 use crate::{parts, texts};
-use fr_program::App;
+use fr_instr::Names;
+use fr_program::{App, Parts};
 use std::alloc::Global;
 use toml::Table;
 
@@ -32,6 +35,26 @@ fn table_of(alloc: Global, bytes: &[u8]) -> Result<Table, ReadFault>
             ReadFault::Toml
         }),
     }
+}
+
+/// The names in the table of an application's text, with which its lines are read.
+///
+/// Its errors are those of `read_app` that are asked for before owners and lines are.
+pub fn names_in(alloc: Global, table: &Table) -> Result<Names, ReadFault>
+    ensures { IfOk result (λ names. (texts : Texts) × AreTexts (table_view table.now) texts × (names ≡ lists_in texts)) }
+{
+    let texts = texts::texts_of(alloc, table)?;
+    parts::names_of(alloc, &texts)
+}
+
+/// The parts that the table of an application's text says, which may be no application.
+///
+/// Its errors are those of `read_app` but for those of the bytes and of the parts.
+pub fn parts_in(alloc: Global, table: &Table) -> Result<Parts, ReadFault>
+    ensures { IfOk result (λ parts. (texts : Texts) × AreTexts (table_view table.now) texts × Says texts (program_of parts)) }
+{
+    let texts = texts::texts_of(alloc, table)?;
+    parts::parts_of(alloc, &texts)
 }
 
 /// The application that the bytes mean.

@@ -5,7 +5,7 @@ ghost use Rattle.fr_instr.specs.Lines.{IsLine};
 ghost use Rattle.fr_program.specs.View as program;
 ghost use Rattle.fr_reader.specs.Meaning.{AreNames, IsOwner, IsOwned, IsCoded, Says, names_in, lists_in};
 ghost use Rattle.fr_reader.specs.Faults.{is_memory, Standing};
-ghost use Rattle.fr_reader.specs.Stands.{IsNoOwner, InOwner, InOwners, InLine, InLines, InCode, InSaid, InTexts};
+ghost use Rattle.fr_reader.specs.Stands.{InNames, IsNoOwner, InOwner, InOwners, InLine, InLines, InCode, InSaid, InTexts};
 ghost use Rattle.fr_reader.specs.Views.{variable_text, object_text, actor_text, line_text, texts_view};
 
 use crate::actor::ActorText;
@@ -197,14 +197,24 @@ fn parts_with(alloc: Global, names: &Names, texts: &Texts) -> Result<Parts, Read
     })
 }
 
+/// The names in the texts, with which their lines are read.
+pub(crate) fn names_of(alloc: Global, texts: &Texts) -> Result<Names, ReadFault>
+    ensures names { IfOk result (λ _. AreNames (names_in (texts_view texts.now))) }
+    ensures ok { IfOk result (λ names. names ≡ lists_in (texts_view texts.now)) }
+    ensures err { IfErr result (Standing (InNames (names_in (texts_view texts.now)))) }
+{
+    let lists = names::names_of(alloc, texts)?;
+    names::check_names(alloc, &lists)?;
+    let names = Names::build(alloc, &lists.variables, &lists.objects, &lists.actors)?;
+    Ok(names)
+}
+
 /// The parts that the texts say. Names are asked for first, then owners, then lines.
 pub(crate) fn parts_of(alloc: Global, texts: &Texts) -> Result<Parts, ReadFault>
     ensures names { IfOk result (λ _. AreNames (names_in (texts_view texts.now))) }
     ensures ok { IfOk result (λ parts. Says (texts_view texts.now) (program.program_of parts)) }
     ensures err { IfErr result (Standing (InTexts (texts_view texts.now))) }
 {
-    let lists = names::names_of(alloc, texts)?;
-    names::check_names(alloc, &lists)?;
-    let names = Names::build(alloc, &lists.variables, &lists.objects, &lists.actors)?;
+    let names = names_of(alloc, texts)?;
     parts_with(alloc, &names, texts)
 }

@@ -1,7 +1,7 @@
 use Rattle.std.proofs.Common.{◌∙◌, ap, map, ◌++◌, string_bytes}
 use Rattle.fr_program.specs.Limits.{IsName}
 use Rattle.fr_instr.specs.Names.{NamesOf, place_of}
-use Rattle.fr_instr.proofs.NameLaws.{no_text_named, all_left, all_right}
+use Rattle.fr_instr.proofs.NameLaws.{no_text_named, all_right}
 use Rattle.fr_instr.proofs.names.Names.actor_named.Goals as goal
 
 pub returns-in_default : goal.returns-in_default
