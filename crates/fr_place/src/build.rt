@@ -2,9 +2,7 @@
 use crate::lines::Lines;
 use crate::note::kind_text;
 use crate::shown::push_start;
-use crate::table::{
-    entry_at, line_at, lines_of, number_at, push_entry, text_or_none,
-};
+use crate::table::{entry_at, line_at, lines_of, number_at, push_entry, text_or_none};
 use fr_code::{code_of, entries_at};
 use fr_program::{
     Act, Actor, ActorId, Attempt, BuildFault, Call, CodeLine, Instr, Kind, MOST_SIZE, Operand,
