@@ -5,46 +5,10 @@ use crate::shown::push_start;
 use crate::table::{entry_at, line_at, lines_of, number_at, push_entry, text_or_none};
 use fr_code::{code_of, entries_at};
 use fr_program::{
-    Act, Actor, ActorId, Attempt, BuildFault, Call, CodeLine, Instr, Kind, MOST_SIZE, Operand,
-    Parts, VarId, Variable,
+    Act, Actor, ActorId, BuildFault, Call, CodeLine, Instr, Kind, MOST_SIZE, Parts, VarId, Variable,
 };
 use fr_reader::{Key, parts_in};
 use toml::Table;
-
-/// The variable that the operand is.
-fn variable_of(operand: Operand) -> Option<VarId> {
-    match operand {
-        Operand::Variable(x) => Some(x),
-        Operand::Number(_) => None,
-    }
-}
-
-/// The variable that an object call names.
-fn variable_of_act(act: Act) -> Option<VarId> {
-    match act {
-        Act::Try {
-            attempt: Attempt::QueueSend(value),
-            ..
-        } => variable_of(value),
-        _ => act.written(),
-    }
-}
-
-/// The variables that an instruction names, by its places.
-fn variables_of(instr: Instr) -> [Option<VarId>; 3] {
-    match instr {
-        Instr::Set {
-            target,
-            left,
-            right,
-            ..
-        } => [Some(target), variable_of(left), variable_of(right)],
-        Instr::If { left, right, .. } => [variable_of(left), variable_of(right), None],
-        Instr::Pick { target, .. } => [Some(target), None, None],
-        Instr::Call(Call::On(call)) => [variable_of_act(call.act), None, None],
-        _ => [None, None, None],
-    }
-}
 
 /// The variable with this number.
 fn variable_at(parts: &Parts, x: Option<VarId>) -> Option<&Variable> {
@@ -55,7 +19,7 @@ fn variable_at(parts: &Parts, x: Option<VarId>) -> Option<&Variable> {
 fn push_shared(out: &mut Lines, parts: &Parts, instr: Instr) {
     out.text("shared here: ");
     let mut between = "";
-    for x in &variables_of(instr) {
+    for x in &instr.variables().by_place() {
         if let Some(variable) = variable_at(parts, *x)
             && variable.owner.is_none()
         {
@@ -69,7 +33,7 @@ fn push_shared(out: &mut Lines, parts: &Parts, instr: Instr) {
 
 /// Appends each variable of the instruction that belongs to another actor than this one.
 fn push_owners(out: &mut Lines, parts: &Parts, actor: ActorId, instr: Instr) {
-    for x in &variables_of(instr) {
+    for x in &instr.variables().by_place() {
         if let Some(variable) = variable_at(parts, *x)
             && let Some(owner) = variable.owner
             && owner.0 != actor.0
@@ -107,8 +71,8 @@ fn range_given(parts: &Parts, instr: Instr) -> Option<(i64, i64)> {
 
 /// Appends the range of the instruction's variable, and of what it is given.
 fn push_ranges(out: &mut Lines, parts: &Parts, instr: Instr) {
-    let [target, _, _] = variables_of(instr);
-    if let Some(variable) = variable_at(parts, target)
+    let named = instr.variables();
+    if let Some(variable) = variable_at(parts, named.target.or(named.right))
         && let Some((least, most)) = range_given(parts, instr)
     {
         out.text(variable.name.as_str());

@@ -24,6 +24,7 @@ use names::{are_distinct, are_names, are_owners_there, names_of};
 use results::{operands_fit, results_fit};
 use std::alloc::Global;
 use targets::{are_targets_below, first_falling_off};
+pub use uses::Uses;
 use uses::{may_use_all, names_things, shares_at_most_one};
 
 /// Ok where no fault is present; else a fault that is present, or `Memory` where an allocation was

@@ -10,6 +10,20 @@ pub enum Operand {
     Variable(VarId),
 }
 
+impl Operand {
+    ghost use Rattle.fr_program.specs.Uses.{operand_variables, option_list};
+
+    /// The variable that the operand is, if it is one.
+    pub fn variable(self) -> Option<VarId>
+        ensures { option_list result ≡ operand_variables self }
+    {
+        match self {
+            Operand::Variable(x) => Some(x),
+            Operand::Number(_) => None,
+        }
+    }
+}
+
 /// What a `set` computes of its two operands.
 #[derive(Clone, Copy)]
 pub enum Operator {

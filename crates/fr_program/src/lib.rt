@@ -14,7 +14,7 @@ mod table;
 mod worked;
 
 pub use app::App;
-pub use check::{MOST_SIZE, MOST_TICKS, is_name};
+pub use check::{MOST_SIZE, MOST_TICKS, Uses, is_name};
 pub use fault::{BuildFault, CodeLine};
 pub use ids::{ActorId, ObjId, Point, Side, VarId};
 pub use instr::{

@@ -25,14 +25,6 @@ pub fn place_at<'a>(app: &'a App, number: usize) -> Option<Place<'a>>
     Some(Place { point, instr })
 }
 
-/// The variable that an operand is, if it is one.
-pub fn variable_of(operand: Operand) -> Option<VarId> {
-    match operand {
-        Operand::Number(_) => None,
-        Operand::Variable(variable) => Some(variable),
-    }
-}
-
 /// The number that an operand is, if it is one.
 pub fn number_of(operand: Operand) -> Option<i128> {
     match operand {
@@ -47,31 +39,15 @@ fn sent_by(act: Act) -> Option<VarId> {
         Act::Try {
             attempt: Attempt::QueueSend(operand),
             ..
-        } => variable_of(operand),
+        } => operand.variable(),
         _ => None,
-    }
-}
-
-/// The variables that an instruction names.
-pub fn named(instr: &Instr) -> [Option<VarId>; 3] {
-    match instr {
-        Instr::Set {
-            target,
-            left,
-            right,
-            ..
-        } => [Some(*target), variable_of(*left), variable_of(*right)],
-        Instr::If { left, right, .. } => [variable_of(*left), variable_of(*right), None],
-        Instr::Pick { target, .. } => [Some(*target), None, None],
-        Instr::Call(Call::On(call)) => [sent_by(call.act), call.act.written(), None],
-        _ => [None, None, None],
     }
 }
 
 /// The variables that an instruction tests.
 pub fn tested(instr: &Instr) -> [Option<VarId>; 2] {
     match instr {
-        Instr::If { left, right, .. } => [variable_of(*left), variable_of(*right)],
+        Instr::If { left, right, .. } => [left.variable(), right.variable()],
         _ => [None, None],
     }
 }
@@ -80,7 +56,7 @@ pub fn tested(instr: &Instr) -> [Option<VarId>; 2] {
 pub fn read(instr: &Instr) -> [Option<VarId>; 2] {
     match instr {
         Instr::Set { left, right, .. } | Instr::If { left, right, .. } => {
-            [variable_of(*left), variable_of(*right)]
+            [left.variable(), right.variable()]
         }
         Instr::Call(Call::On(call)) => [sent_by(call.act), None],
         _ => [None, None],

@@ -1,7 +1,7 @@
 // What is looked up of an application once, before the search.
 use crate::lists::{add_once, empty_lists, insert_inside};
 use crate::order::{heads, places_in_order};
-use crate::place::{named, number_of, place_at, tested, variable_of};
+use crate::place::{number_of, place_at, tested};
 use crate::table::Table;
 use crate::thresholds::{Kin, kin_of};
 use fr_program::{App, Instr, Operand};
@@ -39,7 +39,7 @@ fn users(alloc: Global, app: &App) -> Result<Table, AllocError> {
     let mut users = Table::new(alloc, app.variables().len(), app.actors().len(), false)?;
     for number in 0..app.points() {
         if let Some(place) = place_at(app, number) {
-            for variable in named(place.instr) {
+            for variable in place.instr.variables().by_place() {
                 if let Some(variable) = variable {
                     users.mark(variable.0, place.point.actor.0);
                 }
@@ -79,7 +79,7 @@ fn add_compared(
     operand: Operand,
     other: Operand,
 ) -> Result<(), AllocError> {
-    match (variable_of(operand), number_of(other)) {
+    match (operand.variable(), number_of(other)) {
         (Some(variable), Some(number)) if variable.0 < app.variables().len() => {
             match lists.get_mut(variable.0) {
                 Some(list) => insert_inside(list, app.range(variable), number),

@@ -1,6 +1,6 @@
 // The numbers at which a range that grows may rest: those that the code tests, sets, picks or receives.
 use crate::lists::{empty_lists, insert, insert_inside, list_at};
-use crate::place::{named, number_of, place_at, variable_of};
+use crate::place::{number_of, place_at};
 use fr_program::{
     Act, App, Attempt, Call, Instr, Kind, ObjectCall, Operand, Operator, Range, VarId,
 };
@@ -36,7 +36,8 @@ impl Kin {
 /// The variables that become kin by an instruction.
 fn relatives(instr: &Instr) -> [Option<VarId>; 3] {
     match instr {
-        Instr::Set { .. } | Instr::If { .. } => named(instr),
+        Instr::Set { .. } => instr.variables().by_place(),
+        Instr::If { left, right, .. } => [left.variable(), right.variable(), None],
         _ => [None, None, None],
     }
 }
@@ -135,7 +136,7 @@ impl<'a> Gathering<'a> {
 
     /// Adds what a test tells of the variable that an operand is, if it is one.
     fn add_test(&mut self, operand: Operand, other: Operand) -> Result<(), AllocError> {
-        match variable_of(operand) {
+        match operand.variable() {
             Some(variable) => self.add_operand(variable, other),
             None => Ok(()),
         }
@@ -172,7 +173,7 @@ impl<'a> Gathering<'a> {
             Act::Try {
                 attempt: Attempt::QueueSend(operand),
                 ..
-            } => self.add_queue(call, variable_of(operand)),
+            } => self.add_queue(call, operand.variable()),
             Act::Try {
                 attempt: Attempt::QueueReceive(variable),
                 ..

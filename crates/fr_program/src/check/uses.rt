@@ -1,15 +1,15 @@
 // The variables of an instruction: how many are shared, whose they are, and whether they are there.
 ghost use Rattle.std.specs.Prelude.{◌≡◌, ◌≤◌, ◌<◌, ◌↔◌, ◌++◌, IsTrue, IfSome, All, count_by, length};
-ghost use Rattle.fr_program.specs.Uses.{variables_of, act_variables, operand_variables, option_list, object_named};
+ghost use Rattle.fr_program.specs.Uses.{variables_of, act_variables, option_list, object_named};
 ghost use Rattle.fr_program.specs.Fault.{is_shared, SharesAtMostOne, MayUse, MayUseAll, NamesThings};
 ghost use Rattle.fr_program.specs.InstrFault.{used, InEachPlace, IsVariable};
 ghost use Rattle.fr_program.specs.View.{program_of};
 
 use crate::ids::{ActorId, VarId};
-use crate::instr::{Act, Attempt, Call, Instr, Operand};
+use crate::instr::{Act, Attempt, Call, Instr};
 use crate::parts::Parts;
 
-/// The variables of an instruction: the one that it sets, and those of its two operands.
+/// The variables of an instruction: the one that it sets, and those of its two operands. The one that a call names is the last.
 #[derive(Clone, Copy)]
 pub struct Uses {
     pub target: Option<VarId>,
@@ -17,27 +17,30 @@ pub struct Uses {
     pub right: Option<VarId>,
 }
 
-/// The variables that the instruction names.
-pub fn uses_of(instr: Instr) -> Uses
-    ensures { used result ≡ variables_of instr }
-{
-    match instr {
-        Instr::Set {
-            target,
-            left,
-            operator: _,
-            right,
-        } => made_of(
-            Some(target),
-            operand_variable(left),
-            operand_variable(right),
-        ),
-        Instr::If { left, right, .. } => {
-            made_of(None, operand_variable(left), operand_variable(right))
+impl Uses {
+    /// These variables, by their places in the line.
+    pub fn by_place(self) -> [Option<VarId>; 3] {
+        [self.target, self.left, self.right]
+    }
+}
+
+impl Instr {
+    /// The variables that the instruction names.
+    pub fn variables(self) -> Uses
+        ensures { used result ≡ variables_of self }
+    {
+        match self {
+            Instr::Set {
+                target,
+                left,
+                operator: _,
+                right,
+            } => made_of(Some(target), left.variable(), right.variable()),
+            Instr::If { left, right, .. } => made_of(None, left.variable(), right.variable()),
+            Instr::Pick { target, .. } => made_of(Some(target), None, None),
+            Instr::Call(Call::On(call)) => made_of(None, None, act_variable(call.act)),
+            _ => made_of(None, None, None),
         }
-        Instr::Pick { target, .. } => made_of(Some(target), None, None),
-        Instr::Call(Call::On(call)) => made_of(None, None, act_variable(call.act)),
-        _ => made_of(None, None, None),
     }
 }
 
@@ -62,18 +65,8 @@ fn act_variable(act: Act) -> Option<VarId>
         Act::Try {
             attempt: Attempt::QueueSend(value),
             ..
-        } => operand_variable(value),
+        } => value.variable(),
         _ => act.written(),
-    }
-}
-
-/// The variable that the operand is, if it is one.
-fn operand_variable(operand: Operand) -> Option<VarId>
-    ensures { option_list result ≡ operand_variables operand }
-{
-    match operand {
-        Operand::Variable(x) => Some(x),
-        Operand::Number(_) => None,
     }
 }
 
@@ -81,7 +74,7 @@ fn operand_variable(operand: Operand) -> Option<VarId>
 pub fn shares_at_most_one(parts: &Parts, instr: Instr) -> bool
     ensures { IsTrue result ↔ SharesAtMostOne (program_of parts.now) instr }
 {
-    let uses = uses_of(instr);
+    let uses = instr.variables();
     shared_count(parts, uses.target)
         + shared_count(parts, uses.left)
         + shared_count(parts, uses.right)
@@ -113,7 +106,7 @@ fn is_shared(parts: &Parts, x: VarId) -> bool
 pub fn may_use_all(parts: &Parts, actor: ActorId, instr: Instr) -> bool
     ensures { IsTrue result ↔ MayUseAll (program_of parts.now) actor.0 instr }
 {
-    may_use_places(parts, actor, uses_of(instr))
+    may_use_places(parts, actor, instr.variables())
 }
 
 /// Whether the actor may use each of these variables.
@@ -154,7 +147,7 @@ fn names_variables(parts: &Parts, instr: Instr) -> bool
     ensures { IsTrue result
         ↔ All (λ x. IsVariable (program_of parts.now) x) (variables_of instr) }
 {
-    names_places(parts, uses_of(instr))
+    names_places(parts, instr.variables())
 }
 
 /// Whether the application has each of these variables.

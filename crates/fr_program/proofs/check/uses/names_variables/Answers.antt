@@ -9,6 +9,6 @@ pub returns : goal.returns
 returns c =
     let F = λ (x : VarId). IsVariable (program_of c.args.parts.now) x in
     let xs = variables_of c.args.instr in (
-      λ t. All-used F c.uses_of.result xs c.uses_of.ensures (c.names_places.ensures.0 t),
-      λ all. c.names_places.ensures.1 (used-All F c.uses_of.result xs c.uses_of.ensures all),
+      λ t. All-used F c.variables.result xs c.variables.ensures (c.names_places.ensures.0 t),
+      λ all. c.names_places.ensures.1 (used-All F c.variables.result xs c.variables.ensures all),
     )
