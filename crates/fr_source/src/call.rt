@@ -85,7 +85,7 @@ impl<'a> Reader<'a> {
             return Err(self.expected_in("')'", kernel)?);
         }
         self.call = None;
-        Ok(Call { kernel, arguments })
+        Ok(self.program.call(kernel, arguments)?)
     }
 
     /// The fault that a called name is neither a function's nor the kernel's.

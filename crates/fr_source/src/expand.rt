@@ -10,7 +10,7 @@ use crate::program::{
     Variable,
 };
 use crate::texts::Word;
-use std::alloc::Global;
+use std::alloc::{AllocError, Global};
 use std::mem;
 
 /// Where a line is in the source. In a function, `call` is the number of the call, among those of the actor.
@@ -150,7 +150,7 @@ impl<'a> Expander<'a> {
         } = frame;
         match item {
             Item::Line { action, to, spot } => {
-                let action = self.own_action(action);
+                let action = self.own_action(program, action)?;
                 let to = match to {
                     Some(label) => Some(label.saturating_add(first_label)),
                     None => None,
@@ -237,17 +237,31 @@ impl<'a> Expander<'a> {
         }
     }
 
-    fn own_call(&self, mut call: Call) -> Call {
-        for argument in &mut call.arguments {
+    fn own_call(&self, program: &mut Program<'a>, call: Call) -> Result<Call, AllocError> {
+        let mut arguments = program.arguments(call);
+        for argument in &mut arguments {
             if let Argument::Operand(operand) = *argument {
                 *argument = Argument::Operand(self.own_operand(operand));
             }
         }
-        call
+        program.call(call.kernel, arguments)
     }
 
     /// The action, with the actor's own variables in place of those of functions.
-    fn own_action(&self, action: Action) -> Action {
+    fn own_action(&self, program: &mut Program<'a>, action: Action) -> Result<Action, AllocError> {
+        if let Action::Call { answer, call } = action {
+            let answer = match answer {
+                Some(variable) => Some(self.own_variable(variable)),
+                None => None,
+            };
+            let call = self.own_call(program, call)?;
+            return Ok(Action::Call { answer, call });
+        }
+        Ok(self.own_plain_action(action))
+    }
+
+    /// The same of an action that is no call.
+    fn own_plain_action(&self, action: Action) -> Action {
         match action {
             Action::Set {
                 variable,
@@ -265,13 +279,6 @@ impl<'a> Expander<'a> {
                 variable: self.own_variable(variable),
                 range,
             },
-            Action::Call { answer, call } => Action::Call {
-                answer: match answer {
-                    Some(variable) => Some(self.own_variable(variable)),
-                    None => None,
-                },
-                call: self.own_call(call),
-            },
             Action::If {
                 left,
                 comparison,
@@ -281,7 +288,7 @@ impl<'a> Expander<'a> {
                 comparison,
                 right: self.own_operand(right),
             },
-            Action::Goto | Action::Return | Action::End => action,
+            Action::Call { .. } | Action::Goto | Action::Return | Action::End => action,
         }
     }
 

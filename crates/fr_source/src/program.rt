@@ -6,7 +6,7 @@ ghost use Rattle.fr_source.specs.Kept.{inverse, turned};
 
 use crate::fault::Spot;
 use crate::kernel::Kernel;
-use std::alloc::Global;
+use std::alloc::{AllocError, Global};
 
 /// The most variables of an application.
 pub(crate) const MOST_VARIABLES: usize = 64;
@@ -204,11 +204,11 @@ pub(crate) enum Argument {
     Null,
 }
 
-/// A call of the kernel with its arguments.
+/// A call of the kernel. `arguments` is the place of its arguments among those of all calls.
 #[derive(Clone, Copy)]
 pub(crate) struct Call {
     pub(crate) kernel: &'static Kernel,
-    pub(crate) arguments: [Argument; 3],
+    pub(crate) arguments: usize,
 }
 
 /// What a line of the application does. Where an `If`, a `Goto` or a failed call goes is kept beside it. `End` is the
@@ -328,6 +328,7 @@ pub(crate) struct Program<'a> {
     pub(crate) objects: Vec<Object<'a>>,
     pub(crate) actors: Vec<Actor<'a>>,
     pub(crate) bodies: Vec<Body>,
+    arguments: Vec<[Argument; 3]>,
 }
 
 impl<'a> Program<'a> {
@@ -338,6 +339,29 @@ impl<'a> Program<'a> {
             objects: Vec::new(alloc),
             actors: Vec::new(alloc),
             bodies: Vec::new(alloc),
+            arguments: Vec::new(alloc),
+        }
+    }
+
+    /// The call with these arguments.
+    pub(crate) fn call(
+        &mut self,
+        kernel: &'static Kernel,
+        arguments: [Argument; 3],
+    ) -> Result<Call, AllocError> {
+        let place = self.arguments.len();
+        self.arguments.push(arguments)?;
+        Ok(Call {
+            kernel,
+            arguments: place,
+        })
+    }
+
+    /// The arguments of a call.
+    pub(crate) fn arguments(&self, call: Call) -> [Argument; 3] {
+        match self.arguments.get(call.arguments) {
+            Some(arguments) => *arguments,
+            None => [Argument::Absent; 3],
         }
     }
 

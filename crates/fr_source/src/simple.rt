@@ -202,7 +202,7 @@ impl<'a> Reader<'a> {
         call_spot: Spot,
     ) -> Result<Simple, Fault> {
         let target = self.program.variable(variable);
-        let high = match (call.kernel.answer, call.arguments) {
+        let high = match (call.kernel.answer, self.program.arguments(call)) {
             (Answer::Nothing, _) => {
                 let form = "% answers nothing";
                 return Err(wrong_about(self.alloc, call_spot, form, call.kernel.name, ""));

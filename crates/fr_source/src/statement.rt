@@ -74,28 +74,32 @@ impl<'a> Reader<'a> {
         self.cursor.advance();
         match text {
             "if" => self.if_head(spot),
-            "while" => {
-                let top = self.lines.label();
-                self.lines.place(top)?;
-                let test = self.condition()?;
-                self.loop_head(Some(test), top, None, "while", spot)
-            }
-            "do" => {
-                let top = self.lines.label();
-                let again = self.lines.label();
-                let end = self.lines.label();
-                self.lines.place(top)?;
-                let margin = self.margin("do")?;
-                self.enter(Open::Do {
-                    top,
-                    again,
-                    end,
-                    margin,
-                })
-            }
+            "while" => self.while_head(spot),
+            "do" => self.do_head(),
             "for" => self.for_head(spot),
             _ => self.switch_head(spot),
         }
+    }
+
+    fn while_head(&mut self, spot: Spot) -> Result<bool, Fault> {
+        let top = self.lines.label();
+        self.lines.place(top)?;
+        let test = self.condition()?;
+        self.loop_head(Some(test), top, None, "while", spot)
+    }
+
+    fn do_head(&mut self) -> Result<bool, Fault> {
+        let top = self.lines.label();
+        let again = self.lines.label();
+        let end = self.lines.label();
+        self.lines.place(top)?;
+        let margin = self.margin("do")?;
+        self.enter(Open::Do {
+            top,
+            again,
+            end,
+            margin,
+        })
     }
 
     fn if_head(&mut self, spot: Spot) -> Result<bool, Fault> {
@@ -230,10 +234,7 @@ impl<'a> Reader<'a> {
     fn close_one(&mut self, open: Open) -> Result<bool, Fault> {
         match open {
             Open::If { no, spot, .. } => self.close_if(no, spot),
-            Open::Else { end, .. } => {
-                self.lines.place(end)?;
-                Ok(true)
-            }
+            Open::Else { end, .. } => self.ended_at(end),
             Open::Loop {
                 top,
                 again,
@@ -241,15 +242,7 @@ impl<'a> Reader<'a> {
                 step,
                 spot,
                 ..
-            } => {
-                self.lines.place(again)?;
-                if let Some(Step { simple, spot }) = step {
-                    self.write_simple(simple, spot)?;
-                }
-                self.lines.goto(top, spot)?;
-                self.lines.place(end)?;
-                Ok(true)
-            }
+            } => self.close_loop([again, top, end], step, spot),
             Open::Do {
                 top,
                 again,
@@ -260,10 +253,31 @@ impl<'a> Reader<'a> {
         }
     }
 
+    /// Places the label after a construct, which ends here.
+    fn ended_at(&mut self, end: usize) -> Result<bool, Fault> {
+        self.lines.place(end)?;
+        Ok(true)
+    }
+
+    /// Writes the end of a loop, by the labels of its step, of its test and of what is after it.
+    fn close_loop(
+        &mut self,
+        labels: [usize; 3],
+        step: Option<Step>,
+        spot: Spot,
+    ) -> Result<bool, Fault> {
+        let [again, top, end] = labels;
+        self.lines.place(again)?;
+        if let Some(Step { simple, spot }) = step {
+            self.write_simple(simple, spot)?;
+        }
+        self.lines.goto(top, spot)?;
+        self.ended_at(end)
+    }
+
     fn close_if(&mut self, no: usize, spot: Spot) -> Result<bool, Fault> {
         if !self.cursor.accepts("else") {
-            self.lines.place(no)?;
-            return Ok(true);
+            return self.ended_at(no);
         }
         let end = self.lines.label();
         self.lines.goto(end, spot)?;
@@ -286,8 +300,7 @@ impl<'a> Reader<'a> {
         let spot = self.lines.test_spot(test, spot);
         self.lines.place(again)?;
         self.lines.branch(test, spot, top, end, end)?;
-        self.lines.place(end)?;
-        Ok(true)
+        self.ended_at(end)
     }
 
     /// Reads a jump, or else a simple statement.

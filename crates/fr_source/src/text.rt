@@ -248,7 +248,7 @@ impl Writer {
             Some(target) => (" else ", Word::Count(target)),
             None => ("", Word::Text("")),
         };
-        let [first, second, third] = call.arguments;
+        let [first, second, third] = program.arguments(call);
         let words = &[
             given,
             Word::Text(is),
