@@ -34,8 +34,8 @@ use Rattle.fr_formats.specs.declared.answer.AnswerShown.{AnswerShown}
 use Rattle.fr_formats.specs.Reports.{IsReport}
 use Rattle.fr_list.specs.Means.{Entry, ListMeans}
 use Rattle.fr_list.specs.Beside.{beside}
-use Rattle.fr_report.specs.Listing.{points_text}
-use Rattle.fr_report.specs.declared.sources.Sources.{Sources}
+use Rattle.fr_wording.specs.Listing.{points_text}
+use Rattle.fr_wording.specs.declared.sources.Sources.{Sources}
 use Rattle.fr_request.specs.declared.detail.Detail.{Detail}
 use Rattle.fr_request.specs.declared.detail.Detail.TheVariants.{Told}
 use Rattle.fr_request.specs.declared.format.Format.{Format}

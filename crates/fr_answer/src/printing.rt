@@ -13,9 +13,9 @@ use fr_outcome::{
     Answer, AppText, Boxed, CheckFault, MACHINE, NO, REFUSED, Refusal, What, put, put_report,
 };
 use fr_place::is_unknown_word;
-use fr_report::text_of;
 use fr_request::{Format, Warns};
 use fr_shown::{answer_to, page_of, shown_of};
+use fr_wording::text_of;
 use std::alloc::{AllocError, Global};
 use std::io::Write;
 use std::slice;

@@ -5,11 +5,12 @@ ghost use Rattle.fr_answer.specs.Commands.{IsCheckOf, IsProofAt, IsSearchAt};
 ghost use Rattle.fr_inputs.specs.Inputs.{AsApp, Reads};
 
 use fr_cert::MOST_BYTES as MOST_CERTIFICATE_BYTES;
-use fr_findings::{Ways, judged_texts, proved_text, searched_text};
+use fr_findings::{Ways, judged_texts, searched_text};
 use fr_inputs::{Files, application, input, refusal_of_texts};
 use fr_outcome::{AppText, CheckFault, Refusal, What};
 use fr_parallel::Open;
 use fr_place::is_unknown_word;
+use fr_proving::proved_text;
 use std::alloc::Global;
 use std::sync::Wait;
 use std::thread::Threads;

@@ -3,9 +3,6 @@ pub mod Built
 pub mod Contents
 pub mod Formed
 pub mod Free
-pub mod WorkedSteps
-pub mod WorkedStates
-pub mod WorkedRules
 pub mod Unforbidden
 pub mod Endings
 pub mod Begins

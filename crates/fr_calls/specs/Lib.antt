@@ -8,6 +8,3 @@ pub mod Choices
 pub mod Ways
 pub mod Run
 pub mod Laws
-pub mod WorkedStates
-pub mod WorkedSteps
-pub mod WorkedRules

@@ -14,7 +14,6 @@ mod rules;
 mod state;
 mod step;
 mod way;
-mod worked;
 
 pub use content::{Content, Messages, Stock};
 pub use freedom::given_kind;
@@ -23,4 +22,3 @@ pub use moves::{Moves, can_time_out};
 pub use rules::{Condition, Rule, first_forbidden, forbids, is_at_end, is_unsuited, rule_of};
 pub use state::{Place, State};
 pub use way::{Landing, Way, lands_at};
-pub use worked::{breaches_as_worked, states_as_worked, steps_as_worked};

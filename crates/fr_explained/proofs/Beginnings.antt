@@ -3,7 +3,7 @@ use Rattle.std.proofs.Common.{◌≡◌, ◌≤◌, ◌<◌, ◌+◌, ⊎_elim, 
 use Rattle.std.proofs.Math.Nat.{eq-or-lt_of_le}
 use Rattle.std.proofs.lemmas.Bool.{cases_lt}
 use Rattle.fr_program.specs.Program.{Program}
-use Rattle.fr_trace.specs.declared.trace.Trace.{Trace}
+use Rattle.fr_events.specs.declared.trace.Trace.{Trace}
 use Rattle.fr_follower.specs.Alone.{NoneExplains}
 use Rattle.fr_follower.specs.Explains.{Explains, Passes, World}
 use Rattle.fr_follower.specs.declared.item.Item.{Item}

@@ -1,7 +1,7 @@
 // The laws of runs that explain a trace.
 ghost use Rattle.std.specs.Prelude.{◌≡◌, ◌≤◌, ◌+◌, ℕ, List};
 ghost use Rattle.fr_program.specs.Program.{Program};
-ghost use Rattle.fr_trace.specs.declared.trace.Trace.{Trace as TraceOf};
+ghost use Rattle.fr_events.specs.declared.trace.Trace.{Trace as TraceOf};
 ghost use Rattle.fr_follower.specs.Alone.{NoneExplains};
 ghost use Rattle.fr_follower.specs.Explains.{Explains};
 ghost use Rattle.fr_follower.specs.declared.item.Item.{Item as ItemOf};

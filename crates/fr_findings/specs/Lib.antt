@@ -1,4 +1,3 @@
 pub mod Found
 pub mod Words
 pub mod Ran
-pub mod Proved

@@ -1,5 +1,5 @@
 // The verdict on two texts, and why it is no.
-ghost use Rattle.std.specs.Prelude.{◌≡◌, IfOk, IfErr, IfSome, None};
+ghost use Rattle.std.specs.Prelude.{◌≡◌, ◌↔◌, IfOk, IfErr, IfSome, None};
 ghost use Rattle.fr_ends.specs.Fits.{CertificateFits};
 ghost use Rattle.fr_judge.specs.declared.part.Verdict.TheVariants.{Yes};
 ghost use Rattle.fr_order.specs.Order.{IsOrderOf};
@@ -14,8 +14,9 @@ use fr_outcome::{Boxed, CheckFault, Judged, What};
 use fr_parallel::{Gate, judge_reading};
 use fr_program::App;
 use fr_reasons::explain;
-use fr_report::{Explained, Explanation, Sources, verdict_line};
+use fr_report::verdict_line;
 use fr_request::Detail;
+use fr_wording::{Explained, Explanation, Sources};
 use std::alloc::{AllocError, Global};
 use std::sync::Wait;
 use std::thread::Threads;
@@ -69,7 +70,7 @@ fn add_others(
 
 /// Why the verdict on the application with this text is no, as it is asked for: None where nobody asks, or where it is yes. With all
 /// details the other points that fail follow, a line each, 1,000 at the most. Where `blames` asks for it, lines are named that a person would change.
-pub(crate) fn why(
+pub fn why(
     alloc: Global,
     text: &[u8],
     app: &App,
@@ -99,11 +100,13 @@ pub(crate) fn why(
 }
 
 /// Where the lines of the application with this text are in the source that it was translated from, where something is to be explained.
-pub(crate) fn sources_for(
+pub fn sources_for(
     alloc: Global,
     text: &[u8],
     detail: Option<Detail>,
-) -> Result<Option<Sources>, AllocError> {
+) -> Result<Option<Sources>, AllocError>
+    ensures { IfOk result (λ found. detail ≡ None ↔ found ≡ None) }
+{
     match detail {
         Some(_) => Ok(Some(Sources {
             places: places_in_source(alloc, text)?,
@@ -113,7 +116,7 @@ pub(crate) fn sources_for(
 }
 
 /// Whether actors can deadlock over mutexes, by a certificate that passes, where that is asked; None elsewhere.
-pub(crate) fn waits(
+pub fn waits(
     alloc: Global,
     app: &App,
     certificate: &Certificate,

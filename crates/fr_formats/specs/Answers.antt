@@ -2,7 +2,7 @@
 --
 -- | word                              | meaning                                                                 |
 -- |-----------------------------------|-------------------------------------------------------------------------|
--- | command_name, kind_name, side_name | the names of commands, of kinds of answers, and of sides of a line     |
+-- | command_name, kind_name | the names of commands, and of kinds of answers                                  |
 -- | warning_rule                      | the name of the rule that warns so                                      |
 -- | status_of                         | the exit status of a command that answers so                            |
 -- | greatest_status                   | the greatest status of all answers; 0 where there are none              |
@@ -15,8 +15,6 @@ use Rattle.fr_formats.specs.declared.answer.Command.{Command}
 use Rattle.fr_formats.specs.declared.answer.Command.TheVariants.{Check, Prove, Refute, Follow}
 use Rattle.fr_formats.specs.declared.answer.AnswerKind.{AnswerKind}
 use Rattle.fr_formats.specs.declared.answer.AnswerKind.TheVariants.{Yes, No, MayDeadlock, Breach, Deadlock, NoBreach, StatesLeft, Followed, FollowedApart, NotFollowed, NotListed, GaveUp, Refused, Machine}
-use Rattle.fr_formats.specs.declared.answer.SideShown.{SideShown}
-use Rattle.fr_formats.specs.declared.answer.SideShown.TheVariants.{Before, Inside}
 use Rattle.fr_formats.specs.declared.answer.WarningKind.{WarningKind}
 use Rattle.fr_formats.specs.declared.answer.WarningKind.TheVariants.{NeverReached, NeverUsed, NoActors, HeldWhileWaiting, NeverGiven, LostUpdate, UsedOneWay, BufferInCriticalSection}
 use Rattle.fr_formats.specs.declared.answer.Source.{Source}
@@ -45,10 +43,6 @@ kind_name NotListed = codes "not-listed"
 kind_name GaveUp = codes "gave-up"
 kind_name Refused = codes "refused"
 kind_name Machine = codes "machine"
-
-abbrev pub side_name : SideShown → List ℕ
-side_name Before = codes "before"
-side_name Inside = codes "inside"
 
 abbrev pub warning_rule : WarningKind → List ℕ
 warning_rule NeverReached = codes "never-reached"

@@ -21,13 +21,14 @@ use Rattle.fr_formats.specs.declared.answer.SourceShown.{SourceShown}
 use Rattle.fr_formats.specs.declared.answer.StepShown.{StepShown}
 use Rattle.fr_formats.specs.declared.answer.TraceShown.{TraceShown}
 use Rattle.fr_formats.specs.declared.answer.WarningShown.{WarningShown}
-use Rattle.fr_formats.specs.Answers.{command_name, kind_name, side_name, status_of, greatest_status}
+use Rattle.fr_program.specs.Uses.{side_text}
+use Rattle.fr_formats.specs.Answers.{command_name, kind_name, status_of, greatest_status}
 use Rattle.fr_formats.specs.Tokens.{array, field, integer, number, maybe, listed, object, written}
 
 unfoldable pub place_begins : PlaceShown → List Token
 place_begins p =
     begin_object ∷ number (codes "point") p.point ++ field (codes "actor") (string_bytes p.actor)
-    ++ number (codes "index") p.index ++ field (codes "side") (side_name p.side) ++ field (codes "code") (string_bytes p.code)
+    ++ number (codes "index") p.index ++ field (codes "side") (side_text p.side) ++ field (codes "code") (string_bytes p.code)
     ++ maybe (number (codes "line")) p.line ++ maybe (number (codes "column")) p.column ++ maybe (number (codes "length")) p.length
 
 unfoldable pub source_tokens : SourceShown → List Token

@@ -3,8 +3,6 @@ use Rattle.std.specs.Prelude.{ℕ, List, [], ◌∷◌, Option, codes, bytes_eq}
 use Rattle.std.specs.List.{position_from}
 use Rattle.fr_calls.specs.declared.rules.Rule.{Rule}
 use Rattle.fr_calls.specs.declared.rules.Rule.TheVariants.{OneWriter, OneReader, GivenByHolder, AllowedInCritical, AllowedSuspended, AllowedInInterrupt, IsLive, LifeInOrder, SuitsSemaphore, DepthAboveZero, EndsInOrder, InRange}
-use Rattle.fr_judge.specs.declared.part.Part.{Part}
-use Rattle.fr_judge.specs.declared.part.Part.TheVariants as part
 
 -- the name of a rule: its number
 abbrev pub rule_name : Rule → List ℕ
@@ -20,15 +18,6 @@ rule_name SuitsSemaphore = codes "rule-9"
 rule_name DepthAboveZero = codes "rule-10"
 rule_name EndsInOrder = codes "rule-11"
 rule_name InRange = codes "rule-12"
-
--- the name of a part of a verdict
-abbrev pub part_name : Part → List ℕ
-part_name part.Entry = codes "entry"
-part_name (part.Rule rule) = rule_name rule
-part_name (part.Goes to) = codes "goes-to"
-part_name (part.Guard end) = codes "guard"
-part_name (part.Near from) = codes "near"
-part_name (part.Spoiled from) = codes "spoiled-by"
 
 -- all names, in the order of a report's rules
 abbrev pub rule_names : List (List ℕ)

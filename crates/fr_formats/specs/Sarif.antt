@@ -32,7 +32,8 @@ use Rattle.fr_formats.specs.declared.answer.StepShown.{StepShown}
 use Rattle.fr_formats.specs.declared.answer.WarningShown.{WarningShown}
 use Rattle.fr_formats.specs.declared.ident.Ident.{Ident}
 use Rattle.fr_formats.specs.declared.sarif.flow.Stop.{Stop as StopShown}
-use Rattle.fr_formats.specs.Answers.{kind_name, side_name, warning_rule, greatest_status, subject, subject_line}
+use Rattle.fr_program.specs.Uses.{side_text}
+use Rattle.fr_formats.specs.Answers.{kind_name, warning_rule, greatest_status, subject, subject_line}
 use Rattle.fr_formats.specs.Names.{rule_index, rule_names}
 use Rattle.fr_formats.specs.Tokens.{array, field, flag, maybe, message, number, object, written}
 
@@ -42,7 +43,7 @@ unfoldable pub uri_of : List ℕ → List ℕ
 uri_of path = (if starts_with nat_eq path (codes "/") then codes "file://" else []) ++ uri path
 
 unfoldable pub point_words : PlaceShown → List ℕ
-point_words p = string_bytes p.actor ++ (codes " " ++ (decimal p.index ++ (codes " " ++ side_name p.side)))
+point_words p = string_bytes p.actor ++ (codes " " ++ (decimal p.index ++ (codes " " ++ side_text p.side)))
 
 unfoldable pub range : ℕ → ℕ → ℕ → List Token
 range line start end =

@@ -1,7 +1,8 @@
 // What a command answered for one application.
 ghost use Rattle.std.specs.Prelude.{◌≡◌, IfOk, string_bytes};
-ghost use Rattle.fr_formats.specs.Answers.{IsNew, command_name, failed_rule, greatest_status as greatest, kind_name, side_name, status_of, subject, subject_line, warning_rule};
+ghost use Rattle.fr_formats.specs.Answers.{IsNew, command_name, failed_rule, greatest_status as greatest, kind_name, status_of, subject, subject_line, warning_rule};
 
+use fr_program::Side;
 use std::alloc::{AllocError, Global};
 
 /// The commands whose answers have several formats.
@@ -54,13 +55,6 @@ pub enum AnswerKind {
     Machine,
 }
 
-/// Whether an actor is before its line of code, or inside the call on it.
-#[derive(Clone, Copy)]
-pub enum SideShown {
-    Before,
-    Inside,
-}
-
 /// A point of the application: where an actor stands, with its line of code.
 #[derive(Drop)]
 pub struct PlaceShown {
@@ -69,7 +63,7 @@ pub struct PlaceShown {
     pub actor: String,
     /// The number of the line in the actor's code, from 0.
     pub index: usize,
-    pub side: SideShown,
+    pub side: Side,
     /// The line of code.
     pub code: String,
     /// Where the code is in the application's file: line and column, from 1, and its length, in characters.
@@ -224,18 +218,6 @@ impl AnswerKind {
             AnswerKind::GaveUp => "gave-up",
             AnswerKind::Refused => "refused",
             AnswerKind::Machine => "machine",
-        }
-    }
-}
-
-impl SideShown {
-    /// Its name.
-    pub(crate) fn name(self) -> &'static str
-        ensures { result.now ≡ side_name self }
-    {
-        match self {
-            SideShown::Before => "before",
-            SideShown::Inside => "inside",
         }
     }
 }

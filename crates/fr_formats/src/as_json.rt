@@ -23,7 +23,7 @@ fn begin_point(out: &mut Out, place: &PlaceShown) -> Result<(), AllocError>
     ensures { OnOk result (out.new.tokens ≡ out.old.tokens ++ place_begins place.now) }
 {
     put!(out; Marks("{"), Number("point", place.point), Field("actor", &place.actor),
-        Number("index", place.index), Field("side", place.side.name()), Field("code", &place.code),
+        Number("index", place.index), Field("side", place.side.text()), Field("code", &place.code),
         MaybeNumber("line", place.line), MaybeNumber("column", place.column),
         MaybeNumber("length", place.length))
 }

@@ -1,10 +1,9 @@
 // The rules and parts that can fail: their names, and what a report says of them.
 ghost use Rattle.std.specs.Prelude.{◌≡◌, bytes_eq, map};
 ghost use Rattle.std.specs.List.{position_from};
-ghost use Rattle.fr_formats.specs.Names.{part_name as name_of_part, rule_index as index_of, rule_name as name_of_rule, rule_names};
+ghost use Rattle.fr_formats.specs.Names.{rule_index as index_of, rule_name as name_of_rule, rule_names};
 
 use fr_calls::Rule;
-use fr_judge::Part;
 
 /// A rule or a part that can fail.
 #[derive(Clone, Copy)]
@@ -203,20 +202,6 @@ pub fn rule_name(rule: Rule) -> &'static str
         Rule::DepthAboveZero => "rule-10",
         Rule::EndsInOrder => "rule-11",
         Rule::InRange => "rule-12",
-    }
-}
-
-/// The name of a part of a verdict: that of the rule, or a word, as `goes-to`. It never changes.
-pub fn part_name(part: Part) -> &'static str
-    ensures { result.now ≡ name_of_part part }
-{
-    match part {
-        Part::Rule(rule) => rule_name(rule),
-        Part::Entry => "entry",
-        Part::Goes(_) => "goes-to",
-        Part::Guard(_) => "guard",
-        Part::Near(_) => "near",
-        Part::Spoiled(_) => "spoiled-by",
     }
 }
 

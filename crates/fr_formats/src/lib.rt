@@ -2,7 +2,7 @@
 // crate above, fr_answer, fills. `answers_text` writes answers as JSON, as SARIF 2.1.0 and as JUnit's XML. Its contract
 // says to the letter what it writes: each of `specs/Json`, `specs/Sarif` and `specs/Junit` is the text of one form, and
 // no text of an answer gets into a report unescaped. `greatest_status` is the exit status of a report. Below are the
-// escapes (fr_escape), the forms' names (fr_request), and the rules and parts that are named (fr_calls, fr_judge).
+// escapes (fr_escape), the forms' names (fr_request), and the rules that are named (fr_calls).
 #![tactic(auto, using(std::proofs::Common::append_assoc))]
 
 mod answer;
@@ -14,8 +14,8 @@ mod piece;
 mod sarif;
 
 pub use answer::{
-    AnswerKind, AnswerShown, Command, Failure, PlaceShown, SideShown, Source, SourceShown,
-    StepShown, TraceShown, WarningKind, WarningShown, greatest_status,
+    AnswerKind, AnswerShown, Command, Failure, PlaceShown, Source, SourceShown, StepShown,
+    TraceShown, WarningKind, WarningShown, greatest_status,
 };
 pub use format::answers_text;
-pub use ident::{part_name, rule_name};
+pub use ident::rule_name;

@@ -2,7 +2,7 @@
 use fr_code::{lines_of_code, places_in_source};
 use fr_escape::push_plain;
 use fr_program::{App, Point};
-use fr_report::{Explained, Sources, line_of_code};
+use fr_wording::{Explained, Sources, line_of_code};
 use std::alloc::{AllocError, Global};
 
 /// The lines of code of an application.

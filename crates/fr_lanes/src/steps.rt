@@ -9,12 +9,12 @@ use fr_calls::{Place, Rule, State, the_start_is_well_formed};
 use fr_page::{ActorAfter, Doing, Moved, PointShown, StepShown, Track, TrackKind, WaitShown};
 use fr_program::{ActorId, App, Point, Side};
 use fr_refuter::{Deadlocked, Refutation};
-use fr_report::{
-    Depth, ExplainedRun, ExplainedStep, Standing, actor_place, depth_in, depths_of,
-    explain_deadlock, explain_run, object_name, rule_text, side_name, state_told,
-};
+use fr_report::{ExplainedRun, ExplainedStep, explain_deadlock, explain_run};
 use fr_states::take_step;
 use fr_waits::Wait;
+use fr_wording::{
+    Depth, Standing, actor_place, depth_in, depths_of, object_name, rule_text, state_told,
+};
 use std::alloc::{AllocError, Global};
 
 /// How many steps are shown at the beginning of a run, and how many at its end.
@@ -81,7 +81,7 @@ fn place_shown(
     match actor_place(app, state, actor) {
         Place::At { pc, side } => {
             let line = code.line(alloc, app, Point { actor, pc, side })?;
-            format!(in alloc; "{pc} {}: {line}", side_name(side))
+            format!(in alloc; "{pc} {}: {line}", side.text())
         }
         Place::Done => String::from_str(alloc, "done"),
     }
@@ -289,7 +289,7 @@ pub fn put_end(
         .push(row_of(alloc, app, code, depths, name, Some(moved), last)?)?;
     let shown = PointShown {
         number: app.number(point).unwrap_or(0),
-        side: String::from_str(alloc, side_name(point.side))?,
+        side: String::from_str(alloc, point.side.text())?,
         notes: Vec::new(alloc),
         standing: fr_page::Standing::Fails(String::from_str(alloc, said)?),
         explanation: Vec::new(alloc),

@@ -1,6 +1,4 @@
 pub mod ComparisonLaws
-pub mod WorkedNotes
-pub mod WorkedParts
 pub mod Shown
 pub mod PartsLemmas
 pub mod FitLemmas

@@ -18,7 +18,5 @@ pub mod Spot
 pub mod Pairs
 pub mod Laws
 pub mod Alternatives
-pub mod WorkedNotes
-pub mod WorkedParts
 pub mod Reckoning
 pub mod Results

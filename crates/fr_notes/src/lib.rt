@@ -26,7 +26,6 @@ mod parts;
 mod reckoning;
 mod steps;
 mod subject;
-mod worked;
 
 pub use alternatives::{Alts, AltsFault, MOST_ALTERNATIVES};
 pub use case::{Case, Spot};
@@ -44,4 +43,3 @@ pub use notes::Notes;
 pub use pairs::{can_meet, together};
 pub use steps::{change_by, condition_at};
 pub use subject::Subject;
-pub use worked::{notes_as_worked, parts_as_worked};

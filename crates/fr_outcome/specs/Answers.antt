@@ -33,7 +33,7 @@ use Rattle.fr_order.specs.declared.order.Order.TheVariants.{Upwards, Cycle}
 use Rattle.fr_order.specs.Order.{IsOrderOf}
 use Rattle.fr_refuter.specs.declared.answer.Finding.TheVariants.{Breach as FoundBreach, Deadlock as FoundDeadlock, Safe, Free, Unknown}
 use Rattle.fr_refuter.specs.Refutes.{IsFound, Suits}
-use Rattle.fr_report.specs.Lines.{lines_text}
+use Rattle.fr_wording.specs.Lines.{lines_text}
 use Rattle.fr_report.specs.Report.{verdict_text}
 use Rattle.fr_report.specs.Refuted.{IsRunText, found_line}
 use Rattle.fr_report.specs.Waits.{order_text}

@@ -8,7 +8,7 @@ use Rattle.fr_judge.specs.declared.part.Verdict.TheVariants.{Yes}
 use Rattle.fr_judge.specs.Told.{Speaks, TellsVerdict}
 use Rattle.fr_order.specs.declared.order.Order.{Order}
 use Rattle.fr_order.specs.Order.{IsOrderOf}
-use Rattle.fr_report.specs.declared.told.Explanation.{Explanation}
+use Rattle.fr_wording.specs.declared.told.Explanation.{Explanation}
 
 -- an application, a certificate for it, a verdict, what explains it, and an order of the mutexes or a cycle of takes
 pub record JudgedOf : Type 0 where

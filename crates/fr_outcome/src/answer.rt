@@ -1,7 +1,7 @@
 // What a command found out about an application.
 ghost use Rattle.std.specs.Prelude.{◌≡◌, IfOk, IsTrue, None, string_bytes};
 ghost use Rattle.std.specs.Option.{is_some};
-ghost use Rattle.fr_report.specs.Lines.{lines_text};
+ghost use Rattle.fr_wording.specs.Lines.{lines_text};
 ghost use Rattle.fr_report.specs.Refuted.{IsRunText};
 ghost use Rattle.fr_report.specs.Report.{verdict_text};
 ghost use Rattle.fr_outcome.specs.Answers.{
@@ -33,9 +33,8 @@ use fr_judge::Verdict;
 use fr_order::Order;
 use fr_program::App;
 use fr_refuter::Finding;
-use fr_report::{
-    Sources, explain_deadlock, explain_run, finding_line, order_line, text_of, verdict_line,
-};
+use fr_report::{explain_deadlock, explain_run, finding_line, order_line, verdict_line};
+use fr_wording::{Sources, text_of};
 use std::alloc::{AllocError, Global};
 
 /// Why there is no verdict, and where: a text that is refused, or the machine that failed.

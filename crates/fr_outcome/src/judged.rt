@@ -9,7 +9,7 @@ use fr_judge::Verdict;
 use fr_order::Order;
 use fr_program::App;
 use fr_refuter::Left;
-use fr_report::Explanation;
+use fr_wording::Explanation;
 use std::marker::Model;
 
 /// A search for a run into a breach, or for one into a deadlock, that found none.

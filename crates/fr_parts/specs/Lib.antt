@@ -1,4 +1,3 @@
 pub mod Parts
-pub mod Named
 pub mod View
 pub mod Laws

@@ -5,8 +5,6 @@
 
 mod division;
 mod laws;
-mod named;
 
 pub use division::Division;
 pub use laws::{parts_decide_deadlocks, parts_decide_safety, parts_share_nothing};
-pub use named::{Named, object_named, variables_named};

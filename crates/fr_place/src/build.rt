@@ -47,8 +47,7 @@ fn push_owners(out: &mut Lines, parts: &Parts, actor: ActorId, instr: Instr) {
 
 /// Appends the object of the instruction with its kind.
 fn push_kind(out: &mut Lines, parts: &Parts, instr: Instr) {
-    if let Instr::Call(call) = instr
-        && let Some(id) = call.object()
+    if let Some(id) = instr.object()
         && let Some(object) = parts.objects.get(id.0)
     {
         out.texts(&[object.name.as_str(), " has the kind "]);

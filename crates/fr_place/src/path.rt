@@ -2,16 +2,8 @@
 use crate::lines::Lines;
 use crate::shown::push_start;
 use fr_cert::Step;
-use fr_program::{App, Side};
+use fr_program::App;
 use serde_json::Value;
-
-/// The word for a side of a point.
-fn side_text(side: Side) -> &'static str {
-    match side {
-        Side::Before => " before)",
-        Side::Inside => " inside)",
-    }
-}
 
 /// Appends the actor, the line and the side of the point with this number, if there is one.
 fn push_point(out: &mut Lines, app: &App, number: usize) {
@@ -22,7 +14,7 @@ fn push_point(out: &mut Lines, app: &App, number: usize) {
     if let Some(actor) = app.actors().get(point.actor.0) {
         out.texts(&[" (", actor.name.as_str()]);
         out.number(" ", point.pc as i128);
-        out.text(side_text(point.side));
+        out.texts(&[" ", point.side.text(), ")"]);
     }
 }
 

@@ -12,4 +12,3 @@ pub mod ListFault
 pub mod PointNumbers
 pub mod Built
 pub mod Spans
-pub mod WorkedPoints

@@ -5,7 +5,8 @@
 -- | variables_of                     | the variables of an instruction, each as often as it is named there |
 -- | object_named                     | the object that an instruction names, if it names one               |
 -- | else_of, written_by              | the `else` target of an object call, the variable that it writes    |
--- | end_text                         | the name of an end of a buffer                                      |
+-- | given_by                         | the variable that an instruction, or the end of its call, writes    |
+-- | end_text, side_text              | the name of an end of a buffer, of a side of an instruction         |
 -- | TargetsBelow                     | each target is below this number                                    |
 -- | is_semaphore, is_buffer          | a kind is one of the semaphores, the kind of this buffer call       |
 -- | makes_kind, drops_kind, acts_on  | a create, a delete, an object call suits this kind of object        |
@@ -30,6 +31,8 @@ use Rattle.fr_program.specs.declared.instr.DeletedKind.TheVariants.{Queue as Dro
 use Rattle.fr_program.specs.declared.instr.Operand.{Operand}
 use Rattle.fr_program.specs.declared.instr.Operand.TheVariants.{Number, Variable}
 use Rattle.fr_program.specs.declared.ids.ObjId.{ObjId}
+use Rattle.fr_program.specs.declared.ids.Side.{Side}
+use Rattle.fr_program.specs.declared.ids.Side.TheVariants.{Before, Inside}
 use Rattle.fr_program.specs.declared.ids.VarId.{VarId}
 use Rattle.fr_program.specs.declared.parts.Kind.{Kind}
 use Rattle.fr_program.specs.declared.parts.Kind.TheVariants.{Queue, Binary, Counting, Mutex, Recursive, Stream, Message}
@@ -92,10 +95,22 @@ abbrev pub written_by : Act → Option VarId
 written_by (Try attempt e) = received_by attempt
 written_by (Move end buffer n result) = result
 
+-- the variable to which an instruction, or the end of its call, gives a number
+abbrev pub given_by : Instr → Option VarId
+given_by (Set x l op r) = Some x
+given_by (Pick x lo hi) = Some x
+given_by (Calls (On call)) = written_by call.act
+given_by i = None
+
 -- the name of an end, as certificates and reports have it
 abbrev pub end_text : End → List ℕ
 end_text Writer = codes "writer"
 end_text Reader = codes "reader"
+
+-- the name of a side, before an instruction or inside it
+abbrev pub side_text : Side → List ℕ
+side_text Before = codes "before"
+side_text Inside = codes "inside"
 
 -- each target of the instruction is below n
 abbrev pub TargetsBelow : ℕ → Instr → Type 0

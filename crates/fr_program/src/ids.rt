@@ -1,4 +1,5 @@
 // Numbers that name variables, objects and actors, and the points at which an actor can stand.
+ghost use Rattle.std.specs.Prelude.{◌≡◌};
 
 /// A variable, by its place in the list of variables, from 0.
 #[derive(Clone, Copy, Debug, PartialEq, Eq)]
@@ -17,6 +18,20 @@ pub struct ActorId(pub usize);
 pub enum Side {
     Before,
     Inside,
+}
+
+impl Side {
+    ghost use Rattle.fr_program.specs.Uses.{side_text};
+
+    /// The side's name, as listings and reports have it.
+    pub fn text(self) -> &'static str
+        ensures { result.now ≡ side_text self }
+    {
+        match self {
+            Side::Before => "before",
+            Side::Inside => "inside",
+        }
+    }
 }
 
 /// Where an actor that has not ended stands: a side of one of its instructions.

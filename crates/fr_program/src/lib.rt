@@ -11,7 +11,6 @@ mod instr;
 mod parts;
 mod range;
 mod table;
-mod worked;
 
 pub use app::App;
 pub use check::{MOST_SIZE, MOST_TICKS, Uses, is_name};
@@ -23,4 +22,3 @@ pub use instr::{
 };
 pub use parts::{Actor, ActorKind, Kind, Object, Parts, Variable};
 pub use range::Range;
-pub use worked::points_as_worked;

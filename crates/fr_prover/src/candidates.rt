@@ -6,7 +6,7 @@ use crate::place::{changed_life, place_at};
 use crate::plan::Plan;
 use fr_judge::Part;
 use fr_notes::MOST_ALTERNATIVES;
-use fr_program::{App, Instr, Point, Range, VarId};
+use fr_program::{App, Point, Range, VarId};
 use std::alloc::{AllocError, Global};
 
 /// A variable's range is cut at most so often.
@@ -29,10 +29,7 @@ struct Concern {
 
 /// The object of the call at a point, if there is one.
 fn object_at(app: &App, point: Point) -> Option<usize> {
-    match app.instr(point)? {
-        Instr::Call(call) => Some(call.object()?.0),
-        _ => None,
-    }
+    Some(app.instr(point)?.object()?.0)
 }
 
 /// The object that the instruction of a point creates or deletes, if it does.

@@ -4,7 +4,7 @@ use crate::lists::{list_at, mark};
 use crate::place::{Place, changed_life, place_at, read, tested};
 use crate::table::Table;
 use fr_finder::points_before;
-use fr_program::{App, Call, Instr, ObjId};
+use fr_program::{App, Instr};
 use std::alloc::{AllocError, Global};
 
 /// What may be needed of the notes.
@@ -14,14 +14,6 @@ pub struct Needs {
     pub variables: Table,
     /// By point and object: whether its life there may be needed.
     pub objects: Table,
-}
-
-/// The object that an instruction names, if it names one.
-fn object_of(instr: &Instr) -> Option<ObjId> {
-    match instr {
-        Instr::Call(call) => call.object(),
-        _ => None,
-    }
 }
 
 /// The variable to which an instruction gives another number whatever happens, if there is one.
@@ -68,7 +60,7 @@ impl Needs {
                 self.variables.mark(number, variable.0);
             }
         }
-        if let Some(object) = object_of(place.instr) {
+        if let Some(object) = place.instr.object() {
             self.objects.mark(number, object.0);
         }
     }

@@ -1,2 +1,1 @@
-pub mod ListingLemmas
 pub mod RunLemmas

@@ -6,7 +6,7 @@ use Rattle.std.proofs.lemmas.Grind.{flat_map-append}
 use Rattle.fr_program.specs.Program.{Program}
 use Rattle.fr_states.specs.declared.step.StepTaken.{StepTaken}
 use Rattle.fr_report.specs.declared.changes.ExplainedStep.{ExplainedStep}
-use Rattle.fr_report.specs.Lines.{lines_text}
+use Rattle.fr_wording.specs.Lines.{lines_text}
 use Rattle.fr_report.specs.Refuted.{steps_in, AreStepLines, IsStepTold}
 
 alone : (a e : List ℕ) → a ≡ [] → a ++ e ≡ e ++ []

@@ -8,8 +8,7 @@
 -- | IsBelow          | a line that explains a step, and looks like none                                    |
 -- | IsStepTold       | the line of a step, as one of a run; if it is explained, other lines below it       |
 -- | AreStepLines     | the lines of steps, explained or not                                                |
--- | standing_text, IsHere, IsPlaced, IsLast | where an actor is, with its line of code, and that line's place in a source where it is explained |
--- | standings_text, AreWaiting | where actors are, a line each; those of the actors of a cycle                 |
+-- | IsLast, AreWaiting | where an actor is, if one is named; where the actors of a cycle are               |
 -- | shorter_text     | the line that says that a shorter run may exist, where it may and this is asked for |
 -- | AreRunLines      | the lines of steps, where actors are then, and that line                            |
 -- | IsRunText        | those lines of a breach or a deadlock, and otherwise none                           |
@@ -27,11 +26,10 @@ use Rattle.fr_refuter.specs.declared.answer.Finding.{Finding}
 use Rattle.fr_refuter.specs.declared.replay.Deadlocked.{Deadlocked}
 use Rattle.fr_refuter.specs.declared.answer.Finding.TheVariants.{Breach, Deadlock, Safe, Free, Unknown}
 use Rattle.fr_report.specs.declared.changes.ExplainedStep.{ExplainedStep}
-use Rattle.fr_report.specs.declared.standing.Standing.{Standing}
-use Rattle.fr_report.specs.Lines.{lines_text}
-use Rattle.fr_report.specs.Listing.{code_text}
-use Rattle.fr_report.specs.Report.{rule_text, side_text}
-use Rattle.fr_report.specs.Sources.{source_text}
+use Rattle.fr_wording.specs.declared.standing.Standing.{Standing}
+use Rattle.fr_wording.specs.Lines.{lines_text}
+use Rattle.fr_wording.specs.Names.{rule_text}
+use Rattle.fr_wording.specs.Standings.{standings_text, IsHere, IsPlaced}
 use Rattle.fr_report.specs.Trace.{entry_text}
 use Rattle.fr_report.specs.Waits.{deadlock_text}
 use Rattle.fr_waits.specs.declared.wait.Wait.{Wait}
@@ -74,36 +72,12 @@ AreStepLines explains P [] text = text ≡ []
 AreStepLines explains P (step ∷ rest) text =
     (own others : List ℕ) × IsStepTold explains P step own × (text ≡ own ++ others) × AreStepLines explains P rest others
 
--- where an actor is: `<actor> <instruction> <side>: <line>`, or `<actor> is done`
-abbrev pub at_text : Program → Standing → List ℕ
-at_text P s = elim s.point [
-  | None ↦ (actor_at P s.actor.0).name ++ codes " is done"
-  | Some p ↦ (actor_at P s.actor.0).name
-      ++ (codes " " ++ (decimal p.pc ++ (codes " " ++ (side_text p.side ++ (codes ": " ++ string_bytes s.code)))))
-]
-
--- the same, with the place in the source where it is explained
-abbrev pub standing_text : Bool → Program → Standing → List ℕ
-standing_text explains P s = at_text P s ++ (if explains then source_text (string_bytes s.source) else [])
-
--- the lines of several, each with its newline
-abbrev pub standings_text : Bool → Program → List Standing → List ℕ
-standings_text explains P lasts = flat_map (λ s. standing_text explains P s ++ codes "\n") lasts
-
--- the point is one of its actor, and the line of code is that of the point
-abbrev pub IsHere : Program → Standing → Type 0
-IsHere P s = elim s.point [ None ↦ Unit {0} | Some p ↦ (p.actor ≡ s.actor) × (string_bytes s.code ≡ code_text P p) ]
-
--- the same, of this actor
-abbrev pub IsPlaced : Program → ActorId → Standing → Type 0
-IsPlaced P actor s = (s.actor ≡ actor) × IsHere P s
-
--- the same, of this actor alone, if one is named
+-- where this actor is alone, if one is named
 abbrev pub IsLast : Program → Option ActorId → List Standing → Type 0
 IsLast P None lasts = lasts ≡ []
 IsLast P (Some actor) lasts = (last : Standing) × (lasts ≡ last ∷ []) × IsPlaced P actor last
 
--- the same, of each actor of a cycle of waits
+-- where each actor of a cycle of waits is
 abbrev pub AreWaiting : Program → List Wait → List Standing → Type 0
 AreWaiting P cycle lasts = (map (λ s. s.actor) lasts ≡ map (λ w. w.actor) cycle) × All (IsHere P) lasts
 

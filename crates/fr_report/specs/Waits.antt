@@ -13,12 +13,12 @@ use Rattle.fr_program.specs.declared.ids.ActorId.{ActorId}
 use Rattle.fr_program.specs.declared.ids.ObjId.{ObjId}
 use Rattle.fr_program.specs.Program.{Program}
 use Rattle.fr_program.specs.Lookup.{actor_at, object_at}
+use Rattle.fr_program.specs.Uses.{side_text}
 use Rattle.fr_waits.specs.declared.wait.Wait.{Wait}
 use Rattle.fr_order.specs.declared.edge.Edge.{Edge}
 use Rattle.fr_order.specs.declared.order.Order.{Order}
 use Rattle.fr_order.specs.declared.order.Order.TheVariants.{Upwards, Cycle}
 use Rattle.fr_refuter.specs.declared.replay.Deadlocked.{Deadlocked}
-use Rattle.fr_report.specs.Report.{side_text}
 
 -- `<actor> waits for <mutex>`
 abbrev pub wait_text : Program → Wait → List ℕ

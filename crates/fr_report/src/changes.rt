@@ -2,18 +2,15 @@
 ghost use Rattle.std.specs.Prelude.{◌≡◌, IfOk};
 ghost use Rattle.fr_calls.specs.State.{IsWellFormed};
 
-use crate::facts::{content_in, fact, has_changed, put_content, put_held, value_in};
-use crate::lines::{add_text, put_listed};
-use crate::places::{actor_place, standing_in};
-use crate::shown::{actor_name, object_name, variable_name};
-use crate::sources::Sources;
-use crate::standing::Standing;
-use crate::steps::outcome_text;
-use crate::subjects::{subject_at, subject_count};
 use fr_calls::{Content, Place, State, Stock};
 use fr_notes::Subject;
 use fr_program::{ActorId, App, ObjId, Point, VarId};
 use fr_states::StepTaken;
+use fr_wording::{
+    Sources, Standing, actor_name, actor_place, add_text, content_in, fact, has_changed,
+    object_name, outcome_text, put_content, put_held, put_listed, standing_in, subject_at,
+    subject_count, value_in, variable_name,
+};
 use std::alloc::{AllocError, Global};
 
 /// Whether this is what a live mutex has.

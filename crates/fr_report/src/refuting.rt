@@ -1,27 +1,11 @@
 // What is found of an application that is searched for a breach, or for a deadlock too.
 ghost use Rattle.std.specs.Prelude.{◌≡◌, ◌++◌, ◌∷◌, [], ℕ, List, All, IfOk, codes, string_bytes};
 ghost use Rattle.fr_calls.specs.State.{IsWellFormed};
-ghost use Rattle.fr_report.specs.Lines.{lines_text};
-ghost use Rattle.fr_report.specs.Refuted.{
-  breach_text,
-  found_line,
-  shorter_text,
-  standings_text,
-  steps_in,
-  AreRunLines,
-  AreWaiting,
-  IsBelow,
-  IsLast,
-  IsPlaced,
-  IsStepTold,
-};
+ghost use Rattle.fr_wording.specs.Lines.{lines_text};
+ghost use Rattle.fr_report.specs.Refuted.{breach_text, found_line, shorter_text, steps_in, AreRunLines, AreWaiting, IsBelow, IsLast, IsStepTold};
+ghost use Rattle.fr_wording.specs.Standings.{standings_text, IsPlaced};
 
 use crate::changes::{ExplainedStep, step_explained};
-use crate::lines::add_text;
-use crate::places::standing_in;
-use crate::shown::{actor_name, rule_text};
-use crate::sources::Sources;
-use crate::standing::Standing;
 use crate::trace::put_entry;
 use crate::waits::deadlock_text;
 use fr_calls::{State, the_start_is_well_formed};
@@ -31,6 +15,7 @@ use fr_refuter::{Deadlocked, Finding, Refutation};
 use fr_runner::Entry;
 use fr_states::{StepTaken, take_step};
 use fr_waits::Wait;
+use fr_wording::{Sources, Standing, actor_name, add_text, rule_text, standing_in};
 use std::alloc::{AllocError, Global};
 use std::mem::drop;
 

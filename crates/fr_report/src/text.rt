@@ -2,11 +2,12 @@
 ghost use Rattle.std.specs.Prelude.{◌≡◌, ◌++◌, IfOk, OnOk, string_bytes};
 ghost use Rattle.fr_program.specs.Lookup.{IsPoint};
 ghost use Rattle.fr_judge.specs.Told.{Speaks, IsPartOf};
-ghost use Rattle.fr_report.specs.Report.{part_text, point_text, report_text, verdict_text};
+ghost use Rattle.fr_report.specs.Report.{part_text, report_text, verdict_text};
+ghost use Rattle.fr_wording.specs.Names.{point_text};
 
-use crate::shown::{actor_name, number_of, object_name, rule_text, side_name};
 use fr_judge::{Part, Verdict};
 use fr_program::{App, Point};
+use fr_wording::{actor_name, number_of, object_name, rule_text};
 use std::alloc::{AllocError, Global};
 
 /// The line of the verdict, with its newline: `yes`, or `no`, the first failing point and
@@ -84,6 +85,6 @@ fn put_point(text: &mut String, app: &App, before: &str, point: Point) -> Result
         (string_bytes text.new ≡ string_bytes text.old ++ (before.now ++ point_text app.now point)) }
 {
     let (number, actor) = (number_of(app, point), actor_name(app, point.actor));
-    let (pc, side) = (point.pc, side_name(point.side));
+    let (pc, side) = (point.pc, point.side.text());
     write!(text, "{before}point {number} ({actor} {pc} {side})")
 }

@@ -2,9 +2,9 @@
 ghost use Rattle.std.specs.Prelude.{◌≡◌, ◌++◌, IfOk, OnOk, codes, string_bytes};
 ghost use Rattle.fr_report.specs.Trace.{entry_text, trace_text};
 
-use crate::shown::actor_name;
 use fr_program::App;
 use fr_runner::{Entry, Trace};
+use fr_wording::actor_name;
 use std::alloc::{AllocError, Global};
 
 /// Appends the line of an entry, without its newline.

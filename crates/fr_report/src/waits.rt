@@ -15,11 +15,11 @@ ghost use Rattle.fr_report.specs.Waits.{
   wait_text,
 };
 
-use crate::shown::{actor_name, object_name, side_name};
 use fr_order::{Edge, Order};
 use fr_program::{App, ObjId};
 use fr_refuter::Deadlocked;
 use fr_waits::Wait;
+use fr_wording::{actor_name, object_name};
 use std::alloc::{AllocError, Global};
 
 /// Appends which mutex an actor waits for.
@@ -123,7 +123,7 @@ fn put_edge(text: &mut String, app: &App, edge: Edge) -> Result<(), AllocError>
     ensures { OnOk result (string_bytes text.new ≡ string_bytes text.old ++ edge_text app.now edge) }
 {
     let (actor, pc) = (actor_name(app, edge.point.actor), edge.point.pc);
-    let side = side_name(edge.point.side);
+    let side = edge.point.side.text();
     let (taken, held) = (object_name(app, edge.taken), object_name(app, edge.held));
     write!(text, "{actor} {pc} {side} takes {taken} and holds {held}")
 }

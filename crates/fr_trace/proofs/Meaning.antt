@@ -18,9 +18,9 @@ use Rattle.fr_trace.specs.declared.effect.Effect.{Effect}
 use Rattle.fr_trace.specs.declared.effect.Effect.TheVariants.{Add}
 use Rattle.fr_trace.specs.declared.no_trace.NoTrace.TheVariants.{Faulty}
 use Rattle.fr_trace.specs.declared.no_trace.TraceFault.{TraceFault}
-use Rattle.fr_trace.specs.declared.recorded.Recorded.{Recorded}
-use Rattle.fr_trace.specs.declared.trace.Event.{Event}
-use Rattle.fr_trace.specs.declared.trace.Happening.TheVariants.{Enter, Set}
+use Rattle.fr_events.specs.declared.recorded.Recorded.{Recorded}
+use Rattle.fr_events.specs.declared.trace.Event.{Event}
+use Rattle.fr_events.specs.declared.trace.Happening.TheVariants.{Enter, Set}
 use Rattle.fr_trace.proofs.Once.{all-once, integer-once, number-once}
 
 enter-of-once : (N : NamesOf) (n : ℕ) (s : Sofar) (a : ActorId) (v : Verb) (ps : List Place) (ts : List Tok) (e f : Event)

@@ -10,11 +10,11 @@ use Rattle.fr_instr.specs.declared.call.Place.{Place}
 use Rattle.fr_instr.specs.declared.call.Place.TheVariants.{Object, Operand, Variable, Length, Time, Ticks, Null}
 use Rattle.fr_instr.specs.declared.token.Sign.TheVariants.{Comma, Question}
 use Rattle.fr_trace.specs.Args.{IsNumber, IsObjectAt, IsTimeAt, Puts, PutsFirst, PutsMore, PutsAll}
-use Rattle.fr_trace.specs.declared.recorded.Recorded.{Recorded}
-use Rattle.fr_trace.specs.declared.recorded.Recorded.TheVariants.{Unknown, Known}
-use Rattle.fr_trace.specs.declared.seen_call.SeenCall.{SeenCall}
-use Rattle.fr_trace.specs.declared.seen_call.SeenTime.{SeenTime}
-use Rattle.fr_trace.specs.declared.seen_call.SeenTime.TheVariants as seen_time
+use Rattle.fr_events.specs.declared.recorded.Recorded.{Recorded}
+use Rattle.fr_events.specs.declared.recorded.Recorded.TheVariants.{Unknown, Known}
+use Rattle.fr_events.specs.declared.seen_call.SeenCall.{SeenCall}
+use Rattle.fr_events.specs.declared.seen_call.SeenTime.{SeenTime}
+use Rattle.fr_events.specs.declared.seen_call.SeenTime.TheVariants as seen_time
 
 pub integer-once : (d : List ℕ) (z y : ℤ) → IsInteger d z → IsInteger d y → z ≡ y
 integer-once d z y h k = only_number d z y h.0 h.1 k.0 k.1

@@ -16,7 +16,7 @@ use Rattle.fr_trace.specs.declared.no_trace.NoTrace.{NoTrace}
 use Rattle.fr_trace.specs.declared.no_trace.NoTrace.TheVariants as no_trace
 use Rattle.fr_trace.specs.declared.stop.Stop.{Stop}
 use Rattle.fr_trace.specs.declared.stop.Stop.TheVariants.{Memory, NotListed, Wrong}
-use Rattle.fr_trace.specs.declared.trace.Event.{Event}
+use Rattle.fr_events.specs.declared.trace.Event.{Event}
 
 -- a call with a row that isn't strange, and at which no event begins it
 pub enter-why : (N : NamesOf) (n : ℕ) (s : Sofar) (a : ActorId) (k : List ℕ) (ts : List Tok) (row : Row) → Some row ≡ row_named k

@@ -21,11 +21,11 @@ use Rattle.fr_instr.specs.declared.call.Place.{Place}
 use Rattle.fr_instr.specs.declared.call.Place.TheVariants.{Object, Operand, Variable, Length, Time, Ticks, Null}
 use Rattle.fr_instr.specs.declared.call.Verb.{Verb}
 use Rattle.fr_instr.specs.declared.token.Sign.TheVariants.{Comma, Close, Question}
-use Rattle.fr_trace.specs.declared.recorded.Recorded.{Recorded}
-use Rattle.fr_trace.specs.declared.recorded.Recorded.TheVariants.{Unknown, Known}
-use Rattle.fr_trace.specs.declared.seen_call.SeenCall.{SeenCall}
-use Rattle.fr_trace.specs.declared.seen_call.SeenTime.{SeenTime}
-use Rattle.fr_trace.specs.declared.seen_call.SeenTime.TheVariants as seen_time
+use Rattle.fr_events.specs.declared.recorded.Recorded.{Recorded}
+use Rattle.fr_events.specs.declared.recorded.Recorded.TheVariants.{Unknown, Known}
+use Rattle.fr_events.specs.declared.seen_call.SeenCall.{SeenCall}
+use Rattle.fr_events.specs.declared.seen_call.SeenTime.{SeenTime}
+use Rattle.fr_events.specs.declared.seen_call.SeenTime.TheVariants as seen_time
 
 -- the token is this number, or `?`
 abbrev pub IsNumber : Tok → Recorded ℤ → Type 0

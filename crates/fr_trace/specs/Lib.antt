@@ -1,5 +1,4 @@
 pub mod Args
-pub mod Fits
 pub mod Means
 pub mod Reads
 pub mod Said

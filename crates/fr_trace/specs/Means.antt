@@ -16,8 +16,8 @@ use Rattle.fr_instr.specs.declared.call.Verb.{Verb}
 use Rattle.fr_trace.specs.Reads.{IsTextWhy, ReadsLines, Sofar, start}
 use Rattle.fr_trace.specs.declared.no_trace.NoTrace.{NoTrace}
 use Rattle.fr_trace.specs.declared.no_trace.NoTrace.TheVariants.{Memory, TooLong, NotText, Faulty, NotListed}
-use Rattle.fr_trace.specs.declared.trace.Event.{Event}
-use Rattle.fr_trace.specs.declared.trace.Trace.{Trace}
+use Rattle.fr_events.specs.declared.trace.Event.{Event}
+use Rattle.fr_events.specs.declared.trace.Trace.{Trace}
 
 -- what a trace says
 pub record TraceOf : Type 0 where

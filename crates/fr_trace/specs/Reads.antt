@@ -39,13 +39,13 @@ use Rattle.fr_trace.specs.declared.no_trace.NoTrace.{NoTrace}
 use Rattle.fr_trace.specs.declared.no_trace.NoTrace.TheVariants as no_trace
 use Rattle.fr_trace.specs.declared.effect.Effect.{Effect}
 use Rattle.fr_trace.specs.declared.effect.Effect.TheVariants.{Nothing, Add, Lose, Ignore}
-use Rattle.fr_trace.specs.declared.recorded.Recorded.{Recorded}
-use Rattle.fr_trace.specs.declared.seen_call.SeenCall.{SeenCall}
+use Rattle.fr_events.specs.declared.recorded.Recorded.{Recorded}
+use Rattle.fr_events.specs.declared.seen_call.SeenCall.{SeenCall}
 use Rattle.fr_trace.specs.declared.stop.Stop.{Stop}
 use Rattle.fr_trace.specs.declared.stop.Stop.TheVariants.{Memory, NotListed, Wrong}
-use Rattle.fr_trace.specs.declared.trace.Event.{Event}
-use Rattle.fr_trace.specs.declared.trace.Happening.{Happening}
-use Rattle.fr_trace.specs.declared.trace.Happening.TheVariants.{Enter, Return, Set, Begin, End}
+use Rattle.fr_events.specs.declared.trace.Event.{Event}
+use Rattle.fr_events.specs.declared.trace.Happening.{Happening}
+use Rattle.fr_events.specs.declared.trace.Happening.TheVariants.{Enter, Return, Set, Begin, End}
 
 -- what is read so far: whether the trace may begin anywhere, the events, the calls that aren't recorded, how many events are before each
 -- `lost`, how many were ignored, and for each actor whether it is inside a call

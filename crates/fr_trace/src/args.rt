@@ -5,13 +5,12 @@ ghost use Rattle.fr_instr.specs.Tokens.{Tok, sign};
 ghost use Rattle.fr_instr.specs.Views.{tok, toks};
 ghost use Rattle.fr_instr.specs.declared.token.Sign.TheVariants.{Comma};
 ghost use Rattle.fr_trace.specs.Args.{IsAnyName, IsNull, IsNumber, IsObjectAt, IsTimeAt, Puts, PutsAll, PutsFirst, PutsMore, closing, unseen_parts};
-ghost use Rattle.fr_trace.specs.declared.recorded.Recorded.{Recorded};
-ghost use Rattle.fr_trace.specs.declared.seen_call.SeenCall.{SeenCall};
-ghost use Rattle.fr_trace.specs.declared.seen_call.SeenTime.{SeenTime};
+ghost use Rattle.fr_events.specs.declared.recorded.Recorded.{Recorded};
+ghost use Rattle.fr_events.specs.declared.seen_call.SeenCall.{SeenCall};
+ghost use Rattle.fr_events.specs.declared.seen_call.SeenTime.{SeenTime};
 
 use crate::no_trace::TraceFault;
-use crate::recorded::Recorded;
-use crate::seen_call::{SeenCall, SeenTime};
+use fr_events::{Recorded, SeenCall, SeenTime};
 use fr_instr::{Names, Place, Sign, Token, Verb, integer_of};
 use fr_program::ObjId;
 

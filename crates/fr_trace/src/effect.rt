@@ -7,14 +7,14 @@ ghost use Rattle.fr_instr.specs.Views.{tok, toks};
 ghost use Rattle.fr_trace.specs.Reads.{ActorDoes, Does, HasReturned, HasSet, IsEnter, IsEnterOf, IsWhy, OwnDoes, is_object_name, is_strange, is_strange_by, is_strange_call, is_strange_place, is_touched};
 ghost use Rattle.fr_trace.specs.Views.{said_of, so_far};
 ghost use Rattle.fr_trace.specs.declared.effect.Effect.{Effect};
-ghost use Rattle.fr_trace.specs.declared.trace.Event.{Event};
+ghost use Rattle.fr_events.specs.declared.trace.Event.{Event};
 
 use crate::args;
 use crate::no_trace::{TraceFault, Unlisted};
 use crate::progress::Progress;
 use crate::said::Said;
 use crate::stop::Stop;
-use crate::trace::{Event, Happening};
+use fr_events::{Event, Happening};
 use fr_instr::{Names, Place, Token, Verb, integer_of, row_named};
 use fr_program::ActorId;
 

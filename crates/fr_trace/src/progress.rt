@@ -4,8 +4,7 @@ ghost use Rattle.fr_trace.specs.Reads.{MayMiss, after, is_open, marked, start};
 ghost use Rattle.fr_trace.specs.Views.{so_far};
 
 use crate::effect::Effect;
-use crate::seen_call;
-use crate::trace::{Event, Happening};
+use fr_events::{Event, Happening, is_same};
 use fr_instr::Verb;
 use fr_program::ActorId;
 use std::alloc::{AllocError, Global};
@@ -58,9 +57,7 @@ impl Progress {
     pub fn is_unseen(&self, verb: Verb) -> bool
         ensures { IsTrue result ↔ Any (λ v. v ≡ verb) self.now.unseen.items }
     {
-        self.unseen
-            .iter()
-            .any(|unseen| seen_call::is_same(*unseen, verb))
+        self.unseen.iter().any(|unseen| is_same(*unseen, verb))
     }
 
     /// Says whether the actor is inside a call from now on.

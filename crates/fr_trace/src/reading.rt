@@ -16,7 +16,7 @@ use crate::no_trace::{NoTrace, NotListed, TraceFault, Unlisted};
 use crate::progress::Progress;
 use crate::said::{self, Said};
 use crate::stop::Stop;
-use crate::trace::Trace;
+use fr_events::Trace;
 use fr_instr::{LineFault, Names, Token, Verb, next_token, row_named, tokens};
 use std::alloc::{AllocError, Global};
 

@@ -17,7 +17,7 @@ use Rattle.fr_formats.specs.declared.answer.AnswerShown.{AnswerShown}
 use Rattle.fr_formats.specs.Answers.{status_of as kind_status}
 use Rattle.fr_formats.specs.Reports.{IsReport}
 use Rattle.fr_request.specs.declared.format.Format.{Format}
-use Rattle.fr_report.specs.Lines.{lines_text}
+use Rattle.fr_wording.specs.Lines.{lines_text}
 use Rattle.fr_trail.specs.Runs.{IsRunOf}
 use Rattle.fr_trail.specs.declared.answer.TraceAnswer.{TraceAnswer}
 use Rattle.fr_request.specs.declared.request.FollowRequest.{FollowRequest}

@@ -28,7 +28,7 @@ use Rattle.fr_formats.specs.declared.answer.AnswerKind.{AnswerKind}
 use Rattle.fr_formats.specs.declared.answer.AnswerShown.{AnswerShown}
 use Rattle.fr_formats.specs.Answers.{status_of as kind_status}
 use Rattle.fr_formats.specs.Reports.{IsReport}
-use Rattle.fr_report.specs.Lines.{lines_text}
+use Rattle.fr_wording.specs.Lines.{lines_text}
 use Rattle.fr_trail.specs.Answered.{IsTraceAnswer}
 use Rattle.fr_trail.specs.Runs.{IsRunOf}
 use Rattle.fr_trail.specs.declared.answer.TraceAnswer.{TraceAnswer}

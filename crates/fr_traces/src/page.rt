@@ -11,9 +11,10 @@ use fr_lanes::{
 };
 use fr_page::{Doing, Moved, page_text};
 use fr_program::{ActorId, App};
-use fr_report::{Depth, ExplainedRun, depths_of, explain_steps};
+use fr_report::{ExplainedRun, explain_steps};
 use fr_states::StepTaken;
 use fr_trail::{TraceAnswer, TrailRow};
+use fr_wording::{Depth, depths_of};
 use std::alloc::{AllocError, Global};
 
 /// What a row shows of an event of the trace.

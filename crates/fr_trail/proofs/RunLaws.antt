@@ -4,7 +4,7 @@ use Rattle.std.specs.declared.alloc.Global.{Global}
 use Rattle.fr_program.specs.Program.{Program}
 use Rattle.fr_instr.specs.AppNames.{names_in}
 use Rattle.fr_trace.specs.Means.{TraceMeans, said_in}
-use Rattle.fr_trace.specs.declared.trace.Trace.{Trace}
+use Rattle.fr_events.specs.declared.trace.Trace.{Trace}
 use Rattle.fr_follower.specs.Follows.{IsFollowed}
 use Rattle.fr_follower.specs.declared.following.Followed.{Followed}
 use Rattle.fr_follower.specs.declared.item.Item.{Item}

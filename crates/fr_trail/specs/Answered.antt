@@ -11,17 +11,17 @@ use Rattle.std.specs.Prelude.{◌≡◌, ◌⊎◌, ◌++◌, ℕ, Bool, true, f
 use Rattle.fr_program.specs.Program.{Program}
 use Rattle.fr_program.specs.Lookup.{actor_at}
 use Rattle.fr_calls.specs.Rule.{number_of}
-use Rattle.fr_report.specs.Report.{rule_text}
+use Rattle.fr_wording.specs.Names.{rule_text}
 use Rattle.fr_instr.specs.AppNames.{names_in}
 use Rattle.fr_trace.specs.Means.{TraceMeans, IsPresent, said_in}
 use Rattle.fr_trace.specs.declared.no_trace.NotListed.{NotListed}
 use Rattle.fr_trace.specs.declared.no_trace.NoTrace.TheVariants.{NotListed as IsNotListed}
-use Rattle.fr_trace.specs.declared.recorded.Recorded.TheVariants.{Unknown}
-use Rattle.fr_trace.specs.declared.seen_call.SeenCall.{SeenCall}
-use Rattle.fr_trace.specs.declared.trace.Event.{Event}
-use Rattle.fr_trace.specs.declared.trace.Happening.{Happening}
-use Rattle.fr_trace.specs.declared.trace.Happening.TheVariants.{Enter}
-use Rattle.fr_trace.specs.declared.trace.Trace.{Trace}
+use Rattle.fr_events.specs.declared.recorded.Recorded.TheVariants.{Unknown}
+use Rattle.fr_events.specs.declared.seen_call.SeenCall.{SeenCall}
+use Rattle.fr_events.specs.declared.trace.Event.{Event}
+use Rattle.fr_events.specs.declared.trace.Happening.{Happening}
+use Rattle.fr_events.specs.declared.trace.Happening.TheVariants.{Enter}
+use Rattle.fr_events.specs.declared.trace.Trace.{Trace}
 use Rattle.fr_formats.specs.declared.answer.AnswerKind.{AnswerKind}
 use Rattle.fr_formats.specs.declared.answer.AnswerKind.TheVariants.{Followed as FollowedKind, FollowedApart, NotFollowed, Breach, GaveUp as GaveUpKind, NotListed as NotListedKind}
 use Rattle.fr_follower.specs.Follows.{IsFollowed}

@@ -14,7 +14,7 @@ use Rattle.fr_program.specs.Lookup.{actor_at}
 use Rattle.fr_instr.specs.AppNames.{names_in}
 use Rattle.fr_states.specs.declared.step.StepTaken.{StepTaken}
 use Rattle.fr_trace.specs.Means.{TraceMeans, said_in}
-use Rattle.fr_trace.specs.declared.trace.Trace.{Trace}
+use Rattle.fr_events.specs.declared.trace.Trace.{Trace}
 use Rattle.fr_follower.specs.Follows.{IsFollowed}
 use Rattle.fr_follower.specs.declared.item.Item.{Item}
 use Rattle.fr_follower.specs.declared.item.Item.TheVariants.{Step as StepItem, Event as EventItem}

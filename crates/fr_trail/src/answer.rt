@@ -4,7 +4,7 @@ ghost use Rattle.fr_formats.specs.Answers.{status_of};
 ghost use Rattle.fr_formats.specs.declared.answer.AnswerKind.TheVariants.{NotListed as NotListedKind};
 ghost use Rattle.fr_instr.specs.AppNames.{names_in};
 ghost use Rattle.fr_trace.specs.Means.{IsPresent, TraceMeans, said_in};
-ghost use Rattle.fr_trace.specs.declared.trace.Trace.{Trace as TraceOf};
+ghost use Rattle.fr_events.specs.declared.trace.Trace.{Trace as TraceOf};
 ghost use Rattle.fr_follower.specs.Follows.{IsFollowed};
 ghost use Rattle.fr_follower.specs.declared.following.Followed.{Followed as FollowedOf};
 ghost use Rattle.fr_follower.specs.declared.item.Item.{Item as ItemOf};
@@ -17,12 +17,13 @@ use crate::texts::{event_shown, fault_text, line_of, marked, unlisted_text, unli
 use crate::times::as_asked;
 use crate::why::why;
 use fr_escape::place_of_texts;
+use fr_events::{Happening, Trace};
 use fr_follower::{Followed, Item, follow};
 use fr_formats::AnswerKind;
 use fr_instr::names_of;
 use fr_program::App;
-use fr_report::{actor_name, rule_text};
-use fr_trace::{Happening, NoTrace, NotListed, Trace, read_trace};
+use fr_trace::{NoTrace, NotListed, read_trace};
+use fr_wording::{actor_name, rule_text};
 use std::alloc::{AllocError, Global};
 
 /// How a trace is followed.

@@ -2,9 +2,9 @@
 ghost use Rattle.std.specs.Prelude.{◌≡◌};
 
 use fr_calls::{Landing, Way, lands_at};
+use fr_events::{Happening, Trace};
 use fr_instr::verb_of;
 use fr_program::{ActorId, App, Instr, Point, VarId};
-use fr_trace::{Happening, Trace};
 use std::alloc::{AllocError, Global};
 
 /// Whether the actor marks its writes of the variable.

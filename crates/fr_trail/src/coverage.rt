@@ -5,7 +5,7 @@ use crate::answer::{TraceAnswer, run_in};
 use crate::replay::{Replayed, Visit, effect_at, replay};
 use fr_calls::{Place, can_time_out};
 use fr_program::{Act, Actor, ActorId, App, Attempt, Call, Instr, Kind, Point, Side};
-use fr_report::{actor_place, line_of_code, text_of};
+use fr_wording::{actor_place, line_of_code, text_of};
 use std::alloc::{AllocError, Global};
 
 /// What the runs did at a line of code.

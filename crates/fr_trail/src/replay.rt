@@ -5,8 +5,8 @@ ghost use Rattle.fr_calls.specs.State.{IsWellFormed};
 use fr_calls::{Place, State, the_start_is_well_formed};
 use fr_follower::Item;
 use fr_program::{App, Call, Instr, Point, Side};
-use fr_report::actor_place;
 use fr_states::{StepTaken, take_step};
+use fr_wording::actor_place;
 use std::alloc::{AllocError, Global};
 
 /// A step of a run.

@@ -3,10 +3,10 @@ use crate::answer::{run_in, stop_in};
 use crate::run_text::next_line;
 use crate::texts::line_shown;
 use fr_escape::push_plain;
+use fr_events::{Event, Trace};
 use fr_follower::{Followed, Item};
 use fr_program::ActorId;
 use fr_states::StepTaken;
-use fr_trace::{Event, Trace};
 use std::alloc::{AllocError, Global};
 
 /// What a row shows.

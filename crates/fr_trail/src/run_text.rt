@@ -3,10 +3,10 @@ ghost use Rattle.std.specs.Prelude.{◌≡◌, ◌++◌, ℕ, List, IfOk, OnOk, 
 ghost use Rattle.fr_trail.specs.Runs.{IsItemLine, IsRunText};
 
 use fr_escape::push_plain;
+use fr_events::{Event, Trace};
 use fr_follower::Item;
 use fr_program::App;
-use fr_report::actor_name;
-use fr_trace::{Event, Trace};
+use fr_wording::actor_name;
 use std::alloc::{AllocError, Global};
 use std::str::Lines;
 

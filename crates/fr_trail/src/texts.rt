@@ -1,7 +1,8 @@
 // A trace's lines, and what is printed of them.
 use fr_escape::push_plain;
+use fr_events::Trace;
 use fr_program::App;
-use fr_trace::{NotListed, Trace, TraceFault, Unlisted};
+use fr_trace::{NotListed, TraceFault, Unlisted};
 use std::alloc::{AllocError, Global};
 
 /// How many events are shown before the one that is spoken of.

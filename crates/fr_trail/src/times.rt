@@ -2,7 +2,7 @@
 ghost use Rattle.std.specs.Prelude.{◌≡◌, IfOk, map};
 ghost use Rattle.fr_trail.specs.Answered.{IsAsked, untimed};
 
-use fr_trace::{Event, Happening, Recorded, SeenCall, Trace};
+use fr_events::{Event, Happening, Recorded, SeenCall, Trace};
 use std::alloc::{AllocError, Global};
 
 /// The event without its block time and its ticks.

@@ -6,11 +6,11 @@ use crate::awaited::{awaited, records_handler};
 use crate::replay::{Replayed, Visit, effect_at, replay};
 use crate::texts::{event_shown, events_before};
 use fr_calls::{Moves, Place, State};
+use fr_events::{Event, Happening, Trace};
 use fr_follower::{Followed, Item};
 use fr_program::{ActorId, ActorKind, App, Call, Instr, Point, Side};
-use fr_report::{actor_name, actor_place, line_of_code, object_told};
 use fr_states::{StepTaken, take_step};
-use fr_trace::{Event, Happening, Trace};
+use fr_wording::{actor_name, actor_place, line_of_code, object_told};
 use std::alloc::{AllocError, Global};
 
 /// What a call that can be answered so can return.

@@ -2,7 +2,7 @@
 use crate::mutexes::call_at;
 use fr_notes::Notes;
 use fr_program::{Act, App, BlockTime, End, ObjId, Point, Side, Timing};
-use fr_report::{actor_name, add_text, object_name};
+use fr_wording::{actor_name, add_text, object_name};
 use std::alloc::{AllocError, Global};
 
 /// Whether the actor can be in a critical section at the point with this number.

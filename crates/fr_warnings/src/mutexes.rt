@@ -4,7 +4,7 @@ use fr_program::{
     Act, ActorId, App, Attempt, BlockTime, Call, Instr, ObjId, ObjectCall, Point, SemaphoreForm,
     Side, Timing,
 };
-use fr_report::{actor_name, add_text, is_mutex, object_name};
+use fr_wording::{actor_name, add_text, is_mutex, object_name};
 use std::alloc::{AllocError, Global};
 
 /// Whether the actor can hold the mutex at the point with this number.

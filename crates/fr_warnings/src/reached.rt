@@ -1,7 +1,7 @@
 // Points that are never reached.
 use fr_notes::Notes;
 use fr_program::{ActorId, App};
-use fr_report::{actor_name, add_text};
+use fr_wording::{actor_name, add_text};
 use std::alloc::{AllocError, Global};
 
 /// Points of one actor in a row whose notes say that the actor is never there.

@@ -2,7 +2,7 @@
 // in between.
 use fr_notes::{Alternative, Note, Notes, can_meet};
 use fr_program::{Act, ActorId, App, Call, Instr, Operand, Point, Side, VarId};
-use fr_report::{actor_name, add_text};
+use fr_wording::{actor_name, add_text};
 use std::alloc::{AllocError, Global};
 use std::mem::replace;
 

@@ -1,6 +1,6 @@
 // What the lines of an application use: the warnings for variables and objects that are never used, and for variables that are used one way.
 use fr_program::{Act, App, Attempt, Call, Instr, ObjId, Operand, VarId};
-use fr_report::{add_text, object_name, variable_name};
+use fr_wording::{add_text, object_name, variable_name};
 use std::alloc::{AllocError, Global};
 
 /// Whether each variable is read, whether it is written, and whether each object is named by a line of code.

@@ -11,7 +11,7 @@ use fr_outcome::{AppText, CheckFault, DONE, Refusal, put};
 use fr_place::is_unknown_word;
 use fr_program::App;
 use fr_reader::read_app;
-use fr_report::{Sources, points_text};
+use fr_wording::{Sources, points_text};
 use std::alloc::{AllocError, Global};
 use std::io::Write;
 

@@ -112,7 +112,7 @@ fn file_of<'a>(path: &'a str, place: &'a PlaceShown) -> &'a str
 pub(super) fn words_of(alloc: Global, place: &PlaceShown) -> Result<String, AllocError>
     ensures { IfOk result (λ words. string_bytes words ≡ point_words place.now) }
 {
-    let (actor, index, side) = (place.actor.as_str(), place.index, place.side.name());
+    let (actor, index, side) = (place.actor.as_str(), place.index, place.side.text());
     format!(in alloc; "{actor} {index} {side}")
 }
 

@@ -1,11 +1,11 @@
 // The variables of an instruction: how many are shared, whose they are, and whether they are there.
-ghost use Rattle.std.specs.Prelude.{◌≡◌, ◌≤◌, ◌<◌, ◌↔◌, ◌++◌, IsTrue, IfSome, All, count_by, length};
-ghost use Rattle.fr_program.specs.Uses.{variables_of, act_variables, option_list, object_named};
+ghost use Rattle.std.specs.Prelude.{◌≡◌, ◌≤◌, ◌<◌, ◌↔◌, ◌++◌, ◌∷◌, [], IsTrue, IfSome, All, count_by, length};
+ghost use Rattle.fr_program.specs.Uses.{variables_of, act_variables, option_list, object_named, given_by};
 ghost use Rattle.fr_program.specs.Fault.{is_shared, SharesAtMostOne, MayUse, MayUseAll, NamesThings};
 ghost use Rattle.fr_program.specs.InstrFault.{used, InEachPlace, IsVariable};
 ghost use Rattle.fr_program.specs.View.{program_of};
 
-use crate::ids::{ActorId, VarId};
+use crate::ids::{ActorId, ObjId, VarId};
 use crate::instr::{Act, Attempt, Call, Instr};
 use crate::parts::Parts;
 
@@ -19,7 +19,9 @@ pub struct Uses {
 
 impl Uses {
     /// These variables, by their places in the line.
-    pub fn by_place(self) -> [Option<VarId>; 3] {
+    pub fn by_place(self) -> [Option<VarId>; 3]
+        ensures { result ≡ self.target ∷ self.left ∷ self.right ∷ [] }
+    {
         [self.target, self.left, self.right]
     }
 }
@@ -40,6 +42,28 @@ impl Instr {
             Instr::Pick { target, .. } => made_of(Some(target), None, None),
             Instr::Call(Call::On(call)) => made_of(None, None, act_variable(call.act)),
             _ => made_of(None, None, None),
+        }
+    }
+
+    /// The object that the instruction names, if it names one.
+    pub fn object(self) -> Option<ObjId>
+        ensures { result ≡ object_named self }
+    {
+        match self {
+            Instr::Call(call) => call.object(),
+            _ => None,
+        }
+    }
+
+    /// The variable to which the instruction, or the end of its call, gives a number, if there is one. A call that fails
+    /// may give it none.
+    pub fn written(self) -> Option<VarId>
+        ensures { result ≡ given_by self }
+    {
+        match self {
+            Instr::Set { target, .. } | Instr::Pick { target, .. } => Some(target),
+            Instr::Call(Call::On(call)) => call.act.written(),
+            _ => None,
         }
     }
 }
@@ -174,11 +198,8 @@ fn names_object(parts: &Parts, instr: Instr) -> bool
     ensures { IsTrue result
         ↔ IfSome (object_named instr) (λ o. o.0 < length (program_of parts.now).objects) }
 {
-    match instr {
-        Instr::Call(call) => match call.object() {
-            Some(object) => object.0 < parts.objects.len(),
-            None => true,
-        },
-        _ => true,
+    match instr.object() {
+        Some(object) => object.0 < parts.objects.len(),
+        None => true,
     }
 }

@@ -4,13 +4,13 @@ ghost use Rattle.fr_ends.specs.Fits.{CertificateFits};
 
 use super::add_item;
 use super::notes::{deletes, is_inside, site_of};
-use super::scene::{Scene, Site, is_variable};
+use super::scene::Scene;
 use fr_calls::Rule;
 use fr_ends::{Certificate, EndName, Guard, note_says};
 use fr_judge::{Part, Verdict};
-use fr_program::{Act, Attempt, Call, Instr, ObjId, Point, Side};
-use fr_report::{Explained, Named};
+use fr_program::{Act, Attempt, Call, Instr, Point, Side};
 use fr_witness::{Witness, witness};
+use fr_wording::{Explained, Named};
 use std::alloc::AllocError;
 use std::mem::drop;
 
@@ -32,7 +32,7 @@ fn gives(instr: &Instr, guard: &Guard) -> bool {
         }
         (Guard::Critical, Instr::Call(Call::EnterCritical(_))) => true,
         (Guard::Turn(variable, _), Instr::If { left, right, .. }) => {
-            is_variable(*left, *variable) || is_variable(*right, *variable)
+            left.variable() == Some(*variable) || right.variable() == Some(*variable)
         }
         _ => false,
     }
@@ -128,14 +128,6 @@ pub(super) fn add_lackers(
     Ok(())
 }
 
-/// The object of the call at a site, if it is one on an object.
-fn object_of(site: Site) -> Option<ObjId> {
-    match site.instr {
-        Instr::Call(call) => call.object(),
-        _ => None,
-    }
-}
-
 /// Adds each line that deletes the object of the call at the scene's point, as far as its actor can be there.
 pub(super) fn add_deleters(
     items: &mut Vec<Explained>,
@@ -144,7 +136,7 @@ pub(super) fn add_deleters(
 ) -> Result<(), AllocError>
     requires { CertificateFits scene.now.app.now certificate.now }
 {
-    let Some(object) = object_of(scene.site) else {
+    let Some(object) = scene.site.instr.object() else {
         return Ok(());
     };
     for number in 0..scene.app.points() {

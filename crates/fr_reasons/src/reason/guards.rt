@@ -5,7 +5,7 @@ use fr_calls::State;
 use fr_ends::Guard;
 use fr_notes::Subject;
 use fr_program::{ActorId, App, VarId};
-use fr_report::{
+use fr_wording::{
     actor_name, object_name, put_critical, put_held, put_three, put_two, value_in, variable_name,
 };
 use std::alloc::{AllocError, Global};

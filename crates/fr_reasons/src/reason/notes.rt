@@ -12,8 +12,8 @@ use fr_calls::{State, is_at_end};
 use fr_ends::{Certificate, EndName};
 use fr_notes::{Alternative, Claim, Subject};
 use fr_program::{ActorId, App, Call, Instr, ObjId, Point, Side};
-use fr_report::{Explained, ShownState, add_text, subject_at, subject_count};
 use fr_witness::claim_broken;
+use fr_wording::{Explained, ShownState, add_text, subject_at, subject_count};
 use std::alloc::{AllocError, Global};
 
 /// The site of a point; None where the application has no such point.

@@ -4,9 +4,8 @@ ghost use Rattle.fr_calls.specs.State.{IsWellFormed};
 use super::add_item;
 use fr_calls::{Place, State};
 use fr_program::{ActorId, App};
-use fr_report::{
-    Explained, actor_name, actor_place, put_critical, put_suspended, put_two, side_name,
-    suspension_in,
+use fr_wording::{
+    Explained, actor_name, actor_place, put_critical, put_suspended, put_two, suspension_in,
 };
 use std::alloc::{AllocError, Global};
 
@@ -16,7 +15,7 @@ fn put_actor(text: &mut String, app: &App, actor: ActorId, state: &State) -> Res
 {
     let name = actor_name(app, actor);
     match actor_place(app, state, actor) {
-        Place::At { pc, side } => write!(text, "{name} {pc} {}", side_name(side))?,
+        Place::At { pc, side } => write!(text, "{name} {pc} {}", side.text())?,
         Place::Done => put_two(text, name, "is done")?,
     }
     let (depth, suspended) = (state.depth(actor), suspension_in(app, state, actor));

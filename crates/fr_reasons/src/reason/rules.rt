@@ -8,7 +8,7 @@ use fr_program::{
     Act, ActorId, App, Attempt, Call, Instr, Kind, ObjId, ObjectCall, Operand, Operator, Range,
     VarId,
 };
-use fr_report::{
+use fr_wording::{
     actor_name, content_in, object_name, put_critical, put_suspended, put_three, put_two,
     suspension_in, value_in,
 };

@@ -4,14 +4,12 @@ ghost use Rattle.fr_calls.specs.State.{IsWellFormed};
 
 use fr_calls::State;
 use fr_notes::{Alternative, Claim, Note, Subject};
-use fr_program::{
-    Act, ActorId, App, Attempt, Call, Instr, ObjId, ObjectCall, Operand, Point, VarId,
-};
-use fr_report::{
+use fr_program::{ActorId, App, Instr, Point};
+use fr_request::Detail;
+use fr_wording::{
     Sources, Standing, add_text, fact, has_changed, standing_at, subject_at, subject_count,
     suspension_in,
 };
-use fr_request::Detail;
 use std::alloc::{AllocError, Global};
 
 /// A point with its instruction and its note.
@@ -35,56 +33,6 @@ pub(super) struct Scene<'a> {
     pub site: Site<'a>,
     pub other: Option<Site<'a>>,
     pub guarded: Option<Subject>,
-}
-
-/// Whether the operand is this variable.
-pub(super) fn is_variable(operand: Operand, variable: VarId) -> bool {
-    match operand {
-        Operand::Number(_) => false,
-        Operand::Variable(x) => x.0 == variable.0,
-    }
-}
-
-/// Whether the call gives a value to the variable or sends its value.
-fn call_names(call: ObjectCall, variable: VarId) -> bool {
-    if call.act.written() == Some(variable) {
-        return true;
-    }
-    match call.act {
-        Act::Try {
-            attempt: Attempt::QueueSend(value),
-            ..
-        } => is_variable(value, variable),
-        _ => false,
-    }
-}
-
-/// Whether the instruction names the variable.
-fn names_variable(instr: &Instr, variable: VarId) -> bool {
-    match instr {
-        Instr::Set {
-            target,
-            left,
-            right,
-            ..
-        } => {
-            target.0 == variable.0 || is_variable(*left, variable) || is_variable(*right, variable)
-        }
-        Instr::If { left, right, .. } => {
-            is_variable(*left, variable) || is_variable(*right, variable)
-        }
-        Instr::Pick { target, .. } => target.0 == variable.0,
-        Instr::Call(Call::On(call)) => call_names(*call, variable),
-        _ => false,
-    }
-}
-
-/// Whether the instruction names the object.
-fn names_object(instr: &Instr, object: ObjId) -> bool {
-    match instr {
-        Instr::Call(call) => call.object() == Some(object),
-        _ => false,
-    }
 }
 
 /// Whether the alternative says something of the subject: more than that a depth is 0, that an object isn't
@@ -115,8 +63,10 @@ impl Site<'_> {
     fn speaks_of(&self, app: &App, subject: Subject) -> bool {
         let named = match subject {
             Subject::Critical | Subject::Suspended => false,
-            Subject::Object(object) => names_object(self.instr, object),
-            Subject::Variable(variable) => names_variable(self.instr, variable),
+            Subject::Object(object) => self.instr.object() == Some(object),
+            Subject::Variable(variable) => {
+                self.instr.variables().by_place().contains(&Some(variable))
+            }
         };
         named || note_says_of(app, self.note, subject)
     }

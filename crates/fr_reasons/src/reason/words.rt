@@ -4,7 +4,7 @@ ghost use Rattle.fr_calls.specs.State.{IsWellFormed};
 use fr_calls::{Content, State};
 use fr_notes::{Alternative, Claim, Subject};
 use fr_program::{ActorId, ActorKind, App, Kind, ObjId};
-use fr_report::{
+use fr_wording::{
     actor_name, content_in, is_mutex, object_name, put_critical, put_held, put_suspended,
     put_three, put_two, suspension_in, value_in, variable_name,
 };

@@ -10,8 +10,9 @@ use fr_outcome::Judged;
 use fr_page::{PointShown, Reason, Standing};
 use fr_program::{App, ObjId, Point};
 use fr_reasons::{explain, never_deleted, note_told};
-use fr_report::{Explained, Line, object_name, part_text, side_name};
+use fr_report::part_text;
 use fr_request::Detail;
+use fr_wording::{Explained, Line, object_name};
 use std::alloc::{AllocError, Global};
 
 /// The most points that a page shows.
@@ -130,7 +131,7 @@ fn point_shown(
         _ => Vec::new(alloc),
     };
     let notes = note_told(alloc, app, certificate, point, look.live)?;
-    let side = String::from_str(alloc, side_name(point.side))?;
+    let side = String::from_str(alloc, point.side.text())?;
     let standing = standing_of(alloc, app, &notes, part)?;
     Ok(PointShown {
         number,

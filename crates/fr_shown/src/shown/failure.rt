@@ -1,12 +1,30 @@
 // What fails by a verdict, or isn't excluded, and where.
+ghost use Rattle.std.specs.Prelude.{◌≡◌};
+ghost use Rattle.fr_shown.specs.Names.{part_name as name_of_part};
+
 use super::places::Places;
-use fr_formats::{Failure, PlaceShown, part_name};
+use fr_formats::{Failure, PlaceShown, rule_name};
 use fr_judge::{Part, Verdict};
 use fr_order::{Edge, Order};
 use fr_outcome::Judged;
 use fr_program::{App, Point};
-use fr_report::{Explained, order_line, part_text};
+use fr_report::{order_line, part_text};
+use fr_wording::Explained;
 use std::alloc::{AllocError, Global};
+
+/// The name of a part of a verdict: that of the rule, or a word, as `goes-to`. It never changes.
+fn part_name(part: Part) -> &'static str
+    ensures { result.now ≡ name_of_part part }
+{
+    match part {
+        Part::Rule(rule) => rule_name(rule),
+        Part::Entry => "entry",
+        Part::Goes(_) => "goes-to",
+        Part::Guard(_) => "guard",
+        Part::Near(_) => "near",
+        Part::Spoiled(_) => "spoiled-by",
+    }
+}
 
 /// The point that a part names beside its own.
 fn other_of(part: Part) -> Option<Point> {

@@ -2,9 +2,9 @@
 ghost use Rattle.std.specs.Prelude.{◌≡◌, IfOk};
 
 use fr_code::{CodePlace, CodeSource, places_of_code, source_texts, sources_of_code};
-use fr_formats::{PlaceShown, SideShown, SourceShown};
-use fr_program::{App, Point, Side};
-use fr_report::{Sources, actor_name, line_of_code};
+use fr_formats::{PlaceShown, SourceShown};
+use fr_program::{App, Point};
+use fr_wording::{Sources, actor_name, line_of_code};
 use std::alloc::{AllocError, Global};
 
 /// Where the code of an application stands in its text, and in the source that it was translated from.
@@ -65,10 +65,7 @@ impl<'a> Places<'a> {
             point: self.app.number(point).unwrap_or(0),
             actor: String::from_str(alloc, actor_name(self.app, point.actor))?,
             index: point.pc,
-            side: match point.side {
-                Side::Before => SideShown::Before,
-                Side::Inside => SideShown::Inside,
-            },
+            side: point.side,
             code: line_of_code(alloc, self.app, point)?,
             line: at.map(|place| place.line),
             column: at.map(|place| place.column),

@@ -3,9 +3,9 @@ use super::places::Places;
 use fr_formats::{Failure, PlaceShown, StepShown, rule_name};
 use fr_refuter::{Deadlocked, Refutation};
 use fr_report::{
-    ExplainedRun, ExplainedStep, Standing, breach_text, deadlock_text, explain_deadlock,
-    explain_run,
+    ExplainedRun, ExplainedStep, breach_text, deadlock_text, explain_deadlock, explain_run,
 };
+use fr_wording::Standing;
 use std::alloc::{AllocError, Global};
 
 /// Where an actor is; None where it is done.

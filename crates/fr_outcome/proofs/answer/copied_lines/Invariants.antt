@@ -1,5 +1,5 @@
 use Rattle.std.proofs.Common.{◌≡◌, take}
-use Rattle.fr_report.specs.Lines.{lines_text}
+use Rattle.fr_wording.specs.Lines.{lines_text}
 use Rattle.fr_outcome.proofs.answer.copied_lines.Given as goal
 
 -- the lines so far have the text of those that were copied

@@ -6,9 +6,10 @@ use Rattle.fr_refuter.specs.declared.answer.Finding.TheVariants.{Breach, Deadloc
 use Rattle.fr_refuter.specs.declared.replay.Deadlocked.{Deadlocked}
 use Rattle.fr_refuter.specs.declared.replay.Refutation.{Refutation}
 use Rattle.fr_report.specs.declared.refuting.ExplainedRun.{ExplainedRun}
-use Rattle.fr_report.specs.declared.standing.Standing.{Standing}
-use Rattle.fr_report.specs.Lines.{lines_text}
-use Rattle.fr_report.specs.Refuted.{AreRunLines, AreWaiting, IsPlaced, IsRunText, steps_in}
+use Rattle.fr_wording.specs.declared.standing.Standing.{Standing}
+use Rattle.fr_wording.specs.Lines.{lines_text}
+use Rattle.fr_report.specs.Refuted.{AreRunLines, AreWaiting, IsRunText, steps_in}
+use Rattle.fr_wording.specs.Standings.{IsPlaced}
 use Rattle.fr_outcome.proofs.answer.run_lines.Goals as goal
 
 of-run : {Y : Type 0} (explains : Bool) (P : Program) (r : Refutation) (run : ExplainedRun) (last : Standing) (lines : Result (Vec (String Global) Global) Y)

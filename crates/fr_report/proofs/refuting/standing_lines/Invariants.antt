@@ -1,6 +1,6 @@
 use Rattle.std.proofs.Common.{◌≡◌, take}
-use Rattle.fr_report.specs.Lines.{lines_text}
-use Rattle.fr_report.specs.Refuted.{standings_text}
+use Rattle.fr_wording.specs.Lines.{lines_text}
+use Rattle.fr_wording.specs.Standings.{standings_text}
 use Rattle.fr_report.proofs.refuting.standing_lines.Given as goal
 
 -- the lines so far are those of the places so far

@@ -3,7 +3,7 @@ use Rattle.std.proofs.Common.{◌≡◌, ◌≤◌, ◌∙◌, None, true, ap, a
 use Rattle.std.proofs.KnownBytes.{Appends-nil}
 use Rattle.std.proofs.lemmas.List.{map-append, take_more}
 use Rattle.fr_formats.specs.Answers.{status_of as kind_status}
-use Rattle.fr_report.specs.Lines.{lines_text}
+use Rattle.fr_wording.specs.Lines.{lines_text}
 use Rattle.fr_inputs.specs.Inputs.{Reads}
 use Rattle.fr_traces.specs.Traces.{AreTracesPrinted, TraceAnswerAt}
 use Rattle.fr_traces.proofs.Following.{answers-at, none-yet, of-same, printed-trace}

@@ -2,7 +2,7 @@
 use Rattle.std.proofs.Common.{◌≡◌, ◌≤◌, ◌∙◌, ap, arith, map, max, string_bytes, take}
 use Rattle.std.proofs.lemmas.List.{map-append, take_more}
 use Rattle.fr_formats.specs.Answers.{status_of as kind_status}
-use Rattle.fr_report.specs.Lines.{lines_text}
+use Rattle.fr_wording.specs.Lines.{lines_text}
 use Rattle.fr_outcome.specs.Each.{Each}
 use Rattle.fr_inputs.specs.Inputs.{Reads}
 use Rattle.fr_traces.specs.Traces.{ShowsTrace, TraceAnswerAt}

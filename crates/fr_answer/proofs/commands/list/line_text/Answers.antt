@@ -1,7 +1,7 @@
 -- The text of a line, with those that follow.
 use Rattle.std.proofs.Common.{◌≡◌, ◌++◌, ℕ, List, Bool, Result, Ok, Err, IfOk, String, codes, rules, string_bytes}
 use Rattle.std.specs.declared.alloc.Global.{Global}
-use Rattle.fr_report.specs.Lines.{lines_text}
+use Rattle.fr_wording.specs.Lines.{lines_text}
 use Rattle.fr_outcome.specs.declared.answer.What.{What}
 use Rattle.fr_outcome.specs.Answers.{first_line}
 use Rattle.fr_answer.specs.Commands.{AreMore}

@@ -1,7 +1,7 @@
 -- The lines are all, or those that are always printed.
 use Rattle.std.proofs.Common.{Bool, true, false, ◌≡◌, IfOk, Result, String, Vec}
 use Rattle.std.specs.declared.alloc.Global.{Global}
-use Rattle.fr_report.specs.Lines.{lines_text}
+use Rattle.fr_wording.specs.Lines.{lines_text}
 use Rattle.fr_outcome.specs.declared.answer.What.{What}
 use Rattle.fr_outcome.specs.Answers.{AreLinesOf, second_text}
 use Rattle.fr_answer.specs.Commands.{AreMore}

@@ -2,8 +2,8 @@
 use Rattle.std.proofs.Common.{◌≡◌, Bool, Result, Ok, Err, IfOk, String, string_bytes}
 use Rattle.std.specs.declared.alloc.Global.{Global}
 use Rattle.fr_program.specs.Program.{Program}
-use Rattle.fr_report.specs.declared.sources.Sources.{Sources}
-use Rattle.fr_report.specs.Listing.{points_text}
+use Rattle.fr_wording.specs.declared.sources.Sources.{Sources}
+use Rattle.fr_wording.specs.Listing.{points_text}
 use Rattle.fr_answer.specs.Commands.{AreShown, IsListed}
 use Rattle.fr_answer.proofs.commands.points.listed.Goals as goal
 

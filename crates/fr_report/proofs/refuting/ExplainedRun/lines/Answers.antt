@@ -2,7 +2,7 @@
 use Rattle.std.proofs.Common.{◌≡◌, ◌∙◌, ◌+◌, ◌<◌, ◌≤◌, ◌++◌, take, length, get_or, ap, sym, subst, arith, rules}
 use Rattle.std.proofs.lemmas.List.{take_all}
 use Rattle.std.proofs.lemmas.Grind.{flat_map-append}
-use Rattle.fr_report.specs.Lines.{lines_text}
+use Rattle.fr_wording.specs.Lines.{lines_text}
 use Rattle.fr_report.specs.Refuted.{steps_in, AreStepLines}
 use Rattle.fr_report.proofs.RunLemmas.{lines-more}
 use Rattle.fr_report.proofs.refuting.ExplainedRun.lines.Goals as goal

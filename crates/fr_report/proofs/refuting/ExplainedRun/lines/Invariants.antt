@@ -1,5 +1,5 @@
 use Rattle.std.proofs.Common.{take}
-use Rattle.fr_report.specs.Lines.{lines_text}
+use Rattle.fr_wording.specs.Lines.{lines_text}
 use Rattle.fr_report.specs.Refuted.{steps_in, AreStepLines}
 use Rattle.fr_report.proofs.refuting.ExplainedRun.lines.Given as goal
 

@@ -1,6 +1,0 @@
--- Each clause is proved row by row.
-use Rattle.fr_calls.proofs.WorkedRules.{worked-breaches, worked-least}
-use Rattle.fr_calls.proofs.worked.breaches_as_worked.Goals as goal
-
-pub returns : goal.returns
-returns c = record { breaches = worked-breaches; least = worked-least }

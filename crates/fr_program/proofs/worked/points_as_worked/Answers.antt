@@ -1,6 +1,0 @@
--- Each clause is computed.
-use Rattle.std.proofs.Common.{refl}
-use Rattle.fr_program.proofs.worked.points_as_worked.Goals as goal
-
-pub returns : goal.returns
-returns c = record { six = refl; fifth = refl; number = refl }

@@ -1,0 +1,5 @@
+mod WorkedSteps
+mod WorkedStates
+mod WorkedRules
+pub mod WorkedNotes
+mod WorkedParts

@@ -1,0 +1,6 @@
+pub mod WorkedPoints
+pub mod WorkedStates
+pub mod WorkedSteps
+pub mod WorkedRules
+pub mod WorkedNotes
+pub mod WorkedParts
