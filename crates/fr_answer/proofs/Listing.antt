@@ -1,21 +1,10 @@
 -- One line more of a list is answered and printed.
 use Rattle.std.proofs.Common.{◌≡◌, ◌++◌, ◌∙◌, ℕ, List, [], ◌∷◌, Bool, Option, None, Result, Ok, Err, IfOk, ap, append-nil, max, subst, sym}
-use Rattle.std.proofs.lemmas.List.{map-append}
-use Rattle.std.proofs.lemmas.List.Elements.{All-append, All-cons, All-nil}
+use Rattle.fr_answer.proofs.Terms.{map-append, All-append, All-cons, All-nil, Appends-trans, Appends, AnswerShown, Entry, beside, Reading, What, what_status, AreAnswered, AreLinesPrinted, IsLineAdded}
+use Rattle.fr_answer.proofs.Terms.{IsLineAnswer, IsLinePrinted, IsLineText, LineAnswer, Shows, greater_status, Each, IsAdded, each-more}
 use Rattle.std.proofs.lemmas.List.Folds.{concat-append}
 use Rattle.std.proofs.lemmas.List.Sums.{fold-append}
-use Rattle.std.proofs.KnownBytes.{Appends-trans}
-use Rattle.std.specs.Io.KnownBytes.{Appends}
 use Rattle.std.specs.List.{concat}
-use Rattle.fr_formats.specs.declared.answer.AnswerShown.{AnswerShown}
-use Rattle.fr_list.specs.Means.{Entry}
-use Rattle.fr_list.specs.Beside.{beside}
-use Rattle.fr_inputs.specs.Inputs.{Reading}
-use Rattle.fr_outcome.specs.declared.answer.What.{What}
-use Rattle.fr_outcome.specs.Answers.{what_status}
-use Rattle.fr_answer.specs.Commands.{AreAnswered, AreLinesPrinted, IsLineAdded, IsLineAnswer, IsLinePrinted, IsLineText, LineAnswer, Shows, greater_status}
-use Rattle.fr_outcome.specs.Each.{Each, IsAdded}
-use Rattle.fr_outcome.proofs.Printed.{each-more}
 
 -- the text of one line more
 pub printed-more : (explains : Bool) (list : List ℕ) (lines : List LineAnswer) (line : LineAnswer) (text : List ℕ) (old mid new : Option (List ℕ)) → AreLinesPrinted None explains list lines old mid

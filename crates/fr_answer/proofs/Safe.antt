@@ -1,8 +1,9 @@
 -- The exit status 0 is that of safe applications, and where it is asked of ones that are never deadlocked.
 use Rattle.std.proofs.Common.{◌≡◌, ◌≤◌, inl, inr, ℕ, List, [], ◌∷◌, All, Bool, Option, None, Some, Result, Ok, Err, IfOk, refl, sym, subst, arith, map, ◌∙◌}
-use Rattle.std.proofs.lemmas.List.Elements.{All-head, All-tail}
+use Rattle.fr_answer.proofs.Terms.{All-head, All-tail, Program, TellsYes, TellsNo, TellsVerdict, Entry, beside, Format, Reading, What, Judged, Searched, Refused, kind_of_judged, kind_of_finding}
+use Rattle.fr_answer.proofs.Terms.{what_status, IsAnsweredFor, IsProofOf, IsSettledIn, IsSearchOf, IsVerdictOn, AreAnswered, AreEachSafe, AreLinesPrinted, AreNamedSafe, IsAnswerBy, IsCheckAnswered}
+use Rattle.fr_answer.proofs.Terms.{IsCheckOf, IsLineAnswer, IsProofAt, IsSafeAt, IsSearchAt, IsShown, LineAnswer, greater_status}
 use Rattle.std.specs.Prelude.{fold, true, false, IfSome, IsSome, IsTrue}
-use Rattle.fr_program.specs.Program.{Program}
 use Rattle.fr_calls.specs.Run.{IsSafe}
 use Rattle.fr_waits.specs.Waits.{HasNoDeadlock}
 use Rattle.fr_ends.specs.Certificate.{Certificate, AllHaveDistinctTurns}
@@ -13,8 +14,6 @@ use Rattle.fr_cert.specs.Meaning.{IsEnd, Means as CertMeans}
 use Rattle.fr_cert.specs.Shapes.{IsObject}
 use Rattle.fr_cert.proofs.EntryLemmas.{each_both}
 use Rattle.fr_judge.specs.declared.part.Verdict.{Verdict}
-use Rattle.fr_judge.specs.declared.part.Verdict.TheVariants.{Yes as TellsYes, No as TellsNo}
-use Rattle.fr_judge.specs.Told.{TellsVerdict}
 use Rattle.fr_judge.specs.Sound.{Certified}
 use Rattle.fr_judge.proofs.Induction.{certified-safe}
 use Rattle.fr_judge.proofs.Points.{yes-certified}
@@ -29,18 +28,10 @@ use Rattle.fr_refuter.specs.Refutes.{IsFound, Suits}
 use Rattle.fr_formats.specs.declared.answer.AnswerKind.{AnswerKind}
 use Rattle.fr_formats.specs.declared.answer.AnswerKind.TheVariants.{Yes, No, MayDeadlock, Breach, Deadlock, NoBreach, StatesLeft, Followed, FollowedApart, NotFollowed, NotListed, GaveUp, Refused as NoVerdict, Machine}
 use Rattle.fr_formats.specs.Answers.{status_of as kind_status}
-use Rattle.fr_list.specs.Means.{Entry}
-use Rattle.fr_list.specs.Beside.{beside}
-use Rattle.fr_request.specs.declared.format.Format.{Format}
 use Rattle.fr_request.specs.declared.request.Judged.{Judged as Named}
 use Rattle.fr_request.specs.declared.request.Judged.TheVariants.{One, Listed}
-use Rattle.fr_inputs.specs.Inputs.{Reading}
-use Rattle.fr_outcome.specs.declared.answer.What.{What}
-use Rattle.fr_outcome.specs.declared.answer.What.TheVariants.{Judged, Searched, Refused}
 use Rattle.fr_outcome.specs.Checked.{IsFreeText, IsSafeText}
 use Rattle.fr_outcome.specs.Judged.{JudgedOf}
-use Rattle.fr_outcome.specs.Answers.{kind_of_judged, kind_of_finding, what_status, IsAnsweredFor, IsProofOf, IsSettledIn, IsSearchOf, IsVerdictOn}
-use Rattle.fr_answer.specs.Commands.{AreAnswered, AreEachSafe, AreLinesPrinted, AreNamedSafe, IsAnswerBy, IsCheckAnswered, IsCheckOf, IsLineAnswer, IsProofAt, IsSafeAt, IsSearchAt, IsShown, LineAnswer, greater_status}
 
 -- the status 0 is that of a yes
 pub zero-yes : (v : Verdict) (waits : Option Order) → kind_status (kind_of_judged v waits) ≡ 0 → v ≡ TellsYes

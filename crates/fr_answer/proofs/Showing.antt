@@ -3,21 +3,13 @@ use Rattle.std.proofs.Common.{◌≡◌, ◌≤◌, inl, inr, ℕ, List, Bool, O
 use Rattle.std.proofs.lemmas.Bool.{false≢true}
 use Rattle.std.proofs.lemmas.Option.{same_Some}
 use Rattle.std.specs.Prelude.{IsErr, option_map}
-use Rattle.std.specs.declared.alloc.Global.{Global}
+use Rattle.fr_answer.proofs.Terms.{Global, TellsVerdict, Yes, Program, beside, Format, Reading, What, Judged, Searched, Refused, HasFound, IsProofOf, IsSettledIn, IsVerdictOn, IsYes, what_status}
+use Rattle.fr_answer.proofs.Terms.{IsAnswerBy, IsGiven, IsKept, IsLineAnswer, IsPaged, IsPrinted, IsProofAt, IsShown}
 use Rattle.fr_files.specs.declared.outputs.Output.{Output}
-use Rattle.fr_judge.specs.Told.{TellsVerdict}
-use Rattle.fr_judge.specs.declared.part.Verdict.TheVariants.{Yes}
-use Rattle.fr_program.specs.Program.{Program}
 use Rattle.fr_text.specs.Texts.{IsJudged}
-use Rattle.fr_list.specs.Beside.{beside}
-use Rattle.fr_request.specs.declared.format.Format.{Format}
-use Rattle.fr_inputs.specs.Inputs.{Reading}
 use Rattle.fr_outcome.specs.declared.answer.Answer.{Answer}
 use Rattle.fr_outcome.specs.declared.answer.Refusal.{Refusal}
-use Rattle.fr_outcome.specs.declared.answer.What.{What}
-use Rattle.fr_outcome.specs.declared.answer.What.TheVariants.{Judged, Searched, Refused}
-use Rattle.fr_outcome.specs.Answers.{HasFound, IsProofOf, IsSettledIn, IsVerdictOn, IsYes, what_status}
-use Rattle.fr_answer.specs.Commands.{IsAnswerBy, IsGiven, IsKept, IsLineAnswer, IsPaged, IsPrinted, IsProofAt, IsShown}
+use Rattle.fr_printing.proofs.Showing.{paged-as}
 
 -- what holds of all that is found holds of what was
 pub from-found : {X E : Type 0} (Is : What → Type 0) (found : Result (X × What) E) (what : What) → IfOk found (λ r. Is r.1) → HasFound found what → Is what
@@ -43,36 +35,10 @@ pub line-found : {X E Y : Type 0} (Is : What → Type 0) (found : Result (X × W
 line-found Is found (Ok a) has h = λ le. from-found Is found a.what h (has le)
 line-found Is found (Err e) has h = tt
 
--- an answer that is shown: its exit status, what is printed, and that nothing is where there is no verdict
-pub shown-found : {Y : Type 0} (Has : What → Type 0) (format : Option Format) (named path : List ℕ) (old new : Option (List ℕ)) (r : Result ℕ Y) (what : What) → named ≡ path
-    → (what_status what ≤ 1 → Has what) → IfOk r (λ s. s ≡ what_status what) → IfOk r (λ s. IsPrinted format named what old new) → IfOk r (λ s. IsShown Has format path s old new)
-shown-found Has format named path old new (Ok s) what same has status text = (what, has, status, subst (λ p. IsPrinted format p what old new) same text)
-shown-found Has format named path old new (Err e) what same has status text = tt
-
-pub refused-found : {X E Y : Type 0} (found : Result X E) (r : Result ℕ Y) (n : ℕ) → IfErr found (λ _. 2 ≤ n) → IfOk r (λ s. s ≡ n) → IfErr found (λ _. IfOk r (λ s. 2 ≤ s))
-refused-found (Ok x) r n h status = tt
-refused-found (Err e) (Ok s) n h status = subst (λ m. 2 ≤ m) (sym status) h
-refused-found (Err e) (Err y) n h status = tt
-
-pub kept-found : {Y : Type 0} (A B : Type 0) (r : Result ℕ Y) (n : ℕ) → IfOk r (λ s. s ≡ n) → (A → 2 ≤ n → B) → IfOk r (λ s. 2 ≤ s → A → B)
-kept-found A B (Ok s) n status h = λ least a. h a (subst (λ m. 2 ≤ m) status least)
-kept-found A B (Err e) n status h = tt
-
-pub most-found : {Y : Type 0} (r : Result ℕ Y) (n : ℕ) → IfOk r (λ s. s ≡ n) → n ≤ 3 → IfOk r (λ s. s ≤ 3)
-most-found (Ok s) n status h = subst (λ m. m ≤ 3) (sym status) h
-most-found (Err e) n status h = tt
-
 -- files that are as they were
 pub paged-same : {Z : Type 0} (puts : Z → List ℕ → List ℕ → Z → Type 0) (Is : What → Type 0) (path : Option (List ℕ)) (old new : Z) → new ≡ old → IsPaged puts Is path old new
 paged-same puts Is None old new same = same
 paged-same puts Is (Some p) old new same = inl same
-
--- a page of an answer of which more is known
-pub paged-as : {Z : Type 0} (puts : Z → List ℕ → List ℕ → Z → Type 0) (Was Is : What → Type 0) (path : Option (List ℕ)) (old new : Z) → ((w : What) → what_status w ≤ 1 → Was w → Is w)
-    → IsPaged puts Was path old new → IsPaged puts Is path old new
-paged-as puts Was Is None old new on same = same
-paged-as puts Was Is (Some p) old new on (inl same) = inl same
-paged-as puts Was Is (Some p) old new on (inr h) = inr (h.0, h.1, (λ le. on h.0 le (h.2 le)), h.3, h.4)
 
 -- the page of an answer that is shown is that of what was found
 pub paged-found : {X E Z : Type 0} (puts : Z → List ℕ → List ℕ → Z → Type 0) (Is : What → Type 0) (found : Result (X × What) E) (path : Option (List ℕ)) (old new : Z)

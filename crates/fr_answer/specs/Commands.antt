@@ -6,10 +6,6 @@
 -- | IsCheckOf                         | the verdict on the application and the certificate in two files                |
 -- | IsProofAt                         | the verdict on the application in a file by a certificate, or a run instead    |
 -- | IsSearchAt                        | what a search found in the application in a file                               |
--- | Shows                             | a report shows an answer: the application's file, its kind and its first line  |
--- | IsTextPrinted                     | an answer's text was written                                                   |
--- | IsPrinted                         | an answer was written: its text, or a report that shows it                     |
--- | IsShown                           | such an answer has this exit status, and was printed                           |
 -- | IsAnswerBy, LineAnswer, IsLineAnswer | the answer to a line of a list                                              |
 -- | IsLineText                        | what is printed of a line: the path, and the answer's lines                    |
 -- | IsLinePrinted, IsLineAdded        | one line more is answered, and printed or added to a report                    |
@@ -21,8 +17,8 @@
 -- | IsSafeIn, IsSafeAt, AreSafe       | the application in a file is safe; each that a verdict is asked for on         |
 -- | IsText                            | the answer is a text about one application                                     |
 -- | PutsFound, PutsTranslated, PutsOutput, IsDone | the file that is asked for was given what was found, or what a source means |
--- | IsPaged, IsKept, IsWritten        | the files are as they were, but for a page, for a certificate with a yes; for what the request names |
-use Rattle.std.specs.Prelude.{◌≡◌, ◌≤◌, ◌⊎◌, ◌++◌, ℕ, Bool, true, false, IsTrue, List, [], ◌∷◌, All, Option, None, Some, codes, fold, length, map, max, option_copied, string_bytes}
+-- | IsKept, IsWritten                 | the files are as they were, but for a certificate with a yes; for what the request names |
+use Rattle.std.specs.Prelude.{◌≡◌, ◌≤◌, ◌⊎◌, ◌++◌, ℕ, Bool, true, false, IsTrue, List, [], ◌∷◌, All, Option, None, Some, codes, fold, length, map, max, option_copied}
 use Rattle.std.specs.List.{concat}
 use Rattle.std.specs.Option.{is_some}
 use Rattle.std.specs.Io.KnownBytes.{Appends}
@@ -46,9 +42,9 @@ use Rattle.fr_request.specs.declared.request.Request.TheVariants.{Check, Find, P
 use Rattle.fr_outcome.specs.declared.answer.What.{What}
 use Rattle.fr_findings.specs.declared.found.Found.{Found}
 use Rattle.fr_inputs.specs.Inputs.{Reading, AsApp, AsCertificate, AsList, AsSource}
-use Rattle.fr_outcome.specs.Answers.{AreLinesOf, IsProofOf, IsSearchOf, IsTextOf, IsVerdictOn, IsYes, first_line, second_text, shown_line, kind_of, what_status}
+use Rattle.fr_outcome.specs.Answers.{AreLinesOf, IsProofOf, IsSearchOf, IsVerdictOn, IsYes, first_line, second_text, what_status}
 use Rattle.fr_outcome.specs.Checked.{IsFreeText, IsSafeText}
-use Rattle.fr_shown.specs.Pages.{IsPageOf}
+use Rattle.fr_printing.specs.Printing.{Shows, IsShown, IsPaged}
 use Rattle.fr_findings.specs.Found.{IsCertificateFor, IsFound, found_line, found_status}
 use Rattle.fr_findings.specs.Ran.{IsRunText}
 use Rattle.fr_outcome.specs.Heading.{heading}
@@ -75,27 +71,6 @@ IsProofAt reads asks app searches certificate what = (a : List ℕ) × reads AsA
 -- what a search found in the application in this file
 abbrev pub IsSearchAt : (Reading → List ℕ → List ℕ → Type 0) → Bool → List ℕ → What → Type 0
 IsSearchAt reads asks app what = (a : List ℕ) × reads AsApp app a × IsSearchOf asks a what
-
--- what a report shows of an answer for the application in this file: the file, the kind of the answer, and its first line, or in place of
--- a yes that a deadlock isn't excluded
-pub record Shows (path : List ℕ) (what : What) (shown : AnswerShown) : Type 0 where
-  pub application : string_bytes shown.application ≡ path
-  pub kind : shown.answer ≡ kind_of what
-  pub first : string_bytes shown.report ≡ shown_line what
-
--- the answer's text was written after what the writer had, and nothing else, where it isn't refused
-abbrev pub IsTextPrinted : What → Option (List ℕ) → Option (List ℕ) → Type 0
-IsTextPrinted what old new = what_status what ≤ 1 → (text : List ℕ) × IsTextOf what text × Appends old new text
-
--- so it was; in a form that machines read a report that shows the answer for the application in this file was
-abbrev pub IsPrinted : Option Format → List ℕ → What → Option (List ℕ) → Option (List ℕ) → Type 0
-IsPrinted None path what old new = IsTextPrinted what old new
-IsPrinted (Some format) path what old new =
-    (shown : AnswerShown) × (text : List ℕ) × Shows path what shown × IsReport format (shown ∷ []) text × Appends old new text
-
--- there is an answer with this exit status, and it was printed; where it isn't refused, it is such a one
-abbrev pub IsShown : (What → Type 0) → Option Format → List ℕ → ℕ → Option (List ℕ) → Option (List ℕ) → Type 0
-IsShown Is format path status old new = (what : What) × (what_status what ≤ 1 → Is what) × (status ≡ what_status what) × IsPrinted format path what old new
 
 -- the verdict on the application in a file, by the certificate in another one that the list names, or by one that was worked out; or
 -- what a search found instead
@@ -257,13 +232,6 @@ IsText (Points app explains) = Unit {0}
 IsText (Run asked) = Unit {0}
 IsText (Translate asked) = Unit {0}
 IsText (Follow asked) = (asked.format ≡ None) × (length asked.traces.now ≡ 1)
-
--- the files are as they were, but that the one for the page may have been given a page, which begins with the heading and the first
--- line of an answer; where that is a verdict, this is so of it
-abbrev pub IsPaged : {Z : Type 0} → (Z → List ℕ → List ℕ → Z → Type 0) → (What → Type 0) → Option (List ℕ) → Z → Z → Type 0
-IsPaged puts Is None old new = new ≡ old
-IsPaged puts Is (Some path) old new =
-    (new ≡ old) ⊎ ((what : What) × (text : List ℕ) × (what_status what ≤ 1 → Is what) × IsPageOf what text × puts old path text new)
 
 -- an answer of which a page may be asked for: the verdict on two files, which a list doesn't have
 abbrev pub IsNamedAnswer : (Reading → List ℕ → List ℕ → Type 0) → Bool → Named → What → Type 0

@@ -13,11 +13,11 @@ mod refute;
 mod run_files;
 mod translate;
 
-use crate::printing::refuse;
 use check::check;
 use find::find;
 use fr_inputs::Files;
 use fr_outcome::Refusal;
+use fr_printing::refuse;
 use fr_request::Request;
 use fr_traces::follow_traces;
 use points::points;

@@ -5,7 +5,6 @@
 #![tactic(auto)]
 
 mod commands;
-mod printing;
 mod reading;
 mod ways;
 

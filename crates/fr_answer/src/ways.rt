@@ -1,4 +1,4 @@
-// What a command does where its words don't say it, and how its answer is to be printed.
+// What a command does where its words don't say it.
 ghost use Rattle.std.specs.Prelude.{◌≡◌};
 ghost use Rattle.fr_answer.specs.Commands.{detail_in};
 
@@ -13,21 +13,6 @@ pub(crate) const MOST_STATE_BYTES: usize = 536_870_912;
 /// So many MiB in bytes.
 pub(crate) fn mebibytes(count: u32) -> usize {
     (count as usize).saturating_mul(1_048_576)
-}
-
-/// How an answer is to be printed.
-#[derive(Clone, Copy)]
-pub(crate) struct Asked<'a> {
-    /// The form; None where it is a text for a person.
-    pub format: Option<Format>,
-    /// The file for the page, where one is wanted.
-    pub html: Option<&'a str>,
-    /// Whether the text says where a text is refused.
-    pub explains: bool,
-    /// Whether it says so of a word that is the name of nothing, in any case.
-    pub words: bool,
-    /// Whether the page's file is named where it can't be written.
-    pub names: bool,
 }
 
 /// How much is explained: where a machine reads the answer, never less than what matters.

@@ -1,26 +1,13 @@
 -- What is written for the guards of ends means them again.
 use Rattle.std.proofs.Common.{◌≡◌, ◌<◌, ◌≤◌, ◌∙◌, ℕ, suc, ℤ, List, [], ◌∷◌, Bool, true, false, Some, None, nat_eq, cond, length, All, refl, sym, ap, inl, inr, arith}
-use Rattle.std.specs.List.{AllByRecursion}
-use Rattle.std.proofs.lemmas.Bool.{cases_lt}
-use Rattle.std.proofs.lemmas.Bool.Decides.{Decides-eqb}
-use Rattle.std.proofs.lemmas.List.Elements.{All-head, All-tail}
-use Rattle.serde_json.specs.Data.{number, string, object, Members, no_members, member, put}
-use Rattle.serde_json.specs.Find.{of_integer}
-use Rattle.fr_program.specs.Program.{Program}
-use Rattle.fr_program.specs.Lookup.{variable_at, object_at, actor_at}
-use Rattle.fr_program.specs.Limits.{IsNumber}
-use Rattle.fr_program.specs.Fault.{IsFaultless}
-use Rattle.fr_program.specs.Uses.{end_text}
-use Rattle.fr_ends.specs.Guard.{Guard, Sole, ByMutex, InCritical, Turn, EndGuard}
-use Rattle.fr_ends.specs.Certificate.{value_for}
-use Rattle.fr_ends.specs.Fits.{AreRising, GuardFits, EndFits}
-use Rattle.fr_ends.proofs.TurnLemmas.{RisesFrom, rises_whole, none_below, later_value}
-use Rattle.fr_cert.specs.Keys.{key_text, field, names_in}
+use Rattle.fr_cert.proofs.Terms.{AllByRecursion, cases_lt, Decides-eqb, All-head, All-tail, number, string, object, Members, no_members, member, put, of_integer, Program, variable_at, object_at}
+use Rattle.fr_cert.proofs.Terms.{actor_at, IsNumber, IsFaultless, end_text, Guard, Sole, ByMutex, InCritical, Turn, EndGuard, value_for, AreRising, GuardFits, EndFits, RisesFrom, rises_whole}
+use Rattle.fr_cert.proofs.Terms.{none_below, later_value, key_text, names_in, IsObject, EachEntry, EachMember, IsNamed, IsTurnNumber, AreTurnValues, IsGuard, IsEnd, IsFitEnd, guard_tree, end_tree}
+use Rattle.fr_cert.proofs.Terms.{each_tree}
+use Rattle.fr_cert.specs.Keys.{field}
 use Rattle.fr_cert.specs.declared.key.Key.TheVariants as key
 use Rattle.fr_cert.specs.declared.key.Place.TheVariants as place
-use Rattle.fr_cert.specs.Shapes.{IsObject, EachEntry, EachMember, IsNamed}
-use Rattle.fr_cert.specs.Meaning.{IsTurnNumber, AreTurnValues, IsGuard, IsEnd, IsFitEnd}
-use Rattle.fr_cert.specs.Written.{with_values, guard_tree, end_tree, each_tree}
+use Rattle.fr_cert.specs.Written.{with_values}
 use Rattle.fr_cert.proofs.GivenLemmas.{given, given-cons, put_named, actor_place, object_place, variable_place}
 use Rattle.fr_cert.proofs.NotesAgain.{integer_again, known_more, none_known}
 

@@ -1,14 +1,7 @@
 -- One more entry of a list, and one more thing that it means.
 use Rattle.std.proofs.Common.{◌≡◌, ℕ, zero, suc, ◌+◌, ◌<◌, List, [], ◌∷◌, ◌++◌, Some, All, length, get_or, map, take, sym, ap, ◌∙◌, subst, arith}
-use Rattle.std.proofs.lemmas.List.Elements.{All-cons, All-nil}
-use Rattle.std.proofs.lemmas.List.{map-id, take_more, get_or-take, length-take-le}
-use Rattle.serde_json.specs.Data.{Data, Items, no_items, item}
-use Rattle.serde_json.specs.Events.{items_len}
-use Rattle.serde_json.specs.Find.{get_item}
-use Rattle.serde_json.specs.View.{items_view, view}
-use Rattle.serde_json.specs.declared.value.Value.{Value}
-use Rattle.serde_json.proofs.Views.{get_item_within, items_len-items_view}
-use Rattle.fr_cert.specs.Shapes.{EachEntry}
+use Rattle.fr_cert.proofs.Terms.{All-cons, All-nil, map-id, take_more, get_or-take, length-take-le, Data, Items, no_items, item, items_len, get_item, items_view, view, Value, get_item_within}
+use Rattle.fr_cert.proofs.Terms.{items_len-items_view, EachEntry}
 
 -- how many entries there are
 pub view_length : (vs : List Value) → items_len (items_view vs) ≡ length vs

@@ -1,29 +1,14 @@
 -- Bytes in which a fault is present mean no certificate: at each level, a value that means something has no fault of
 -- that level.
 use Rattle.std.proofs.Common.{◌≡◌, ◌<◌, ◌≤◌, ◌<ℤ◌, ◌≤ℤ◌, ℕ, ℤ, zero, suc, pos, List, [], ◌∷◌, Some, None, AllPairs, ◌⊎◌, codes, length, get_or, refl, sym, ap, ◌∙◌, subst, arith, inl, inr}
-use Rattle.std.proofs.lemmas.Bool.{false≢true}
-use Rattle.std.proofs.lemmas.Int.{ints}
-use Rattle.serde_json.specs.Data.{Data, Items, no_items, item, Members, no_members, member}
-use Rattle.serde_json.specs.Events.{items_len}
-use Rattle.serde_json.specs.Find.{get_item, as_array, as_object, as_str}
-use Rattle.serde_json.specs.Read.{read}
-use Rattle.fr_program.specs.Program.{Program}
-use Rattle.fr_program.specs.Limits.{IsNumber}
-use Rattle.fr_instr.specs.Names.{NamesOf, place_of}
-use Rattle.fr_notes.specs.Note.{Note}
-use Rattle.fr_ends.specs.Certificate.{Certificate}
-use Rattle.fr_ends.specs.Guard.{Sole, ByMutex, InCritical, Turn, EndGuard}
-use Rattle.fr_ends.specs.Fits.{EndFits, AreOfOneEnd}
-use Rattle.fr_cert.specs.Keys.{AreKnown, field, integer_of, end_at, names_in}
-use Rattle.fr_cert.specs.Shapes.{At, OrDefault, IsObject, IsList, EachEntry, EachMember, IsNamed, Names, AreNames, IsDepth, AreEnds, IsSpan}
-use Rattle.fr_cert.specs.Meaning.{NoteText, IsNoteText, NoteTextFits, IsTurnNumber, AreTurnValues, IsAlternative, IsPlainNote, IsNote, AreNotes, IsGuardObject, IsGuard, IsEndName, IsEnd, IsFitEnd, AreFitEnds, IsVersion, IsCertificate, Means}
-use Rattle.fr_cert.specs.Faults.{InKeys, InField, InNeeded, InObject, InList, InEntries, InMembers, InNamed, InDepth, InName, IsTwice, InNames, InEnds, InSpan}
-use Rattle.fr_cert.specs.Present.{InKeysOfNote, InAlternative, InAlternatives, InNote, InNotes, InTurnValue, InGuardObject, InGuard, InEndName, InKeysOfEnd, InEnd, InAllEnds, InVersion, InCertificate, InTree, InBytes, IsPresent}
-use Rattle.fr_cert.specs.declared.key.Key.{Key}
+use Rattle.fr_cert.proofs.Terms.{false≢true, ints, Data, Items, no_items, item, Members, no_members, member, items_len, get_item, as_array, as_object, as_str, read, Program, IsNumber, NamesOf}
+use Rattle.fr_cert.proofs.Terms.{place_of, Note, Certificate, Sole, ByMutex, InCritical, Turn, EndGuard, EndFits, AreOfOneEnd, AreKnown, field, integer_of, end_at, names_in, At, OrDefault, IsObject}
+use Rattle.fr_cert.proofs.Terms.{IsList, EachEntry, EachMember, IsNamed, Names, AreNames, IsDepth, AreEnds, IsSpan, NoteText, IsNoteText, NoteTextFits, IsTurnNumber, AreTurnValues, IsAlternative}
+use Rattle.fr_cert.proofs.Terms.{IsPlainNote, IsNote, AreNotes, IsGuardObject, IsGuard, IsEndName, IsEnd, IsFitEnd, AreFitEnds, IsVersion, IsCertificate, Means, InKeys, InField, InNeeded, InObject}
+use Rattle.fr_cert.proofs.Terms.{InList, InEntries, InMembers, InNamed, InDepth, InName, IsTwice, InNames, InEnds, InSpan, InKeysOfNote, InAlternative, InAlternatives, InNote, InNotes, InTurnValue}
+use Rattle.fr_cert.proofs.Terms.{InGuardObject, InGuard, InEndName, InKeysOfEnd, InEnd, InAllEnds, InVersion, InCertificate, InTree, InBytes, IsPresent, Key, Place, CertFault}
 use Rattle.fr_cert.specs.declared.key.Key.TheVariants as key
-use Rattle.fr_cert.specs.declared.key.Place.{Place}
 use Rattle.fr_cert.specs.declared.key.Place.TheVariants as place
-use Rattle.fr_cert.specs.declared.fault.CertFault.{CertFault}
 use Rattle.fr_cert.specs.declared.fault.CertFault.TheVariants as fault
 use Rattle.fr_cert.proofs.Laws.{both, never, one_at, one_name, one_text, one_version, one_end, one_end_value, unknown, apart, list_apart, object_apart}
 use Rattle.fr_cert.proofs.EntryLemmas.{each_both}

@@ -1,8 +1,6 @@
 -- A fault of a value, as the value around it has it.
 use Rattle.std.proofs.Common.{◌≡◌, ◌∙◌, sym, ap, false}
-use Rattle.fr_cert.specs.Path.{PathStep}
-use Rattle.fr_cert.specs.Faults.{is_memory, Standing, deeper, Within}
-use Rattle.fr_cert.specs.declared.fault.CertFault.{CertFault}
+use Rattle.fr_cert.proofs.Terms.{PathStep, is_memory, Standing, deeper, Within, CertFault}
 use Rattle.fr_cert.specs.declared.fault.CertFault.TheVariants as fault
 
 kept : (s : PathStep) (f : CertFault) → is_memory (deeper s f) ≡ false → is_memory f ≡ false

@@ -1,16 +1,7 @@
 -- The ranges of a note that fits have ends of 64 bits.
 use Rattle.std.proofs.Common.{◌<◌, ◌≤ℤ◌, ℤ, pos, List, All, length, map, subst, sym, arith}
-use Rattle.std.proofs.lemmas.Int.{ints}
-use Rattle.std.proofs.lemmas.List.{get_or_default, get_or-map, length-map}
-use Rattle.fr_program.specs.declared.range.Range.{Range}
-use Rattle.fr_program.specs.Program.{Program}
-use Rattle.fr_program.specs.Limits.{IsNumber, VariableInLimits}
-use Rattle.fr_program.specs.Lookup.{no_variable, variable_at}
-use Rattle.fr_program.specs.Fault.{IsInLimits}
-use Rattle.fr_notes.specs.Note.{Alternative}
-use Rattle.fr_notes.specs.Fits.{AlternativeFits}
-use Rattle.fr_notes.specs.View.{ends_of}
-use Rattle.fr_cert.specs.Views.{HasNumbers}
+use Rattle.fr_cert.proofs.Terms.{ints, get_or_default, get_or-map, length-map, Range, Program, IsNumber, VariableInLimits, no_variable, variable_at, IsInLimits, Alternative, AlternativeFits, ends_of}
+use Rattle.fr_cert.proofs.Terms.{HasNumbers}
 
 -- both ends are numbers
 abbrev pub AreNumbers : ℤ × ℤ → Type 0

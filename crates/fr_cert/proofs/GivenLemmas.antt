@@ -1,23 +1,10 @@
 -- Names in an object: one more of them, and what the object then gives to each thing that is named. It serves ranges
 -- and counts, which are written for all variables and objects in turn, and turn values, which are not.
 use Rattle.std.proofs.Common.{◌≡◌, ◌≢◌, ◌<◌, ◌≤◌, ◌+◌, ◌∙◌, ℕ, zero, suc, List, [], ◌∷◌, ◌++◌, Bool, true, false, Option, Some, None, option_map, Ordering, Less, Equal, Greater, nat_cmp, nat_eq, bytes_eq, cond, find, get_or, length, map, AllPairs, refl, sym, ap, subst, arith}
-use Rattle.std.specs.Cmp.Lexicographic.{slice_cmp}
-use Rattle.std.specs.List.{AllByRecursion, position_or_len}
-use Rattle.std.specs.Ordering.{match_ordering}
-use Rattle.std.proofs.lemmas.Bool.{false≢true}
-use Rattle.std.proofs.lemmas.Bool.Decides.{Decides-eqb, Decides-ltb}
-use Rattle.std.proofs.lemmas.List.{get_or-map, get_or_append_left, get_or-append-add, length-append, length-map}
+use Rattle.fr_cert.proofs.Terms.{slice_cmp, AllByRecursion, position_or_len, match_ordering, false≢true, Decides-eqb, Decides-ltb, get_or-map, get_or_append_left, get_or-append-add, length-append}
+use Rattle.fr_cert.proofs.Terms.{length-map, exact_bytes, same_Some, bytes_eq-Decides, Data, Members, no_members, member, put, Program, VariableOf, ObjectOf, ActorOf, no_variable, no_object, no_actor}
+use Rattle.fr_cert.proofs.Terms.{variable_at, object_at, actor_at, IsFaultless, place_of, names_in, EachMember, IsNamed}
 use Rattle.std.proofs.lemmas.List.Sums.{position_or_len_is}
-use Rattle.std.proofs.lemmas.Map.Lookups.{exact_bytes}
-use Rattle.std.proofs.lemmas.Option.{same_Some}
-use Rattle.std.proofs.lemmas.Slice.Eq.{bytes_eq-Decides}
-use Rattle.serde_json.specs.Data.{Data, Members, no_members, member, put}
-use Rattle.fr_program.specs.Program.{Program, VariableOf, ObjectOf, ActorOf}
-use Rattle.fr_program.specs.Lookup.{no_variable, no_object, no_actor, variable_at, object_at, actor_at}
-use Rattle.fr_program.specs.Fault.{IsFaultless}
-use Rattle.fr_instr.specs.Names.{place_of}
-use Rattle.fr_cert.specs.Keys.{names_in}
-use Rattle.fr_cert.specs.Shapes.{EachMember, IsNamed}
 
 -- what is given to the thing with this number
 abbrev pub given : {A : Type 0} → List (ℕ × A) → ℕ → Option A

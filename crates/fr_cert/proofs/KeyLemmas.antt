@@ -1,18 +1,7 @@
 -- The keys of an object's map beside the members that it stands for.
 use Rattle.std.proofs.Common.{◌≡◌, ℕ, List, [], ◌∷◌, ◌++◌, get_or, drop, Some, Option, option_map, Bor, Ordering, Less, Equal, Greater, String, Global, string_bytes, nat_cmp, refl, sym, ap, ◌∙◌, subst}
-use Rattle.std.specs.List.{AllByRecursion}
-use Rattle.std.specs.Map.{keys_of, lookup}
-use Rattle.std.specs.BTreeMap.{is_at}
-use Rattle.std.specs.Ordering.{match_ordering}
-use Rattle.std.specs.Cmp.{tied_itself}
-use Rattle.std.specs.Cmp.Lexicographic.{slice_cmp}
-use Rattle.std.proofs.lemmas.Cmp.{nat_list_cmp_total}
-use Rattle.std.proofs.lemmas.Map.Lookups.{exact_bytes}
-use Rattle.serde_json.specs.Data.{Data}
-use Rattle.serde_json.specs.Find.{get_member}
-use Rattle.serde_json.specs.View.{members_view, view}
-use Rattle.serde_json.specs.declared.value.Value.{Value}
-use Rattle.serde_json.proofs.Views.{Entry, view-lookup, view_of_ref}
+use Rattle.fr_cert.proofs.Terms.{AllByRecursion, keys_of, lookup, is_at, match_ordering, tied_itself, slice_cmp, nat_list_cmp_total, exact_bytes, Data, get_member, members_view, view, Value, Entry}
+use Rattle.fr_cert.proofs.Terms.{view-lookup, view_of_ref}
 
 -- one look further: what the rest holds, the whole holds
 over : (o : Ordering) (d : Data) (rest : Data) (x : Data) → (e : Data) × (match_ordering o (Some rest) (Some x) (Some rest) ≡ Some e)

@@ -1,26 +1,14 @@
 -- A text means one certificate at the most: at each level, a value means one thing.
 use Rattle.std.proofs.Common.{◌≡◌, ◌<◌, ℕ, ℤ, suc, pos, List, [], ◌∷◌, Bool, true, false, Option, Some, None, bytes_eq, codes, nat_eq, refl, sym, ap, ◌∙◌, subst, inl, inr, arith}
-use Rattle.std.proofs.lemmas.Bool.{false≢true}
-use Rattle.std.proofs.lemmas.Bool.Decides.{Decides-eqb}
-use Rattle.std.proofs.lemmas.Option.{same_Some}
-use Rattle.std.proofs.lemmas.Slice.Eq.{bytes_eq-Decides}
-use Rattle.serde_json.specs.Data.{Data, Items, no_items, item, Members, no_members, member, null, boolean, number, string, array, object}
-use Rattle.serde_json.specs.Find.{as_array, as_object, as_str}
-use Rattle.serde_json.specs.Read.{read}
-use Rattle.fr_program.specs.Program.{Program}
-use Rattle.fr_instr.specs.Names.{NamesOf, place_of}
+use Rattle.fr_cert.proofs.Terms.{false≢true, Decides-eqb, same_Some, bytes_eq-Decides, Data, Items, no_items, item, Members, no_members, member, null, boolean, number, string, array, object, as_array}
+use Rattle.fr_cert.proofs.Terms.{as_object, as_str, read, Program, NamesOf, place_of, Note, Certificate, value_for, Guard, Sole, ByMutex, InCritical, Turn, EndGuard, RisesFrom, rises_whole}
+use Rattle.fr_cert.proofs.Terms.{none_below, first_value, later_value, AreKnown, is_key_of, key_text, integer_of, end_at, names_in, At, OrDefault, IsObject, IsList, EachEntry, EachMember, IsNamed}
+use Rattle.fr_cert.proofs.Terms.{Names, AreNames, IsDepth, AreEnds, IsSpan, NoteText, IsNoteText, note_said, IsAlternative, IsPlainNote, IsNote, AreNotes, IsTurnNumber, AreTurnValues, IsGuardObject}
+use Rattle.fr_cert.proofs.Terms.{IsGuard, IsEndName, IsEnd, IsFitEnd, AreFitEnds, IsVersion, IsCertificate, IsTree, Means, Key, Place}
 use Rattle.fr_program.specs.declared.instr.End.{End as BufferEnd}
 use Rattle.fr_program.specs.declared.instr.End.TheVariants.{Writer, Reader}
-use Rattle.fr_notes.specs.Note.{Note}
-use Rattle.fr_ends.specs.Certificate.{Certificate, value_for}
-use Rattle.fr_ends.specs.Guard.{Guard, Sole, ByMutex, InCritical, Turn, EndGuard}
-use Rattle.fr_ends.proofs.TurnLemmas.{RisesFrom, rises_whole, none_below, first_value, later_value}
-use Rattle.fr_cert.specs.Keys.{AreKnown, is_key_of, key_text, field, integer_of, end_at, names_in}
-use Rattle.fr_cert.specs.Shapes.{At, OrDefault, IsObject, IsList, EachEntry, EachMember, IsNamed, Names, AreNames, IsDepth, AreEnds, IsSpan}
-use Rattle.fr_cert.specs.Meaning.{NoteText, IsNoteText, note_said, IsAlternative, IsPlainNote, IsNote, AreNotes, IsTurnNumber, AreTurnValues, IsGuardObject, IsGuard, IsEndName, IsEnd, IsFitEnd, AreFitEnds, IsVersion, IsCertificate, IsTree, Means}
-use Rattle.fr_cert.specs.declared.key.Key.{Key}
+use Rattle.fr_cert.specs.Keys.{field}
 use Rattle.fr_cert.specs.declared.key.Key.TheVariants as key
-use Rattle.fr_cert.specs.declared.key.Place.{Place}
 use Rattle.fr_cert.specs.declared.key.Place.TheVariants as place
 
 -- two values that one place has are the same

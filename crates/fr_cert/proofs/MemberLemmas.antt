@@ -1,11 +1,6 @@
 -- One more member of an object, and one more thing that it means.
 use Rattle.std.proofs.Common.{◌≡◌, ℕ, List, [], ◌∷◌, ◌++◌, map, string_bytes, refl, ap, inl, inr}
-use Rattle.serde_json.specs.Data.{Data}
-use Rattle.serde_json.specs.View.{members_view, view}
-use Rattle.serde_json.proofs.Views.{Entry}
-use Rattle.fr_cert.specs.Shapes.{EachMember}
-use Rattle.fr_cert.specs.Faults.{InMembers}
-use Rattle.fr_cert.specs.declared.fault.CertFault.{CertFault}
+use Rattle.fr_cert.proofs.Terms.{Data, members_view, view, Entry, EachMember, InMembers, CertFault}
 
 pub member_push : {A : Type 0} (M : List ℕ → Data → A → Type 0) (es : List Entry) (e : Entry) (xs : List A) (x : A) → EachMember M (members_view es) xs → M (string_bytes e.0) (view e.1) x
     → EachMember M (members_view (es ++ e ∷ [])) (xs ++ x ∷ [])

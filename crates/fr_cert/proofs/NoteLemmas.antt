@@ -1,28 +1,11 @@
 -- What the parts of a note say, beside what an object has to say for them.
 use Rattle.std.proofs.Common.{◌≡◌, ◌⊎◌, ◌||◌, ℕ, ℤ, ◌<◌, ◌≤ℤ◌, List, [], ◌∷◌, Bool, true, false, IsTrue, Option, Some, is_some, option_map, length, get_or, cond, find, map, nat_eq, T, All, Any, unwrap_or, refl, sym, ap, ◌∙◌, subst, arith, inl, inr}
-use Rattle.std.specs.List.{range_with_len}
-use Rattle.std.proofs.lemmas.Bool.{cases_lt}
-use Rattle.std.proofs.lemmas.List.{get_or_default, get_or-map, length-map}
+use Rattle.fr_cert.proofs.Terms.{range_with_len, cases_lt, get_or_default, get_or-map, length-map, All-map, Kind, Mutex, Recursive, Range, Program, variable_at, kind_of, Claim, HeldTimes, NoteParts}
+use Rattle.fr_cert.proofs.Terms.{NoteFault, Memory, Count, Lives, Span, Alternative, CanClaim, said, claim_said, count_in, names, is_live_said, range_in, range_by, range_said, IsCount, HasFault}
+use Rattle.fr_cert.proofs.Terms.{NoteTextFits, IsInside, count_for, has, claim_at, range_at, note_said, named_of, count_of, number_of, text_of}
 use Rattle.std.specs.Int.Signed.{le_z, le_z_yes}
-use Rattle.std.proofs.lemmas.List.Elements.{All-map}
 use Rattle.fr_program.specs.declared.ids.ObjId.{ObjId}
 use Rattle.fr_program.specs.declared.ids.VarId.{VarId}
-use Rattle.fr_program.specs.declared.parts.Kind.{Kind}
-use Rattle.fr_program.specs.declared.parts.Kind.TheVariants.{Mutex, Recursive}
-use Rattle.fr_program.specs.declared.range.Range.{Range}
-use Rattle.fr_program.specs.Program.{Program}
-use Rattle.fr_program.specs.Lookup.{variable_at}
-use Rattle.fr_calls.specs.State.{kind_of}
-use Rattle.fr_notes.specs.declared.claim.Claim.{Claim}
-use Rattle.fr_notes.specs.declared.claim.Claim.TheVariants.{HeldTimes}
-use Rattle.fr_notes.specs.declared.note.NoteParts.{NoteParts}
-use Rattle.fr_notes.specs.declared.fault.NoteFault.{NoteFault}
-use Rattle.fr_notes.specs.declared.fault.NoteFault.TheVariants.{Memory, Count, Lives, Span}
-use Rattle.fr_notes.specs.Note.{Alternative}
-use Rattle.fr_notes.specs.Fits.{CanClaim}
-use Rattle.fr_notes.specs.Parts.{said, claim_said, count_in, names, is_live_said, range_in, range_by, range_said, IsCount, HasFault}
-use Rattle.fr_cert.specs.Meaning.{NoteTextFits, IsInside, count_for, has, claim_at, range_at, note_said}
-use Rattle.fr_cert.specs.Views.{named_of, count_of, number_of, text_of}
 
 abbrev Given : Type 0
 Given = VarId × Range

@@ -1,40 +1,17 @@
 -- What is written for a note means the note again.
 use Rattle.std.proofs.Common.{◌≡◌, ◌≢◌, ◌<◌, ◌≤◌, ◌≤ℤ◌, ◌+◌, ◌∙◌, ◌&&◌, ◌||◌, ℕ, zero, suc, ℤ, pos, negsuc, List, [], ◌∷◌, Bool, true, false, IsTrue, Option, Some, None, is_some, unwrap_or, Ordering, Less, Equal, Greater, nat_cmp, nat_eq, nat_le, cond, get_or, length, map, All, AllPairs, refl, sym, ap, subst, inl, inr, arith}
-use Rattle.std.specs.Cmp.{tied_itself}
-use Rattle.std.specs.Cmp.Lexicographic.{slice_cmp}
-use Rattle.std.specs.List.{AllByRecursion, list_all, range_with_len}
-use Rattle.std.specs.Ordering.{match_ordering, int_eq}
-use Rattle.std.proofs.lemmas.Bool.{false≢true}
-use Rattle.std.proofs.lemmas.Bool.Decides.{Decides-eqb, Decides-int_eq, leb_tells}
-use Rattle.std.proofs.lemmas.Cmp.{nat_list_cmp_total}
-use Rattle.std.proofs.lemmas.List.{get_or-map, length-map}
-use Rattle.std.proofs.lemmas.List.Elements.{All-head, All-tail}
+use Rattle.fr_cert.proofs.Terms.{tied_itself, slice_cmp, AllByRecursion, list_all, range_with_len, match_ordering, int_eq, false≢true, Decides-eqb, Decides-int_eq, leb_tells, nat_list_cmp_total}
+use Rattle.fr_cert.proofs.Terms.{get_or-map, length-map, All-head, All-tail, exact_bytes, same_Some, Data, number, unsigned, string, array, object, Items, no_items, item, Members, no_members, member}
+use Rattle.fr_cert.proofs.Terms.{put, of_integer, get_member, as_integer, get_member-put, get_member-put_other, Program, VariableOf, ObjectOf, no_variable, no_object, variable_at, IsFaultless, Kind}
+use Rattle.fr_cert.proofs.Terms.{Mutex, Recursive, place_of, kind_of, Claim, NotHeld, Alive, Gone, HeldTimes, Alternative, Note, AlternativeFits, NoteFits, CanClaim, most_depth, claim_by, AreKnown}
+use Rattle.fr_cert.proofs.Terms.{is_key_of, key_text, names_in, Key, Place, OrDefault, IsObject, IsList, EachEntry, EachMember, IsNamed, Names, AreNames, IsDepth, IsSpan, NoteText, IsNoteText}
+use Rattle.fr_cert.proofs.Terms.{IsInside, count_for, has, claim_at, range_at, IsPlainNote, IsNote, range_tree, is_declared, with_named, with_count, is_alive, is_gone, is_default, with_field}
+use Rattle.fr_cert.proofs.Terms.{note_tree, each_tree, version_of}
 use Rattle.std.proofs.lemmas.List.FromFn.{fill_by_all}
-use Rattle.std.proofs.lemmas.Map.Lookups.{exact_bytes}
-use Rattle.std.proofs.lemmas.Option.{same_Some}
-use Rattle.serde_json.specs.Data.{Data, number, unsigned, string, array, object, Items, no_items, item, Members, no_members, member, put}
-use Rattle.serde_json.specs.Find.{of_integer, get_member, as_integer}
-use Rattle.serde_json.proofs.Views.{get_member-put, get_member-put_other}
-use Rattle.fr_program.specs.Program.{Program, VariableOf, ObjectOf}
-use Rattle.fr_program.specs.Lookup.{no_variable, no_object, variable_at}
-use Rattle.fr_program.specs.Fault.{IsFaultless}
-use Rattle.fr_program.specs.declared.parts.Kind.{Kind}
-use Rattle.fr_program.specs.declared.parts.Kind.TheVariants.{Mutex, Recursive}
-use Rattle.fr_instr.specs.Names.{place_of}
-use Rattle.fr_calls.specs.State.{kind_of}
-use Rattle.fr_notes.specs.declared.claim.Claim.{Claim}
-use Rattle.fr_notes.specs.declared.claim.Claim.TheVariants.{NotHeld, Alive, Gone, HeldTimes}
-use Rattle.fr_notes.specs.Note.{Alternative, Note}
-use Rattle.fr_notes.specs.Fits.{AlternativeFits, NoteFits, CanClaim, most_depth}
-use Rattle.fr_notes.specs.Parts.{claim_by}
-use Rattle.fr_cert.specs.Keys.{AreKnown, is_key_of, key_text, field, names_in}
-use Rattle.fr_cert.specs.declared.key.Key.{Key}
+use Rattle.fr_cert.specs.Keys.{field}
 use Rattle.fr_cert.specs.declared.key.Key.TheVariants as key
-use Rattle.fr_cert.specs.declared.key.Place.{Place}
 use Rattle.fr_cert.specs.declared.key.Place.TheVariants as place
-use Rattle.fr_cert.specs.Shapes.{OrDefault, IsObject, IsList, EachEntry, EachMember, IsNamed, Names, AreNames, IsDepth, IsSpan}
-use Rattle.fr_cert.specs.Meaning.{NoteText, IsNoteText, IsInside, count_for, has, claim_at, range_at, IsPlainNote, IsNote}
-use Rattle.fr_cert.specs.Written.{range_tree, is_declared, with_named, with_count, with_each, is_alive, is_gone, names_where, is_default, with_field, alternative_tree, note_tree, each_tree, version_of}
+use Rattle.fr_cert.specs.Written.{with_each, names_where, alternative_tree}
 use Rattle.fr_cert.proofs.GivenLemmas.{given, put_if, put_all, whole, variable_place, object_place}
 
 -- ---- numbers and ranges

@@ -1,8 +1,7 @@
 -- One more step of a path that is printed.
 use Rattle.std.proofs.Common.{◌≡◌, ℕ, ◌+◌, ◌<◌, List, [], ◌∷◌, ◌++◌, codes, length, get_or, map, take, refl, sym, ap, ◌∙◌, append-nil, append_assoc}
-use Rattle.std.proofs.lemmas.List.{take_more}
+use Rattle.fr_cert.proofs.Terms.{take_more, PathStep, step_of, step_text, more_text}
 use Rattle.fr_cert.specs.declared.path.Step as declared
-use Rattle.fr_cert.specs.Path.{PathStep, step_of, step_text, more_text}
 
 more_append : (xs : List PathStep) (x : PathStep) → more_text (xs ++ x ∷ []) ≡ more_text xs ++ (codes "/" ++ step_text x)
 more_append [] x = ap (λ t. codes "/" ++ t) (append-nil (step_text x))

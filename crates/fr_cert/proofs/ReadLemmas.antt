@@ -1,18 +1,8 @@
 -- Notes that are read, each of them once for many entries.
 use Rattle.std.proofs.Common.{◌≡◌, ◌<◌, ◌+◌, ℕ, List, [], ◌∷◌, ◌++◌, Some, Any, All, length, get_or, map, refl, sym, ap, ◌∙◌, subst, arith}
-use Rattle.std.proofs.lemmas.List.{get_or_append_left, get_or_push, length_push, length-map, map_push}
-use Rattle.std.proofs.lemmas.List.Elements.{All-nil, All-head, All-tail, All-map, All-push, All-weaker}
-use Rattle.serde_json.specs.Find.{get_item}
-use Rattle.serde_json.specs.View.{items_view, view}
-use Rattle.serde_json.specs.declared.value.Value.{Value}
-use Rattle.serde_json.proofs.Views.{items_len-items_view}
-use Rattle.fr_program.specs.Program.{Program}
-use Rattle.fr_notes.specs.Fits.{NoteFits}
-use Rattle.fr_notes.specs.Note.{Note}
+use Rattle.fr_cert.proofs.Terms.{get_or_append_left, get_or_push, length_push, length-map, map_push, All-nil, All-head, All-tail, All-map, All-push, All-weaker, get_item, items_view, view, Value}
+use Rattle.fr_cert.proofs.Terms.{items_len-items_view, Program, NoteFits, Note, EachEntry, IsNote, IsReadAt, AreRemembered, AreRead}
 use Rattle.fr_notes.specs.Places.{ArePlaces, notes_at}
-use Rattle.fr_cert.specs.Shapes.{EachEntry}
-use Rattle.fr_cert.specs.Meaning.{IsNote}
-use Rattle.fr_cert.specs.NotesRead.{IsReadAt, AreRemembered, AreRead}
 use Rattle.fr_cert.proofs.EntryLemmas.{entry_push}
 use Rattle.fr_cert.proofs.FaultLaws.{each_length}
 

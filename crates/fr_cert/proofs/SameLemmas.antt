@@ -1,11 +1,7 @@
 -- What a value is, by what is found in it.
 use Rattle.std.proofs.Common.{◌≡◌, ◌<◌, ◌+◌, ℕ, ℤ, List, ◌∷◌, String, Global, string_bytes, Some, None, option_and_then, length, get_or, drop, sym, ap, ◌∙◌}
-use Rattle.std.proofs.lemmas.Option.{same_Some, none-some}
-use Rattle.serde_json.specs.Data.{Num, unsigned, negative, float, Data, null, boolean, number, string, array, object, Items, item, Members, member}
-use Rattle.serde_json.specs.Find.{as_number, as_str, as_array, as_object, as_u64, as_i64}
-use Rattle.serde_json.specs.View.{items_view, members_view, view}
-use Rattle.serde_json.specs.declared.value.Value.{Value}
-use Rattle.serde_json.proofs.Views.{Entry}
+use Rattle.fr_cert.proofs.Terms.{same_Some, none-some, Num, unsigned, negative, float, Data, null, boolean, number, string, array, object, Items, item, Members, member, as_number, as_str, as_array}
+use Rattle.fr_cert.proofs.Terms.{as_object, as_u64, as_i64, items_view, members_view, view, Value, Entry}
 use Rattle.fr_cert.proofs.WrittenLemmas.{drop_here}
 
 pub num-unsigned : (n : Num) (k : ℕ) → as_u64 n ≡ Some k → n ≡ unsigned k

@@ -1,25 +1,12 @@
 -- What is written has no float, and nests six deep at the most, so that its text is read again.
 use Rattle.std.proofs.Common.{◌≡◌, ◌≤◌, ◌||◌, ℕ, suc, max, ℤ, pos, negsuc, List, [], ◌∷◌, Bool, true, false, cond, Less, Equal, Greater, nat_cmp, codes, refl, sym, arith}
-use Rattle.std.specs.Cmp.Lexicographic.{slice_cmp}
-use Rattle.std.specs.Ordering.{match_ordering}
+use Rattle.fr_cert.proofs.Terms.{slice_cmp, match_ordering, false≢true, Data, number, unsigned, string, array, object, Items, no_items, item, Members, no_members, member, put, depth, items_depth}
+use Rattle.fr_cert.proofs.Terms.{members_depth, of_integer, max_depth, has_float, items_have_float, members_have_float, Program, VariableOf, ObjectOf, actor_at, object_at, variable_at, end_text}
+use Rattle.fr_cert.proofs.Terms.{Claim, NotHeld, Alive, Gone, HeldTimes, Alternative, Note, Guard, Sole, ByMutex, InCritical, Turn, EndGuard, Certificate, key_text, Key, range_tree, is_declared}
+use Rattle.fr_cert.proofs.Terms.{with_named, with_count, is_alive, is_gone, is_default, with_field, each_tree, note_tree, guard_tree, end_tree, version_of}
 use Rattle.std.proofs.Math.Nat.{max-le, le-max_left, le-max_right}
-use Rattle.std.proofs.lemmas.Bool.{false≢true}
-use Rattle.serde_json.specs.Data.{Data, number, unsigned, string, array, object, Items, no_items, item, Members, no_members, member, put, depth, items_depth, members_depth}
-use Rattle.serde_json.specs.Find.{of_integer}
-use Rattle.serde_json.specs.Read.{max_depth}
-use Rattle.serde_json.specs.Written.{has_float, items_have_float, members_have_float}
-use Rattle.fr_program.specs.Program.{Program, VariableOf, ObjectOf}
-use Rattle.fr_program.specs.Lookup.{actor_at, object_at, variable_at}
-use Rattle.fr_program.specs.Uses.{end_text}
-use Rattle.fr_notes.specs.declared.claim.Claim.{Claim}
-use Rattle.fr_notes.specs.declared.claim.Claim.TheVariants.{NotHeld, Alive, Gone, HeldTimes}
-use Rattle.fr_notes.specs.Note.{Alternative, Note}
-use Rattle.fr_ends.specs.Guard.{Guard, Sole, ByMutex, InCritical, Turn, EndGuard}
-use Rattle.fr_ends.specs.Certificate.{Certificate}
-use Rattle.fr_cert.specs.Keys.{key_text}
-use Rattle.fr_cert.specs.declared.key.Key.{Key}
 use Rattle.fr_cert.specs.declared.key.Key.TheVariants as key
-use Rattle.fr_cert.specs.Written.{range_tree, is_declared, with_named, with_count, with_each, is_alive, is_gone, names_where, is_default, with_field, alternative_tree, each_tree, note_tree, with_values, guard_tree, end_tree, version_of, cert_tree}
+use Rattle.fr_cert.specs.Written.{with_each, names_where, alternative_tree, with_values, cert_tree}
 
 -- no float, and nested so deep at the most
 record IsPlain (b : ℕ) (d : Data) : Type 0 where

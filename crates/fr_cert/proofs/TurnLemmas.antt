@@ -1,13 +1,6 @@
 -- The values of a turn, put into a map from the last one on, so that the first one of an actor stays.
 use Rattle.std.proofs.Common.{◌≡◌, ◌<◌, ◌∙◌, ℕ, ℤ, List, [], ◌∷◌, Bool, true, false, Some, Ordering, Less, Equal, Greater, nat_cmp, nat_eq, nat_lt, cond, map, refl, sym, ap, arith}
-use Rattle.std.specs.BTreeMap.{BTreeMap, is_at, get}
-use Rattle.std.specs.Map.{lookup}
-use Rattle.std.specs.Ordering.{is_eq}
-use Rattle.std.proofs.lemmas.Bool.{false≢true}
-use Rattle.std.proofs.lemmas.Bool.Decides.{Decides-eqb, Decides-ltb}
-use Rattle.fr_program.specs.declared.ids.ActorId.{ActorId}
-use Rattle.fr_ends.specs.Certificate.{value_for}
-use Rattle.fr_ends.specs.View.{value_of, values_of}
+use Rattle.fr_cert.proofs.Terms.{BTreeMap, is_at, get, lookup, is_eq, false≢true, Decides-eqb, Decides-ltb, ActorId, value_for, value_of, values_of}
 
 -- numbers compare equal where they are
 pub same_number : (a b : ℕ) → is_eq (nat_cmp a b) ≡ nat_eq a b

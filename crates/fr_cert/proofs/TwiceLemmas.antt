@@ -1,10 +1,7 @@
 -- Items of which none is like one before it.
 use Rattle.std.proofs.Common.{◌<◌, ℕ, List, [], ◌∷◌, ◌++◌, Any, AllPairs, length, get_or, map, subst, arith}
-use Rattle.std.proofs.lemmas.List.{get_or_default, get_or-map, length-map}
+use Rattle.fr_cert.proofs.Terms.{get_or_default, get_or-map, length-map, Data, Items, IsTwice, CertFault}
 use Rattle.std.proofs.lemmas.List.Quantifiers.{all_pairs_push}
-use Rattle.serde_json.specs.Data.{Data, Items}
-use Rattle.fr_cert.specs.Faults.{IsTwice}
-use Rattle.fr_cert.specs.declared.fault.CertFault.{CertFault}
 
 -- one item more, which is like none before it
 pub apart_more : {A B : Type 0} (R : B → B → Type 0) (f : A → B) (xs : List A) (x : A) → AllPairs (λ y z. R y z → ⊥) (map f xs) → (Any (λ y. R (f y) (f x)) xs → ⊥) → AllPairs (λ y z. R y z → ⊥) (map f xs ++ f x ∷ [])

@@ -1,18 +1,11 @@
 -- What is written for a certificate means the certificate again.
 use Rattle.std.proofs.Common.{◌≡◌, ◌≤◌, ℕ, List, Bool, true, false, IsUtf8, Some, cond, length, nat_le, refl, sym, subst, inl, inr, ◌⊎◌}
-use Rattle.std.specs.List.{list_all}
-use Rattle.serde_json.specs.Data.{Data, number, unsigned, array, no_members, member, depth}
-use Rattle.serde_json.specs.Read.{read, max_depth}
-use Rattle.fr_program.specs.Program.{Program}
-use Rattle.fr_program.specs.Fault.{IsFaultless}
-use Rattle.fr_notes.specs.Note.{Note}
-use Rattle.fr_ends.specs.Certificate.{Certificate}
-use Rattle.fr_ends.specs.Fits.{CertificateFits}
-use Rattle.fr_cert.specs.Keys.{key_text, field}
+use Rattle.fr_cert.proofs.Terms.{list_all, Data, number, unsigned, array, no_members, member, depth, read, max_depth, Program, IsFaultless, Note, Certificate, CertificateFits, key_text, IsVersion}
+use Rattle.fr_cert.proofs.Terms.{IsTree, Means, most_bytes, each_tree, note_tree, end_tree, version_of}
+use Rattle.fr_cert.specs.Keys.{field}
 use Rattle.fr_cert.specs.declared.key.Key.TheVariants as key
 use Rattle.fr_cert.specs.declared.key.Place.TheVariants as place
-use Rattle.fr_cert.specs.Meaning.{IsVersion, IsTree, Means, most_bytes}
-use Rattle.fr_cert.specs.Written.{each_tree, note_tree, end_tree, version_of, cert_tree}
+use Rattle.fr_cert.specs.Written.{cert_tree}
 use Rattle.fr_cert.proofs.NotesAgain.{known_more, none_known, notes_again}
 use Rattle.fr_cert.proofs.EndsAgain.{ends_again}
 use Rattle.fr_cert.proofs.ShapeLemmas.{tree_depth}

@@ -1,24 +1,10 @@
 -- What is written so far, beside what is left to write.
 use Rattle.std.proofs.Common.{◌≡◌, ◌<◌, ◌≤◌, ◌+◌, ◌∙◌, ℕ, zero, suc, ℤ, List, [], ◌∷◌, ◌++◌, Bool, true, false, ◌&&◌, Greater, nat_cmp, length, get_or, drop, map, refl, sym, ap, arith, add-one, drop-cons}
-use Rattle.std.specs.Cmp.Lexicographic.{slice_cmp}
-use Rattle.std.specs.List.{list_all}
-use Rattle.std.proofs.lemmas.List.{drop_all}
-use Rattle.serde_json.specs.Data.{Data, number, unsigned, string, array, object, Items, no_items, item, Members, no_members, member, put}
-use Rattle.serde_json.specs.Find.{of_integer}
-use Rattle.serde_json.specs.View.{items_view, view}
-use Rattle.serde_json.specs.declared.value.Value.{Value}
+use Rattle.fr_cert.proofs.Terms.{slice_cmp, list_all, drop_all, Data, number, unsigned, string, array, object, Items, no_items, item, Members, no_members, member, put, of_integer, items_view, view}
+use Rattle.fr_cert.proofs.Terms.{Value, ActorId, actor_at, Program, object_of, Claim, Alternative, value_of, key_text, Key, with_named, with_count, with_field, each_tree, is_alive, is_gone}
 use Rattle.fr_program.specs.declared.parts.Object.{Object}
-use Rattle.fr_program.specs.declared.ids.ActorId.{ActorId}
-use Rattle.fr_program.specs.Lookup.{actor_at}
-use Rattle.fr_program.specs.Program.{Program}
-use Rattle.fr_program.specs.View.{object_of}
-use Rattle.fr_notes.specs.declared.claim.Claim.{Claim}
-use Rattle.fr_notes.specs.Note.{Alternative}
-use Rattle.fr_ends.specs.View.{value_of}
-use Rattle.fr_cert.specs.Keys.{key_text}
-use Rattle.fr_cert.specs.declared.key.Key.{Key}
 use Rattle.fr_cert.specs.declared.key.Key.TheVariants as key
-use Rattle.fr_cert.specs.Written.{with_named, with_count, with_each, names_where, with_field, alternative_tree, each_tree, with_values, is_alive, is_gone}
+use Rattle.fr_cert.specs.Written.{with_each, names_where, alternative_tree, with_values}
 
 pub drop_here : {A : Type 0} (xs : List A) (i : ℕ) (x : A) → i < length xs → x ≡ get_or xs i x → drop i xs ≡ x ∷ drop (i + 1) xs
 drop_here xs i x within is = drop-cons xs i x within ∙ rw (sym is, add-one) refl

@@ -1,27 +1,14 @@
 -- The first own obligation that fails, from what is known of each alternative and each row.
 use Rattle.std.proofs.Common.{◌≡◌, ℕ, zero, suc, ◌<◌, List, [], ◌∷◌, length, Option, Some, None, sym, ap, ◌∙◌, subst, arith}
 use Rattle.std.specs.Prelude.{All, Contains, slice_get}
-use Rattle.std.proofs.lemmas.Option.{same_Some}
-use Rattle.fr_program.specs.declared.instr.Instr.{Instr}
-use Rattle.fr_program.specs.declared.ids.Point.{Point}
-use Rattle.fr_program.specs.Program.{Program}
-use Rattle.fr_program.specs.Lookup.{actor_at, instr_at, no_actor, IsPoint}
-use Rattle.fr_program.specs.Points.{points_of, point_number}
+use Rattle.fr_edge.proofs.Terms.{same_Some, Instr, Point, Program, actor_at, instr_at, no_actor, IsPoint, points_of, point_number, IsFaultless, Place, At, Done, Rule, Alternative, Note, note_at}
+use Rattle.fr_edge.proofs.Terms.{AlternativeFits, NotesFit, KeepsRule, Goes, KeepsRuleBy, BreaksRuleBy, IsAmong, NoteOutcome, GoesOutcome, actor-there}
 use Rattle.fr_program.specs.PointNumbers.{PointsAreNumbered}
-use Rattle.fr_program.specs.Fault.{IsFaultless}
 use Rattle.fr_program.specs.declared.ids.ActorId.{ActorId}
 use Rattle.fr_calls.specs.declared.way.Landing.TheVariants.{At as LandsAt}
 use Rattle.fr_calls.specs.Landing.{landing_of}
-use Rattle.fr_calls.specs.State.{Place, At, Done}
-use Rattle.fr_calls.specs.declared.rules.Rule.{Rule}
-use Rattle.fr_notes.specs.Note.{Alternative, Note}
-use Rattle.fr_notes.specs.Noted.{note_at}
-use Rattle.fr_notes.specs.Fits.{AlternativeFits, NotesFit}
 use Rattle.fr_edge.specs.declared.failure.Own.{Own}
-use Rattle.fr_edge.specs.Own.{KeepsRule, Goes}
-use Rattle.fr_edge.specs.Alternatives.{KeepsRuleBy, BreaksRuleBy, IsAmong, NoteOutcome, GoesOutcome}
 use Rattle.fr_edge.specs.FirstOwn.{KeepsRules, IsLeastRule, IsFirstOwn}
-use Rattle.fr_notes.proofs.Seen.{actor-there}
 
 below-get : {A : Type 0} (xs : List A) (k : ℕ) (x : A) → slice_get xs k ≡ Some x → k < length xs
 below-get [] k x e = cc

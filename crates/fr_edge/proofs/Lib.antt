@@ -1,3 +1,4 @@
+mod Terms
 pub mod Standing
 pub mod Spans
 pub mod RuleLaws

@@ -1,14 +1,7 @@
 -- The first alternatives of a note, one more at a time.
 use Rattle.std.proofs.Common.{◌≡◌, ℕ, zero, suc, ◌+◌, ◌<◌, List, [], ◌∷◌, length, get_or, Option, Some, None, refl, sym, ap, ◌∙◌, subst, arith, ⊎_elim, Bool, true, false}
-use Rattle.std.proofs.lemmas.Bool.{cases_lt, leb-true, leb-false}
-use Rattle.fr_program.specs.declared.ids.Point.{Point}
-use Rattle.fr_program.specs.Program.{Program}
-use Rattle.fr_calls.specs.declared.rules.Rule.{Rule}
-use Rattle.fr_calls.specs.Rule.{number_of}
+use Rattle.fr_edge.proofs.Terms.{cases_lt, leb-true, leb-false, Point, Program, Rule, number_of, AlternativeFits, Alternative, Note, KeepsRuleBy, RuleOutcome, AnyRule, IsAmong, NoteOutcome, lesser_of}
 use Rattle.std.specs.Prelude.{All, Contains, nat_le, if◌then◌else◌}
-use Rattle.fr_notes.specs.Fits.{AlternativeFits}
-use Rattle.fr_notes.specs.Note.{Alternative, Note}
-use Rattle.fr_edge.specs.Alternatives.{KeepsRuleBy, RuleOutcome, AnyRule, IsAmong, NoteOutcome, lesser_of}
 
 -- an element of a list doesn't depend on what stands for one past its end
 pub same-element : {A : Type 0} (xs : List A) (k : ℕ) (d e : A) → k < length xs → get_or xs k d ≡ get_or xs k e

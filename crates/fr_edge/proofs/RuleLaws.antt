@@ -3,54 +3,27 @@
 -- the alternative has.
 use Rattle.std.proofs.Common.{◌≡◌, ◌≢◌, ℕ, ◌<◌, ◌≤◌, List, [], ◌∷◌, length, Option, Some, None, Bool, true, false, refl, sym, ap, ◌∙◌, subst, arith, ⊎_elim, inl, inr, lit<}
 use Rattle.std.specs.Prelude.{ℤ, pos, ◌≤ℤ◌, ◌⊎◌, ◌↔◌, IsTrue, find, nat_le, if◌then◌else◌}
-use Rattle.std.proofs.lemmas.Bool.{false≢true, cases_lt, leb-true, leb-false}
-use Rattle.std.proofs.lemmas.List.{get_or_past}
-use Rattle.std.proofs.lemmas.Int.{ints}
-use Rattle.std.proofs.lemmas.Option.{same_Some}
-use Rattle.fr_program.specs.declared.instr.Instr.{Instr}
-use Rattle.fr_program.specs.declared.instr.Instr.TheVariants.{Set, Call as Calls}
-use Rattle.fr_program.specs.declared.instr.Call.TheVariants.{On, Delete, Create}
-use Rattle.fr_program.specs.declared.instr.Timing.{Timing}
-use Rattle.fr_program.specs.declared.instr.Act.{Act}
-use Rattle.fr_program.specs.declared.instr.Act.TheVariants.{Try}
-use Rattle.fr_program.specs.declared.instr.Attempt.TheVariants.{QueueSend}
-use Rattle.fr_program.specs.declared.instr.Operand.{Operand}
+use Rattle.fr_edge.proofs.Terms.{false≢true, cases_lt, leb-true, leb-false, get_or_past, ints, same_Some, Instr, Set, Calls, On, Delete, Create, Timing, Act, Try, QueueSend, Operand, Operator, VarId}
+use Rattle.fr_edge.proofs.Terms.{Point, Side, Before, Inside, Kind, Program, actor_at, instr_of, is_interrupt, variable_at, no_variable, IsPoint, IsFaultless, NamesThings, OperandsFit, AreApart}
+use Rattle.fr_edge.proofs.Terms.{IsConstant, State, Content, Dead, CanHave, content_of, suspension_of, kind_of, Rule, number_of, decided_rules, condition_of, first_forbidden, forbids, holds_some}
+use Rattle.fr_edge.proofs.Terms.{used_object, GivesUnheld, LifeOutOfOrder, PutsOut, SendsOut, IsOutOfQueue, IsForbidden, Breaches, IsOutside, result_of, operand_of, Alternative, Within, range_of}
+use Rattle.fr_edge.proofs.Terms.{NotedBy, AlternativeFits, Known, alone, joint_range, operand_in, CanBeIn, IsNamed, HasNumbersIn, condition_known, listed-case, instead-same, IsIn, HoldingFits}
+use Rattle.fr_edge.proofs.Terms.{live-count, content_in, content-in, content-can, Site, other, IsKnown, Choice, drawn, IsChosen, drawn-known, drawn-content, usual, usual-chosen, filled, filled-chosen}
+use Rattle.fr_edge.proofs.Terms.{contents-in, holds-known, known-fits, apart, is_own, KeepsRuleBy, BreaksRuleBy, Decides, RuleOutcome, is_decided, AnyRule, IsDecided, IsUndecided, lesser_of}
+use Rattle.fr_edge.proofs.Terms.{may_be_live, gives_unheld, dead_by, uses_dead, creates_live, SendsIn, SendsOutBy, StaysIn, IsOutBy}
 use Rattle.fr_program.specs.declared.instr.Operand.TheVariants.{Number, Variable}
-use Rattle.fr_program.specs.declared.instr.Operator.{Operator}
 use Rattle.fr_program.specs.declared.instr.Operator.TheVariants.{Plus, Minus, Times}
 use Rattle.fr_program.specs.declared.ids.ObjId.{ObjId}
-use Rattle.fr_program.specs.declared.ids.VarId.{VarId}
-use Rattle.fr_program.specs.declared.ids.Point.{Point}
-use Rattle.fr_program.specs.declared.ids.Side.{Side}
-use Rattle.fr_program.specs.declared.ids.Side.TheVariants.{Before, Inside}
-use Rattle.fr_program.specs.declared.parts.Kind.{Kind}
 use Rattle.fr_program.specs.declared.parts.Kind.TheVariants.{Queue}
-use Rattle.fr_program.specs.Program.{Program}
 use Rattle.fr_program.specs.Limits.{IsNumber}
-use Rattle.fr_program.specs.Lookup.{actor_at, instr_of, is_interrupt, variable_at, no_variable, IsPoint}
-use Rattle.fr_program.specs.Fault.{IsFaultless, NamesThings, OperandsFit, AreApart, IsConstant}
-use Rattle.fr_calls.specs.State.{State, Content, Dead, CanHave, content_of, suspension_of, kind_of}
-use Rattle.fr_calls.specs.declared.rules.Rule.{Rule}
 use Rattle.fr_calls.specs.declared.rules.Rule.TheVariants.{OneWriter, OneReader, GivenByHolder, AllowedInCritical, AllowedSuspended, AllowedInInterrupt, IsLive, LifeInOrder, SuitsSemaphore, DepthAboveZero, EndsInOrder, InRange}
-use Rattle.fr_calls.specs.Rule.{number_of, decided_rules, condition_of, first_forbidden, forbids, holds_some, used_object, GivesUnheld, LifeOutOfOrder, PutsOut, SendsOut, IsOutOfQueue, IsForbidden, Breaches, IsOutside, result_of, operand_of}
 use Rattle.fr_calls.proofs.Built.{HasSizes, is-built}
 use Rattle.fr_calls.proofs.Contents.{new-fits}
-use Rattle.fr_notes.specs.Note.{Alternative, Within, range_of}
-use Rattle.fr_notes.specs.Noted.{NotedBy}
-use Rattle.fr_notes.specs.Fits.{AlternativeFits}
-use Rattle.fr_notes.specs.Known.{Known, alone, joint_range}
 use Rattle.fr_notes.specs.declared.holding.Holding.{Holding}
 use Rattle.fr_notes.specs.declared.holding.Holding.TheVariants.{Unheld, Living, Lifeless, Own, Others}
 use Rattle.fr_notes.specs.Holding.{holding, can_be_dead}
-use Rattle.fr_notes.specs.Reckoning.{operand_in, CanBeIn, IsNamed, HasNumbersIn}
-use Rattle.fr_notes.specs.Spot.{condition_known}
-use Rattle.fr_notes.proofs.Shown.{listed-case, instead-same}
-use Rattle.fr_notes.proofs.Holdings.{IsIn, HoldingFits, live-count, content_in, content-in, content-can}
-use Rattle.fr_notes.proofs.Seen.{Site, other, IsKnown, Choice, drawn, IsChosen, drawn-known, drawn-content, usual, usual-chosen, filled, filled-chosen, contents-in, holds-known, known-fits, apart}
 use Rattle.fr_notes.proofs.EndRows.{gives-held, unheld-gives}
 use Rattle.fr_notes.proofs.VariableRows.{chosen_for, can-be-known, for-chosen, number-drawn, first-number, second-number}
-use Rattle.fr_edge.specs.Own.{is_own}
-use Rattle.fr_edge.specs.Alternatives.{KeepsRuleBy, BreaksRuleBy, Decides, RuleOutcome, is_decided, AnyRule, IsDecided, IsUndecided, lesser_of, may_be_live, gives_unheld, dead_by, uses_dead, creates_live, SendsIn, SendsOutBy, StaysIn, IsOutBy}
 use Rattle.fr_edge.proofs.Standing.{breach-here}
 
 -- a rule of a list, and a fact about each

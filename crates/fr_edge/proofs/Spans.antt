@@ -1,18 +1,7 @@
 -- Whether the span of what a `set` computes is in the target's declared range.
 use Rattle.std.proofs.Common.{arith, inl, inr}
 use Rattle.std.specs.Prelude.{◌≤ℤ◌}
-use Rattle.std.proofs.lemmas.Int.{ints, by_lt_z}
-use Rattle.fr_program.specs.declared.ids.Side.TheVariants.{Before}
-use Rattle.fr_program.specs.declared.ids.VarId.{VarId}
-use Rattle.fr_program.specs.declared.instr.Instr.TheVariants.{Set}
-use Rattle.fr_program.specs.declared.instr.Operand.{Operand}
-use Rattle.fr_program.specs.declared.instr.Operator.{Operator}
-use Rattle.fr_program.specs.declared.range.Range.{Range}
-use Rattle.fr_program.specs.Program.{Program}
-use Rattle.fr_program.specs.Lookup.{variable_at}
-use Rattle.fr_notes.specs.Known.{Known, joint_range}
-use Rattle.fr_notes.specs.Reckoning.{IsSpanIn}
-use Rattle.fr_edge.specs.Alternatives.{StaysIn, IsOutBy}
+use Rattle.fr_edge.proofs.Terms.{ints, by_lt_z, Before, VarId, Set, Operand, Operator, Range, Program, variable_at, Known, joint_range, IsSpanIn, StaysIn, IsOutBy}
 
 module _ (P : Program) (k : Known) (x : VarId) (l : Operand) (op : Operator) (r : Operand) (span : Range) (is : IsSpanIn (joint_range k) op l r span) where
   pub stays-made : ((variable_at P x.0).lo ≤ℤ span.lo) × (span.hi ≤ℤ (variable_at P x.0).hi) → StaysIn P k Before (Set x l op r)

@@ -1,15 +1,6 @@
 -- States in which an actor stands at a point, and one alternative holds of it.
 use Rattle.std.proofs.Common.{◌≡◌, Some, sym, ap, ◌∙◌, subst}
-use Rattle.std.proofs.lemmas.Option.{same_Some}
-use Rattle.fr_program.specs.declared.instr.Instr.{Instr}
-use Rattle.fr_program.specs.declared.ids.Point.{Point}
-use Rattle.fr_program.specs.Program.{Program}
-use Rattle.fr_program.specs.Lookup.{instr_at, instr_of}
-use Rattle.fr_calls.specs.State.{State, At}
-use Rattle.fr_calls.specs.declared.rules.Rule.{Rule}
-use Rattle.fr_calls.specs.Rule.{Breach, Breaches}
-use Rattle.fr_notes.specs.Note.{Alternative}
-use Rattle.fr_notes.specs.Noted.{NotedBy}
+use Rattle.fr_edge.proofs.Terms.{same_Some, Instr, Point, Program, instr_at, instr_of, State, At, Rule, Breach, Breaches, Alternative, NotedBy}
 
 -- where the point's actor breaches a rule, it does so at the point's instruction
 pub breach-here : (P : Program) (p : Point) (i : Instr) (n : Alternative) (S : State) (rule : Rule) → instr_of P p ≡ Some i → NotedBy P p n S → Breach P S rule p.actor.0 → Breaches P S p.actor.0 p.side i rule

@@ -1,25 +1,15 @@
 -- The start of an application, and what an alternative says of it.
 use Rattle.std.proofs.Common.{◌≡◌, ℕ, zero, suc, ◌<◌, ◌≤◌, List, [], ◌∷◌, length, get_or, map, Bool, true, false, refl, sym, ap, ◌∙◌, subst, arith, ⊎_elim}
 use Rattle.std.specs.Prelude.{pos, slice_index_or, IsTrue, if◌then◌else◌}
-use Rattle.std.proofs.lemmas.Int.{ints}
-use Rattle.std.proofs.lemmas.List.{get_or-map, get_or_past, length-map}
-use Rattle.std.proofs.lemmas.Bool.{cases_lt, false≢true}
+use Rattle.fr_edge.proofs.Terms.{ints, get_or-map, get_or_past, length-map, cases_lt, false≢true, Range, Program, VariableOf, ObjectOf, Kind, variable_at, object_at, no_variable, no_object, Dead}
+use Rattle.fr_edge.proofs.Terms.{start, first_content, new_content, content_of, value_of, Alternative, Meets, Within, HoldsOne, claim_of, range_of, AlternativeFits, new-live, new-not_held, new-unheld}
+use Rattle.fr_edge.proofs.Terms.{BeginsWithin, BeginsAs, begins_as}
 use Rattle.fr_program.specs.declared.parts.Variable.{Variable}
-use Rattle.fr_program.specs.declared.range.Range.{Range}
-use Rattle.fr_program.specs.Program.{Program, VariableOf, ObjectOf}
-use Rattle.fr_program.specs.declared.parts.Kind.{Kind}
 use Rattle.fr_program.specs.declared.parts.Object.{Object}
-use Rattle.fr_program.specs.Lookup.{variable_at, object_at, no_variable, no_object}
 use Rattle.fr_program.specs.View.{variable_of, object_of}
-use Rattle.fr_calls.specs.State.{Dead, start, first_content, new_content, content_of, value_of}
-use Rattle.fr_notes.specs.Note.{Alternative, Meets, Within, HoldsOne, claim_of, range_of}
 use Rattle.fr_notes.specs.View.{ends_of}
-use Rattle.fr_notes.specs.Fits.{AlternativeFits}
 use Rattle.fr_notes.specs.declared.claim.Claim.{Claim}
 use Rattle.fr_notes.specs.declared.claim.Claim.TheVariants.{NotHeld, Alive, Gone, HeldTimes}
-use Rattle.fr_notes.proofs.Shown.{new-live, new-not_held}
-use Rattle.fr_notes.proofs.Holdings.{new-unheld}
-use Rattle.fr_edge.specs.Starts.{BeginsWithin, BeginsAs, begins_as}
 use Rattle.fr_edge.proofs.Lists.{same-element}
 
 module _ (rs : List Range) (vs : List Variable) (x : ℕ) (r : Range) (v : Variable) (l : x < length vs) (same : length rs ≡ length vs) (is : r ≡ get_or rs x r) (be : v ≡ get_or vs x v) where

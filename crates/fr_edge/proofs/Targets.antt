@@ -2,22 +2,9 @@
 -- well.
 use Rattle.std.proofs.Common.{◌≡◌, ℕ, List, Some, None, Option, sym, ap, ◌∙◌, subst, arith, ⊎_elim, min}
 use Rattle.std.specs.Prelude.{ℤ, ◌↔◌, All, Contains}
-use Rattle.std.proofs.lemmas.Bool.{cases_lt}
-use Rattle.fr_program.specs.declared.instr.Instr.{Instr}
-use Rattle.fr_program.specs.declared.ids.Point.{Point}
-use Rattle.fr_program.specs.Program.{Program}
-use Rattle.fr_program.specs.Lookup.{instr_of, IsPoint}
-use Rattle.fr_calls.specs.declared.way.Way.{Way}
-use Rattle.fr_calls.specs.declared.way.Way.TheVariants.{Then, Else}
-use Rattle.fr_calls.specs.State.{State, At, Done, place_of}
-use Rattle.fr_calls.specs.Step.{StepBy, landing, CanStep, AlwaysLeaves}
+use Rattle.fr_edge.proofs.Terms.{cases_lt, Instr, Point, Program, instr_of, IsPoint, Way, Then, Else, State, At, Done, place_of, StepBy, landing, CanStep, AlwaysLeaves, AlternativeFits, alone, Keeps}
+use Rattle.fr_edge.proofs.Terms.{IsLeft, Alternative, Note, HoldsOne, note_at, IsAt, NotedBy, Goes, GoesBy, GoesWell, WayOutcome, GoesOutcome}
 use Rattle.fr_notes.specs.declared.change.Change.{Change}
-use Rattle.fr_notes.specs.Fits.{AlternativeFits}
-use Rattle.fr_notes.specs.Known.{alone, Keeps, IsLeft}
-use Rattle.fr_notes.specs.Note.{Alternative, Note, HoldsOne}
-use Rattle.fr_notes.specs.Noted.{note_at, IsAt, NotedBy}
-use Rattle.fr_edge.specs.Own.{Goes}
-use Rattle.fr_edge.specs.Alternatives.{GoesBy, GoesWell, WayOutcome, GoesOutcome}
 use Rattle.fr_edge.proofs.Landings.{lands}
 use Rattle.fr_edge.proofs.Lists.{contained}
 

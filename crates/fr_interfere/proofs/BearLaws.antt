@@ -1,47 +1,12 @@
 -- An alternative that bears what a step can change holds after the step.
 use Rattle.std.proofs.Common.{◌≡◌, ◌≢◌, ℕ, length, Some, sym, ap, ◌∙◌, subst, arith, ⊎_elim}
 use Rattle.std.specs.Prelude.{ℤ, length, ◌↔◌, Bool, IsTrue, IfSome, Contains}
-use Rattle.std.proofs.lemmas.Int.{ints}
-use Rattle.std.proofs.lemmas.Option.{slice_get-get_or}
-use Rattle.std.proofs.lemmas.List.Elements.{All-contains}
-use Rattle.fr_program.specs.declared.ids.Point.{Point}
-use Rattle.fr_program.specs.declared.ids.Side.{Side}
-use Rattle.fr_program.specs.declared.ids.Side.TheVariants.{Before, Inside}
-use Rattle.fr_program.specs.declared.instr.Instr.{Instr}
-use Rattle.fr_program.specs.declared.instr.Instr.TheVariants.{Set, Pick, Call as Calls}
-use Rattle.fr_program.specs.declared.instr.Call.{Call}
-use Rattle.fr_program.specs.declared.instr.Call.TheVariants.{Create, Delete, On}
-use Rattle.fr_program.specs.declared.instr.ObjectCall.{ObjectCall}
-use Rattle.fr_program.specs.declared.instr.Act.{Act}
-use Rattle.fr_program.specs.declared.instr.Act.TheVariants.{Try, Move}
-use Rattle.fr_program.specs.declared.instr.Attempt.TheVariants.{QueueReceive}
-use Rattle.fr_program.specs.declared.instr.Operand.{Operand}
-use Rattle.fr_program.specs.declared.instr.Operand.TheVariants.{Number, Variable}
-use Rattle.fr_program.specs.declared.instr.Operator.{Operator}
-use Rattle.fr_program.specs.declared.instr.Operator.TheVariants.{Times}
-use Rattle.fr_program.specs.declared.parts.Kind.{Kind}
-use Rattle.fr_program.specs.declared.parts.Kind.TheVariants.{Queue}
-use Rattle.fr_program.specs.declared.range.Range.{Range}
-use Rattle.fr_program.specs.Spans.{IsIn}
-use Rattle.fr_program.specs.Program.{Program}
-use Rattle.fr_program.specs.Lookup.{instr_of, no_object}
-use Rattle.fr_program.specs.Uses.{acts_on}
-use Rattle.fr_program.specs.Fault.{IsFaultless, OperandsFit}
-use Rattle.fr_calls.specs.State.{State, kind_of}
-use Rattle.fr_calls.specs.Rule.{operand_of, result_of}
-use Rattle.fr_calls.specs.declared.way.Way.{Way}
-use Rattle.fr_calls.specs.declared.way.Way.TheVariants.{Then, Else}
-use Rattle.fr_calls.specs.Step.{StepBy}
+use Rattle.fr_interfere.proofs.Terms.{ints, slice_get-get_or, All-contains, Point, Side, Before, Inside, Instr, Set, Pick, Calls, Call, Create, Delete, On, ObjectCall, Act, Try, Move, QueueReceive}
+use Rattle.fr_interfere.proofs.Terms.{Operand, Number, Variable, Operator, Times, Kind, Queue, Range, IsIn, Program, instr_of, no_object, acts_on, IsFaultless, OperandsFit, State, kind_of, operand_of}
+use Rattle.fr_interfere.proofs.Terms.{result_of, Way, Then, Else, StepBy, NotHeld, Alternative, Note, HoldsOne, Within, claim_of, range_of, CanBeIn, IsSpanIn, ends_of, Known, HasKnown, alone, beside}
+use Rattle.fr_interfere.proofs.Terms.{joint_range, Effect, Life, Gives, Sets, IsSparedByRow, IsSparedByRows, effect_inside, effect_of, IsMade, IsWritten, IsSeen, Bears, EachBears, AllBear}
+use Rattle.fr_interfere.proofs.Terms.{IsComputable}
 use Rattle.fr_calls.proofs.Rows.{row-of-step, landing-of-step, free-to-step}
-use Rattle.fr_notes.specs.declared.claim.Claim.TheVariants.{NotHeld}
-use Rattle.fr_notes.specs.Note.{Alternative, Note, HoldsOne, Within, claim_of, range_of}
-use Rattle.fr_notes.specs.Reckoning.{CanBeIn, IsSpanIn}
-use Rattle.fr_notes.specs.View.{ends_of}
-use Rattle.fr_notes.specs.Known.{Known, HasKnown, alone, beside, joint_range}
-use Rattle.fr_interfere.specs.declared.effects.Effect.{Effect}
-use Rattle.fr_interfere.specs.declared.effects.Effect.TheVariants.{Life, Gives, Sets}
-use Rattle.fr_interfere.specs.Disturbance.{IsSparedByRow, IsSparedByRows}
-use Rattle.fr_interfere.specs.Effects.{effect_inside, effect_of, IsMade, IsWritten, IsSeen, Bears, EachBears, AllBear, IsComputable}
 use Rattle.fr_interfere.proofs.DisturbanceLaws.{same-actor}
 use Rattle.fr_interfere.proofs.EffectLaws.{Suits, row-seen}
 
@@ -71,7 +36,7 @@ module _ (m n : Alternative) where
   }
 
 -- an application's object call is for its object's kind, and has a timing that its act can have
-call-suits : (P : Program) → IsFaultless P → (q : Point) (i : Instr) → instr_of P q ≡ Some i → (call : ObjectCall) → i ≡ Calls (On call) → Suits P call
+pub call-suits : (P : Program) → IsFaultless P → (q : Point) (i : Instr) → instr_of P q ≡ Some i → (call : ObjectCall) → i ≡ Calls (On call) → Suits P call
 call-suits P free q i is call same =
     let at = is ∙ ap (λ x. Some x) same in
     let l = (free.names.things q.actor.0 q.pc (Calls (On call)) at).1 in

@@ -1,19 +1,8 @@
 -- Actors of which no writing point disturbs a note, as the hulls of all that they write show.
 use Rattle.std.proofs.Common.{◌≡◌, ℕ, List, Some, None, Bool, true, false, length, get_or, refl, sym, ap, ◌∙◌, subst, arith, ⊎_elim, inl, inr}
 use Rattle.std.specs.Prelude.{Option, IfSome, All, replicate, set, is_some}
-use Rattle.std.proofs.lemmas.Bool.{cases_lt, cases_eq, false≢true}
-use Rattle.std.proofs.lemmas.List.{length-replicate, get_or-replicate, get_or_past, get_or-set_same, get_or-set_other, set_past}
-use Rattle.fr_program.specs.declared.ids.ActorId.{ActorId}
-use Rattle.fr_program.specs.declared.ids.Point.{Point}
-use Rattle.fr_program.specs.Program.{Program}
-use Rattle.fr_program.specs.Lookup.{IsPoint}
-use Rattle.fr_notes.specs.Note.{Note}
-use Rattle.fr_interfere.specs.declared.rows.Block.{Block}
-use Rattle.fr_interfere.specs.Effects.{effect_at, target_of}
-use Rattle.fr_interfere.specs.Hull.{IsClosedBy}
-use Rattle.fr_interfere.specs.Rows.{IsBlock, HaveWriters, AreClosed, IsTold}
-use Rattle.fr_interfere.specs.Spoilers.{IsListed}
-use Rattle.fr_interfere.specs.Undisturbed.{Undisturbed}
+use Rattle.fr_interfere.proofs.Terms.{cases_lt, cases_eq, false≢true, length-replicate, get_or-replicate, get_or_past, get_or-set_same, get_or-set_other, set_past, ActorId, Point, Program, IsPoint}
+use Rattle.fr_interfere.proofs.Terms.{Note, Block, effect_at, target_of, IsClosedBy, IsBlock, HaveWriters, AreClosed, IsTold, IsListed, Undisturbed}
 
 pub some-there : (o : Option ℕ) → is_some o ≡ true → (x : ℕ) × (o ≡ Some x)
 some-there None is = absurd (false≢true is)

@@ -1,25 +1,11 @@
 -- What a step leaves decides whether it disturbs a note.
 use Rattle.std.proofs.Common.{◌≡◌, ◌≢◌, ℕ, List, Option, Some, sym, ap, ◌∙◌, subst}
 use Rattle.std.specs.Prelude.{◌↔◌, Bool, IsTrue, IfSome, Contains, slice_get}
-use Rattle.std.proofs.lemmas.Option.{same_Some}
-use Rattle.fr_program.specs.declared.ids.ActorId.{ActorId}
-use Rattle.fr_program.specs.declared.ids.Point.{Point}
-use Rattle.fr_program.specs.Program.{Program}
-use Rattle.fr_program.specs.Lookup.{IsPoint}
-use Rattle.fr_program.specs.Points.{points_of}
-use Rattle.fr_program.specs.PointNumbers.{PointsAreNumbered}
-use Rattle.fr_calls.specs.declared.way.Way.{Way}
-use Rattle.fr_calls.specs.declared.way.Way.TheVariants.{Then, Else}
+use Rattle.fr_interfere.proofs.Terms.{same_Some, ActorId, Point, Program, IsPoint, points_of, PointsAreNumbered, Way, Then, Else, Alternative, Note, note_at, AlternativeFits, NoteFits, Known}
+use Rattle.fr_interfere.proofs.Terms.{AllLeave, IsLeft, IsOther, LeavesSome, beside, CanMeet, compatible-from, compatible-meet, SparesSome, IsSparedByRow, IsSparedByRows, Undisturbed}
 use Rattle.fr_notes.specs.declared.change.Change.{Change}
-use Rattle.fr_notes.specs.Note.{Alternative, Note}
-use Rattle.fr_notes.specs.Noted.{note_at}
-use Rattle.fr_notes.specs.Fits.{AlternativeFits, NoteFits}
-use Rattle.fr_notes.specs.Known.{Known, AllLeave, IsLeft, IsOther, LeavesSome, Spares, beside}
-use Rattle.fr_notes.specs.Pairs.{CanMeet}
+use Rattle.fr_notes.specs.Known.{Spares}
 use Rattle.fr_notes.proofs.KnownUses.{undisturbed-both}
-use Rattle.fr_notes.proofs.PairLaws.{compatible-from, compatible-meet}
-use Rattle.fr_interfere.specs.Disturbance.{SparesSome, IsSparedByRow, IsSparedByRows}
-use Rattle.fr_interfere.specs.Undisturbed.{Undisturbed}
 use Rattle.fr_interfere.proofs.Lists.{contained-fits}
 
 -- two actors with one number are one actor

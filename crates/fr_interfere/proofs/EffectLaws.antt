@@ -1,50 +1,20 @@
 -- What a step changes of what the notes of other actors say, row by row. The actor a moves, and b is another one.
 use Rattle.std.proofs.Common.{◌≡◌, ◌≢◌, ℕ, suc, ◌+◌, ◌-◌, ◌≤◌, [], ◌∷◌, ◌++◌, length, Option, Some, None, Bool, true, false, refl, sym, ap, ◌∙◌, subst, arith, inl, inr}
 use Rattle.std.specs.Prelude.{ℤ, pos, ◌⊎◌, IsTrue, IsFalse, IfSome, nat_eq, nat_lt, int_lt, int_le, if◌then◌else◌, sum}
-use Rattle.std.proofs.lemmas.Int.{ints}
-use Rattle.std.proofs.lemmas.Bool.{eqb-true}
-use Rattle.std.proofs.lemmas.Option.{same_Some, cond_some}
-use Rattle.fr_program.specs.declared.ids.ObjId.{ObjId}
-use Rattle.fr_program.specs.declared.ids.VarId.{VarId}
-use Rattle.fr_program.specs.declared.ids.Side.{Side}
-use Rattle.fr_program.specs.declared.ids.Side.TheVariants.{Before, Inside}
-use Rattle.fr_program.specs.declared.instr.Instr.{Instr}
-use Rattle.fr_program.specs.declared.instr.Instr.TheVariants.{Set, If, Goto, Pick, Call as Calls, Return}
-use Rattle.fr_program.specs.declared.instr.Call.{Call}
-use Rattle.fr_program.specs.declared.instr.Call.TheVariants.{EnterCritical, ExitCritical, SuspendAll, ResumeAll, Yield, Delay, DeleteSelf, Create, Delete, On}
-use Rattle.fr_program.specs.declared.instr.ObjectCall.{ObjectCall}
-use Rattle.fr_program.specs.declared.instr.Act.{Act}
-use Rattle.fr_program.specs.declared.instr.Act.TheVariants.{Try, Move}
-use Rattle.fr_program.specs.declared.instr.Attempt.{Attempt}
-use Rattle.fr_program.specs.declared.instr.Attempt.TheVariants.{QueueSend, QueueReceive, Take, Give, Reset}
-use Rattle.fr_program.specs.declared.instr.End.{End}
-use Rattle.fr_program.specs.declared.instr.End.TheVariants.{Writer, Reader}
-use Rattle.fr_program.specs.declared.instr.Timing.{Timing}
+use Rattle.fr_interfere.proofs.Terms.{ints, eqb-true, same_Some, cond_some, ObjId, VarId, Side, Before, Inside, Instr, Set, If, Goto, Pick, Calls, Return, Call, EnterCritical, ExitCritical}
+use Rattle.fr_interfere.proofs.Terms.{SuspendAll, ResumeAll, Yield, Delay, DeleteSelf, Create, Delete, On, ObjectCall, Act, Try, Move, Attempt, QueueSend, QueueReceive, Take, Give, Reset, End, Writer}
+use Rattle.fr_interfere.proofs.Terms.{Reader, Timing, BufferKind, OfStream, OfMessage, Kind, Queue, Binary, Counting, Mutex, Recursive, Stream, Message, Program, is_buffer, acts_on, State, Content}
+use Rattle.fr_interfere.proofs.Terms.{Dead, Values, Count, Free, Held, Bytes, Lengths, CanHave, IsWellFormed, content_of, value_of, depth_in, depth_of, suspension_of, count_held, kind_of, new_content}
+use Rattle.fr_interfere.proofs.Terms.{write, becomes, suspend_at, held_at, GivesUnheld, is_unsuited, operand_of, Way, Then, Else, Row, Does, Works, Ends, Puts, Moves, with_result, transition, taken}
+use Rattle.fr_interfere.proofs.Terms.{given, queued, moved_bytes, sent_message, received_message, set_case, Claim, NotHeld, Alive, Gone, HeldTimes, Meets, depth_for-other, held_at-other, Effect}
+use Rattle.fr_interfere.proofs.Terms.{Nothing, Life, Gives, Sets, effect_inside, effect_of, IsMade, IsWritten, IsSeen}
 use Rattle.fr_program.specs.declared.instr.Timing.TheVariants.{Now, FromIsr, Waits}
-use Rattle.fr_program.specs.declared.instr.BufferKind.{BufferKind}
-use Rattle.fr_program.specs.declared.instr.BufferKind.TheVariants.{Stream as OfStream, Message as OfMessage}
 use Rattle.fr_program.specs.declared.instr.SemaphoreForm.{SemaphoreForm}
 use Rattle.fr_program.specs.declared.instr.SemaphoreForm.TheVariants.{Plain as PlainForm, Recursive as RecursiveForm}
-use Rattle.fr_program.specs.declared.parts.Kind.{Kind}
-use Rattle.fr_program.specs.declared.parts.Kind.TheVariants.{Queue, Binary, Counting, Mutex, Recursive, Stream, Message}
-use Rattle.fr_program.specs.Program.{Program}
-use Rattle.fr_program.specs.Uses.{is_buffer, acts_on}
 use Rattle.fr_program.specs.Timings.{suits_timing}
-use Rattle.fr_calls.specs.State.{State, Content, Dead, Values, Count, Free, Held, Bytes, Lengths, CanHave, IsWellFormed, content_of, value_of, depth_in, depth_of, suspension_of, count_held, kind_of, new_content, write, becomes, suspend_at, held_at}
 use Rattle.fr_calls.specs.declared.rules.Rule.TheVariants.{GivenByHolder, IsLive, DepthAboveZero}
-use Rattle.fr_calls.specs.Rule.{GivesUnheld, is_unsuited, operand_of}
-use Rattle.fr_calls.specs.declared.way.Way.{Way}
-use Rattle.fr_calls.specs.declared.way.Way.TheVariants.{Then, Else}
-use Rattle.fr_calls.specs.Step.{Row, Does, Works, Ends, Puts, Moves, IsFree, with_result, transition, taken, given, queued, moved_bytes, sent_message, received_message}
+use Rattle.fr_calls.specs.Step.{IsFree}
 use Rattle.fr_calls.proofs.Endings.{on}
-use Rattle.fr_calls.proofs.Contents.{set_case}
-use Rattle.fr_notes.specs.declared.claim.Claim.{Claim}
-use Rattle.fr_notes.specs.declared.claim.Claim.TheVariants.{NotHeld, Alive, Gone, HeldTimes}
-use Rattle.fr_notes.specs.Note.{Meets}
-use Rattle.fr_notes.proofs.Shown.{depth_for-other, held_at-other}
-use Rattle.fr_interfere.specs.declared.effects.Effect.{Effect}
-use Rattle.fr_interfere.specs.declared.effects.Effect.TheVariants.{Nothing, Life, Gives, Sets}
-use Rattle.fr_interfere.specs.Effects.{effect_inside, effect_of, IsMade, IsWritten, IsSeen}
 
 -- ---- contents
 

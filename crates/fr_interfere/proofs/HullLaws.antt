@@ -2,33 +2,9 @@
 -- that it spares.
 use Rattle.std.proofs.Common.{◌≡◌, ℕ, ◌+◌, ◌<◌, List, Option, Some, None, length, get_or, false, inr, refl, sym, ap, ◌∙◌, subst, arith, ⊎_elim}
 use Rattle.std.specs.Prelude.{◌⊎◌, ◌↔◌, ℤ, Bool, IsTrue, IfSome, All, Any, set}
-use Rattle.std.specs.Int.{int_min, int_max}
-use Rattle.std.proofs.lemmas.Bool.{cases_eq}
-use Rattle.std.proofs.lemmas.Int.{ints, clamps}
-use Rattle.std.proofs.lemmas.List.{length-set, get_or-set_same, get_or-set_other, get_or_default}
-use Rattle.std.proofs.lemmas.List.Elements.{All-contains}
-use Rattle.std.proofs.lemmas.Option.{same_Some}
-use Rattle.fr_program.specs.declared.ids.ObjId.{ObjId}
-use Rattle.fr_program.specs.declared.ids.Point.{Point}
-use Rattle.fr_program.specs.declared.ids.VarId.{VarId}
-use Rattle.fr_program.specs.declared.range.Range.{Range}
-use Rattle.fr_program.specs.Program.{Program}
-use Rattle.fr_program.specs.Lookup.{IsPoint}
-use Rattle.fr_program.specs.Fault.{IsFaultless}
-use Rattle.fr_notes.specs.declared.claim.Claim.{Claim}
-use Rattle.fr_notes.specs.Fits.{NoteFits}
-use Rattle.fr_notes.specs.Implication.{IsPart}
-use Rattle.fr_notes.specs.Known.{ClaimsMeet}
-use Rattle.fr_notes.specs.Note.{Alternative, Note, Within, claim_of, range_of}
-use Rattle.fr_notes.specs.Noted.{note_at}
-use Rattle.fr_notes.specs.Pairs.{CanMeet, RangesMeet}
-use Rattle.fr_notes.specs.View.{ends_of}
-use Rattle.fr_interfere.specs.declared.effects.Effect.{Effect}
-use Rattle.fr_interfere.specs.declared.effects.Effect.TheVariants.{Gives, Sets}
-use Rattle.fr_interfere.specs.declared.hull.Hull.{Hull}
-use Rattle.fr_interfere.specs.Effects.{effect_at, target_of, Bears}
-use Rattle.fr_interfere.specs.Hull.{Has, GivesIn, Covers, IsUnder, IsShut, IsDenied, IsApart, Excludes, IsBorne, IsBorneByEach, Spares}
-use Rattle.fr_interfere.specs.Undisturbed.{Undisturbed}
+use Rattle.fr_interfere.proofs.Terms.{int_min, int_max, cases_eq, ints, clamps, length-set, get_or-set_same, get_or-set_other, get_or_default, All-contains, same_Some, ObjId, Point, VarId, Range}
+use Rattle.fr_interfere.proofs.Terms.{Program, IsPoint, IsFaultless, Claim, NoteFits, IsPart, ClaimsMeet, Alternative, Note, Within, claim_of, range_of, note_at, CanMeet, RangesMeet, ends_of, Effect}
+use Rattle.fr_interfere.proofs.Terms.{Gives, Sets, Hull, effect_at, target_of, Bears, Has, GivesIn, Covers, IsUnder, IsShut, IsDenied, IsApart, Excludes, IsBorne, IsBorneByEach, Spares, Undisturbed}
 use Rattle.fr_interfere.proofs.DisturbanceLaws.{undisturbed-spared, unmet-spares}
 use Rattle.fr_interfere.proofs.Lists.{contained-fits}
 use Rattle.fr_interfere.proofs.UnsaidLaws.{borne-undisturbed}

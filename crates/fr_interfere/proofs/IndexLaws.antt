@@ -1,35 +1,13 @@
 -- The lists of the index: empty at first, then one point more at a time.
 use Rattle.std.proofs.Common.{◌≡◌, ℕ, zero, suc, ◌+◌, ◌<◌, List, [], ◌∷◌, ◌++◌, length, get_or, Some, None, true, false, refl, sym, ap, ◌∙◌, subst, arith, ⊎_elim, inl, inr}
 use Rattle.std.specs.Prelude.{◌⊎◌, ◌↔◌, ◌≤◌, ◌<ℤ◌, ◌≤ℤ◌, ℤ, pos, not, Bool, Option, Contains, AllPairs, All, IsTrue, map, replicate, slice_get, set}
-use Rattle.std.specs.List.{range_with_len}
-use Rattle.std.proofs.lemmas.Bool.{cases_lt, cases_eq}
-use Rattle.std.proofs.lemmas.Int.{ints, by_lt_z}
-use Rattle.std.proofs.lemmas.Option.{same_Some}
-use Rattle.std.proofs.lemmas.List.{length_push, length-map, length-replicate, length-set, map-set, set_past, get_or_past, get_or_push, get_or_append_left, get_or-map, get_or-replicate, get_or-set_same, get_or-set_other, get_or_default}
-use Rattle.std.proofs.lemmas.List.FromFn.{length-map-range_with_len, get_or-map-range_with_len}
-use Rattle.std.proofs.lemmas.List.Elements.{Contains-get_or, Contains-push, Contains-push_cases, Contains-append_left}
-use Rattle.fr_program.specs.declared.ids.Point.{Point}
-use Rattle.fr_program.specs.declared.ids.VarId.{VarId}
-use Rattle.fr_program.specs.declared.instr.Operand.{Operand}
-use Rattle.fr_program.specs.declared.instr.Operand.TheVariants.{Number, Variable}
-use Rattle.fr_program.specs.declared.instr.Operator.{Operator}
-use Rattle.fr_program.specs.declared.range.Range.{Range}
-use Rattle.fr_program.specs.Program.{Program}
-use Rattle.fr_program.specs.Lookup.{IsPoint, no_variable, variable_at}
-use Rattle.fr_program.specs.Points.{points_of, point_number}
-use Rattle.fr_program.specs.PointNumbers.{PointsAreNumbered}
-use Rattle.fr_program.specs.Spans.{IsIn}
-use Rattle.fr_calls.specs.Rule.{result_of}
+use Rattle.fr_interfere.proofs.Terms.{range_with_len, cases_lt, cases_eq, ints, by_lt_z, same_Some, length_push, length-map, length-replicate, length-set, map-set, set_past, get_or_past, get_or_push}
+use Rattle.fr_interfere.proofs.Terms.{get_or_append_left, get_or-map, get_or-replicate, get_or-set_same, get_or-set_other, get_or_default, length-map-range_with_len, get_or-map-range_with_len}
+use Rattle.fr_interfere.proofs.Terms.{Contains-get_or, Contains-push, Contains-push_cases, Contains-append_left, Point, VarId, Operand, Number, Variable, Operator, Range, Program, IsPoint}
+use Rattle.fr_interfere.proofs.Terms.{no_variable, variable_at, points_of, point_number, PointsAreNumbered, IsIn, result_of, Alternative, Within, range_of, Known, alone, joint_range, CanBeIn}
+use Rattle.fr_interfere.proofs.Terms.{IsSpanIn, Effect, Sets, effect_at, target_of, made_of, declared_of, CanLeave, Lists, IsIndexBelow, IndexOf, list_at, enlisted}
 use Rattle.fr_notes.specs.declared.note.NoteParts.{NoteParts}
-use Rattle.fr_notes.specs.Note.{Alternative, Within, range_of}
-use Rattle.fr_notes.specs.Known.{Known, alone, joint_range}
 use Rattle.fr_notes.specs.Parts.{said, range_said}
-use Rattle.fr_notes.specs.Reckoning.{CanBeIn, IsSpanIn}
-use Rattle.fr_interfere.specs.declared.effects.Effect.{Effect}
-use Rattle.fr_interfere.specs.declared.effects.Effect.TheVariants.{Sets}
-use Rattle.fr_interfere.specs.Effects.{effect_at, target_of, made_of, declared_of}
-use Rattle.fr_interfere.specs.Index.{CanLeave, Lists, IsIndexBelow, IndexOf, list_at}
-use Rattle.fr_interfere.specs.Listing.{enlisted}
 use Rattle.fr_interfere.proofs.Lists.{get-below}
 
 module _ (P : Program) (IsSuch : Effect → Type 0) where

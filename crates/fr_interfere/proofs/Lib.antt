@@ -1,3 +1,4 @@
+mod Terms
 pub mod BearLaws
 pub mod DisturbanceLaws
 pub mod EffectLaws
@@ -9,3 +10,4 @@ pub mod SpoilerLaws
 pub mod HullLaws
 pub mod RowLaws
 pub mod ClosedLaws
+pub mod Exactness

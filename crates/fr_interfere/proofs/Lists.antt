@@ -1,12 +1,7 @@
 -- The first alternatives of a note, one more at a time.
 use Rattle.std.proofs.Common.{◌≡◌, ℕ, zero, suc, ◌+◌, ◌<◌, List, [], ◌∷◌, length, get_or, Some, refl, sym, ap, ◌∙◌, subst, arith, ⊎_elim}
 use Rattle.std.specs.Prelude.{Contains, slice_get}
-use Rattle.std.proofs.lemmas.Bool.{cases_lt}
-use Rattle.std.proofs.lemmas.Option.{same_Some}
-use Rattle.fr_program.specs.Program.{Program}
-use Rattle.fr_notes.specs.Fits.{AlternativeFits, NoteFits}
-use Rattle.fr_notes.specs.Note.{Alternative, Note}
-use Rattle.fr_interfere.specs.Disturbance.{IsAmong}
+use Rattle.fr_interfere.proofs.Terms.{cases_lt, same_Some, Program, AlternativeFits, NoteFits, Alternative, Note, IsAmong}
 
 -- an element of a list doesn't depend on what stands for one past its end
 same-element : {A : Type 0} (xs : List A) (k : ℕ) (d e : A) → k < length xs → get_or xs k d ≡ get_or xs k e

@@ -1,32 +1,13 @@
 -- A list parted into runs: each run is as the list is, and each number of the list is in one of them.
 use Rattle.std.proofs.Common.{◌≡◌, ℕ, zero, suc, ◌+◌, ◌-◌, ◌<◌, ◌≤◌, List, [], ◌∷◌, ◌++◌, length, get_or, take, drop, sym, ap, ◌∙◌, subst, arith, ⊎_elim}
 use Rattle.std.specs.Prelude.{Option, None, Some, Result, Ok, Err, IfOk, IfSome, MatchResult, All, Any, Contains, map, slice_get}
-use Rattle.std.specs.List.{AllZip, range_with_len}
-use Rattle.std.proofs.lemmas.Bool.{cases_lt}
-use Rattle.std.proofs.lemmas.List.FromFn.{length-range_with_len}
+use Rattle.fr_interfere.proofs.Terms.{AllZip, range_with_len, cases_lt, length-range_with_len, length-map, length_push, get_or_push, get_or_append_left, length-take, length-drop, get_or-take}
+use Rattle.fr_interfere.proofs.Terms.{get_or-drop, get_or_default, same_Some, slice_get-get_or, Contains-append_left, Contains-push, Contains-get_or, Point, Program, IsFaultless, IsPoint}
+use Rattle.fr_interfere.proofs.Terms.{PointsAreNumbered, point_number, points_of, NotesFit, Note, note_at, Hull, Block, Effect, Run, AreUnder, Spares, IndexOf, Lists, list_at, AreHullsOf, AreListed}
+use Rattle.fr_interfere.proofs.Terms.{AreRows, IsBlock, IsBlockAt, HasRun, IsInRun, IsInSome, IsRow, IsRun, WritesOne, IsFirstOf, IsListed}
 use Rattle.std.proofs.lemmas.Slice.Zip.{AllZip-long}
-use Rattle.std.proofs.lemmas.List.{length-map, length_push, get_or_push, get_or_append_left, length-take, length-drop, get_or-take, get_or-drop, get_or_default}
-use Rattle.std.proofs.lemmas.Option.{same_Some, slice_get-get_or}
-use Rattle.std.proofs.lemmas.List.Elements.{Contains-append_left, Contains-push, Contains-get_or}
-use Rattle.fr_program.specs.declared.ids.Point.{Point}
-use Rattle.fr_program.specs.Program.{Program}
-use Rattle.fr_program.specs.Fault.{IsFaultless}
-use Rattle.fr_program.specs.Lookup.{IsPoint}
-use Rattle.fr_program.specs.PointNumbers.{PointsAreNumbered}
-use Rattle.fr_program.specs.Points.{point_number, points_of}
-use Rattle.fr_notes.specs.Fits.{NotesFit}
-use Rattle.fr_notes.specs.Note.{Note}
-use Rattle.fr_notes.specs.Noted.{note_at}
-use Rattle.fr_interfere.specs.declared.hull.Hull.{Hull}
-use Rattle.fr_interfere.specs.declared.rows.Block.{Block}
-use Rattle.fr_interfere.specs.declared.effects.Effect.{Effect}
 use Rattle.fr_interfere.specs.declared.rows.Hulls.{Hulls}
 use Rattle.fr_interfere.specs.declared.rows.Row.{Row}
-use Rattle.fr_interfere.specs.declared.rows.Run.{Run}
-use Rattle.fr_interfere.specs.Hull.{AreUnder, Spares}
-use Rattle.fr_interfere.specs.Index.{IndexOf, Lists, list_at}
-use Rattle.fr_interfere.specs.Rows.{AreHullsOf, AreListed, AreRows, IsBlock, IsBlockAt, HasRun, IsInRun, IsInSome, IsRow, IsRun, WritesOne}
-use Rattle.fr_interfere.specs.Spoilers.{IsFirstOf, IsListed}
 use Rattle.fr_interfere.proofs.HullLaws.{spared-undisturbed}
 use Rattle.fr_interfere.proofs.IndexLaws.{listed-point, numbers-below}
 use Rattle.fr_interfere.proofs.Lists.{get-below, get-there, get-at, at-get}

@@ -2,37 +2,10 @@
 -- declared range.
 use Rattle.std.proofs.Common.{◌≡◌, ℕ, ◌+◌, ◌<◌, ◌≤◌, List, [], length, Option, Some, None, true, false, refl, sym, ap, subst, arith, ⊎_elim, inl, inr}
 use Rattle.std.specs.Prelude.{◌⊎◌, Bool, nat_le, if◌then◌else◌}
-use Rattle.std.proofs.lemmas.Bool.{cases_lt}
-use Rattle.std.proofs.lemmas.List.{get_or_past}
-use Rattle.fr_program.specs.declared.ids.Point.{Point}
-use Rattle.fr_program.specs.declared.ids.Side.{Side}
-use Rattle.fr_program.specs.declared.ids.Side.TheVariants.{Before, Inside}
-use Rattle.fr_program.specs.declared.instr.Instr.{Instr}
-use Rattle.fr_program.specs.declared.instr.Instr.TheVariants.{Set, Pick, Call as Calls}
-use Rattle.fr_program.specs.declared.instr.Call.{Call}
-use Rattle.fr_program.specs.declared.instr.Call.TheVariants.{Create, Delete, On}
-use Rattle.fr_program.specs.declared.instr.Act.{Act}
-use Rattle.fr_program.specs.declared.instr.Act.TheVariants.{Try, Move}
-use Rattle.fr_program.specs.declared.instr.Attempt.TheVariants.{QueueReceive}
-use Rattle.fr_program.specs.declared.parts.Kind.{Kind}
-use Rattle.fr_program.specs.declared.parts.Kind.TheVariants.{Queue}
-use Rattle.fr_program.specs.Program.{Program}
-use Rattle.fr_program.specs.Lookup.{IsPoint}
-use Rattle.fr_program.specs.Points.{point_number}
-use Rattle.fr_program.specs.PointNumbers.{PointsAreNumbered}
-use Rattle.fr_program.specs.Fault.{IsFaultless, NamesThings}
-use Rattle.fr_calls.specs.State.{kind_of}
-use Rattle.fr_notes.specs.Fits.{NoteFits, NotesFit}
-use Rattle.fr_notes.specs.Note.{Note}
-use Rattle.fr_notes.specs.Noted.{note_at}
-use Rattle.fr_interfere.specs.declared.effects.Effect.{Effect}
-use Rattle.fr_interfere.specs.declared.effects.Effect.TheVariants.{Nothing, Life, Gives, Sets}
-use Rattle.fr_interfere.specs.Disturbance.{IsSpoiler}
-use Rattle.fr_interfere.specs.Effects.{effect_inside, effect_of, effect_by, effect_at, target_of, made_of, HasTarget}
-use Rattle.fr_interfere.specs.Index.{CanLeave, IsIndexOf, IndexOf}
-use Rattle.fr_interfere.specs.Spoilers.{IsFirstOf, IsListed, WritesInside, MakesOne, IsBelow, least_of}
-use Rattle.fr_interfere.specs.Staying.{AllStay, StaysAt}
-use Rattle.fr_interfere.specs.Undisturbed.{Undisturbed}
+use Rattle.fr_interfere.proofs.Terms.{cases_lt, get_or_past, Point, Side, Before, Inside, Instr, Set, Pick, Calls, Call, Create, Delete, On, Act, Try, Move, QueueReceive, Kind, Queue, Program}
+use Rattle.fr_interfere.proofs.Terms.{IsPoint, point_number, PointsAreNumbered, IsFaultless, NamesThings, kind_of, NoteFits, NotesFit, Note, note_at, Effect, Nothing, Life, Gives, Sets, IsSpoiler}
+use Rattle.fr_interfere.proofs.Terms.{effect_inside, effect_of, effect_by, effect_at, target_of, made_of, HasTarget, CanLeave, IsIndexOf, IndexOf, IsFirstOf, IsListed, WritesInside, MakesOne, IsBelow}
+use Rattle.fr_interfere.proofs.Terms.{least_of, AllStay, StaysAt, Undisturbed}
 use Rattle.fr_interfere.proofs.IndexLaws.{in-list, listed-point}
 use Rattle.fr_interfere.proofs.StayLaws.{calm-point}
 use Rattle.fr_interfere.proofs.UnsaidLaws.{still-undisturbed, has-target}

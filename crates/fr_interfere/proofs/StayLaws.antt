@@ -1,39 +1,11 @@
 -- A step leaves a declared range only by a `set` that the index lists among the leavers.
 use Rattle.std.proofs.Common.{Some, sym, subst, arith}
 use Rattle.std.specs.Prelude.{ℤ, pos, ◌<◌, ◌≤ℤ◌, List, IfSome, All, length}
-use Rattle.std.proofs.lemmas.Int.{ints, by_lt_z}
-use Rattle.std.proofs.lemmas.Option.{slice_get-get_or}
-use Rattle.fr_program.specs.declared.ids.Point.{Point}
-use Rattle.fr_program.specs.declared.ids.ObjId.{ObjId}
-use Rattle.fr_program.specs.declared.ids.VarId.{VarId}
-use Rattle.fr_program.specs.declared.ids.Side.{Side}
-use Rattle.fr_program.specs.declared.ids.Side.TheVariants.{Before, Inside}
-use Rattle.fr_program.specs.declared.instr.Instr.{Instr}
-use Rattle.fr_program.specs.declared.instr.Instr.TheVariants.{Pick, Call as Calls}
-use Rattle.fr_program.specs.declared.instr.Call.{Call}
-use Rattle.fr_program.specs.declared.instr.Call.TheVariants.{Create, Delete, On}
-use Rattle.fr_program.specs.declared.instr.Act.{Act}
-use Rattle.fr_program.specs.declared.instr.Act.TheVariants.{Try, Move}
-use Rattle.fr_program.specs.declared.instr.Attempt.TheVariants.{QueueReceive}
-use Rattle.fr_program.specs.declared.instr.Operand.{Operand}
-use Rattle.fr_program.specs.declared.instr.Operand.TheVariants.{Number, Variable}
-use Rattle.fr_program.specs.declared.parts.Kind.{Kind}
-use Rattle.fr_program.specs.declared.parts.Kind.TheVariants.{Queue}
-use Rattle.fr_program.specs.Program.{Program}
-use Rattle.fr_program.specs.Limits.{KindInLimits}
-use Rattle.fr_program.specs.Lookup.{IsPoint, no_object, no_variable, variable_at}
-use Rattle.fr_program.specs.Fault.{IsFaultless, NamesThings, Covers, CoversQueue, TakesIn, ResultsFit}
-use Rattle.fr_program.specs.Uses.{act_variables}
-use Rattle.fr_calls.specs.State.{kind_of}
-use Rattle.fr_notes.specs.Fits.{AlternativeFits, NoteFits}
-use Rattle.fr_notes.specs.Note.{Alternative, Note, Within, range_of}
-use Rattle.fr_notes.specs.Noted.{note_at}
-use Rattle.fr_notes.specs.Reckoning.{CanBeIn}
-use Rattle.fr_interfere.specs.declared.effects.Effect.{Effect}
-use Rattle.fr_interfere.specs.declared.effects.Effect.TheVariants.{Gives, Sets}
-use Rattle.fr_interfere.specs.Effects.{effect_inside, effect_of, effect_by, effect_at, Stays, declared_of}
-use Rattle.fr_interfere.specs.Index.{CanLeave}
-use Rattle.fr_interfere.specs.Staying.{StaysAt}
+use Rattle.fr_interfere.proofs.Terms.{ints, by_lt_z, slice_get-get_or, Point, ObjId, VarId, Side, Before, Inside, Instr, Pick, Calls, Call, Create, Delete, On, Act, Try, Move, QueueReceive, Operand}
+use Rattle.fr_interfere.proofs.Terms.{Number, Variable, Kind, Queue, Program, KindInLimits, IsPoint, no_object, no_variable, variable_at, IsFaultless, NamesThings, CoversQueue, TakesIn, ResultsFit}
+use Rattle.fr_interfere.proofs.Terms.{act_variables, kind_of, AlternativeFits, NoteFits, Alternative, Note, Within, range_of, note_at, CanBeIn, Effect, Gives, Sets, effect_inside, effect_of}
+use Rattle.fr_interfere.proofs.Terms.{effect_by, effect_at, Stays, declared_of, CanLeave, StaysAt}
+use Rattle.fr_program.specs.Fault.{Covers}
 
 -- what is not outside a range is inside
 stable : (r : ℤ × ℤ) (v : ℤ) → ((Within r v → ⊥) → ⊥) → Within r v

@@ -1,33 +1,9 @@
 -- A step disturbs no note that doesn't speak of what it changes, where it leaves each variable in its declared range.
 use Rattle.std.proofs.Common.{◌≡◌, ℕ, Some, sym, subst, arith}
 use Rattle.std.specs.Prelude.{◌<◌, List, All, length}
-use Rattle.std.proofs.lemmas.Int.{ints}
-use Rattle.std.proofs.lemmas.Option.{same_Some}
-use Rattle.fr_program.specs.declared.ids.Point.{Point}
-use Rattle.fr_program.specs.declared.ids.Side.{Side}
-use Rattle.fr_program.specs.declared.ids.Side.TheVariants.{Before, Inside}
-use Rattle.fr_program.specs.declared.instr.Instr.{Instr}
-use Rattle.fr_program.specs.declared.instr.Instr.TheVariants.{Set, Pick, Call as Calls}
-use Rattle.fr_program.specs.declared.instr.Call.{Call}
-use Rattle.fr_program.specs.declared.instr.Call.TheVariants.{Create, Delete, On}
-use Rattle.fr_program.specs.declared.instr.Act.{Act}
-use Rattle.fr_program.specs.declared.instr.Act.TheVariants.{Try, Move}
-use Rattle.fr_program.specs.declared.instr.Attempt.TheVariants.{QueueReceive}
-use Rattle.fr_program.specs.declared.parts.Kind.{Kind}
-use Rattle.fr_program.specs.declared.parts.Kind.TheVariants.{Queue}
-use Rattle.fr_program.specs.Program.{Program}
-use Rattle.fr_program.specs.Lookup.{IsPoint}
-use Rattle.fr_program.specs.Uses.{act_variables}
-use Rattle.fr_program.specs.Fault.{IsFaultless, NamesThings}
-use Rattle.fr_calls.specs.State.{kind_of}
-use Rattle.fr_notes.specs.Note.{Alternative, Note, range_of}
-use Rattle.fr_notes.specs.Noted.{note_at}
-use Rattle.fr_notes.specs.Implication.{IsPart}
-use Rattle.fr_interfere.specs.declared.effects.Effect.{Effect}
-use Rattle.fr_interfere.specs.declared.effects.Effect.TheVariants.{Nothing, Life, Gives, Sets}
-use Rattle.fr_interfere.specs.Effects.{effect_inside, effect_of, effect_by, effect_at, target_of, made_of, Bears, AllBear, HasTarget, Stays, IsFree, IsUnclaimed, declared_of}
-use Rattle.fr_interfere.specs.Staying.{StaysAt}
-use Rattle.fr_interfere.specs.Undisturbed.{Undisturbed}
+use Rattle.fr_interfere.proofs.Terms.{ints, same_Some, Point, Side, Before, Inside, Instr, Set, Pick, Calls, Call, Create, Delete, On, Act, Try, Move, QueueReceive, Kind, Queue, Program, IsPoint}
+use Rattle.fr_interfere.proofs.Terms.{act_variables, IsFaultless, NamesThings, kind_of, Alternative, Note, range_of, note_at, IsPart, Effect, Nothing, Life, Gives, Sets, effect_inside, effect_of}
+use Rattle.fr_interfere.proofs.Terms.{effect_by, effect_at, target_of, made_of, Bears, AllBear, HasTarget, Stays, IsFree, IsUnclaimed, declared_of, StaysAt, Undisturbed}
 use Rattle.fr_interfere.proofs.BearLaws.{borne-spared}
 use Rattle.fr_interfere.proofs.DisturbanceLaws.{undisturbed-spared}
 

@@ -9,3 +9,4 @@ pub mod Spoilers
 pub mod Interference
 pub mod Hull
 pub mod Rows
+pub mod IndexLaw

@@ -1,26 +1,9 @@
 -- A point whose steps don't delete the object of the call that another point is inside is no danger to that.
 use Rattle.std.proofs.Common.{◌≡◌, ℕ, ◌<◌, Option, Some, None, true, false, List, length, get_or, refl, ap, subst, arith, ⊎_elim}
 use Rattle.std.specs.Prelude.{Bool, nat_eq}
-use Rattle.std.proofs.lemmas.Option.{same_Some}
-use Rattle.fr_program.specs.declared.instr.Instr.{Instr}
-use Rattle.fr_program.specs.declared.instr.Instr.TheVariants.{Call as Calls}
-use Rattle.fr_program.specs.declared.instr.Call.TheVariants.{Delete, On}
+use Rattle.fr_judge.proofs.Terms.{same_Some, Instr, Calls, Delete, On, Point, Side, Before, Inside, Program, IsFaultless, IsPoint, instr_of, points_of, point_number, points_are_numbered, effect_at}
+use Rattle.fr_judge.proofs.Terms.{effect_by, made_of, Lists, AreChecked, checked-point, in-list, listed-point, Note, deleted_before, Near, used_inside, are_same, near-unused}
 use Rattle.fr_program.specs.declared.ids.ObjId.{ObjId}
-use Rattle.fr_program.specs.declared.ids.Point.{Point}
-use Rattle.fr_program.specs.declared.ids.Side.{Side}
-use Rattle.fr_program.specs.declared.ids.Side.TheVariants.{Before, Inside}
-use Rattle.fr_program.specs.Program.{Program}
-use Rattle.fr_program.specs.Fault.{IsFaultless}
-use Rattle.fr_program.specs.Lookup.{IsPoint, instr_of}
-use Rattle.fr_program.specs.Points.{points_of, point_number}
-use Rattle.fr_program.proofs.PointLaws.{points_are_numbered}
-use Rattle.fr_interfere.specs.Effects.{effect_at, effect_by, made_of}
-use Rattle.fr_interfere.specs.Index.{Lists}
-use Rattle.fr_interfere.proofs.IndexLaws.{AreChecked, checked-point, in-list, listed-point}
-use Rattle.fr_notes.specs.Note.{Note}
-use Rattle.fr_ends.specs.Guarded.{deleted_before, Near}
-use Rattle.fr_ends.specs.Nearness.{used_inside, are_same}
-use Rattle.fr_ends.proofs.NearLaws.{near-unused}
 
 module _ (P : Program) (notes : List Note) (p q : Point) where
   pub outside-near : used_inside p.side (instr_of P p) ≡ None → Near P notes p q

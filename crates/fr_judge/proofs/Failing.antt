@@ -2,28 +2,9 @@
 -- is kept because one of its premises is false.
 use Rattle.std.proofs.Common.{◌≡◌, ℕ, Option, Some, None, Bool, true, false, refl, sym, ap, ◌∙◌, subst, inl, inr, ⊎_elim}
 use Rattle.std.specs.Prelude.{◌⊎◌, IsTrue}
-use Rattle.std.proofs.lemmas.Option.{same_Some}
-use Rattle.std.proofs.lemmas.Bool.{false≢true}
-use Rattle.std.proofs.lemmas.Bool.Decides.{eqb_tells}
-use Rattle.fr_program.specs.declared.instr.Instr.{Instr}
-use Rattle.fr_program.specs.declared.instr.Instr.TheVariants.{Call as Calls}
-use Rattle.fr_program.specs.declared.instr.Call.TheVariants.{On}
-use Rattle.fr_program.specs.declared.instr.ObjectCall.{ObjectCall}
-use Rattle.fr_program.specs.declared.ids.ActorId.{ActorId}
-use Rattle.fr_program.specs.declared.ids.Point.{Point}
-use Rattle.fr_program.specs.declared.ids.Side.{Side}
-use Rattle.fr_program.specs.declared.ids.Side.TheVariants.{Before, Inside}
-use Rattle.fr_program.specs.Program.{Program}
-use Rattle.fr_program.specs.Lookup.{HasSide, IsPoint, instr_of}
-use Rattle.fr_program.specs.declared.instr.End.{End}
-use Rattle.fr_calls.specs.Rule.{is_at_end}
-use Rattle.fr_edge.specs.Own.{is_own}
-use Rattle.fr_ends.specs.Certificate.{Certificate}
-use Rattle.fr_ends.specs.Guarded.{called_inside}
-use Rattle.fr_ends.specs.Nearness.{deletes_used}
-use Rattle.fr_ends.proofs.NearLaws.{clash-found, found-clash}
-use Rattle.fr_judge.specs.Part.{Part, EntryPart, RulePart, GoesPart, GuardPart, NearPart, SpoiledPart, IsKept}
-use Rattle.fr_judge.specs.Owed.{IsInsideDeleted, IsOwed, OnlyOwedPartsFail}
+use Rattle.fr_judge.proofs.Terms.{same_Some, false≢true, eqb_tells, Instr, Calls, On, ObjectCall, ActorId, Point, Side, Before, Inside, Program, HasSide, IsPoint, instr_of, End, is_at_end, is_own}
+use Rattle.fr_judge.proofs.Terms.{Certificate, called_inside, deletes_used, clash-found, found-clash, Part, EntryPart, RulePart, GoesPart, GuardPart, NearPart, SpoiledPart, IsKept, IsInsideDeleted}
+use Rattle.fr_judge.proofs.Terms.{IsOwed, OnlyOwedPartsFail}
 
 -- true or not
 abbrev Decided : Type 0 → Type 0

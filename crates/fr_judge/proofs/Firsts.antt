@@ -2,29 +2,16 @@
 -- those with a lesser rule, end or point.
 use Rattle.std.proofs.Common.{◌≡◌, ℕ, ◌<◌, Some, None, refl, sym, ◌∙◌, subst, ⊎_elim, arith}
 use Rattle.std.specs.Prelude.{slice_get}
-use Rattle.std.proofs.lemmas.Option.{same_Some}
-use Rattle.fr_program.specs.declared.ids.Point.{Point}
-use Rattle.fr_program.specs.Program.{Program}
-use Rattle.fr_program.specs.Points.{points_of, point_number}
-use Rattle.fr_program.proofs.PointLaws.{points_are_numbered}
-use Rattle.fr_program.specs.Fault.{IsFaultless}
-use Rattle.fr_program.specs.declared.instr.End.{End}
-use Rattle.fr_program.specs.declared.instr.End.TheVariants.{Writer, Reader}
+use Rattle.fr_judge.proofs.Terms.{same_Some, Point, Program, points_of, point_number, points_are_numbered, IsFaultless, End, Writer, Reader, IsFirstOwn, Certificate, Guarded, Told, Part, EntryPart}
+use Rattle.fr_judge.proofs.Terms.{RulePart, GoesPart, GuardPart, NearPart, SpoiledPart, IsKept, end_number, place_in_order, KeepsAll, IsFirstPart, part_of_own, TellsFirst, IsPartOf}
 use Rattle.fr_edge.specs.declared.failure.Own.{Own}
 use Rattle.fr_edge.specs.declared.failure.Own.TheVariants.{Entry as OwnEntry, Rule as OwnRule, Goes as OwnGoes}
-use Rattle.fr_edge.specs.FirstOwn.{IsFirstOwn}
 use Rattle.fr_interfere.specs.Disturbance.{IsSpoiler}
 use Rattle.fr_interfere.specs.Undisturbed.{Undisturbed}
 use Rattle.fr_ends.specs.declared.ends.EndName.{EndName}
-use Rattle.fr_ends.specs.Certificate.{Certificate}
 use Rattle.fr_ends.specs.FirstEnd.{IsFirstEnd}
-use Rattle.fr_ends.specs.Guarded.{Guarded}
-use Rattle.fr_judge.specs.declared.part.Part.{Part as Told}
 use Rattle.fr_judge.specs.declared.part.Part.TheVariants.{Guard as TellsGuard, Near as TellsNear, Spoiled as TellsSpoiled}
-use Rattle.fr_judge.specs.Part.{Part, EntryPart, RulePart, GoesPart, GuardPart, NearPart, SpoiledPart, IsKept, end_number, place_in_order}
-use Rattle.fr_judge.specs.Verdict.{KeepsAll, IsFirstPart}
 use Rattle.fr_judge.specs.Deleter.{IsDeleter}
-use Rattle.fr_judge.specs.Told.{part_of_own, TellsFirst, IsPartOf}
 use Rattle.fr_judge.proofs.Telling.{failing-is-of}
 
 -- of two ends, the one that comes first is the writer's

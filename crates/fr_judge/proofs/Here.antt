@@ -1,20 +1,8 @@
 -- An actor that is at a point has the point's instruction, and steps by a row of it.
 use Rattle.std.proofs.Common.{◌≡◌, List, Some, sym, ap, ◌∙◌, subst}
 use Rattle.std.specs.Prelude.{ℤ, IsTrue}
-use Rattle.std.proofs.lemmas.Option.{same_Some}
-use Rattle.fr_program.specs.declared.instr.Instr.{Instr}
-use Rattle.fr_program.specs.declared.ids.Point.{Point}
-use Rattle.fr_program.specs.declared.ids.Side.{Side}
-use Rattle.fr_program.specs.Program.{Program}
-use Rattle.fr_program.specs.Lookup.{instr_at, instr_of}
-use Rattle.fr_calls.specs.State.{State, At, goes_to}
-use Rattle.fr_calls.specs.declared.rules.Rule.{Rule}
-use Rattle.fr_calls.specs.Rule.{Stands, Breaches}
-use Rattle.fr_calls.specs.declared.way.Way.{Way}
-use Rattle.fr_calls.specs.Step.{StepBy, Row, landing, transition}
-use Rattle.fr_notes.specs.Note.{Note}
-use Rattle.fr_notes.specs.Noted.{IsAt, Noted}
-use Rattle.fr_edge.specs.Own.{KeepsRule, is_own}
+use Rattle.fr_judge.proofs.Terms.{same_Some, Instr, Point, Side, Program, instr_at, instr_of, State, At, goes_to, Rule, Stands, Breaches, Way, StepBy, Row, landing, transition, Note, IsAt, Noted}
+use Rattle.fr_judge.proofs.Terms.{KeepsRule, is_own}
 
 module _ (P : Program) (p : Point) (i : Instr) (is : instr_of P p ≡ Some i) where
   -- it is at the point's side, and before or inside that instruction

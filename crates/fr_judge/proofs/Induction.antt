@@ -3,36 +3,12 @@
 -- guards, none of rule 8's deletes by what is near, none of the others by the points' own rules.
 use Rattle.std.proofs.Common.{◌≡◌, ◌≢◌, ℕ, zero, suc, ◌<◌, List, [], ◌∷◌, length, get_or, Some, refl, sym, ap, ◌∙◌, subst, ⊎_elim, arith}
 use Rattle.std.specs.Prelude.{ℤ, IsTrue, Contains}
-use Rattle.std.proofs.lemmas.Option.{same_Some}
-use Rattle.std.proofs.lemmas.Bool.Decides.{eqb_tells}
-use Rattle.fr_program.specs.declared.instr.Instr.{Instr}
-use Rattle.fr_program.specs.declared.instr.Instr.TheVariants.{Call as Calls}
-use Rattle.fr_program.specs.declared.instr.Call.TheVariants.{Create, Delete}
-use Rattle.fr_program.specs.declared.instr.ObjectCall.{ObjectCall}
-use Rattle.fr_program.specs.declared.ids.ActorId.{ActorId}
-use Rattle.fr_program.specs.declared.ids.Point.{Point}
-use Rattle.fr_program.specs.declared.ids.Side.{Side}
-use Rattle.fr_program.specs.declared.ids.Side.TheVariants.{Before, Inside}
-use Rattle.fr_program.specs.Program.{Program}
-use Rattle.fr_program.specs.Lookup.{no_actor, IsPoint}
-use Rattle.fr_calls.specs.State.{State, At, Done, Exists, start}
-use Rattle.fr_program.specs.declared.instr.End.{End}
-use Rattle.fr_program.specs.declared.instr.End.TheVariants.{Writer, Reader}
-use Rattle.fr_calls.specs.declared.rules.Rule.{Rule}
-use Rattle.fr_calls.specs.declared.rules.Rule.TheVariants.{OneWriter, OneReader, LifeInOrder, InRange}
-use Rattle.fr_calls.specs.Rule.{Breach, SharesEnd, LifeOutOfOrder, Stands, is_at_end, IsInside}
-use Rattle.fr_calls.specs.Step.{Step}
-use Rattle.fr_calls.specs.Run.{Follows, IsRun}
+use Rattle.fr_judge.proofs.Terms.{same_Some, eqb_tells, Instr, Calls, Create, Delete, ObjectCall, ActorId, Point, Side, Before, Inside, Program, no_actor, IsPoint, State, At, Done, Exists, start, End}
+use Rattle.fr_judge.proofs.Terms.{Writer, Reader, Rule, OneWriter, OneReader, LifeInOrder, InRange, Breach, SharesEnd, LifeOutOfOrder, Stands, is_at_end, IsInside, Step, Follows, IsRun, HoldsOne}
+use Rattle.fr_judge.proofs.Terms.{Holds, note_at, IsAt, Noted, NotedBy, is_own, Guard, Certificate, HasGuard, guard_for, called_inside, deleted_before, EntryPart, RulePart, GoesPart, GuardPart}
+use Rattle.fr_judge.proofs.Terms.{NearPart, SpoiledPart, KeepsNotes, Certified, StartKeepsNotes, StepKeepsNotes, NotesExcludeBreaches, IsSound}
 use Rattle.fr_calls.proofs.Built.{is-built}
 use Rattle.fr_calls.proofs.Formed.{map_case, start-formed, step-formed}
-use Rattle.fr_notes.specs.Note.{HoldsOne, Holds}
-use Rattle.fr_notes.specs.Noted.{note_at, IsAt, Noted, NotedBy}
-use Rattle.fr_edge.specs.Own.{is_own}
-use Rattle.fr_ends.specs.Guard.{Guard}
-use Rattle.fr_ends.specs.Certificate.{Certificate, HasGuard, guard_for}
-use Rattle.fr_ends.specs.Guarded.{called_inside, deleted_before}
-use Rattle.fr_judge.specs.Part.{EntryPart, RulePart, GoesPart, GuardPart, NearPart, SpoiledPart}
-use Rattle.fr_judge.specs.Sound.{KeepsNotes, Certified, StartKeepsNotes, StepKeepsNotes, NotesExcludeBreaches, IsSound}
 use Rattle.fr_judge.proofs.Turns.{guard-alone, distinct-listed}
 
 abbrev point : ℕ → ℕ → Side → Point

@@ -1,3 +1,4 @@
+mod Terms
 pub mod Turns
 pub mod Induction
 pub mod Failing

@@ -1,18 +1,8 @@
 -- How the verdict comes of the points in their order: those before the first that fails keep every part.
 use Rattle.std.proofs.Common.{◌≡◌, ℕ, length, Some, ap, arith}
 use Rattle.std.specs.Prelude.{slice_get}
-use Rattle.fr_program.specs.declared.ids.Point.{Point}
-use Rattle.fr_program.specs.Program.{Program}
-use Rattle.fr_program.specs.Points.{points_of}
-use Rattle.fr_program.proofs.PointLaws.{points_are_numbered}
-use Rattle.fr_program.specs.Fault.{IsFaultless}
-use Rattle.fr_calls.specs.Run.{IsSafe}
-use Rattle.fr_ends.specs.Certificate.{Certificate}
-use Rattle.fr_ends.specs.Fits.{CertificateFits}
-use Rattle.fr_judge.specs.declared.part.Part.{Part as Told}
+use Rattle.fr_judge.proofs.Terms.{Point, Program, points_of, points_are_numbered, IsFaultless, IsSafe, Certificate, CertificateFits, Told, Yes, No, KeepsAll, IsCertified, TellsFirst, TellsVerdict}
 use Rattle.fr_judge.specs.declared.part.Verdict.TheVariants.{Yes as TellsYes, No as TellsNo}
-use Rattle.fr_judge.specs.Verdict.{Yes, No, KeepsAll, IsCertified}
-use Rattle.fr_judge.specs.Told.{TellsFirst, TellsVerdict}
 use Rattle.fr_judge.proofs.Induction.{certified-safe}
 use Rattle.fr_judge.proofs.Walks.{IsSoBelow, at-each}
 use Rattle.fr_judge.proofs.Telling.{fitting-distinct}

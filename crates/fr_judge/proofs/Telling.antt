@@ -1,27 +1,9 @@
 -- What is told of a point is of the application.
 use Rattle.std.proofs.Common.{◌≡◌, ◌<◌, ◌≤◌, List, length, Option, Some, ap, subst, arith}
-use Rattle.std.proofs.lemmas.Option.{same_Some}
+use Rattle.fr_judge.proofs.Terms.{same_Some, Instr, Calls, On, ObjectCall, Point, Side, Inside, instr_of, Program, IsFaultless, Rule, OneWriter, OneReader, number_of, is_own, EndGuard, Guard, Sole}
+use Rattle.fr_judge.proofs.Terms.{ByMutex, InCritical, Turn, Certificate, HasDistinctTurns, AllHaveDistinctTurns, GuardFits, EndFits, called_inside, Part, EntryPart, RulePart, GoesPart, GuardPart}
+use Rattle.fr_judge.proofs.Terms.{NearPart, SpoiledPart, IsKept, told_part, IsPartOf}
 use Rattle.std.specs.Prelude.{IsTrue, All}
-use Rattle.fr_program.specs.declared.instr.Instr.{Instr}
-use Rattle.fr_program.specs.declared.instr.Instr.TheVariants.{Call as Calls}
-use Rattle.fr_program.specs.declared.instr.Call.TheVariants.{On}
-use Rattle.fr_program.specs.declared.instr.ObjectCall.{ObjectCall}
-use Rattle.fr_program.specs.declared.ids.Point.{Point}
-use Rattle.fr_program.specs.declared.ids.Side.{Side}
-use Rattle.fr_program.specs.declared.ids.Side.TheVariants.{Inside}
-use Rattle.fr_program.specs.Lookup.{instr_of}
-use Rattle.fr_program.specs.Program.{Program}
-use Rattle.fr_program.specs.Fault.{IsFaultless}
-use Rattle.fr_calls.specs.declared.rules.Rule.{Rule}
-use Rattle.fr_calls.specs.declared.rules.Rule.TheVariants.{OneWriter, OneReader}
-use Rattle.fr_calls.specs.Rule.{number_of}
-use Rattle.fr_edge.specs.Own.{is_own}
-use Rattle.fr_ends.specs.Guard.{EndGuard, Guard, Sole, ByMutex, InCritical, Turn}
-use Rattle.fr_ends.specs.Certificate.{Certificate, HasDistinctTurns, AllHaveDistinctTurns}
-use Rattle.fr_ends.specs.Fits.{GuardFits, EndFits}
-use Rattle.fr_ends.specs.Guarded.{called_inside}
-use Rattle.fr_judge.specs.Part.{Part, EntryPart, RulePart, GoesPart, GuardPart, NearPart, SpoiledPart, IsKept}
-use Rattle.fr_judge.specs.Told.{told_part, IsPartOf}
 use Rattle.fr_judge.proofs.Failing.{failing-owed}
 
 -- a rule that a point owes by itself is none of 1 and 2

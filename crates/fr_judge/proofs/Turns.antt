@@ -1,13 +1,8 @@
 -- In no state do two actors have one guard.
 use Rattle.std.proofs.Common.{◌≡◌, ℕ, ◌<◌, List, [], ◌∷◌, Option, Some, None, Bool, true, false, refl, sym, ◌∙◌, subst, arith}
 use Rattle.std.specs.Prelude.{nat_eq, if◌then◌else◌, ◌&&◌}
-use Rattle.std.proofs.lemmas.Option.{same_Some}
-use Rattle.std.proofs.lemmas.Bool.{eqb-true}
-use Rattle.std.proofs.lemmas.List.Elements.{All-head, All-tail}
-use Rattle.fr_calls.specs.State.{State, Content, Held, content_of, depth_in, count_held}
-use Rattle.fr_program.specs.declared.instr.End.{End}
-use Rattle.fr_ends.specs.Guard.{Guard, Sole, ByMutex, InCritical, Turn, EndGuard}
-use Rattle.fr_ends.specs.Certificate.{HasGuard, HasDistinctTurns, AllHaveDistinctTurns, same_end, guard_for}
+use Rattle.fr_judge.proofs.Terms.{same_Some, eqb-true, All-head, All-tail, State, Content, Held, content_of, depth_in, count_held, End, Guard, Sole, ByMutex, InCritical, Turn, EndGuard, HasGuard}
+use Rattle.fr_judge.proofs.Terms.{HasDistinctTurns, AllHaveDistinctTurns, same_end, guard_for}
 
 positive_if : (b : Bool) (n : ℕ) → 0 < (if b then n else 0) → b ≡ true
 positive_if true n h = refl

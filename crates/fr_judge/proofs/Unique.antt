@@ -1,20 +1,9 @@
 -- The verdict is one. Of two failures neither comes before the other, so their points have one number, and their parts
 -- one place in the order. A part that fails is one that the point owes, and of those each has a place of its own.
 use Rattle.std.proofs.Common.{◌≡◌, ℕ, ◌<◌, List, [], ◌∷◌, get_or, refl, sym, ap, ◌∙◌, subst, inl, inr, ⊎_elim, arith}
-use Rattle.std.proofs.lemmas.Option.{same_Some}
-use Rattle.std.proofs.lemmas.Bool.{cases_lt}
-use Rattle.fr_program.specs.declared.ids.Point.{Point}
-use Rattle.fr_program.specs.Program.{Program}
-use Rattle.fr_program.specs.Points.{point_number}
-use Rattle.fr_program.specs.declared.instr.End.{End}
-use Rattle.fr_program.specs.declared.instr.End.TheVariants.{Writer, Reader}
-use Rattle.fr_calls.specs.declared.rules.Rule.{Rule}
-use Rattle.fr_calls.specs.declared.rules.Rule.TheVariants.{OneWriter, OneReader, GivenByHolder, AllowedInCritical, AllowedSuspended, AllowedInInterrupt, IsLive, LifeInOrder, SuitsSemaphore, DepthAboveZero, EndsInOrder, InRange}
-use Rattle.fr_calls.specs.Rule.{number_of}
-use Rattle.fr_ends.specs.Certificate.{Certificate}
-use Rattle.fr_judge.specs.Part.{Part, EntryPart, RulePart, GoesPart, GuardPart, NearPart, SpoiledPart, end_number, place_in_order, ComesBefore}
-use Rattle.fr_judge.specs.Verdict.{Yes, No, IsFirstPart, IsVerdictOne}
-use Rattle.fr_judge.specs.Owed.{IsOwed}
+use Rattle.fr_judge.proofs.Terms.{same_Some, cases_lt, Point, Program, point_number, End, Writer, Reader, Rule, OneWriter, OneReader, GivenByHolder, AllowedInCritical, AllowedSuspended}
+use Rattle.fr_judge.proofs.Terms.{AllowedInInterrupt, IsLive, LifeInOrder, SuitsSemaphore, DepthAboveZero, EndsInOrder, InRange, number_of, Certificate, Part, EntryPart, RulePart, GoesPart, GuardPart}
+use Rattle.fr_judge.proofs.Terms.{NearPart, SpoiledPart, end_number, place_in_order, ComesBefore, Yes, No, IsFirstPart, IsVerdictOne, IsOwed}
 use Rattle.fr_judge.proofs.Walks.{same-point}
 use Rattle.fr_judge.proofs.Failing.{failing-owed}
 

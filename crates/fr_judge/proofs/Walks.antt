@@ -1,13 +1,7 @@
 -- Points by their numbers: two with one number are one, and what is so of each point before the one that a walk is at.
 use Rattle.std.proofs.Common.{◌≡◌, ℕ, ◌<◌, ◌+◌, length, Some, sym, ap, ◌∙◌, subst, ⊎_elim, arith}
 use Rattle.std.specs.Prelude.{slice_get}
-use Rattle.std.proofs.lemmas.Option.{slice_get_within, same_Some}
-use Rattle.std.proofs.lemmas.Bool.{cases_lt}
-use Rattle.fr_program.specs.declared.ids.Point.{Point}
-use Rattle.fr_program.specs.Program.{Program}
-use Rattle.fr_program.specs.Lookup.{IsPoint}
-use Rattle.fr_program.specs.Points.{points_of, point_number}
-use Rattle.fr_program.proofs.PointLaws.{points_are_numbered}
+use Rattle.fr_judge.proofs.Terms.{slice_get_within, same_Some, cases_lt, Point, Program, IsPoint, points_of, point_number, points_are_numbered}
 
 -- it is so of each point with a number below this one
 abbrev pub IsSoBelow : Program → (Point → Type 0) → ℕ → Type 0

@@ -4,30 +4,13 @@ use Rattle.std.proofs.Common.{◌≡◌, ℕ, zero, suc, ◌<◌, ◌≤◌, [],
 use Rattle.std.specs.Prelude.{ℤ, IsTrue, Contains, ◌||◌, true, All}
 use Rattle.std.specs.Cmp.Lexicographic.{nat_list_eq_equiv}
 use Rattle.std.proofs.lemmas.Int.{ints}
-use Rattle.std.proofs.lemmas.Option.{same_Some}
-use Rattle.std.proofs.lemmas.List.Elements.{All-cons, All-nil}
+use Rattle.fr_judge.proofs.Terms.{same_Some, All-cons, All-nil, Instr, Goto, Return, Point, Side, Before, Inside, EachInstr, EndsWell, IsFaultless, HasSide, IsPlace, IsPoint, actor_at, ActorOf, State}
+use Rattle.fr_judge.proofs.Terms.{At, Exists, IsWellFormed, place_of, start, goes_to, Rule, OneWriter, OneReader, GivenByHolder, IsLive, LifeInOrder, EndsInOrder, InRange, Breaches, number_of, Way}
+use Rattle.fr_judge.proofs.Terms.{StepBy, Row, landing, transition, HoldsOne, note_at, IsAt, Goes, is_own, HasDistinctTurns, Part, EntryPart, RulePart, GoesPart, GuardPart, NearPart, SpoiledPart}
+use Rattle.fr_judge.proofs.Terms.{IsKept, ComesBefore, place_in_order}
 use Rattle.std.proofs.lemmas.Map.Views.{list_any-from_Contains}
-use Rattle.fr_program.specs.declared.instr.Instr.{Instr}
-use Rattle.fr_program.specs.declared.instr.Instr.TheVariants.{Goto, Return}
-use Rattle.fr_program.specs.declared.ids.Point.{Point}
-use Rattle.fr_program.specs.declared.ids.Side.{Side}
-use Rattle.fr_program.specs.declared.ids.Side.TheVariants.{Before, Inside}
 use Rattle.fr_program.specs.Limits.{IsName, is_letter, is_digit, reserved, VariableInLimits, KindInLimits, most_instructions}
-use Rattle.fr_program.specs.Fault.{EachInstr, EndsWell, IsFaultless}
-use Rattle.fr_program.specs.Lookup.{HasSide, IsPlace, IsPoint, actor_at}
-use Rattle.fr_program.specs.Program.{ActorOf}
-use Rattle.fr_calls.specs.State.{State, At, Exists, IsWellFormed, place_of, start, goes_to}
-use Rattle.fr_calls.specs.declared.rules.Rule.{Rule}
-use Rattle.fr_calls.specs.declared.rules.Rule.TheVariants.{OneWriter, OneReader, GivenByHolder, IsLive, LifeInOrder, EndsInOrder, InRange}
-use Rattle.fr_calls.specs.Rule.{Breaches, number_of}
-use Rattle.fr_calls.specs.declared.way.Way.{Way}
 use Rattle.fr_calls.specs.declared.way.Way.TheVariants.{Then, Else}
-use Rattle.fr_calls.specs.Step.{StepBy, Row, landing, transition}
-use Rattle.fr_notes.specs.Note.{HoldsOne}
-use Rattle.fr_notes.specs.Noted.{note_at, IsAt}
-use Rattle.fr_edge.specs.Own.{Goes, is_own}
-use Rattle.fr_ends.specs.Certificate.{HasDistinctTurns}
-use Rattle.fr_judge.specs.Part.{Part, EntryPart, RulePart, GoesPart, GuardPart, NearPart, SpoiledPart, IsKept, ComesBefore, place_in_order}
 use Rattle.fr_judge.specs.WorkedVerdicts.{only_line, only_point, silent, one_note, RoundIsYes, RoundIsCertified, ReturnIsNo}
 use Rattle.fr_judge.proofs.Here.{rule-kept, steps-by}
 

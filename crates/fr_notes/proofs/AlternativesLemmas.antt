@@ -1,12 +1,6 @@
 -- The alternatives of notes, joined one note after another.
 use Rattle.std.proofs.Common.{◌≡◌, ◌<◌, ◌≤◌, ◌+◌, ℕ, List, [], ◌∷◌, ◌++◌, All, IsTrue, false, take, drop, length, get_or, refl, sym, ap, ◌∙◌, subst, append_assoc, append-nil, arith, length-append}
-use Rattle.std.proofs.lemmas.Bool.{false≢true}
-use Rattle.std.proofs.lemmas.List.{take_more, take-append-drop}
-use Rattle.std.proofs.lemmas.List.Elements.{All-head, All-tail, All-nil, All-append}
-use Rattle.fr_program.specs.Program.{Program}
-use Rattle.fr_notes.specs.Note.{Note}
-use Rattle.fr_notes.specs.Fits.{AlternativeFits, NoteFits}
-use Rattle.fr_notes.specs.Alternatives.{joined}
+use Rattle.fr_notes.proofs.Terms.{false≢true, take_more, take-append-drop, All-head, All-tail, All-nil, All-append, Program, Note, AlternativeFits, NoteFits, joined}
 
 joined_append : (xs ys : List Note) → joined (xs ++ ys) ≡ joined xs ++ joined ys
 joined_append [] ys = refl

@@ -1,38 +1,11 @@
 -- The ends of takes, gives, queue sends and receives, and resets.
 use Rattle.std.proofs.Common.{◌≡◌, ℕ, List, [], ◌∷◌, ◌++◌, length, Option, Some, None, Bool, true, false, refl, sym, ap, ◌∙◌, subst, arith}
 use Rattle.std.specs.Prelude.{ℤ, pos, ◌≤ℤ◌, IsTrue, int_lt}
-use Rattle.std.proofs.lemmas.Int.{ints}
-use Rattle.std.proofs.lemmas.Bool.{false≢true}
-use Rattle.std.proofs.lemmas.Option.{same_Some, cond_some}
-use Rattle.std.proofs.lemmas.List.Elements.{All-nil, All-cons, All-head}
-use Rattle.fr_program.specs.declared.ids.ObjId.{ObjId}
-use Rattle.fr_program.specs.declared.ids.VarId.{VarId}
-use Rattle.fr_program.specs.declared.instr.Act.TheVariants.{Try}
-use Rattle.fr_program.specs.declared.instr.Attempt.{Attempt}
-use Rattle.fr_program.specs.declared.instr.Attempt.TheVariants.{QueueSend, QueueReceive, Take, Give, Reset}
-use Rattle.fr_program.specs.declared.instr.BufferKind.{BufferKind}
-use Rattle.fr_program.specs.declared.instr.BufferKind.TheVariants.{Stream as OfStream, Message as OfMessage}
-use Rattle.fr_program.specs.declared.instr.Operand.{Operand}
+use Rattle.fr_notes.proofs.Terms.{ints, false≢true, same_Some, cond_some, All-nil, All-cons, All-head, ObjId, VarId, Try, Attempt, QueueSend, QueueReceive, Take, Give, Reset, BufferKind, OfStream}
+use Rattle.fr_notes.proofs.Terms.{OfMessage, Operand, PlainForm, RecursiveForm, Timing, Now, Kind, Queue, Mutex, Recursive, Stream, Message, Range, Program, KindInLimits, suits_timing, attempts_on}
+use Rattle.fr_notes.proofs.Terms.{is_buffer, written_by, Then, Else, State, Content, Values, CanHave, content_of, kind_of, new_content, becomes, operand_of, is_unsuited, given_kind, Works, Puts}
+use Rattle.fr_notes.proofs.Terms.{taken, given, queued, can_fail, Within, HeldTimes, ends_of, CanClaim, Holding, Living, Own, worked_by, can_fail_on, is_mutex, is_given_unheld, results_of}
 use Rattle.fr_program.specs.declared.instr.SemaphoreForm.{SemaphoreForm}
-use Rattle.fr_program.specs.declared.instr.SemaphoreForm.TheVariants.{Plain as PlainForm, Recursive as RecursiveForm}
-use Rattle.fr_program.specs.declared.instr.Timing.{Timing}
-use Rattle.fr_program.specs.declared.instr.Timing.TheVariants.{Now}
-use Rattle.fr_program.specs.declared.parts.Kind.{Kind}
-use Rattle.fr_program.specs.declared.parts.Kind.TheVariants.{Queue, Mutex, Recursive, Stream, Message}
-use Rattle.fr_program.specs.declared.range.Range.{Range}
-use Rattle.fr_program.specs.Program.{Program}
-use Rattle.fr_program.specs.Limits.{KindInLimits}
-use Rattle.fr_program.specs.Timings.{suits_timing}
-use Rattle.fr_program.specs.Uses.{attempts_on, is_buffer, written_by}
-use Rattle.fr_calls.specs.declared.way.Way.TheVariants.{Then, Else}
-use Rattle.fr_calls.specs.State.{State, Content, Values, CanHave, content_of, kind_of, new_content, becomes}
-use Rattle.fr_calls.specs.Rule.{operand_of, is_unsuited, given_kind}
-use Rattle.fr_calls.specs.Step.{Works, Puts, taken, given, queued, can_fail}
-use Rattle.fr_notes.specs.Note.{Within, HeldTimes}
-use Rattle.fr_notes.specs.View.{ends_of}
-use Rattle.fr_notes.specs.Fits.{CanClaim}
-use Rattle.fr_notes.specs.Holding.{Holding, Living, Own, worked_by, can_fail_on, is_mutex, is_given_unheld}
-use Rattle.fr_notes.specs.Results.{results_of}
 use Rattle.fr_notes.proofs.Shown.{new-live}
 use Rattle.fr_notes.proofs.Holdings.{IsIn, new-unheld}
 use Rattle.fr_notes.proofs.Seen.{Site, mover, other}

@@ -1,24 +1,8 @@
 -- The steps before an instruction as the code has them.
 use Rattle.std.proofs.Common.{◌≡◌, ℕ, [], ◌++◌, length, Option, sym, ap, ◌∙◌, subst, inl, inr}
 use Rattle.std.specs.Prelude.{◌<◌, ◌⊎◌, All}
-use Rattle.std.proofs.lemmas.List.Elements.{All-head, All-tail}
-use Rattle.fr_program.specs.declared.ids.VarId.{VarId}
-use Rattle.fr_program.specs.declared.ids.Point.{Point}
-use Rattle.fr_program.specs.declared.instr.Instr.{Instr}
-use Rattle.fr_program.specs.declared.instr.Instr.TheVariants.{Set}
-use Rattle.fr_program.specs.declared.instr.Operand.{Operand}
-use Rattle.fr_program.specs.declared.instr.Operand.TheVariants.{Number, Variable}
-use Rattle.fr_program.specs.declared.instr.Operator.{Operator}
-use Rattle.fr_program.specs.declared.instr.Operator.TheVariants.{Plus, Minus, Times}
-use Rattle.fr_program.specs.declared.range.Range.{Range}
-use Rattle.fr_program.specs.Program.{Program}
-use Rattle.fr_program.specs.Uses.{operand_variables}
-use Rattle.fr_program.specs.Fault.{IsConstant, AreApart, OperandsFit}
-use Rattle.fr_calls.specs.declared.way.Way.{Way}
-use Rattle.fr_notes.specs.declared.change.Change.{Change}
-use Rattle.fr_notes.specs.Known.{Known, IsLeft}
-use Rattle.fr_notes.specs.Reckoning.{IsNamed}
-use Rattle.fr_notes.specs.Spot.{LeavesBefore, unchanged}
+use Rattle.fr_notes.proofs.Terms.{All-head, All-tail, VarId, Point, Instr, Set, Operand, Number, Variable, Operator, Plus, Minus, Times, Range, Program, operand_variables, IsConstant, AreApart}
+use Rattle.fr_notes.proofs.Terms.{OperandsFit, Way, Change, Known, IsLeft, IsNamed, LeavesBefore, unchanged}
 
 pub as-made : (P : Program) (k : Known) (p : Point) (way : Way) (change made : Change) → change ≡ made → IsLeft P k p way made → IsLeft P k p way change
 as-made P k p way change made e left = subst (λ x. IsLeft P k p way x) (sym e) left

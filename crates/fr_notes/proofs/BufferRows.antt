@@ -1,35 +1,12 @@
 -- The ends of calls that move bytes: sends to stream and message buffers and receives from them.
 use Rattle.std.proofs.Common.{◌≡◌, ℕ, ◌+◌, ◌-◌, ◌≤◌, List, [], ◌∷◌, ◌++◌, Option, Some, None, Bool, true, false, refl, sym, ap, ◌∙◌, subst, arith, ⊎_elim, eq-eqb}
 use Rattle.std.specs.Prelude.{ℤ, pos, negsuc, ◌≤ℤ◌, ◌<ℤ◌, IsTrue, int_le, nat_lt, nat_eq, sum, if◌then◌else◌}
-use Rattle.std.specs.Int.{int_min}
-use Rattle.std.proofs.lemmas.Int.{ints, clamps}
-use Rattle.std.proofs.lemmas.Bool.{cases_lt, eqb-true}
-use Rattle.std.proofs.lemmas.Option.{same_Some, cond_some}
-use Rattle.std.proofs.lemmas.List.Elements.{All-nil, All-cons, All-head}
+use Rattle.fr_notes.proofs.Terms.{int_min, ints, clamps, cases_lt, eqb-true, same_Some, cond_some, All-nil, All-cons, All-head, common_steps, ObjId, VarId, Act, Move, BufferKind, OfStream, OfMessage}
+use Rattle.fr_notes.proofs.Terms.{Timing, Kind, Stream, Message, Range, Program, KindInLimits, is_buffer, Then, Else, State, Content, Bytes, Lengths, CanHave, content_of, kind_of, becomes, Completes}
+use Rattle.fr_notes.proofs.Terms.{Moves, sent_bytes, received_bytes, sent_message, received_message, with_result, transition, Within, ends_of, Holding, Living, size_of, least_moved, results_of}
 use Rattle.std.proofs.lemmas.List.Sums.{sum_by-cons}
-use Rattle.std.proofs.lemmas.Grind.{common_steps}
-use Rattle.fr_program.specs.declared.ids.ObjId.{ObjId}
-use Rattle.fr_program.specs.declared.ids.VarId.{VarId}
-use Rattle.fr_program.specs.declared.instr.Act.{Act}
-use Rattle.fr_program.specs.declared.instr.Act.TheVariants.{Move}
-use Rattle.fr_program.specs.declared.instr.BufferKind.{BufferKind}
-use Rattle.fr_program.specs.declared.instr.BufferKind.TheVariants.{Stream as OfStream, Message as OfMessage}
 use Rattle.fr_program.specs.declared.instr.End.{End}
 use Rattle.fr_program.specs.declared.instr.End.TheVariants.{Writer, Reader}
-use Rattle.fr_program.specs.declared.instr.Timing.{Timing}
-use Rattle.fr_program.specs.declared.parts.Kind.{Kind}
-use Rattle.fr_program.specs.declared.parts.Kind.TheVariants.{Stream, Message}
-use Rattle.fr_program.specs.declared.range.Range.{Range}
-use Rattle.fr_program.specs.Program.{Program}
-use Rattle.fr_program.specs.Limits.{KindInLimits}
-use Rattle.fr_program.specs.Uses.{is_buffer}
-use Rattle.fr_calls.specs.declared.way.Way.TheVariants.{Then, Else}
-use Rattle.fr_calls.specs.State.{State, Content, Bytes, Lengths, CanHave, content_of, kind_of, becomes}
-use Rattle.fr_calls.specs.Step.{Completes, Moves, sent_bytes, received_bytes, sent_message, received_message, with_result, transition}
-use Rattle.fr_notes.specs.Note.{Within}
-use Rattle.fr_notes.specs.View.{ends_of}
-use Rattle.fr_notes.specs.Holding.{Holding, Living}
-use Rattle.fr_notes.specs.Results.{size_of, least_moved, results_of}
 use Rattle.fr_notes.proofs.Holdings.{IsIn}
 use Rattle.fr_notes.proofs.Seen.{Site, mover, other}
 use Rattle.fr_notes.proofs.Left.{end_of}

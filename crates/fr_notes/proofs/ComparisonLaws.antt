@@ -2,13 +2,8 @@
 use Rattle.std.proofs.Common.{◌≡◌, Bool, true, false, refl, sym, ◌∙◌, arith, Option, Some, None, IfSome, IfNone, ⊎_elim, inl, inr}
 use Rattle.std.specs.Prelude.{◌≢◌, ◌<ℤ◌, ◌≤ℤ◌, ◌+ℤ◌, ℤ, pos, negsuc, IsTrue, ◌-ℤ◌, int_lt, int_le, not, ◌⊎◌}
 use Rattle.std.specs.Ordering.{int_eq}
-use Rattle.std.specs.Int.{int_min, int_max}
-use Rattle.std.proofs.lemmas.Int.{ints, clamps}
-use Rattle.std.proofs.lemmas.Bool.Decides.{Decides-int_eq}
-use Rattle.fr_program.specs.declared.instr.Comparison.TheVariants.{Less, AtMost, Greater, AtLeast, Equal, NotEqual}
-use Rattle.fr_program.specs.declared.range.Range.{Range}
-use Rattle.fr_notes.specs.Comparison.{Compares, IsBelow, IsLeast, turned, AreLeast, NoPair, IsWithout}
-use Rattle.fr_program.specs.Spans.{IsIn}
+use Rattle.fr_notes.proofs.Terms.{int_min, int_max, ints, clamps, Decides-int_eq, Less, AtMost, Greater, AtLeast, Equal, NotEqual, Range, Compares, IsBelow, IsLeast, turned, AreLeast, NoPair}
+use Rattle.fr_notes.proofs.Terms.{IsWithout, IsIn}
 
 -- two relations are true of the same numbers
 pub record AreSame (R Q : ℤ → ℤ → Type 0) : Type 0 where

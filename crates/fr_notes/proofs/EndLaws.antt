@@ -1,38 +1,11 @@
 -- The ends of calls as the code has them: which change, and where there is none.
 use Rattle.std.proofs.Common.{◌≡◌, ℕ, ◌-◌, ◌<◌, ◌≤◌, [], length, Option, Some, None, Bool, true, false, refl, sym, ap, ◌∙◌, subst, arith}
 use Rattle.std.specs.Prelude.{ℤ, pos, ◌<ℤ◌, IsTrue, IfSome, All, nat_le, if◌then◌else◌}
-use Rattle.std.proofs.lemmas.Int.{ints}
-use Rattle.std.proofs.lemmas.Option.{same_Some}
-use Rattle.std.proofs.lemmas.List.Elements.{All-head}
-use Rattle.fr_program.specs.declared.ids.ObjId.{ObjId}
-use Rattle.fr_program.specs.declared.ids.VarId.{VarId}
-use Rattle.fr_program.specs.declared.ids.Point.{Point}
-use Rattle.fr_program.specs.declared.instr.ObjectCall.{ObjectCall}
-use Rattle.fr_program.specs.declared.instr.Act.{Act}
-use Rattle.fr_program.specs.declared.instr.Act.TheVariants.{Try, Move}
-use Rattle.fr_program.specs.declared.instr.Attempt.{Attempt}
-use Rattle.fr_program.specs.declared.instr.Attempt.TheVariants.{QueueSend, QueueReceive, Take, Give, Reset}
-use Rattle.fr_program.specs.declared.instr.BufferKind.TheVariants.{Stream as OfStream, Message as OfMessage}
-use Rattle.fr_program.specs.declared.instr.Timing.{Timing}
-use Rattle.fr_program.specs.declared.parts.Kind.{Kind}
-use Rattle.fr_program.specs.declared.parts.Kind.TheVariants.{Queue, Binary, Counting, Mutex, Recursive, Stream, Message}
-use Rattle.fr_program.specs.declared.range.Range.{Range}
-use Rattle.fr_program.specs.Program.{Program}
-use Rattle.fr_program.specs.Limits.{KindInLimits, ActInLimits}
-use Rattle.fr_program.specs.Timings.{suits_timing}
-use Rattle.fr_program.specs.Uses.{acts_on, act_variables, written_by, option_list}
-use Rattle.fr_calls.specs.declared.way.Way.TheVariants.{Then, Else}
-use Rattle.fr_calls.specs.State.{State, kind_of, content_of}
-use Rattle.fr_calls.specs.Rule.{is_unsuited}
-use Rattle.fr_calls.specs.Step.{Completes, transition}
-use Rattle.fr_notes.specs.declared.change.Change.{Change}
-use Rattle.fr_notes.specs.Note.{Claim, NotHeld, Alive, Gone, HeldTimes, claim_of}
-use Rattle.fr_notes.specs.View.{ends_of}
-use Rattle.fr_notes.specs.Fits.{CanClaim}
-use Rattle.fr_notes.specs.Known.{Known, KnownFits, IsLeft}
-use Rattle.fr_notes.specs.Holding.{Holding, Living, Own, holding, holding_of, others_claim, living, mover_claim, taken_by, given_by, worked_by, can_fail_on, is_mutex, is_given_unheld}
-use Rattle.fr_notes.specs.Results.{results_of, failed_into, IsSmall}
-use Rattle.fr_notes.specs.Spot.{IsEnd, EndLeaves, resulting}
+use Rattle.fr_notes.proofs.Terms.{ints, same_Some, All-head, ObjId, VarId, Point, ObjectCall, Act, Try, Move, Attempt, QueueSend, QueueReceive, Take, Give, Reset, OfStream, OfMessage, Timing, Kind}
+use Rattle.fr_notes.proofs.Terms.{Queue, Binary, Counting, Mutex, Recursive, Stream, Message, Range, Program, KindInLimits, ActInLimits, suits_timing, acts_on, act_variables, written_by, option_list}
+use Rattle.fr_notes.proofs.Terms.{Then, Else, State, kind_of, content_of, is_unsuited, Completes, transition, Change, Claim, NotHeld, Alive, Gone, HeldTimes, claim_of, ends_of, CanClaim, Known}
+use Rattle.fr_notes.proofs.Terms.{KnownFits, IsLeft, Holding, Living, Own, holding, holding_of, others_claim, living, mover_claim, taken_by, given_by, worked_by, can_fail_on, is_mutex}
+use Rattle.fr_notes.proofs.Terms.{is_given_unheld, results_of, failed_into, IsSmall, IsEnd, EndLeaves, resulting}
 use Rattle.fr_notes.proofs.Holdings.{IsIn}
 use Rattle.fr_notes.proofs.Seen.{Site, mover, other}
 use Rattle.fr_notes.proofs.EndRows.{IsEndRow, Follows, IsAlive, living-alive, at, end-names, end-left, end-never}

@@ -1,39 +1,10 @@
 -- The ends of object calls: from what an end makes of a content to what it leaves.
 use Rattle.std.proofs.Common.{◌≡◌, ◌≢◌, ℕ, ◌<◌, length, Option, Some, Bool, true, false, refl, sym, ap, ◌∙◌, subst, arith}
 use Rattle.std.specs.Prelude.{ℤ, IfSome, All}
-use Rattle.std.proofs.lemmas.Option.{same_Some}
-use Rattle.std.proofs.lemmas.Bool.{false≢true}
-use Rattle.fr_program.specs.declared.ids.ObjId.{ObjId}
-use Rattle.fr_program.specs.declared.ids.VarId.{VarId}
-use Rattle.fr_program.specs.declared.ids.Point.{Point}
-use Rattle.fr_program.specs.declared.ids.Side.{Side}
-use Rattle.fr_program.specs.declared.ids.Side.TheVariants.{Inside}
-use Rattle.fr_program.specs.declared.instr.Instr.{Instr}
-use Rattle.fr_program.specs.declared.instr.Instr.TheVariants.{Call as Calls}
-use Rattle.fr_program.specs.declared.instr.Call.TheVariants.{On}
-use Rattle.fr_program.specs.declared.instr.ObjectCall.{ObjectCall}
-use Rattle.fr_program.specs.declared.instr.Act.{Act}
-use Rattle.fr_program.specs.declared.instr.Act.TheVariants.{Try}
-use Rattle.fr_program.specs.declared.instr.Attempt.TheVariants.{Give}
-use Rattle.fr_program.specs.declared.instr.SemaphoreForm.TheVariants.{Plain as PlainForm, Recursive as RecursiveForm}
-use Rattle.fr_program.specs.declared.instr.Timing.{Timing}
-use Rattle.fr_program.specs.declared.instr.Timing.TheVariants.{Now}
-use Rattle.fr_program.specs.declared.parts.Kind.{Kind}
-use Rattle.fr_program.specs.declared.parts.Kind.TheVariants.{Mutex, Recursive}
-use Rattle.fr_program.specs.declared.range.Range.{Range}
-use Rattle.fr_program.specs.Program.{Program}
-use Rattle.fr_program.specs.Uses.{act_variables}
-use Rattle.fr_calls.specs.declared.way.Way.{Way}
-use Rattle.fr_calls.specs.State.{State, Content, Dead, CanHave, content_of, kind_of, becomes, count_held}
-use Rattle.fr_calls.specs.declared.rules.Rule.TheVariants.{IsLive}
-use Rattle.fr_calls.specs.Rule.{GivesUnheld, LacksMutex, given_kind, used_object}
-use Rattle.fr_calls.specs.Step.{Completes, IsFree, transition, with_result}
-use Rattle.fr_calls.proofs.Free.{inside-free, live-use}
-use Rattle.fr_notes.specs.Note.{Claim, NotHeld, Alive, Gone, HeldTimes, Within}
-use Rattle.fr_notes.specs.View.{ends_of}
-use Rattle.fr_notes.specs.Known.{Known, IsOther, IsLeft, NeverSteps, taught}
-use Rattle.fr_notes.specs.Holding.{Holding, Unheld, Living, Lifeless, Own, Others, holding, living, mover_claim, other_claim, is_mutex, is_given_unheld}
-use Rattle.fr_notes.specs.Spot.{IsEnd, resulting}
+use Rattle.fr_notes.proofs.Terms.{same_Some, false≢true, ObjId, VarId, Point, Side, Inside, Instr, Calls, On, ObjectCall, Act, Try, Give, PlainForm, RecursiveForm, Timing, Now, Kind, Mutex, Recursive}
+use Rattle.fr_notes.proofs.Terms.{Range, Program, act_variables, Way, State, Content, Dead, CanHave, content_of, kind_of, becomes, count_held, IsLive, GivesUnheld, LacksMutex, given_kind, used_object}
+use Rattle.fr_notes.proofs.Terms.{Completes, IsFree, transition, with_result, inside-free, live-use, Claim, NotHeld, Alive, Gone, HeldTimes, Within, ends_of, Known, IsOther, IsLeft, NeverSteps}
+use Rattle.fr_notes.proofs.Terms.{taught, Holding, Unheld, Living, Lifeless, Own, Others, holding, living, mover_claim, other_claim, is_mutex, is_given_unheld, IsEnd, resulting}
 use Rattle.fr_notes.proofs.Shown.{depth_for-same}
 use Rattle.fr_notes.proofs.Holdings.{IsIn, live-count, unheld-count, others-free}
 use Rattle.fr_notes.proofs.Seen.{Site, mover, other, IsKnown, contents-in}

@@ -1,26 +1,8 @@
 -- The object of a call that can end: what is known of it, and contents that it can have.
 use Rattle.std.proofs.Common.{◌≡◌, ◌≢◌, ℕ, Some, Bool, true, false, refl, subst, arith}
 use Rattle.std.specs.Prelude.{IsTrue, IfSome}
-use Rattle.std.proofs.lemmas.Int.{ints}
-use Rattle.std.proofs.lemmas.Option.{same_Some, slice_get-get_or}
-use Rattle.fr_program.specs.declared.ids.Point.{Point}
-use Rattle.fr_program.specs.declared.instr.ObjectCall.{ObjectCall}
-use Rattle.fr_program.specs.declared.instr.Instr.TheVariants.{Call as Calls}
-use Rattle.fr_program.specs.declared.instr.Call.TheVariants.{On}
-use Rattle.fr_program.specs.declared.parts.Kind.{Kind}
-use Rattle.fr_program.specs.declared.range.Range.{Range}
-use Rattle.fr_program.specs.Program.{Program}
-use Rattle.fr_program.specs.Lookup.{no_object}
-use Rattle.fr_program.specs.Limits.{KindInLimits, InstrInLimits}
-use Rattle.fr_program.specs.Uses.{acts_on}
-use Rattle.fr_calls.specs.State.{Content, CanHave, kind_of}
-use Rattle.fr_calls.proofs.Built.{HasSizes, is-built}
-use Rattle.fr_notes.specs.Note.{Within, HeldTimes}
-use Rattle.fr_notes.specs.View.{ends_of}
-use Rattle.fr_notes.specs.Fits.{CanClaim}
-use Rattle.fr_notes.specs.Known.{Known, IsOther}
-use Rattle.fr_notes.specs.Holding.{Holding, Unheld, Living, Lifeless, Own, Others, holding, living}
-use Rattle.fr_notes.specs.Spot.{IsEnd}
+use Rattle.fr_notes.proofs.Terms.{ints, same_Some, slice_get-get_or, Point, ObjectCall, Calls, On, Kind, Range, Program, no_object, KindInLimits, InstrInLimits, acts_on, Content, CanHave, kind_of}
+use Rattle.fr_notes.proofs.Terms.{HasSizes, is-built, Within, HeldTimes, ends_of, CanClaim, Known, IsOther, Holding, Unheld, Living, Lifeless, Own, Others, holding, living, IsEnd}
 use Rattle.fr_notes.proofs.Holdings.{IsIn, HoldingFits, content_in, content-in, content-can}
 use Rattle.fr_notes.proofs.Seen.{apart, known-fits}
 use Rattle.fr_notes.proofs.Left.{end_of}

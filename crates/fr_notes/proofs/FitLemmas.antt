@@ -1,12 +1,8 @@
 -- An alternative in code fits an application where its parts do.
 use Rattle.std.proofs.Common.{◌≤◌, ℕ, zero, suc, List, [], ◌∷◌, get_or, map, arith}
 use Rattle.std.specs.Prelude.{pos, ◌≤ℤ◌}
-use Rattle.std.proofs.lemmas.Int.{ints}
-use Rattle.fr_program.specs.declared.range.Range.{Range}
-use Rattle.fr_program.specs.Program.{Program}
+use Rattle.fr_notes.proofs.Terms.{ints, Range, Program, AlternativeFits, ClaimsFit, RangesFit, most_depth, ends_of, alternative_of}
 use Rattle.fr_notes.specs.declared.note.Alternative.TheInside.{Inside}
-use Rattle.fr_notes.specs.Fits.{AlternativeFits, ClaimsFit, RangesFit, most_depth}
-use Rattle.fr_notes.specs.View.{ends_of, alternative_of}
 
 -- each range has its ends in order
 pub ends-ordered : (ranges : List Range) (x : ℕ) → (get_or (map ends_of ranges) x (pos 0, pos 0)).0 ≤ℤ (get_or (map ends_of ranges) x (pos 0, pos 0)).1

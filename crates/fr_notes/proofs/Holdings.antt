@@ -2,18 +2,10 @@
 -- content there meets both claims, and one content there shows each claim that follows.
 use Rattle.std.proofs.Common.{◌≡◌, ◌≢◌, ℕ, ◌<◌, ◌≤◌, length, Bool, true, false, refl, sym, ap, ◌∙◌, subst, arith, inl, inr}
 use Rattle.std.specs.Prelude.{◌⊎◌, nat_eq, if◌then◌else◌}
-use Rattle.std.proofs.lemmas.Bool.{eqb-true}
-use Rattle.fr_program.specs.declared.parts.Kind.{Kind}
-use Rattle.fr_program.specs.declared.parts.Kind.TheVariants.{Queue, Binary, Counting, Mutex, Recursive, Stream, Message}
-use Rattle.fr_program.specs.Program.{Program}
-use Rattle.fr_calls.specs.State.{Content, Dead, Values, Count, Free, Held, Bytes, Lengths, CanHave, count_held, new_content}
-use Rattle.fr_calls.proofs.Built.{HasSizes}
-use Rattle.fr_calls.proofs.Contents.{new-fits}
-use Rattle.fr_notes.specs.Note.{Claim, NotHeld, Alive, Gone, HeldTimes, Meets}
-use Rattle.fr_notes.specs.Fits.{CanClaim}
-use Rattle.fr_notes.specs.Implication.{ClaimImplies}
-use Rattle.fr_notes.specs.Known.{ClaimsMeet, joined}
-use Rattle.fr_notes.specs.Holding.{Holding, Unheld, Living, Lifeless, Own, Others, holding_of, mover_claim, other_claim}
+use Rattle.fr_notes.proofs.Terms.{eqb-true, Kind, Queue, Binary, Counting, Mutex, Recursive, Stream, Message, Program, Content, Dead, Values, Count, Free, Held, Bytes, Lengths, CanHave, count_held}
+use Rattle.fr_notes.proofs.Terms.{new_content, HasSizes, new-fits, Claim, NotHeld, Alive, Gone, HeldTimes, Meets, CanClaim, ClaimImplies, ClaimsMeet, Holding, Unheld, Living, Lifeless, Own, Others}
+use Rattle.fr_notes.proofs.Terms.{holding_of, mover_claim, other_claim}
+use Rattle.fr_notes.specs.Known.{joined}
 use Rattle.fr_notes.proofs.Shown.{depth_for-same, new-live}
 
 -- the actor holds no mutex there, not even so often as 0

@@ -3,22 +3,9 @@
 use Rattle.std.proofs.Common.{◌≡◌, ℕ, zero, suc, ◌<◌, ◌≤◌, List, [], ◌∷◌, length, get_or, map, Bool, true, false, refl, sym, ap, ◌∙◌, subst, arith, ⊎_elim}
 use Rattle.std.specs.Prelude.{ℤ, pos, All, Any}
 use Rattle.std.specs.Bool.{OnTrue, OnFalse}
-use Rattle.std.proofs.lemmas.Int.{ints}
-use Rattle.std.proofs.lemmas.List.{get_or_past, get_or-map}
-use Rattle.std.proofs.lemmas.Bool.{cases_lt}
-use Rattle.fr_program.specs.declared.parts.Kind.{Kind}
-use Rattle.fr_program.specs.declared.parts.Kind.TheVariants.{Queue, Binary, Counting, Mutex, Recursive, Stream, Message}
-use Rattle.fr_program.specs.declared.range.Range.{Range}
-use Rattle.fr_program.specs.Program.{Program}
-use Rattle.fr_program.specs.Fault.{IsFaultless}
-use Rattle.fr_calls.specs.State.{State, Content, Held, CanHave, IsWellFormed, kind_of, content_of, value_of, count_held, new_content}
-use Rattle.fr_calls.proofs.Built.{HasSizes, is-built}
-use Rattle.fr_calls.proofs.Contents.{new-fits}
-use Rattle.fr_notes.specs.Note.{Alternative, Note, Claim, NotHeld, Alive, Gone, HeldTimes, Meets, Within, HoldsOne, Holds, claim_of, range_of}
-use Rattle.fr_notes.specs.Fits.{CanClaim, AlternativeFits, NoteFits}
-use Rattle.fr_notes.specs.Compare.{Implies}
-use Rattle.fr_notes.specs.Implication.{ClaimImplies, IsPart, IsStronger, ImpliesSome}
-use Rattle.fr_notes.specs.View.{ends_of}
+use Rattle.fr_notes.proofs.Terms.{ints, get_or_past, get_or-map, cases_lt, Kind, Queue, Binary, Counting, Mutex, Recursive, Stream, Message, Range, Program, IsFaultless, State, Content, Held, CanHave}
+use Rattle.fr_notes.proofs.Terms.{IsWellFormed, kind_of, content_of, value_of, count_held, new_content, HasSizes, is-built, new-fits, Alternative, Note, Claim, NotHeld, Alive, Gone, HeldTimes, Meets}
+use Rattle.fr_notes.proofs.Terms.{Within, HoldsOne, Holds, claim_of, range_of, CanClaim, AlternativeFits, NoteFits, Implies, ClaimImplies, IsPart, IsStronger, ImpliesSome, ends_of}
 use Rattle.fr_notes.proofs.Shown.{shown, Shows, instead, instead-case, instead-same, done, least, content_for, usual, least-within, new-live, new-not_held, content_for-meets, content_for-fits, usual-shows, shown-value, shown-content, shown-formed, shown-holds, depth_for-same}
 
 pub on_true_weaker : {P Q : Type 0} (b : Bool) → (P → Q) → OnTrue b P → OnTrue b Q

@@ -1,3 +1,4 @@
+mod Terms
 pub mod ComparisonLaws
 pub mod Shown
 pub mod PartsLemmas

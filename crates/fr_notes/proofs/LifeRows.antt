@@ -1,27 +1,11 @@
 -- Creates, deletes, and the begins of object calls.
 use Rattle.std.proofs.Common.{◌≡◌, ◌≢◌, ℕ, ◌<◌, length, Option, Some, None, true, false, refl, sym, ◌∙◌, subst, arith}
 use Rattle.std.specs.Prelude.{pos, ◌≤ℤ◌}
-use Rattle.std.proofs.lemmas.Int.{ints}
-use Rattle.fr_program.specs.declared.ids.ObjId.{ObjId}
-use Rattle.fr_program.specs.declared.ids.Point.{Point}
-use Rattle.fr_program.specs.declared.ids.Side.TheVariants.{Before}
-use Rattle.fr_program.specs.declared.instr.Instr.{Instr}
-use Rattle.fr_program.specs.declared.instr.Instr.TheVariants.{Call as Calls}
-use Rattle.fr_program.specs.declared.instr.Call.TheVariants.{Create, Delete, On}
+use Rattle.fr_notes.proofs.Terms.{ints, ObjId, Point, Before, Instr, Calls, Create, Delete, On, ObjectCall, Range, Program, Way, Then, Else, Content, Dead, content_of, kind_of, new_content, is-built}
+use Rattle.fr_notes.proofs.Terms.{no-use, live-use, Alive, Gone, Known, IsLeft, NeverSteps, taught, Holding, Unheld, Living, Lifeless, Own, Others, holding, can_be_dead, living, mover_claim}
+use Rattle.fr_notes.proofs.Terms.{other_claim, is_given_unheld, IsSpot, IsUnforbidden, claiming}
 use Rattle.fr_program.specs.declared.instr.CreatedKind.{CreatedKind}
 use Rattle.fr_program.specs.declared.instr.DeletedKind.{DeletedKind}
-use Rattle.fr_program.specs.declared.instr.ObjectCall.{ObjectCall}
-use Rattle.fr_program.specs.declared.range.Range.{Range}
-use Rattle.fr_program.specs.Program.{Program}
-use Rattle.fr_calls.specs.declared.way.Way.{Way}
-use Rattle.fr_calls.specs.declared.way.Way.TheVariants.{Then, Else}
-use Rattle.fr_calls.specs.State.{Content, Dead, content_of, kind_of, new_content}
-use Rattle.fr_calls.proofs.Built.{is-built}
-use Rattle.fr_calls.proofs.Free.{no-use, live-use}
-use Rattle.fr_notes.specs.Note.{Alive, Gone}
-use Rattle.fr_notes.specs.Known.{Known, IsLeft, NeverSteps, taught}
-use Rattle.fr_notes.specs.Holding.{Holding, Unheld, Living, Lifeless, Own, Others, holding, can_be_dead, living, mover_claim, other_claim, is_given_unheld}
-use Rattle.fr_notes.specs.Spot.{IsSpot, IsUnforbidden, claiming}
 use Rattle.fr_notes.proofs.Shown.{new-live}
 use Rattle.fr_notes.proofs.Holdings.{IsIn, content_in, content-in, content-can, new-unheld, live-count}
 use Rattle.fr_notes.proofs.Seen.{other, contents-in, known-fits}

@@ -1,28 +1,11 @@
 -- Where there is no step at all, whatever the row: a rule stops the mover.
 use Rattle.std.proofs.Common.{◌≡◌, ℕ, List, [], ◌∷◌, Some, None, Bool, true, false, refl, sym, ap, ◌∙◌, subst}
 use Rattle.std.specs.Prelude.{ℤ, IsTrue, All, find, nat_eq, if◌then◌else◌}
-use Rattle.std.proofs.lemmas.Option.{same_Some}
-use Rattle.std.proofs.lemmas.Bool.{false≢true}
-use Rattle.std.proofs.lemmas.List.Elements.{All-nil, All-cons, All-head, All-tail}
-use Rattle.fr_program.specs.declared.ids.ObjId.{ObjId}
-use Rattle.fr_program.specs.declared.ids.Point.{Point}
-use Rattle.fr_program.specs.declared.ids.Side.{Side}
-use Rattle.fr_program.specs.declared.ids.Side.TheVariants.{Before, Inside}
-use Rattle.fr_program.specs.declared.instr.Instr.{Instr}
-use Rattle.fr_program.specs.declared.instr.Instr.TheVariants.{Call as Calls}
-use Rattle.fr_program.specs.declared.instr.Form.{Form}
-use Rattle.fr_program.specs.declared.instr.Call.TheVariants.{ExitCritical, ResumeAll, On}
-use Rattle.fr_program.specs.declared.instr.ObjectCall.{ObjectCall}
-use Rattle.fr_program.specs.Program.{Program}
-use Rattle.fr_calls.specs.declared.way.Way.{Way}
+use Rattle.fr_notes.proofs.Terms.{same_Some, false≢true, All-nil, All-cons, All-head, All-tail, ObjId, Point, Side, Before, Inside, Instr, Calls, Form, ExitCritical, ResumeAll, On, ObjectCall}
+use Rattle.fr_notes.proofs.Terms.{Program, Way, GivenByHolder, AllowedInCritical, AllowedSuspended, AllowedInInterrupt, SuitsSemaphore, DepthAboveZero, EndsInOrder, State, content_of, kind_of}
+use Rattle.fr_notes.proofs.Terms.{Breaches, IsForbidden, condition_of, forbids, first_forbidden, decided_rules, used_object, is_unsuited, Row, IsFree, stops, transition, Known, NeverSteps, Holding}
+use Rattle.fr_notes.proofs.Terms.{Unheld, Living, Lifeless, Own, Others, holding, living, is_given_unheld, IsSpot, condition_known}
 use Rattle.fr_calls.specs.declared.rules.Rule.{Rule}
-use Rattle.fr_calls.specs.declared.rules.Rule.TheVariants.{GivenByHolder, AllowedInCritical, AllowedSuspended, AllowedInInterrupt, SuitsSemaphore, DepthAboveZero, EndsInOrder}
-use Rattle.fr_calls.specs.State.{State, content_of, kind_of}
-use Rattle.fr_calls.specs.Rule.{Breaches, IsForbidden, condition_of, forbids, first_forbidden, decided_rules, used_object, is_unsuited}
-use Rattle.fr_calls.specs.Step.{Row, IsFree, stops, transition}
-use Rattle.fr_notes.specs.Known.{Known, NeverSteps}
-use Rattle.fr_notes.specs.Holding.{Holding, Unheld, Living, Lifeless, Own, Others, holding, living, is_given_unheld}
-use Rattle.fr_notes.specs.Spot.{IsSpot, condition_known}
 use Rattle.fr_notes.proofs.Holdings.{IsIn}
 use Rattle.fr_notes.proofs.Seen.{other, contents-in, apart}
 use Rattle.fr_notes.proofs.Rows.{row-never, site}

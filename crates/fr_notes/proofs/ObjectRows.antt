@@ -5,22 +5,8 @@
 use Rattle.std.proofs.Common.{◌≡◌, ◌≢◌, ◌<◌, length, Option, Some, None, Bool, false, refl, sym, ap, ◌∙◌, subst, arith, get_or-set_other}
 use Rattle.std.specs.Prelude.{ℤ, pos, IfSome}
 use Rattle.std.proofs.Math.ListN.{length-set}
-use Rattle.std.proofs.lemmas.List.{get_or-set_same, set-get_or}
-use Rattle.fr_program.specs.declared.ids.ObjId.{ObjId}
-use Rattle.fr_program.specs.declared.ids.VarId.{VarId}
-use Rattle.fr_program.specs.declared.ids.Point.{Point}
-use Rattle.fr_program.specs.declared.ids.Side.{Side}
-use Rattle.fr_program.specs.Program.{Program}
-use Rattle.fr_program.specs.declared.instr.Instr.{Instr}
-use Rattle.fr_program.specs.declared.range.Range.{Range}
-use Rattle.fr_calls.specs.declared.way.Way.{Way}
-use Rattle.fr_calls.specs.State.{State, Content, Dead, CanHave, content_of, value_of, kind_of, becomes, write}
-use Rattle.fr_calls.specs.Step.{Row, IsFree, transition, with_result}
-use Rattle.fr_notes.specs.Note.{Within}
-use Rattle.fr_notes.specs.View.{ends_of}
-use Rattle.fr_notes.specs.Known.{Known, IsOther, IsLeft, taught}
-use Rattle.fr_notes.specs.Holding.{Holding, Unheld, holding, mover_claim, other_claim}
-use Rattle.fr_notes.specs.Spot.{IsSpot, resulting}
+use Rattle.fr_notes.proofs.Terms.{get_or-set_same, set-get_or, ObjId, VarId, Point, Side, Program, Instr, Range, Way, State, Content, Dead, CanHave, content_of, value_of, kind_of, becomes, write, Row}
+use Rattle.fr_notes.proofs.Terms.{IsFree, transition, with_result, Within, ends_of, Known, IsOther, IsLeft, taught, Holding, Unheld, holding, mover_claim, other_claim, IsSpot, resulting}
 use Rattle.fr_notes.proofs.Shown.{instead-same, instead-other}
 use Rattle.fr_notes.proofs.Holdings.{IsIn}
 use Rattle.fr_notes.proofs.Seen.{Site, mover, other, IsKnown, Choice, drawn, IsChosen, drawn-known, drawn-content, drawn-values, usual, usual-chosen, filled, filled-chosen}

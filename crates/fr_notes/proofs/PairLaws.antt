@@ -1,23 +1,9 @@
 -- Two alternatives, of two actors, hold in one state exactly where they exclude each other in no part.
 use Rattle.std.proofs.Common.{◌≡◌, ◌≢◌, ℕ, zero, suc, ◌<◌, length, Option, Some, None, Bool, true, false, refl, sym, ap, ◌∙◌, subst, arith, inl, inr}
 use Rattle.std.specs.Prelude.{◌⊎◌, ◌↔◌, Any, Contains, if◌then◌else◌, nat_eq}
-use Rattle.std.proofs.lemmas.Int.{ints, clamps}
-use Rattle.std.proofs.lemmas.Bool.{eqb-true}
-use Rattle.fr_program.specs.declared.ids.ActorId.{ActorId}
-use Rattle.fr_program.specs.declared.ids.Point.{Point}
-use Rattle.fr_program.specs.declared.ids.Side.TheVariants.{Before}
-use Rattle.fr_program.specs.Program.{Program}
-use Rattle.fr_program.specs.Lookup.{IsPoint}
-use Rattle.fr_program.specs.Fault.{IsFaultless}
-use Rattle.fr_calls.specs.State.{State, Content, content_of, depth_in}
-use Rattle.fr_calls.proofs.Built.{is-built}
+use Rattle.fr_notes.proofs.Terms.{ints, clamps, eqb-true, ActorId, Point, Before, Program, IsPoint, IsFaultless, State, Content, content_of, depth_in, is-built, Alternative, Note, Claim, NotHeld}
+use Rattle.fr_notes.proofs.Terms.{Alive, Gone, HeldTimes, Meets, HoldsOne, claim_of, NotedBy, AreTogether, AlternativeFits, NoteFits, ClaimsMeet, AreCompatible, beside, CanMeet, MeetsSome}
 use Rattle.fr_calls.proofs.Formed.{point_before}
-use Rattle.fr_notes.specs.Note.{Alternative, Note, Claim, NotHeld, Alive, Gone, HeldTimes, Meets, HoldsOne, claim_of}
-use Rattle.fr_notes.specs.Noted.{NotedBy}
-use Rattle.fr_notes.specs.Compare.{AreTogether}
-use Rattle.fr_notes.specs.Fits.{AlternativeFits, NoteFits}
-use Rattle.fr_notes.specs.Known.{ClaimsMeet, AreCompatible, beside}
-use Rattle.fr_notes.specs.Pairs.{CanMeet, MeetsSome}
 use Rattle.fr_notes.proofs.Shown.{depth_for-other}
 use Rattle.fr_notes.proofs.Seen.{Site, drawn, drawn-known, usual, usual-chosen}
 

@@ -1,24 +1,10 @@
 -- The alternative that parts say fits the application, where no fault stands in them.
 use Rattle.std.proofs.Common.{◌≡◌, ℕ, ◌≤◌, List, [], ◌∷◌, length, Option, Some, None, Bool, true, false, refl, sym, subst, arith, ⊎_elim}
 use Rattle.std.specs.Prelude.{ℤ, pos, ◌≤ℤ◌, IfSome, nat_eq, if◌then◌else◌, All}
-use Rattle.std.proofs.lemmas.Int.{ints}
-use Rattle.std.proofs.lemmas.List.{get_or_past}
-use Rattle.std.proofs.lemmas.List.FromFn.{length-map-range_with_len}
-use Rattle.std.proofs.lemmas.List.Elements.{All-head, All-tail}
-use Rattle.std.proofs.lemmas.Bool.{cases_lt, eqb-true}
-use Rattle.fr_program.specs.declared.parts.Kind.{Kind}
-use Rattle.fr_program.specs.declared.parts.Kind.TheVariants.{Queue, Binary, Counting, Mutex, Recursive, Stream, Message}
-use Rattle.fr_program.specs.declared.ids.ObjId.{ObjId}
-use Rattle.fr_program.specs.declared.ids.VarId.{VarId}
-use Rattle.fr_program.specs.declared.range.Range.{Range}
-use Rattle.fr_program.specs.Program.{Program, VariableOf}
-use Rattle.fr_program.specs.Lookup.{variable_at, no_variable}
-use Rattle.fr_program.specs.Fault.{IsFaultless}
-use Rattle.fr_calls.specs.State.{kind_of}
+use Rattle.fr_notes.proofs.Terms.{ints, get_or_past, length-map-range_with_len, All-head, All-tail, cases_lt, eqb-true, Kind, Queue, Binary, Counting, Mutex, Recursive, Stream, Message, ObjId, VarId}
+use Rattle.fr_notes.proofs.Terms.{Range, Program, VariableOf, variable_at, no_variable, IsFaultless, kind_of, NotHeld, Alive, Gone, HeldTimes, range_of, CanClaim, AlternativeFits, most_depth, names}
+use Rattle.fr_notes.proofs.Terms.{count_in, count_said, unheld_said, claim_by, claim_said, range_in, range_by, range_said, said, IsCount, IsNarrowing}
 use Rattle.fr_notes.specs.declared.note.NoteParts.{NoteParts}
-use Rattle.fr_notes.specs.Note.{NotHeld, Alive, Gone, HeldTimes, range_of}
-use Rattle.fr_notes.specs.Fits.{CanClaim, AlternativeFits, most_depth}
-use Rattle.fr_notes.specs.Parts.{names, count_in, count_said, unheld_said, claim_by, claim_said, range_in, range_by, range_said, said, IsCount, IsNarrowing}
 use Rattle.fr_notes.proofs.Shown.{listed-case}
 
 -- that an actor doesn't hold it can be said of anything

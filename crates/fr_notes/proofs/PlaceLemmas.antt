@@ -1,7 +1,6 @@
 -- Notes that points share, beside the list of the notes by point.
 use Rattle.std.proofs.Common.{◌≡◌, ◌<◌, ℕ, List, [], Option, None, Some, Vec, Global, length, get_or, sym, ap, ◌∙◌, subst}
-use Rattle.std.proofs.lemmas.List.{get_or-map, get_or_default}
-use Rattle.fr_notes.specs.Note.{Note}
+use Rattle.fr_notes.proofs.Terms.{get_or-map, get_or_default, Note}
 use Rattle.fr_notes.specs.NotesView.{notes_by, AreTheirs}
 use Rattle.fr_notes.specs.Places.{ArePlaces, notes_at}
 

@@ -1,28 +1,10 @@
 -- The rows that touch no variable and no object.
 use Rattle.std.proofs.Common.{◌≡◌, ◌≢◌, ℕ, zero, suc, ◌+◌, ◌-◌, ◌≤◌, length, get_or, Option, Some, None, true, false, refl, sym, ap, ◌∙◌, subst, arith, ⊎_elim, get_or-set_other}
 use Rattle.std.specs.Prelude.{ℤ, pos, IfSome}
-use Rattle.std.proofs.lemmas.List.{get_or-set_same}
-use Rattle.std.proofs.lemmas.Grind.{common_steps}
-use Rattle.fr_program.specs.declared.ids.Point.{Point}
-use Rattle.fr_program.specs.declared.ids.Side.{Side}
-use Rattle.fr_program.specs.declared.ids.Side.TheVariants.{Before}
-use Rattle.fr_program.specs.declared.instr.Form.{Form}
-use Rattle.fr_program.specs.declared.instr.Instr.{Instr}
-use Rattle.fr_program.specs.declared.instr.Instr.TheVariants.{Goto, Call as Calls, Return}
-use Rattle.fr_program.specs.declared.instr.Call.TheVariants.{EnterCritical, ExitCritical, SuspendAll, ResumeAll, Yield, Delay, DeleteSelf}
-use Rattle.fr_program.specs.Program.{Program}
-use Rattle.fr_program.specs.Lookup.{actor_at, is_interrupt}
-use Rattle.fr_calls.specs.declared.way.Way.{Way}
-use Rattle.fr_calls.specs.declared.way.Way.TheVariants.{Then}
-use Rattle.fr_calls.specs.State.{State, Dead, depth_of, depth_in, suspension_of, in_critical, critical_at, suspend_at}
-use Rattle.fr_calls.specs.Rule.{condition_of, first_forbidden, holds_some, GivesUnheld, UsesDead, used_object}
-use Rattle.fr_calls.specs.Step.{Row, IsFree, Transition, transition}
-use Rattle.fr_calls.proofs.Free.{before-free, no-use}
-use Rattle.fr_notes.specs.declared.change.Change.{Change}
-use Rattle.fr_notes.specs.Note.{Alternative}
-use Rattle.fr_notes.specs.Known.{Known, IsLeft, NeverSteps, is_other_critical}
-use Rattle.fr_notes.specs.Holding.{Unheld}
-use Rattle.fr_notes.specs.Spot.{IsSpot, IsUnforbidden, LeavesBefore, condition_known, unchanged}
+use Rattle.fr_notes.proofs.Terms.{get_or-set_same, common_steps, Point, Side, Before, Form, Instr, Goto, Calls, Return, EnterCritical, ExitCritical, SuspendAll, ResumeAll, Yield, Delay, DeleteSelf}
+use Rattle.fr_notes.proofs.Terms.{Program, actor_at, is_interrupt, Way, Then, State, Dead, depth_of, depth_in, suspension_of, in_critical, critical_at, suspend_at, condition_of, first_forbidden}
+use Rattle.fr_notes.proofs.Terms.{holds_some, GivesUnheld, UsesDead, used_object, Row, IsFree, Transition, transition, before-free, no-use, Change, Alternative, Known, IsLeft, NeverSteps}
+use Rattle.fr_notes.proofs.Terms.{is_other_critical, Unheld, IsSpot, IsUnforbidden, LeavesBefore, condition_known, unchanged}
 use Rattle.fr_notes.proofs.Shown.{depth_for-same, depth_for-other, held_at-same, held_at-other}
 use Rattle.fr_notes.proofs.Seen.{Site, mover, other, second, second_in, IsKnown, Choice, drawn, IsChosen, drawn-known, usual, usual-chosen, apart, mover-there, holds-known, other-depth, critical_for, second-critical}
 use Rattle.fr_notes.proofs.Rows.{IsRow, row-left, row-never, site}

@@ -1,20 +1,9 @@
 -- From ranges in code to what is known of each variable: the spans of results, and the least ranges of an `if`'s operands.
 use Rattle.std.proofs.Common.{◌≡◌, ℕ, refl, sym, ◌∙◌, ap, subst, arith}
 use Rattle.std.specs.Prelude.{ℤ, ◌*ℤ◌}
-use Rattle.std.proofs.lemmas.Int.{ints}
+use Rattle.fr_notes.proofs.Terms.{ints, Operand, Number, Variable, Operator, Times, Range, IsNumber, IsIn, IsNarrow, IsSpan, IsScaled, result_of, Within, ends_of, AreLeast, NoPair, operand_in}
+use Rattle.fr_notes.proofs.Terms.{CanBeIn, HasNumbersIn, IsSpanIn, IsBranchIn, NoBranchIn}
 use Rattle.std.proofs.Math.IntN.{*ℤ_comm}
-use Rattle.fr_program.specs.declared.instr.Operand.{Operand}
-use Rattle.fr_program.specs.declared.instr.Operand.TheVariants.{Number, Variable}
-use Rattle.fr_program.specs.declared.instr.Operator.{Operator}
-use Rattle.fr_program.specs.declared.instr.Operator.TheVariants.{Times}
-use Rattle.fr_program.specs.declared.range.Range.{Range}
-use Rattle.fr_program.specs.Limits.{IsNumber}
-use Rattle.fr_program.specs.Spans.{IsIn, IsNarrow, IsSpan, IsScaled}
-use Rattle.fr_calls.specs.Rule.{result_of}
-use Rattle.fr_notes.specs.Note.{Within}
-use Rattle.fr_notes.specs.View.{ends_of}
-use Rattle.fr_notes.specs.Comparison.{AreLeast, NoPair}
-use Rattle.fr_notes.specs.Reckoning.{operand_in, CanBeIn, HasNumbersIn, IsSpanIn, IsBranchIn, NoBranchIn}
 
 module _ (range : ℕ → ℤ × ℤ) (o : Operand) (a : Range) (is : ends_of a ≡ operand_in range o) where
   is-in : (v : ℤ) → CanBeIn range o v → IsIn a v

@@ -4,30 +4,11 @@
 -- variable that it writes. The choices for all other variables and objects are made here, since they don't matter to it.
 use Rattle.std.proofs.Common.{◌≡◌, ◌≢◌, ℕ, ◌<◌, length, Option, Some, None, Bool, true, false, refl, sym, ap, ◌∙◌, subst, eq-eqb, arith}
 use Rattle.std.specs.Prelude.{ℤ, IfSome, nat_eq, if◌then◌else◌}
-use Rattle.std.proofs.lemmas.Bool.{eqb-true}
-use Rattle.std.proofs.lemmas.Option.{same_Some}
-use Rattle.std.proofs.lemmas.Int.{ints}
-use Rattle.fr_program.specs.declared.ids.ObjId.{ObjId}
-use Rattle.fr_program.specs.declared.ids.VarId.{VarId}
-use Rattle.fr_program.specs.declared.ids.Point.{Point}
-use Rattle.fr_program.specs.declared.ids.Side.{Side}
-use Rattle.fr_program.specs.declared.instr.Instr.{Instr}
-use Rattle.fr_program.specs.declared.range.Range.{Range}
-use Rattle.fr_program.specs.Program.{Program}
-use Rattle.fr_program.specs.Lookup.{instr_of, instr_at}
-use Rattle.fr_calls.specs.declared.way.Way.{Way}
-use Rattle.fr_calls.specs.State.{State, At, Content, Dead, CanHave, content_of, value_of, depth_of, suspension_of, goes_to, kind_of, new_content}
-use Rattle.fr_calls.specs.Step.{Row, IsFree, StepBy, landing, transition}
-use Rattle.fr_calls.proofs.Built.{is-built}
-use Rattle.fr_calls.proofs.Contents.{new-fits}
-use Rattle.fr_notes.specs.declared.change.Change.{Change}
-use Rattle.fr_notes.specs.Note.{Alternative, Claim, NotHeld, Alive, Gone, HeldTimes, Meets, Within, claim_of}
-use Rattle.fr_notes.specs.Change.{range_after, new_range}
-use Rattle.fr_notes.specs.Implication.{ClaimImplies}
-use Rattle.fr_notes.specs.View.{ends_of}
-use Rattle.fr_notes.specs.Known.{Known, KnownFits, IsOther, HasKnown, NeverSteps, IsLeft, joint_range, joint_claim, joined, claim_after, other_after, taught}
-use Rattle.fr_notes.specs.Spot.{IsSpot}
-use Rattle.fr_notes.specs.Holding.{Holding, Unheld, Living, Lifeless, Own, Others, holding, holding_of, others_claim, mover_claim, other_claim}
+use Rattle.fr_notes.proofs.Terms.{eqb-true, same_Some, ints, ObjId, VarId, Point, Side, Instr, Range, Program, instr_of, instr_at, Way, State, At, Content, Dead, CanHave, content_of, value_of}
+use Rattle.fr_notes.proofs.Terms.{depth_of, suspension_of, goes_to, kind_of, new_content, Row, IsFree, StepBy, landing, transition, is-built, new-fits, Change, Alternative, Claim, NotHeld, Alive}
+use Rattle.fr_notes.proofs.Terms.{Gone, HeldTimes, Meets, Within, claim_of, range_after, new_range, ClaimImplies, ends_of, Known, KnownFits, IsOther, HasKnown, NeverSteps, IsLeft, joint_range}
+use Rattle.fr_notes.proofs.Terms.{joint_claim, claim_after, other_after, taught, IsSpot, Holding, Unheld, Living, Lifeless, Own, Others, holding, holding_of, others_claim, mover_claim, other_claim}
+use Rattle.fr_notes.specs.Known.{joined}
 use Rattle.fr_notes.proofs.Shown.{instead-same}
 use Rattle.fr_notes.proofs.Holdings.{IsIn, claim-met, other-met, claim-shown, other-shown, implied-either, mover-joined, other-joined, new-unheld}
 use Rattle.fr_notes.proofs.Seen.{Site, mover, other, other_in, second, second_in, IsKnown, Choice, drawn, IsChosen, drawn-known, drawn-value, drawn-content, usual-chosen, valued, valued-chosen, filled, filled-chosen, apart, claims-meet, contents-in, values-within, other-depth, other-suspension}

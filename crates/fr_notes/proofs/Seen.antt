@@ -10,28 +10,11 @@
 -- | usual, valued, filled   | a choice; one with another value, one with another content                       |
 use Rattle.std.proofs.Common.{◌≡◌, ◌≢◌, ℕ, zero, suc, ◌<◌, ◌≤◌, length, get_or, Option, Some, None, List, [], ◌∷◌, refl, sym, ap, ◌∙◌, subst, arith, ⊎_elim, inl, inr}
 use Rattle.std.specs.Prelude.{ℤ, pos, IfSome, ◌⊎◌, ◌≤ℤ◌, nat_lt, slice_get}
-use Rattle.std.specs.List.{list_any}
-use Rattle.std.proofs.lemmas.Int.{ints, clamps}
-use Rattle.std.proofs.lemmas.Bool.{cases_lt}
-use Rattle.std.proofs.lemmas.List.{get_or_past}
-use Rattle.std.proofs.lemmas.List.FromFn.{length-map-range_with_len, get_or-map-range_with_len}
-use Rattle.std.proofs.lemmas.Grind.{common_steps}
-use Rattle.fr_program.specs.declared.ids.ActorId.{ActorId}
-use Rattle.fr_program.specs.declared.ids.Point.{Point}
-use Rattle.fr_program.specs.declared.instr.Instr.{Instr}
-use Rattle.fr_program.specs.declared.parts.Kind.{Kind}
-use Rattle.fr_program.specs.declared.parts.Kind.TheVariants.{Queue, Binary, Counting, Mutex, Recursive, Stream, Message}
-use Rattle.fr_program.specs.Program.{Program}
-use Rattle.fr_program.specs.Lookup.{IsPoint, instr_at, no_actor}
-use Rattle.fr_program.specs.Fault.{IsFaultless}
-use Rattle.fr_calls.specs.State.{State, Place, At, Done, Content, Dead, Values, Count, Free, Held, Bytes, Lengths, CanHave, Exists, IsWellFormed, kind_of, content_of, value_of, count_held, depth_in, depth_of, suspension_of, held_at}
-use Rattle.fr_calls.specs.Rule.{holds_some}
-use Rattle.fr_calls.proofs.Built.{is-built}
-use Rattle.fr_notes.specs.Note.{Alternative, Claim, NotHeld, Alive, Gone, HeldTimes, Meets, Within, HoldsOne, claim_of, range_of}
-use Rattle.fr_notes.specs.Noted.{NotedBy}
-use Rattle.fr_notes.specs.Fits.{CanClaim, AlternativeFits}
-use Rattle.fr_notes.specs.Known.{Known, KnownFits, ClaimsMeet, IsOther, HasKnown, joint_range, meet_of, is_held, claims_some}
-use Rattle.fr_notes.specs.Holding.{holding, others_claim}
+use Rattle.fr_notes.proofs.Terms.{list_any, ints, clamps, cases_lt, get_or_past, length-map-range_with_len, get_or-map-range_with_len, common_steps, ActorId, Point, Instr, Kind, Queue, Binary}
+use Rattle.fr_notes.proofs.Terms.{Counting, Mutex, Recursive, Stream, Message, Program, IsPoint, instr_at, no_actor, IsFaultless, State, Place, At, Done, Content, Dead, Values, Count, Free, Held}
+use Rattle.fr_notes.proofs.Terms.{Bytes, Lengths, CanHave, Exists, IsWellFormed, kind_of, content_of, value_of, count_held, depth_in, depth_of, suspension_of, held_at, holds_some, is-built}
+use Rattle.fr_notes.proofs.Terms.{Alternative, Claim, NotHeld, Alive, Gone, HeldTimes, Meets, Within, HoldsOne, claim_of, range_of, NotedBy, CanClaim, AlternativeFits, Known, KnownFits, ClaimsMeet}
+use Rattle.fr_notes.proofs.Terms.{IsOther, HasKnown, joint_range, meet_of, is_held, claims_some, holding, others_claim}
 use Rattle.fr_notes.proofs.Shown.{listed, listed-case, instead, instead-case, instead-same, instead-other, held_at-same, held_at-other, depth_for-same, depth_for-other}
 use Rattle.fr_notes.proofs.Holdings.{IsIn, HoldingFits, held-once, in-from, in-mover, in-other, holding-fits, content_in, content-in, content-can}
 

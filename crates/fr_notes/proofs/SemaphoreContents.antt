@@ -1,17 +1,8 @@
 -- What takes and gives make of a content, beside what is known of it.
 use Rattle.std.proofs.Common.{◌≡◌, ℕ, suc, ◌+◌, ◌-◌, ◌≤◌, Some, None, Bool, true, false, refl, sym, ap, subst, arith, eq-eqb}
 use Rattle.std.specs.Prelude.{◌≤ℤ◌, ℤ, pos, negsuc, IsTrue, nat_eq, nat_le, nat_lt, int_lt, if◌then◌else◌}
-use Rattle.std.proofs.lemmas.Bool.{eqb-true}
-use Rattle.std.proofs.lemmas.Bool.Decides.{Decides-int_eq}
-use Rattle.std.proofs.lemmas.Int.{ints}
-use Rattle.std.proofs.lemmas.Option.{same_Some, cond_some}
-use Rattle.std.proofs.lemmas.Grind.{common_steps}
-use Rattle.fr_program.specs.declared.parts.Kind.{Kind}
-use Rattle.fr_program.specs.declared.parts.Kind.TheVariants.{Queue, Binary, Counting, Mutex, Recursive, Stream, Message}
-use Rattle.fr_program.specs.Program.{Program}
-use Rattle.fr_calls.specs.State.{Content, Count, Free, Held, CanHave}
-use Rattle.fr_calls.specs.Step.{taken, given, is_full}
-use Rattle.fr_notes.specs.Holding.{Holding, Unheld, Living, Lifeless, Own, Others, taken_by, given_by, can_be_full, is_mutex}
+use Rattle.fr_notes.proofs.Terms.{eqb-true, Decides-int_eq, ints, same_Some, cond_some, common_steps, Kind, Queue, Binary, Counting, Mutex, Recursive, Stream, Message, Program, Content, Count, Free}
+use Rattle.fr_notes.proofs.Terms.{Held, CanHave, taken, given, is_full, Holding, Unheld, Living, Lifeless, Own, Others, taken_by, given_by, can_be_full, is_mutex}
 use Rattle.fr_notes.proofs.Holdings.{IsIn, held-once, content-can}
 use Rattle.fr_notes.proofs.Ends.{IsTarget}
 

@@ -12,20 +12,10 @@
 -- | usual         | the same, for each object                                                                  |
 use Rattle.std.proofs.Common.{◌≡◌, ◌≢◌, ℕ, zero, suc, ◌<◌, ◌≤◌, List, length, get_or, Bool, true, false, refl, sym, subst, arith, ⊎_elim, map, eq-eqb}
 use Rattle.std.specs.Prelude.{ℤ, pos, IfSome, nat_eq, if◌then◌else◌}
-use Rattle.std.specs.List.{range_with_len}
-use Rattle.std.proofs.lemmas.Int.{ints}
-use Rattle.std.proofs.lemmas.List.{get_or_past}
-use Rattle.std.proofs.lemmas.List.FromFn.{length-map-range_with_len, get_or-map-range_with_len}
-use Rattle.std.proofs.lemmas.Bool.{cases_lt, eqb-true}
-use Rattle.fr_program.specs.declared.parts.Kind.{Kind}
-use Rattle.fr_program.specs.declared.parts.Kind.TheVariants.{Queue, Binary, Counting, Mutex, Recursive, Stream, Message}
-use Rattle.fr_program.specs.Program.{Program}
-use Rattle.fr_program.specs.Fault.{IsFaultless}
-use Rattle.fr_calls.specs.State.{State, Place, Done, Content, Dead, Held, CanHave, Exists, IsWellFormed, kind_of, place_of, content_of, value_of, depth_in, depth_of, suspension_of, count_held, held_at, new_content}
-use Rattle.fr_calls.proofs.Built.{HasSizes, is-built}
-use Rattle.fr_calls.proofs.Contents.{new-fits}
-use Rattle.fr_notes.specs.Note.{Alternative, Claim, NotHeld, Alive, Gone, HeldTimes, Meets, Within, HoldsOne, claim_of, range_of}
-use Rattle.fr_notes.specs.Fits.{CanClaim, AlternativeFits}
+use Rattle.fr_notes.proofs.Terms.{range_with_len, ints, get_or_past, length-map-range_with_len, get_or-map-range_with_len, cases_lt, eqb-true, Kind, Queue, Binary, Counting, Mutex, Recursive, Stream}
+use Rattle.fr_notes.proofs.Terms.{Message, Program, IsFaultless, State, Place, Done, Content, Dead, Held, CanHave, Exists, IsWellFormed, kind_of, place_of, content_of, value_of, depth_in, depth_of}
+use Rattle.fr_notes.proofs.Terms.{suspension_of, count_held, held_at, new_content, HasSizes, is-built, new-fits, Alternative, Claim, NotHeld, Alive, Gone, HeldTimes, Meets, Within, HoldsOne, claim_of}
+use Rattle.fr_notes.proofs.Terms.{range_of, CanClaim, AlternativeFits}
 
 -- the first parts of a choice, as a list
 abbrev pub listed : {A : Type 0} → ℕ → (ℕ → A) → List A

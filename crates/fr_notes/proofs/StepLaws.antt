@@ -2,22 +2,8 @@
 -- alternatives.
 use Rattle.std.proofs.Common.{◌≡◌, ℕ, ◌<◌, ◌≤◌, length, Option, Some, None, sym, subst, arith, ⊎_elim}
 use Rattle.std.specs.Prelude.{ℤ, pos, IfSome}
-use Rattle.std.specs.Int.{int_min, int_max}
-use Rattle.std.proofs.lemmas.Int.{ints, clamps}
-use Rattle.std.proofs.lemmas.Bool.{cases_lt}
-use Rattle.std.proofs.lemmas.List.{get_or_past}
-use Rattle.fr_program.specs.declared.instr.Instr.{Instr}
-use Rattle.fr_program.specs.declared.instr.Instr.TheVariants.{Call as Calls}
-use Rattle.fr_program.specs.declared.instr.Call.TheVariants.{On}
-use Rattle.fr_program.specs.declared.instr.ObjectCall.{ObjectCall}
-use Rattle.fr_program.specs.Program.{Program}
-use Rattle.fr_program.specs.Lookup.{no_variable}
-use Rattle.fr_program.specs.Limits.{IsNumber}
-use Rattle.fr_program.specs.Fault.{IsFaultless, NamesThings}
-use Rattle.fr_notes.specs.Note.{Alternative, range_of}
-use Rattle.fr_notes.specs.Fits.{AlternativeFits}
-use Rattle.fr_notes.specs.Known.{Known, KnownFits, AreCompatible, IsPossible, joint_range}
-use Rattle.fr_notes.specs.Reckoning.{HasNumbersIn}
+use Rattle.fr_notes.proofs.Terms.{int_min, int_max, ints, clamps, cases_lt, get_or_past, Instr, Calls, On, ObjectCall, Program, no_variable, IsNumber, IsFaultless, NamesThings, Alternative, range_of}
+use Rattle.fr_notes.proofs.Terms.{AlternativeFits, Known, KnownFits, AreCompatible, IsPossible, joint_range, HasNumbersIn}
 
 -- every range lies in a declared one, whose ends have 64 bits
 range-numbers : (P : Program) (n : Alternative) → IsFaultless P → AlternativeFits P n → (x : ℕ) → IsNumber (range_of n x).0 × IsNumber (range_of n x).1

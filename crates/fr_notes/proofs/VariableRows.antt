@@ -2,38 +2,15 @@
 -- range is the usual one with numbers for the operands that lead there.
 use Rattle.std.proofs.Common.{◌≡◌, ◌≢◌, ℕ, ◌<◌, length, Some, Bool, true, false, refl, sym, ap, ◌∙◌, subst, arith, get_or-set_other, length-set}
 use Rattle.std.specs.Prelude.{ℤ, pos, ◌≤ℤ◌, IfSome}
-use Rattle.std.proofs.lemmas.Int.{ints}
-use Rattle.std.proofs.lemmas.List.{get_or-set_same}
-use Rattle.fr_program.specs.declared.ids.VarId.{VarId}
-use Rattle.fr_program.specs.declared.ids.Point.{Point}
-use Rattle.fr_program.specs.declared.ids.Side.TheVariants.{Before}
+use Rattle.fr_notes.proofs.Terms.{ints, get_or-set_same, VarId, Point, Before, Set, If, Pick, Operand, Number, Variable, Operator, Range, Program, AreApart, Way, Then, Else, State, Content, value_of}
+use Rattle.fr_notes.proofs.Terms.{write, operand_of, result_of, Row, IsFree, transition, Change, Within, ends_of, Turns, narrowed_to, Known, IsLeft, NeverSteps, joint_range, Unheld, IsSpot}
+use Rattle.fr_notes.proofs.Terms.{IsUnforbidden, unchanged, CanBeIn, IsNamed, IsSpanIn, IsBranchIn, NoBranchIn, no-use}
 use Rattle.fr_program.specs.declared.instr.Comparison.{Comparison}
-use Rattle.fr_program.specs.declared.instr.Instr.TheVariants.{Set, If, Pick}
-use Rattle.fr_program.specs.declared.instr.Operand.{Operand}
-use Rattle.fr_program.specs.declared.instr.Operand.TheVariants.{Number, Variable}
-use Rattle.fr_program.specs.declared.instr.Operator.{Operator}
-use Rattle.fr_program.specs.declared.range.Range.{Range}
-use Rattle.fr_program.specs.Program.{Program}
-use Rattle.fr_program.specs.Fault.{AreApart}
-use Rattle.fr_calls.specs.declared.way.Way.{Way}
-use Rattle.fr_calls.specs.declared.way.Way.TheVariants.{Then, Else}
-use Rattle.fr_calls.specs.State.{State, Content, value_of, write}
-use Rattle.fr_calls.specs.Rule.{operand_of, result_of}
-use Rattle.fr_calls.specs.Step.{Row, IsFree, transition}
-use Rattle.fr_notes.specs.declared.change.Change.{Change}
-use Rattle.fr_notes.specs.Note.{Within}
-use Rattle.fr_notes.specs.View.{ends_of}
-use Rattle.fr_notes.specs.Change.{Turns, narrowed_to}
-use Rattle.fr_notes.specs.Known.{Known, IsLeft, NeverSteps, joint_range}
-use Rattle.fr_notes.specs.Holding.{Unheld}
-use Rattle.fr_notes.specs.Spot.{IsSpot, IsUnforbidden, unchanged}
-use Rattle.fr_notes.specs.Reckoning.{CanBeIn, IsNamed, IsSpanIn, IsBranchIn, NoBranchIn}
 use Rattle.fr_notes.proofs.Shown.{instead, instead-same, instead-other}
 use Rattle.fr_notes.proofs.Seen.{Site, mover, IsKnown, Choice, drawn, IsChosen, drawn-known, drawn-value, usual, usual-chosen, valued, valued-chosen, filled, values-within}
 use Rattle.fr_notes.proofs.Left.{end_of}
 use Rattle.fr_notes.proofs.Rows.{IsAfter, Attains, IsRow, MissesVariable, row-left, row-never, site}
 use Rattle.fr_notes.proofs.PlainRows.{free-before}
-use Rattle.fr_calls.proofs.Free.{no-use}
 
 -- an end of a span, and the numbers that lead there
 span-end : (range : ℕ → ℤ × ℤ) (op : Operator) (l r : Operand) (span : Range) → IsSpanIn range op l r span → (d : Bool) → (u : ℤ) × (v : ℤ) × CanBeIn range l u × CanBeIn range r v × (result_of op u v ≡ end_of d (ends_of span))

@@ -2,23 +2,11 @@
 -- holds. So an edge leads from each mutex of the cycle to the next one, and along the cycle the places of the mutexes rise for ever.
 use Rattle.std.proofs.Common.{◌≡◌, ◌<◌, ◌≤◌, ◌+◌, ℕ, List, [], ◌∷◌, None, Some, refl, sym, ap, ◌∙◌, subst, arith}
 use Rattle.std.specs.Prelude.{IsTrue, if◌then◌else◌}
-use Rattle.fr_program.specs.declared.ids.ObjId.{ObjId}
-use Rattle.fr_program.specs.declared.ids.Point.{Point}
-use Rattle.fr_program.specs.declared.ids.Side.TheVariants.{Inside}
-use Rattle.fr_program.specs.declared.parts.Kind.{Kind}
-use Rattle.fr_program.specs.declared.parts.Kind.TheVariants.{Mutex, Recursive}
-use Rattle.fr_program.specs.Program.{Program}
-use Rattle.fr_calls.specs.State.{State, Content, Held, content_of, kind_of, CanHave, IsWellFormed}
+use Rattle.fr_order.proofs.Terms.{ObjId, Point, Inside, Kind, Mutex, Recursive, Program, State, Content, Held, content_of, kind_of, CanHave, IsWellFormed, Claim, NotHeld, Alive, Gone, HeldTimes, Note}
+use Rattle.fr_order.proofs.Terms.{Meets, Holds, claim_of, note_at, IsAt, is_any_mutex, place_in, ComesBefore, IsEdge}
 use Rattle.fr_calls.specs.Step.{taken}
 use Rattle.fr_waits.specs.declared.wait.Wait.{Wait}
 use Rattle.fr_waits.specs.Waits.{WaitsFor, WaitInTurn, IsDeadlocked}
-use Rattle.fr_notes.specs.declared.claim.Claim.{Claim}
-use Rattle.fr_notes.specs.declared.claim.Claim.TheVariants.{NotHeld, Alive, Gone, HeldTimes}
-use Rattle.fr_notes.specs.Note.{Note, Meets, Holds, claim_of}
-use Rattle.fr_notes.specs.Noted.{note_at, IsAt}
-use Rattle.fr_ends.specs.Fits.{is_any_mutex}
-use Rattle.fr_order.specs.Graph.{place_in, ComesBefore}
-use Rattle.fr_order.specs.Order.{IsEdge}
 use Rattle.fr_order.proofs.GraphLemmas.{nat_eq-same}
 
 -- what is held is a mutex, and held at least once

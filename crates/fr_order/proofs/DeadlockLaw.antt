@@ -1,6 +1,6 @@
 -- Every state of every run of a certified application keeps the notes; so where each edge goes upwards, none is deadlocked.
 use Rattle.fr_judge.specs.Sound.{IsSound}
-use Rattle.fr_order.specs.Order.{OrderExcludesDeadlock}
+use Rattle.fr_order.proofs.Terms.{OrderExcludesDeadlock}
 use Rattle.fr_order.proofs.Climbs.{no-deadlock}
 
 pub order-excludes : IsSound → OrderExcludesDeadlock

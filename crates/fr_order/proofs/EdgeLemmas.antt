@@ -2,9 +2,10 @@
 use Rattle.std.proofs.Common.{◌≡◌, ◌<◌, ◌≤◌, ◌+◌, ℕ, zero, suc, List, [], ◌∷◌, ◌++◌, length, get_or, Option, Some, Bool, true, false, refl, sym, ap, ◌∙◌, subst, ⊎_elim, arith}
 use Rattle.std.specs.Prelude.{Contains, slice_get, nat_eq, not, ◌&&◌}
 use Rattle.std.proofs.lemmas.Option.{same_Some, slice_get_within}
-use Rattle.std.proofs.lemmas.Bool.{cases_lt}
-use Rattle.std.proofs.lemmas.Bool.Decides.{eqb_tells}
-use Rattle.std.proofs.lemmas.List.Elements.{All-contains, All-push, All-weaker, Contains-append_left, Contains-push}
+use Rattle.fr_order.proofs.Terms.{cases_lt, eqb_tells, All-contains, All-push, All-weaker, Contains-append_left, Contains-push, Point, Inside, Kind, Mutex, Recursive, Program, IsPoint, HasSide}
+use Rattle.fr_order.proofs.Terms.{instr_of, kind_of, Claim, NotHeld, HeldTimes, Note, note_at, is_any_mutex, Edge, ComesBefore, IsEnd, IsWithin, IsInsideTake, IsEdge, IsOrderOf, NamesThings}
+use Rattle.fr_order.proofs.Terms.{waits_to_take, inside_take, inside_any_take, can_be_edge, AreInside, HasTakesBelow, AreTakes, ArePoints, AreAllTakes, CanBeEdge, IsEdgeOf, AreEdges, HasEdge}
+use Rattle.fr_order.proofs.Terms.{HasEdgesBelow, HasEdgesFrom}
 use Rattle.fr_program.specs.declared.instr.Instr.{Instr}
 use Rattle.fr_program.specs.declared.instr.Instr.TheVariants.{Call as Calls}
 use Rattle.fr_program.specs.declared.instr.Call.TheVariants.{On}
@@ -15,32 +16,15 @@ use Rattle.fr_program.specs.declared.instr.SemaphoreForm.{SemaphoreForm}
 use Rattle.fr_program.specs.declared.instr.Timing.{Timing}
 use Rattle.fr_program.specs.declared.instr.Timing.TheVariants.{Waits}
 use Rattle.fr_program.specs.declared.instr.BlockTime.TheVariants.{MaxDelay}
-use Rattle.fr_program.specs.declared.ids.Point.{Point}
 use Rattle.fr_program.specs.declared.ids.Side.{Side}
-use Rattle.fr_program.specs.declared.ids.Side.TheVariants.{Inside}
-use Rattle.fr_program.specs.declared.parts.Kind.{Kind}
-use Rattle.fr_program.specs.declared.parts.Kind.TheVariants.{Mutex, Recursive}
-use Rattle.fr_program.specs.Program.{Program}
-use Rattle.fr_program.specs.Lookup.{IsPoint, HasSide, instr_of}
 use Rattle.fr_program.specs.Fault.{IsFaultless}
 use Rattle.fr_program.specs.Points.{points_of, point_number}
 use Rattle.fr_program.proofs.PointLaws.{points_are_numbered}
-use Rattle.fr_calls.specs.State.{kind_of}
-use Rattle.fr_notes.specs.declared.claim.Claim.{Claim}
-use Rattle.fr_notes.specs.declared.claim.Claim.TheVariants.{NotHeld, HeldTimes}
-use Rattle.fr_notes.specs.Note.{Note}
-use Rattle.fr_notes.specs.Noted.{note_at}
 use Rattle.fr_notes.specs.Fits.{NotesFit, AlternativeFits}
 use Rattle.fr_ends.specs.Certificate.{Certificate}
-use Rattle.fr_ends.specs.Fits.{is_any_mutex}
-use Rattle.fr_order.specs.declared.edge.Edge.{Edge}
 use Rattle.fr_order.specs.declared.order.Order.{Order}
 use Rattle.fr_order.specs.declared.order.Order.TheVariants.{Upwards, Cycle}
-use Rattle.fr_order.specs.Graph.{ComesBefore, IsEnd}
-use Rattle.fr_order.specs.Peeled.{IsWithin}
 use Rattle.fr_order.specs.Settled.{IsSettled}
-use Rattle.fr_order.specs.Order.{IsInsideTake, IsEdge, IsOrderOf, NamesThings}
-use Rattle.fr_order.specs.Edges.{waits_to_take, inside_take, inside_any_take, can_be_edge, AreInside, HasTakesBelow, AreTakes, ArePoints, AreAllTakes, CanBeEdge, IsEdgeOf, AreEdges, HasEdge, HasEdgesBelow, HasEdgesFrom}
 
 -- ---- takes
 

@@ -1,12 +1,7 @@
 -- The ends of edges, as they are listed by their numbers.
 use Rattle.std.proofs.Common.{◌≡◌, ◌≢◌, ◌<◌, ◌≤◌, ◌+◌, ℕ, List, [], ◌∷◌, ◌++◌, length, get_or, sym, ap, ◌∙◌, subst, ⊎_elim, arith}
 use Rattle.std.specs.Prelude.{All, Contains}
-use Rattle.std.proofs.lemmas.Bool.{cases_lt}
-use Rattle.std.proofs.lemmas.List.Elements.{Contains-append_left, Contains-push, All-push}
-use Rattle.fr_program.specs.declared.ids.ObjId.{ObjId}
-use Rattle.fr_order.specs.declared.edge.Edge.{Edge}
-use Rattle.fr_order.specs.Graph.{IsListed, ComesBefore, IsEnd}
-use Rattle.fr_order.specs.Peeled.{IsWithin, AreEnds, HasEnds, IsPeeled}
+use Rattle.fr_order.proofs.Terms.{cases_lt, Contains-append_left, Contains-push, All-push, ObjId, Edge, IsListed, ComesBefore, IsEnd, IsWithin, AreEnds, HasEnds, IsPeeled}
 
 -- both ends of each edge are in the list, as far as their numbers are below this one
 abbrev pub HasEndsBelow : List Edge → List ObjId → ℕ → Type 0

@@ -1,3 +1,4 @@
+mod Terms
 pub mod GraphLemmas
 pub mod PeelLemmas
 pub mod EndLemmas

@@ -1,13 +1,8 @@
 -- A free mutex that goes from the rest to the end of the order, and a mutex of the rest that is visited.
 use Rattle.std.proofs.Common.{◌≡◌, ◌<◌, ◌+◌, ℕ, suc, List, [], ◌∷◌, ◌++◌, length, get_or, take, drop, cond, refl, sym, ap, ◌∙◌, subst, inl, inr, ⊎_elim, arith}
 use Rattle.std.specs.Prelude.{All}
-use Rattle.std.specs.List.{remove, HoldsAt}
-use Rattle.std.proofs.lemmas.Bool.Decides.{eqb_tells}
-use Rattle.std.proofs.lemmas.List.Elements.{All-push, All-append, All-take, All-drop}
-use Rattle.fr_program.specs.declared.ids.ObjId.{ObjId}
-use Rattle.fr_order.specs.declared.edge.Edge.{Edge}
-use Rattle.fr_order.specs.Graph.{place_in, IsListed, IsEnd}
-use Rattle.fr_order.specs.Peeled.{Blocks, IsFree, IsSorted, AreEnds, AreRest, IsUpward, IsPeeled, IsVisited}
+use Rattle.fr_order.proofs.Terms.{remove, HoldsAt, eqb_tells, All-push, All-append, All-take, All-drop, ObjId, Edge, place_in, IsListed, IsEnd, Blocks, IsFree, IsSorted, AreEnds, AreRest, IsUpward}
+use Rattle.fr_order.proofs.Terms.{IsPeeled, IsVisited}
 use Rattle.fr_order.proofs.GraphLemmas.{any-default, kept, place-kept, place-more, length-more, listed-kept, listed-cases, listed-new}
 
 upward-step : (order : List ObjId) (x : ObjId) (h m : ℕ) → (IsListed order m → place_in order h < place_in order m) → (m ≡ x.0 → IsListed order h) → IsListed (order ++ x ∷ []) m → place_in (order ++ x ∷ []) h < place_in (order ++ x ∷ []) m

@@ -3,13 +3,8 @@
 use Rattle.std.proofs.Common.{◌≡◌, ◌≢◌, ◌<◌, ◌+◌, ℕ, suc, List, [], ◌∷◌, ◌++◌, length, get_or, take, Option, None, Some, refl, sym, ap, ◌∙◌, subst, inl, ⊎_elim, arith, add-one}
 use Rattle.std.specs.Prelude.{All, Contains, IfSome, Vec}
 use Rattle.std.specs.declared.alloc.Global.{Global}
-use Rattle.std.specs.List.{remove, insert, HoldsAt}
-use Rattle.std.proofs.lemmas.List.Elements.{All-contains, All-nil, All-cons, All-push, All-take, All-weaker, Contains-get_or}
-use Rattle.fr_program.specs.declared.ids.ObjId.{ObjId}
-use Rattle.fr_program.specs.declared.ids.Side.TheVariants.{Before}
-use Rattle.fr_order.specs.declared.edge.Edge.{Edge}
-use Rattle.fr_order.specs.Graph.{IsListed, LeadsFrom, ClosesUp, IsCycleOf}
-use Rattle.fr_order.specs.Peeled.{Blocks, IsFree, IsSorted, IsPeeled, AreAmong, IsVisited, IsWalk}
+use Rattle.fr_order.proofs.Terms.{remove, insert, HoldsAt, All-contains, All-nil, All-cons, All-push, All-take, All-weaker, Contains-get_or, ObjId, Before, Edge, IsListed, LeadsFrom, ClosesUp}
+use Rattle.fr_order.proofs.Terms.{IsCycleOf, Blocks, IsFree, IsSorted, IsPeeled, AreAmong, IsVisited, IsWalk}
 use Rattle.fr_order.proofs.GraphLemmas.{closes-taken, closes-all}
 use Rattle.fr_order.proofs.PeelLemmas.{visited-more}
 

@@ -2,29 +2,21 @@
 use Rattle.std.proofs.Common.{◌≡◌, ◌≤◌, ◌++◌, ◌⊎◌, ◌∙◌, ℕ, List, [], ◌∷◌, Bool, true, false, Option, Some, None, Result, Ok, Err, String, IfOk, IfSome, append-nil, ap, arith, inl, inr, map, max, option_map, refl, string_bytes, subst, sym}
 use Rattle.std.specs.Prelude.{option_copied}
 use Rattle.std.proofs.lemmas.Option.{same_Some}
-use Rattle.std.specs.declared.alloc.Global.{Global}
-use Rattle.std.proofs.lemmas.List.{map-append}
+use Rattle.fr_traces.proofs.Terms.{Global, map-append, Appends-trans, kind_status, lines_text, TraceAnswer, Each, Reading, AsTrace, AreTraces, AreTracesPrinted, IsAnswerAt, IsPageAt, IsReadAs}
+use Rattle.fr_traces.proofs.Terms.{IsRunAt, IsTrailPage, PutsAnswer, PutsBoth, ShowsTrace, TraceAnswerAt, answered_at, greater_of, text_at, each-more}
 use Rattle.std.proofs.lemmas.List.Elements.{All-append, All-cons, All-nil}
 use Rattle.std.proofs.lemmas.List.Folds.{concat-append}
 use Rattle.std.proofs.lemmas.List.Sums.{fold-append}
-use Rattle.std.proofs.KnownBytes.{Appends-trans}
 use Rattle.std.specs.Io.KnownBytes.{Appends}
 use Rattle.std.specs.List.{concat}
 use Rattle.std.specs.Prelude.{if◌then◌else◌}
 use Rattle.fr_program.specs.Program.{Program}
 use Rattle.fr_formats.specs.declared.answer.AnswerKind.TheVariants.{Refused, Machine}
 use Rattle.fr_formats.specs.declared.answer.AnswerShown.{AnswerShown}
-use Rattle.fr_formats.specs.Answers.{status_of as kind_status}
 use Rattle.fr_formats.specs.Reports.{IsReport}
 use Rattle.fr_request.specs.declared.format.Format.{Format}
-use Rattle.fr_wording.specs.Lines.{lines_text}
 use Rattle.fr_trail.specs.Runs.{IsRunOf}
-use Rattle.fr_trail.specs.declared.answer.TraceAnswer.{TraceAnswer}
 use Rattle.fr_request.specs.declared.request.FollowRequest.{FollowRequest}
-use Rattle.fr_outcome.specs.Each.{Each}
-use Rattle.fr_inputs.specs.Inputs.{Reading, AsTrace}
-use Rattle.fr_traces.specs.Traces.{AreTraces, AreTracesPrinted, IsAnswerAt, IsPageAt, IsReadAs, IsRunAt, IsTrailPage, PutsAnswer, PutsBoth, ShowsTrace, TraceAnswerAt, answered_at, greater_of, text_at}
-use Rattle.fr_outcome.proofs.Printed.{each-more}
 
 -- the status of a refusal
 pub refused-least : (b : Bool) → 2 ≤ kind_status (if b then Refused else Machine)

@@ -1,1 +1,2 @@
+mod Terms
 pub mod Following

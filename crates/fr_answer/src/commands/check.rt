@@ -2,25 +2,19 @@
 ghost use Rattle.std.specs.Prelude.{◌≡◌, ◌≤◌, ℕ, List, IfErr, IfOk, None, Some, option_copied};
 ghost use Rattle.std.specs.Option.{is_some};
 ghost use Rattle.fr_outcome.specs.Checked.{fault_status};
-ghost use Rattle.fr_answer.specs.Commands.{
-  IsCheckAnswered,
-  IsCheckOf,
-  IsNamedAnswer,
-  IsNamedText,
-  IsPaged,
-  IsShown,
-};
+ghost use Rattle.fr_answer.specs.Commands.{IsCheckAnswered, IsCheckOf, IsNamedAnswer, IsNamedText};
+ghost use Rattle.fr_printing.specs.Printing.{IsPaged, IsShown};
 ghost use Rattle.fr_inputs.specs.Inputs.{Reads};
 
 use crate::commands::list::check_list;
-use crate::printing::{show_found, show_outputs_refused};
 use crate::reading::checked_files;
-use crate::ways::{Asked, MOST_STATE_BYTES, MOST_STATES, detail_in};
+use crate::ways::{MOST_STATE_BYTES, MOST_STATES, detail_in};
 use fr_files::Holds;
 use fr_findings::Ways;
 use fr_formats::{Command, Source};
 use fr_inputs::{Files, output_at};
 use fr_outcome::Refusal;
+use fr_printing::{Asked, show_found, show_outputs_refused};
 use fr_request::{CheckRequest, Judged, Warns};
 use std::alloc::Global;
 use std::io::Write;

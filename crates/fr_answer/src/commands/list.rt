@@ -17,12 +17,11 @@ ghost use Rattle.fr_answer.specs.Commands.{
   IsLinePrinted,
   IsLineText,
   IsListAnswered,
-  Shows,
 };
+ghost use Rattle.fr_printing.specs.Printing.{Shows};
 ghost use Rattle.fr_outcome.specs.Each.{Each, IsAdded};
 ghost use Rattle.fr_inputs.specs.Inputs.{Reads};
 
-use crate::printing::warn;
 use crate::reading::{checked_files, proved_alone};
 use crate::ways::{MOST_STATE_BYTES, MOST_STATES, detail_in};
 use fr_findings::Ways;
@@ -30,6 +29,7 @@ use fr_formats::{AnswerShown, Command, Source};
 use fr_inputs::{Files, input};
 use fr_list::{Listed, MOST_LIST_BYTES, listed_in, path_beside};
 use fr_outcome::{Answer, CheckFault, Refusal, What, heading, put, put_report};
+use fr_printing::warn;
 use fr_request::{CheckRequest, Format, Warns};
 use fr_shown::{answer_to, shown_of};
 use fr_wording::text_of;

@@ -4,14 +4,14 @@ ghost use Rattle.fr_outcome.specs.Checked.{fault_status};
 ghost use Rattle.fr_answer.specs.Commands.{IsAnswered, IsGiven, IsWritten};
 ghost use Rattle.fr_inputs.specs.Inputs.{Reads};
 
-use crate::printing::{show_found, show_outputs_refused};
 use crate::reading::proved_file;
-use crate::ways::{Asked, detail_in, mebibytes};
+use crate::ways::{detail_in, mebibytes};
 use fr_files::Holds;
 use fr_findings::Ways;
 use fr_formats::{Command, Source};
 use fr_inputs::{Files, output_at, refusal_of_file};
 use fr_outcome::{AppText, Refusal, What};
+use fr_printing::{Asked, show_found, show_outputs_refused};
 use fr_request::{ProveRequest, Request, Warns};
 use std::alloc::Global;
 use std::io::Write;

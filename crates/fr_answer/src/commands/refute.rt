@@ -1,17 +1,18 @@
 // The command `refute`.
 ghost use Rattle.std.specs.Prelude.{◌≡◌, ◌≤◌, ℕ, List, IfErr, IfOk, None, Some, option_copied};
 ghost use Rattle.fr_outcome.specs.Checked.{fault_status};
-ghost use Rattle.fr_answer.specs.Commands.{IsAnswered, IsPaged, IsSearchAt};
+ghost use Rattle.fr_answer.specs.Commands.{IsAnswered, IsSearchAt};
+ghost use Rattle.fr_printing.specs.Printing.{IsPaged};
 ghost use Rattle.fr_inputs.specs.Inputs.{Reads};
 
-use crate::printing::{show_found, show_outputs_refused};
 use crate::reading::searched_file;
-use crate::ways::{Asked, mebibytes};
+use crate::ways::mebibytes;
 use fr_files::Holds;
 use fr_findings::Ways;
 use fr_formats::{Command, Source};
 use fr_inputs::{Files, output_at};
 use fr_outcome::Refusal;
+use fr_printing::{Asked, show_found, show_outputs_refused};
 use fr_request::{Detail, RefuteRequest, Request, Warns};
 use std::alloc::Global;
 use std::io::Write;

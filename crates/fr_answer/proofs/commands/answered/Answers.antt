@@ -1,8 +1,6 @@
 -- The status 0 is that of safe applications.
 use Rattle.std.proofs.Common.{List, ℕ}
-use Rattle.std.specs.Option.{is_some}
-use Rattle.fr_inputs.specs.Inputs.{Reads}
-use Rattle.fr_answer.specs.Commands.{AreNamedSafe, IsCheckAnswered, IsProofAt, IsSafeAt, IsSearchAt, IsShown}
+use Rattle.fr_answer.proofs.Terms.{is_some, Reads, AreNamedSafe, IsCheckAnswered, IsProofAt, IsSafeAt, IsSearchAt, IsShown}
 use Rattle.fr_answer.proofs.Safe.{named-safe, proof-shown-safe, safe-by, search-shown-safe}
 use Rattle.fr_answer.proofs.commands.answered.Goals as goal
 

@@ -1,8 +1,5 @@
 use Rattle.std.proofs.Common.{◌∙◌, sym, ap, subst, inl, inr}
-use Rattle.std.proofs.lemmas.Bool.{false≢true}
-use Rattle.std.proofs.lemmas.Result.{err_from_is_err_and}
-use Rattle.fr_ends.specs.Fits.{EndFits}
-use Rattle.fr_ends.specs.View.{end_of}
+use Rattle.fr_cert.proofs.Terms.{false≢true, err_from_is_err_and, EndFits, end_of}
 use Rattle.fr_cert.specs.declared.fault.CertFault.TheVariants as fault
 use Rattle.fr_cert.proofs.end.fitting_end.Goals as goal
 

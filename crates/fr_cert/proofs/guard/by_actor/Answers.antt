@@ -1,8 +1,5 @@
 use Rattle.std.proofs.Common.{◌≡◌, ◌++◌, ◌∷◌, [], ℤ, map, append-nil, append_assoc, sym, ap, ◌∙◌, rules, arith}
-use Rattle.fr_program.specs.declared.ids.ActorId.{ActorId}
-use Rattle.fr_ends.specs.Certificate.{value_for}
-use Rattle.fr_ends.specs.View.{value_of}
-use Rattle.fr_ends.proofs.TurnLemmas.{rising}
+use Rattle.fr_cert.proofs.Terms.{ActorId, value_for, value_of, rising}
 use Rattle.fr_cert.proofs.TurnLemmas.{IsByNumber, same_number, turn_more}
 use Rattle.fr_cert.proofs.guard.by_actor.Goals as goal
 

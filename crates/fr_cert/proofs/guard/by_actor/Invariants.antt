@@ -1,8 +1,5 @@
 use Rattle.std.proofs.Common.{◌≡◌, ◌++◌, ℕ, ℤ, List, length, map}
-use Rattle.fr_program.specs.declared.ids.ActorId.{ActorId}
-use Rattle.fr_ends.specs.Certificate.{value_for}
-use Rattle.fr_ends.specs.Fits.{AreRising}
-use Rattle.fr_ends.specs.View.{value_of, values_of}
+use Rattle.fr_cert.proofs.Terms.{ActorId, value_for, AreRising, value_of, values_of}
 use Rattle.fr_cert.proofs.guard.by_actor.Given as goal
 
 -- the map has the values that were taken from the end

@@ -1,18 +1,6 @@
 use Rattle.std.proofs.Common.{◌≡◌, ◌≢◌, ◌∙◌, subst, inl, inr, refl, true≢false}
-use Rattle.std.proofs.lemmas.Result.{err_from_is_err_and}
-use Rattle.serde_json.specs.Data.{Members}
-use Rattle.serde_json.specs.View.{members_view}
-use Rattle.fr_program.specs.Program.{Program}
-use Rattle.fr_notes.specs.declared.fault.NoteFault.{NoteFault}
-use Rattle.fr_notes.specs.declared.fault.NoteFault.TheVariants.{Memory, Count, Lives, Span}
-use Rattle.fr_notes.specs.declared.note.NoteParts.{NoteParts}
-use Rattle.fr_notes.specs.Note.{Alternative}
-use Rattle.fr_notes.specs.Parts.{said, HasFault}
-use Rattle.fr_cert.specs.Keys.{names_in}
-use Rattle.fr_cert.specs.Meaning.{IsNoteText, IsAlternative}
-use Rattle.fr_cert.specs.Faults.{Standing}
-use Rattle.fr_cert.specs.Present.{InAlternative}
-use Rattle.fr_cert.specs.Views.{text_of, refused_as}
+use Rattle.fr_cert.proofs.Terms.{err_from_is_err_and, Members, members_view, Program, NoteFault, Memory, Count, Lives, Span, NoteParts, Alternative, said, HasFault, names_in, IsNoteText}
+use Rattle.fr_cert.proofs.Terms.{IsAlternative, Standing, InAlternative, text_of, refused_as}
 use Rattle.fr_cert.proofs.NoteLemmas.{said_same, fits_from, unfit}
 use Rattle.fr_cert.proofs.note.alternative_of.Goals as goal
 

@@ -1,7 +1,5 @@
 use Rattle.std.proofs.Common.{arith}
-use Rattle.serde_json.specs.View.{items_view}
-use Rattle.fr_notes.specs.Fits.{AlternativeFits}
-use Rattle.fr_cert.specs.Meaning.{IsPlainNote}
+use Rattle.fr_cert.proofs.Terms.{items_view, AlternativeFits, IsPlainNote}
 use Rattle.fr_cert.proofs.EntryLemmas.{each_same}
 use Rattle.fr_cert.proofs.FaultLaws.{each_length}
 use Rattle.fr_cert.proofs.note.alternatives_of.Goals as goal

@@ -1,6 +1,5 @@
 use Rattle.std.proofs.Common.{◌≡◌, ◌∙◌, sym, refl, arith, length}
-use Rattle.serde_json.proofs.Views.{items_len-items_view}
-use Rattle.fr_program.specs.Points.{points_of}
+use Rattle.fr_cert.proofs.Terms.{items_len-items_view, points_of}
 use Rattle.fr_cert.proofs.notes.check_count.Goals as goal
 
 pub returns-then-len-points-clause-ok : goal.returns-then-len-points-clause-ok

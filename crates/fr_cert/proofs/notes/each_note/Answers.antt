@@ -1,11 +1,5 @@
 use Rattle.std.proofs.Common.{◌≡◌, ◌∙◌, List, [], ◌∷◌, ◌++◌, length, append_assoc, append-nil, sym, ap, subst, arith, rules}
-use Rattle.std.proofs.lemmas.List.{nil_from_length}
-use Rattle.serde_json.specs.View.{view, items_view}
-use Rattle.serde_json.specs.declared.value.Value.{Value}
-use Rattle.serde_json.specs.Find.{get_item}
-use Rattle.fr_cert.specs.NotesRead.{AreReadBy}
-use Rattle.fr_cert.specs.Path.{at}
-use Rattle.fr_cert.specs.Present.{InNote}
+use Rattle.fr_cert.proofs.Terms.{nil_from_length, view, items_view, Value, get_item, AreReadBy, at, InNote}
 use Rattle.fr_cert.proofs.FaultLemmas.{within_of}
 use Rattle.fr_cert.proofs.ReadLemmas.{count_read, entry_behind}
 use Rattle.fr_cert.proofs.notes.each_note.Goals as goal

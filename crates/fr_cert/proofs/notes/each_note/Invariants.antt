@@ -1,6 +1,5 @@
 use Rattle.std.proofs.Common.{◌≡◌, List, ◌++◌}
-use Rattle.serde_json.specs.declared.value.Value.{Value}
-use Rattle.fr_cert.specs.NotesRead.{AreReadBy}
+use Rattle.fr_cert.proofs.Terms.{Value, AreReadBy}
 use Rattle.fr_cert.proofs.notes.each_note.Given as goal
 
 -- the entries in front are read

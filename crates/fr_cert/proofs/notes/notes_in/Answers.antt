@@ -1,11 +1,5 @@
 use Rattle.std.proofs.Common.{◌≡◌, ◌∙◌, All, length, sym, ap, subst, inl, inr}
-use Rattle.std.proofs.lemmas.Result.{err_from_is_err_and}
-use Rattle.serde_json.specs.View.{items_view}
-use Rattle.serde_json.proofs.Views.{items_len-items_view}
-use Rattle.fr_program.specs.Points.{points_of}
-use Rattle.fr_notes.specs.Fits.{NoteFits}
-use Rattle.fr_cert.specs.Shapes.{EachEntry}
-use Rattle.fr_cert.specs.Meaning.{IsNote}
+use Rattle.fr_cert.proofs.Terms.{err_from_is_err_and, items_view, items_len-items_view, points_of, NoteFits, EachEntry, IsNote}
 use Rattle.fr_cert.proofs.FaultLaws.{each_length}
 use Rattle.fr_cert.proofs.ReadLemmas.{count_read, placed_fit}
 use Rattle.fr_cert.proofs.notes.notes_in.Goals as goal

@@ -1,6 +1,5 @@
 use Rattle.std.proofs.Common.{Some, ap, ◌∙◌, arith}
-use Rattle.serde_json.specs.View.{view}
-use Rattle.serde_json.proofs.Views.{get_item_within, get_item_past}
+use Rattle.fr_cert.proofs.Terms.{view, get_item_within, get_item_past}
 use Rattle.fr_cert.proofs.ranges.item_at.Goals as goal
 
 pub returns-then-index-len : goal.returns-then-index-len

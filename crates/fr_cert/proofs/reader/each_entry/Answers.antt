@@ -1,9 +1,5 @@
 use Rattle.std.proofs.Common.{◌≡◌, ◌<◌, ◌+◌, ◌++◌, ◌∷◌, [], Any, AllPairs, length, map, take, sym, ap, ◌∙◌, subst, inl, inr, arith}
-use Rattle.std.proofs.lemmas.List.{get_or-map, length-map}
-use Rattle.serde_json.specs.View.{items_view, view}
-use Rattle.fr_cert.specs.Path.{at}
-use Rattle.fr_cert.specs.Shapes.{EachEntry}
-use Rattle.fr_cert.specs.Faults.{deeper}
+use Rattle.fr_cert.proofs.Terms.{get_or-map, length-map, items_view, view, at, EachEntry, deeper}
 use Rattle.fr_cert.proofs.EntryLemmas.{entry_here, entries_more, earlier}
 use Rattle.fr_cert.proofs.FaultLemmas.{within_of}
 use Rattle.fr_cert.proofs.MemberLemmas.{map_push}

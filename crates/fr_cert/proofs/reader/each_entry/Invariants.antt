@@ -1,6 +1,5 @@
 use Rattle.std.proofs.Common.{AllPairs, map, take}
-use Rattle.serde_json.specs.View.{items_view}
-use Rattle.fr_cert.specs.Shapes.{EachEntry}
+use Rattle.fr_cert.proofs.Terms.{items_view, EachEntry}
 use Rattle.fr_cert.proofs.reader.each_entry.Given as goal
 
 -- the entries in front gave the items so far, no two of them alike

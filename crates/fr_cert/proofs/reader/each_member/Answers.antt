@@ -1,10 +1,5 @@
 use Rattle.std.proofs.Common.{◌≡◌, List, [], ◌∷◌, ◌++◌, map, append_assoc, sym, ap, ◌∙◌, subst}
-use Rattle.std.proofs.lemmas.Result.{err_from_is_err_and}
-use Rattle.std.specs.Map.Iter.{deref_pair}
-use Rattle.std.proofs.lemmas.Map.Iter.{rest_more}
-use Rattle.serde_json.specs.View.{members_view, view}
-use Rattle.serde_json.proofs.Views.{Entry}
-use Rattle.fr_cert.specs.Faults.{InMembers}
+use Rattle.fr_cert.proofs.Terms.{err_from_is_err_and, deref_pair, rest_more, members_view, view, Entry, InMembers}
 use Rattle.fr_cert.proofs.MemberLemmas.{member_push, map_push, in_members}
 use Rattle.fr_cert.proofs.reader.each_member.Goals as goal
 

@@ -1,7 +1,5 @@
 use Rattle.std.proofs.Common.{◌≡◌, List, ◌++◌, map}
-use Rattle.serde_json.specs.View.{members_view}
-use Rattle.serde_json.proofs.Views.{Entry}
-use Rattle.fr_cert.specs.Shapes.{EachMember}
+use Rattle.fr_cert.proofs.Terms.{members_view, Entry, EachMember}
 use Rattle.fr_cert.proofs.reader.each_member.Given as goal
 
 -- the members in front gave the items so far

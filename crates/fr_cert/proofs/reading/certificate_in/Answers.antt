@@ -1,5 +1,5 @@
 use Rattle.std.proofs.Common.{inr}
-use Rattle.std.proofs.lemmas.Result.{IfErr-weaker}
+use Rattle.fr_cert.proofs.Terms.{IfErr-weaker}
 use Rattle.fr_cert.proofs.reading.certificate_in.Goals as goal
 
 pub returns-clause-err : goal.returns-clause-err

@@ -1,5 +1,5 @@
 use Rattle.std.proofs.Common.{inr}
-use Rattle.std.proofs.lemmas.Result.{err_from_is_err_and}
+use Rattle.fr_cert.proofs.Terms.{err_from_is_err_and}
 use Rattle.fr_cert.proofs.reading.certificate_of.Goals as goal
 
 pub returns-in_err-notes-clause-err : goal.returns-in_err-notes-clause-err

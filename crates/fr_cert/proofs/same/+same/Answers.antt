@@ -1,9 +1,5 @@
 use Rattle.std.proofs.Common.{◌≡◌, ◌∙◌, ◌<◌, ◌≤◌, length, get_or, sym, ap, subst, arith, rules}
-use Rattle.std.proofs.lemmas.List.{drop_all}
-use Rattle.serde_json.specs.Data.{array, object, string, number}
-use Rattle.serde_json.specs.View.{view, items_view, number_view}
-use Rattle.serde_json.specs.declared.value.Value.{the_lemmas}
-use Rattle.serde_json.proofs.Views.{view-Array, view-Object}
+use Rattle.fr_cert.proofs.Terms.{drop_all, array, object, string, number, view, items_view, number_view, the_lemmas, view-Array, view-Object}
 use Rattle.fr_cert.proofs.SameLemmas.{is-text, is-list, is-object, items-more, members-more}
 use Rattle.fr_cert.proofs.same.+same.Goals as goal
 

@@ -1,5 +1,5 @@
 use Rattle.std.proofs.Common.{◌≡◌, drop}
-use Rattle.serde_json.specs.View.{items_view, members_view}
+use Rattle.fr_cert.proofs.Terms.{items_view, members_view}
 use Rattle.fr_cert.proofs.same.+same.Given as goal
 
 -- where the rest is the same, the whole is

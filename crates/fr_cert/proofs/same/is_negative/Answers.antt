@@ -1,5 +1,5 @@
 use Rattle.std.proofs.Common.{◌≡◌, ℕ, Option, Some, None, is_some, false, true≢false, refl, sym, ap, ◌∙◌, arith}
-use Rattle.serde_json.specs.View.{view}
+use Rattle.fr_cert.proofs.Terms.{view}
 use Rattle.fr_cert.proofs.SameLemmas.{is-negative}
 use Rattle.fr_cert.proofs.same.is_negative.Goals as goal
 

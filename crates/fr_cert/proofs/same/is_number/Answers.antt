@@ -1,6 +1,5 @@
 use Rattle.std.proofs.Common.{sym, ap, ◌∙◌}
-use Rattle.serde_json.specs.Data.{number}
-use Rattle.serde_json.specs.View.{number_view}
+use Rattle.fr_cert.proofs.Terms.{number, number_view}
 use Rattle.fr_cert.proofs.SameLemmas.{num-unsigned, num-negative}
 use Rattle.fr_cert.proofs.same.is_number.Goals as goal
 

@@ -1,5 +1,5 @@
 use Rattle.std.proofs.Common.{◌≡◌, Some, sym, ap, ◌∙◌, arith}
-use Rattle.serde_json.specs.View.{view}
+use Rattle.fr_cert.proofs.Terms.{view}
 use Rattle.fr_cert.proofs.SameLemmas.{is-unsigned}
 use Rattle.fr_cert.proofs.same.is_unsigned.Goals as goal
 

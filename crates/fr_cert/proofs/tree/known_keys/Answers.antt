@@ -1,9 +1,5 @@
 use Rattle.std.proofs.Common.{◌∷◌, [], ◌++◌, List, String, Global, string_bytes, append_assoc, append-nil, sym, ap, ◌∙◌, subst, rules, IsTrue}
-use Rattle.std.specs.List.{AllByRecursion}
-use Rattle.std.specs.Map.{keys_of}
-use Rattle.std.specs.Map.Iter.{deref}
-use Rattle.std.proofs.lemmas.Map.Iter.{rest_more, rest_all}
-use Rattle.fr_cert.specs.Keys.{is_key_of}
+use Rattle.fr_cert.proofs.Terms.{AllByRecursion, keys_of, deref, rest_more, rest_all, is_key_of}
 use Rattle.fr_cert.proofs.KeyLemmas.{key_found, each_known, known_push}
 use Rattle.fr_cert.proofs.tree.known_keys.Goals as goal
 

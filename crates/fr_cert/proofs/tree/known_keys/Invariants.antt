@@ -1,7 +1,5 @@
 use Rattle.std.proofs.Common.{◌≡◌, List, ◌++◌, String, Global, string_bytes, IsTrue}
-use Rattle.std.specs.List.{AllByRecursion}
-use Rattle.std.specs.Map.{keys_of}
-use Rattle.fr_cert.specs.Keys.{is_key_of}
+use Rattle.fr_cert.proofs.Terms.{AllByRecursion, keys_of, is_key_of}
 use Rattle.fr_cert.proofs.tree.known_keys.Given as goal
 
 -- the keys are those in front and those that are left, and each one in front is known

@@ -1,8 +1,6 @@
 use Rattle.std.proofs.Common.{◌≡◌, ◌∙◌, ◌<◌, ◌≤◌, [], length, sym, ap, arith}
 use Rattle.std.specs.Prelude.{nat_le}
-use Rattle.std.proofs.lemmas.Bool.{le-leb, lt-leb}
-use Rattle.std.proofs.lemmas.List.{get_or_default}
-use Rattle.fr_notes.specs.Note.{Note}
+use Rattle.fr_cert.proofs.Terms.{le-leb, lt-leb, get_or_default, Note}
 use Rattle.fr_cert.proofs.WrittenLemmas.{all_more, all_less, all_end}
 use Rattle.fr_cert.proofs.writing.are_short.Goals as goal
 

@@ -1,6 +1,6 @@
 use Rattle.std.proofs.Common.{◌≡◌, drop, length}
 use Rattle.std.specs.Prelude.{nat_le}
-use Rattle.std.specs.List.{list_all}
+use Rattle.fr_cert.proofs.Terms.{list_all}
 use Rattle.fr_cert.proofs.writing.are_short.Given as goal
 
 -- what is left decides

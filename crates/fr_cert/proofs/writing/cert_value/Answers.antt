@@ -1,10 +1,7 @@
 use Rattle.std.proofs.Common.{◌≡◌, ◌∙◌, ap, refl, rules}
-use Rattle.serde_json.specs.Data.{array, number, unsigned, no_members}
-use Rattle.serde_json.specs.View.{view, members_view}
-use Rattle.serde_json.specs.declared.value.Value.{Array}
-use Rattle.serde_json.proofs.Views.{view-Array, view-Object}
+use Rattle.fr_cert.proofs.Terms.{array, number, unsigned, no_members, view, members_view, Array, view-Array, view-Object, each_tree, note_tree, end_tree, version_of}
 use Rattle.fr_cert.specs.declared.key.Key.TheVariants as key
-use Rattle.fr_cert.specs.Written.{each_tree, note_tree, end_tree, version_of, cert_tree}
+use Rattle.fr_cert.specs.Written.{cert_tree}
 use Rattle.fr_cert.proofs.WrittenLemmas.{three_keys}
 use Rattle.fr_cert.proofs.writing.cert_value.Goals as goal
 

@@ -1,7 +1,6 @@
 use Rattle.std.proofs.Common.{◌∙◌, ap}
-use Rattle.std.proofs.lemmas.Result.{IfOk-weaker}
+use Rattle.fr_cert.proofs.Terms.{IfOk-weaker, has_float, compact_text}
 use Rattle.std.proofs.lemmas.Str.{IsUtf8-string_bytes}
-use Rattle.serde_json.specs.Written.{has_float, compact_text}
 use Rattle.fr_cert.specs.Written.{cert_text}
 use Rattle.fr_cert.proofs.ShapeLemmas.{no_float}
 use Rattle.fr_cert.proofs.WrittenLaws.{written_again}

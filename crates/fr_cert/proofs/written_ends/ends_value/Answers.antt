@@ -1,8 +1,6 @@
 use Rattle.std.proofs.Common.{◌∙◌, All, sym, ap, subst}
-use Rattle.fr_ends.specs.Fits.{EndFits}
-use Rattle.fr_ends.specs.View.{end_of}
+use Rattle.fr_cert.proofs.Terms.{EndFits, end_of, end_tree, each_tree}
 use Rattle.fr_ends.proofs.TwiceLemmas.{fit_from}
-use Rattle.fr_cert.specs.Written.{end_tree, each_tree}
 use Rattle.fr_cert.proofs.WrittenLemmas.{tree_more, tree_end, tree_seen}
 use Rattle.fr_cert.proofs.written_ends.ends_value.Goals as goal
 

@@ -1,7 +1,5 @@
 use Rattle.std.proofs.Common.{◌≡◌, drop}
-use Rattle.serde_json.specs.View.{items_view}
-use Rattle.fr_ends.specs.View.{end_of}
-use Rattle.fr_cert.specs.Written.{end_tree, each_tree}
+use Rattle.fr_cert.proofs.Terms.{items_view, end_of, end_tree, each_tree}
 use Rattle.fr_cert.proofs.WrittenLemmas.{behind}
 use Rattle.fr_cert.proofs.written_ends.ends_value.Given as goal
 

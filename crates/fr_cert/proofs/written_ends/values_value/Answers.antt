@@ -1,13 +1,5 @@
 use Rattle.std.proofs.Common.{◌<◌, ◌∙◌, ℕ, ℤ, All, length, map, ap, subst, to_z-of_z}
-use Rattle.std.specs.Map.Iter.{deref_pair}
-use Rattle.std.proofs.lemmas.List.Elements.{All-head, All-tail}
-use Rattle.std.proofs.lemmas.Map.Iter.{rest_more, rest_all}
-use Rattle.serde_json.specs.Data.{put, number}
-use Rattle.serde_json.specs.Find.{of_integer}
-use Rattle.serde_json.specs.View.{members_view}
-use Rattle.fr_program.specs.Limits.{IsNumber}
-use Rattle.fr_program.specs.Lookup.{actor_at}
-use Rattle.fr_ends.specs.View.{value_of}
+use Rattle.fr_cert.proofs.Terms.{deref_pair, All-head, All-tail, rest_more, rest_all, put, number, of_integer, members_view, IsNumber, actor_at, value_of}
 use Rattle.fr_cert.proofs.WrittenLemmas.{values_more, values_end}
 use Rattle.fr_cert.proofs.written_ends.values_value.Goals as goal
 

@@ -1,9 +1,5 @@
 use Rattle.std.proofs.Common.{◌≡◌, ◌<◌, All, length, map}
-use Rattle.serde_json.specs.Data.{no_members}
-use Rattle.serde_json.specs.View.{members_view}
-use Rattle.fr_program.specs.Limits.{IsNumber}
-use Rattle.fr_ends.specs.View.{value_of, values_of}
-use Rattle.fr_cert.specs.Written.{with_values}
+use Rattle.fr_cert.proofs.Terms.{no_members, members_view, IsNumber, value_of, values_of, with_values}
 use Rattle.fr_cert.proofs.written_ends.values_value.Given as goal
 
 -- the values that are left complete what there is

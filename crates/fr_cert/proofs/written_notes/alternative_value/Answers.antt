@@ -1,7 +1,5 @@
 use Rattle.std.proofs.Common.{◌≡◌, ◌∙◌, ap, rules}
-use Rattle.serde_json.specs.Data.{number, unsigned, no_members, array, object}
-use Rattle.serde_json.specs.View.{members_view}
-use Rattle.serde_json.proofs.Views.{view-Array, view-Object}
+use Rattle.fr_cert.proofs.Terms.{number, unsigned, no_members, array, object, members_view, view-Array, view-Object}
 use Rattle.fr_cert.proofs.WrittenLemmas.{six_keys}
 use Rattle.fr_cert.proofs.written_notes.alternative_value.Goals as goal
 

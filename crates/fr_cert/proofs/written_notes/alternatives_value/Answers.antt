@@ -1,4 +1,4 @@
-use Rattle.fr_cert.specs.Written.{alternative_tree}
+use Rattle.fr_cert.proofs.Terms.{alternative_tree}
 use Rattle.fr_cert.proofs.WrittenLemmas.{tree_more, tree_end}
 use Rattle.fr_cert.proofs.written_notes.alternatives_value.Goals as goal
 

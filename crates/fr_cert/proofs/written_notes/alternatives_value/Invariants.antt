@@ -1,6 +1,5 @@
 use Rattle.std.proofs.Common.{◌≡◌, drop}
-use Rattle.serde_json.specs.View.{items_view}
-use Rattle.fr_cert.specs.Written.{alternative_tree, each_tree}
+use Rattle.fr_cert.proofs.Terms.{items_view, alternative_tree, each_tree}
 use Rattle.fr_cert.proofs.WrittenLemmas.{behind}
 use Rattle.fr_cert.proofs.written_notes.alternatives_value.Given as goal
 

@@ -1,10 +1,5 @@
 use Rattle.std.proofs.Common.{◌∙◌, ◌<◌, ◌≤◌, length, get_or, map, ap, arith}
-use Rattle.std.proofs.lemmas.List.{get_or_default, map-id}
-use Rattle.serde_json.specs.Data.{no_members}
-use Rattle.serde_json.specs.View.{members_view}
-use Rattle.fr_program.specs.View.{object_of}
-use Rattle.fr_notes.specs.declared.claim.Claim.TheVariants.{NotHeld}
-use Rattle.fr_cert.specs.Written.{with_count, with_each}
+use Rattle.fr_cert.proofs.Terms.{get_or_default, map-id, no_members, members_view, object_of, NotHeld, with_count, with_each}
 use Rattle.fr_cert.proofs.WrittenLemmas.{each_more, each_end, each_seen}
 use Rattle.fr_cert.proofs.written_notes.counts_value.Goals as goal
 

@@ -1,8 +1,5 @@
 use Rattle.std.proofs.Common.{◌≡◌, drop}
-use Rattle.serde_json.specs.Data.{no_members}
-use Rattle.serde_json.specs.View.{members_view}
-use Rattle.fr_program.specs.View.{object_of}
-use Rattle.fr_cert.specs.Written.{with_count, with_each}
+use Rattle.fr_cert.proofs.Terms.{no_members, members_view, object_of, with_count, with_each}
 use Rattle.fr_cert.proofs.written_notes.counts_value.Given as goal
 
 -- the objects that are left complete what there is

@@ -1,9 +1,5 @@
 use Rattle.std.proofs.Common.{◌≡◌, ◌∙◌, ◌↔◌, IsTrue, List, [], ◌∷◌, Bool, true, false, length, refl, sym, ap, rules, arith}
-use Rattle.serde_json.specs.Data.{array, object}
-use Rattle.serde_json.specs.View.{view, items_view, members_view}
-use Rattle.serde_json.specs.declared.value.Value.{Value}
-use Rattle.serde_json.proofs.Views.{Entry, view-Array, view-Object}
-use Rattle.fr_cert.specs.Written.{is_default}
+use Rattle.fr_cert.proofs.Terms.{array, object, view, items_view, members_view, Value, Entry, view-Array, view-Object, is_default}
 use Rattle.fr_cert.proofs.written_notes.is_default.Goals as goal
 
 empty_list : (b : Bool) (vs : List Value) → (IsTrue b ↔ (length vs ≡ 0)) → b ≡ is_default (array (items_view vs))

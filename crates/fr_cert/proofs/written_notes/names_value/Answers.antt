@@ -1,12 +1,5 @@
 use Rattle.std.proofs.Common.{◌≡◌, ◌∙◌, ◌<◌, ◌≤◌, ◌+◌, Vec, Global, drop, length, get_or, map, sym, ap, subst, arith}
-use Rattle.std.proofs.lemmas.List.{get_or_default}
-use Rattle.serde_json.specs.Data.{string}
-use Rattle.serde_json.specs.View.{items_view}
-use Rattle.serde_json.specs.declared.value.Value.{Value}
-use Rattle.fr_program.specs.View.{object_of}
-use Rattle.fr_notes.specs.declared.claim.Claim.TheVariants.{NotHeld}
-use Rattle.fr_cert.specs.Views.{says}
-use Rattle.fr_cert.specs.Written.{names_where}
+use Rattle.fr_cert.proofs.Terms.{get_or_default, string, items_view, Value, object_of, NotHeld, says, names_where}
 use Rattle.fr_cert.proofs.WrittenLemmas.{behind, name_more, name_less, names_end}
 use Rattle.fr_cert.proofs.written_notes.names_value.Goals.{then-says+in_ok-name+in_ok-push, else-says}
 use Rattle.fr_cert.proofs.written_notes.names_value.Goals as goal

@@ -1,8 +1,5 @@
 use Rattle.std.proofs.Common.{◌≡◌, drop, map}
-use Rattle.serde_json.specs.View.{items_view}
-use Rattle.fr_program.specs.View.{object_of}
-use Rattle.fr_cert.specs.Views.{says}
-use Rattle.fr_cert.specs.Written.{names_where}
+use Rattle.fr_cert.proofs.Terms.{items_view, object_of, says, names_where}
 use Rattle.fr_cert.proofs.WrittenLemmas.{behind}
 use Rattle.fr_cert.proofs.written_notes.names_value.Given as goal
 

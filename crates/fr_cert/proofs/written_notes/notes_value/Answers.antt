@@ -1,7 +1,5 @@
 use Rattle.std.proofs.Common.{◌≡◌, ◌∙◌, ◌<◌, ◌≤◌, [], length, sym, subst, arith}
-use Rattle.std.proofs.lemmas.List.{get_or_default}
-use Rattle.fr_notes.specs.Fits.{NoteFits}
-use Rattle.fr_cert.specs.Written.{note_tree}
+use Rattle.fr_cert.proofs.Terms.{get_or_default, NoteFits, note_tree}
 use Rattle.fr_cert.proofs.WrittenLemmas.{tree_more, tree_end}
 use Rattle.fr_cert.proofs.written_notes.notes_value.Goals as goal
 

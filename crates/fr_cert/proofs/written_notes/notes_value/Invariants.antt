@@ -1,6 +1,5 @@
 use Rattle.std.proofs.Common.{◌≡◌, drop}
-use Rattle.serde_json.specs.View.{items_view}
-use Rattle.fr_cert.specs.Written.{note_tree, each_tree}
+use Rattle.fr_cert.proofs.Terms.{items_view, note_tree, each_tree}
 use Rattle.fr_cert.proofs.WrittenLemmas.{behind}
 use Rattle.fr_cert.proofs.written_notes.notes_value.Given as goal
 

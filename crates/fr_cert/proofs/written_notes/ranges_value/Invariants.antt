@@ -1,9 +1,5 @@
 use Rattle.std.proofs.Common.{◌≡◌, drop}
-use Rattle.serde_json.specs.Data.{no_members}
-use Rattle.serde_json.specs.View.{members_view}
-use Rattle.fr_program.specs.View.{variable_of}
-use Rattle.fr_notes.specs.View.{ends_of}
-use Rattle.fr_cert.specs.Written.{with_named, with_each}
+use Rattle.fr_cert.proofs.Terms.{no_members, members_view, variable_of, ends_of, with_named, with_each}
 use Rattle.fr_cert.proofs.written_notes.ranges_value.Given as goal
 
 -- the variables that are left complete what there is

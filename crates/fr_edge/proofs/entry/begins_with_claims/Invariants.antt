@@ -1,5 +1,5 @@
 use Rattle.std.proofs.Common.{◌<◌, ℕ}
-use Rattle.fr_edge.specs.Starts.{BeginsAs}
+use Rattle.fr_edge.proofs.Terms.{BeginsAs}
 use Rattle.fr_edge.proofs.entry.begins_with_claims.Given as goal
 
 abbrev pub invariant-loop-o : goal.invariant-loop-o

@@ -1,5 +1,5 @@
 use Rattle.std.proofs.Common.{◌<◌, ℕ}
-use Rattle.fr_edge.specs.Starts.{BeginsWithin}
+use Rattle.fr_edge.proofs.Terms.{BeginsWithin}
 use Rattle.fr_edge.proofs.entry.begins_with_ranges.Given as goal
 
 abbrev pub invariant-loop-x : goal.invariant-loop-x

@@ -1,6 +1,5 @@
 use Rattle.std.proofs.Common.{sym, subst}
-use Rattle.fr_calls.specs.State.{start}
-use Rattle.fr_notes.specs.Note.{Holds}
+use Rattle.fr_edge.proofs.Terms.{start, Holds}
 use Rattle.fr_edge.proofs.entry.enters.Goals as goal
 
 pub returns-in-Before : goal.returns-in-Before

@@ -1,6 +1,5 @@
 use Rattle.std.proofs.Common.{sym, subst, arith, refl}
-use Rattle.fr_calls.specs.State.{start}
-use Rattle.fr_notes.specs.Note.{Holds, HoldsOne}
+use Rattle.fr_edge.proofs.Terms.{start, Holds, HoldsOne}
 use Rattle.fr_edge.proofs.Lists.{among-case}
 use Rattle.fr_edge.proofs.entry.some_holds_at_start.Goals as goal
 

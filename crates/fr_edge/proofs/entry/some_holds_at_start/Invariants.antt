@@ -1,7 +1,5 @@
 use Rattle.std.proofs.Common.{ℕ}
-use Rattle.fr_calls.specs.State.{start}
-use Rattle.fr_notes.specs.Note.{Alternative, HoldsOne}
-use Rattle.fr_edge.specs.Alternatives.{IsAmong}
+use Rattle.fr_edge.proofs.Terms.{start, Alternative, HoldsOne, IsAmong}
 use Rattle.fr_edge.proofs.entry.some_holds_at_start.Given as goal
 
 abbrev pub invariant-loop-alternative : goal.invariant-loop-alternative

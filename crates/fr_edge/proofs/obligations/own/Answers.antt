@@ -1,5 +1,5 @@
 use Rattle.std.proofs.Common.{Some, None, sym, ◌∙◌, ap}
-use Rattle.std.proofs.lemmas.Option.{same_Some}
+use Rattle.fr_edge.proofs.Terms.{same_Some}
 use Rattle.fr_edge.specs.declared.failure.Own.TheVariants.{Entry as FailsEntry, Rule as FailsRule, Goes as FailsGoes}
 use Rattle.fr_edge.proofs.Firsts.{own-there, least-rule, all-rules, goes-first, missed-below}
 use Rattle.fr_edge.proofs.obligations.own.Goals as goal

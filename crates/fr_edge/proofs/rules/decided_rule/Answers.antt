@@ -1,6 +1,5 @@
 use Rattle.std.proofs.Common.{sym, ◌∙◌, ap}
-use Rattle.fr_calls.specs.Rule.{first_forbidden}
-use Rattle.fr_notes.specs.Spot.{condition_known}
+use Rattle.fr_edge.proofs.Terms.{first_forbidden, condition_known}
 use Rattle.fr_edge.proofs.RuleLaws.{decided-before, decided-inside}
 use Rattle.fr_edge.proofs.rules.decided_rule.Goals as goal
 

@@ -1,5 +1,5 @@
 use Rattle.std.proofs.Common.{◌≡◌, ◌+◌, length, sym, subst, arith}
-use Rattle.fr_edge.specs.Alternatives.{NoteOutcome}
+use Rattle.fr_edge.proofs.Terms.{NoteOutcome}
 use Rattle.fr_edge.proofs.Lists.{note-step}
 use Rattle.fr_edge.proofs.rules.least_rule.Goals as goal
 

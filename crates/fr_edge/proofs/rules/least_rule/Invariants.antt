@@ -1,4 +1,4 @@
-use Rattle.fr_edge.specs.Alternatives.{NoteOutcome}
+use Rattle.fr_edge.proofs.Terms.{NoteOutcome}
 use Rattle.fr_edge.proofs.rules.least_rule.Given as goal
 
 abbrev pub invariant-loop-alternative : goal.invariant-loop-alternative

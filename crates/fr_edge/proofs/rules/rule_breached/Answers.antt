@@ -1,5 +1,5 @@
 use Rattle.std.proofs.Common.{sym, subst}
-use Rattle.fr_edge.specs.Alternatives.{RuleOutcome, AnyRule}
+use Rattle.fr_edge.proofs.Terms.{RuleOutcome, AnyRule}
 use Rattle.fr_edge.proofs.RuleLaws.{both-outcomes}
 use Rattle.fr_edge.proofs.rules.rule_breached.Goals as goal
 

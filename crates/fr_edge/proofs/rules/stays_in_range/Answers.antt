@@ -1,6 +1,5 @@
 use Rattle.std.proofs.Common.{subst, arith}
-use Rattle.fr_program.specs.declared.instr.Instr.TheVariants.{Set}
-use Rattle.fr_program.specs.Fault.{NamesThings}
+use Rattle.fr_edge.proofs.Terms.{Set, NamesThings}
 use Rattle.fr_edge.proofs.Spans.{stays-made, leaves-made}
 use Rattle.fr_edge.proofs.rules.stays_in_range.Goals as goal
 

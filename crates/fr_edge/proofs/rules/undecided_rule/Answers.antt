@@ -1,7 +1,5 @@
 use Rattle.std.proofs.Common.{sym, ◌∙◌, ap, subst}
-use Rattle.fr_notes.specs.Known.{joint_range}
-use Rattle.fr_notes.specs.Reckoning.{HasNumbersIn}
-use Rattle.fr_edge.specs.Alternatives.{gives_unheld, uses_dead, creates_live, StaysIn, IsOutBy}
+use Rattle.fr_edge.proofs.Terms.{joint_range, HasNumbersIn, gives_unheld, uses_dead, creates_live, StaysIn, IsOutBy}
 use Rattle.fr_edge.proofs.RuleLaws.{given-first, uses-first, creates-first, out-first, none-broken, has-numbers}
 use Rattle.fr_edge.proofs.rules.undecided_rule.Goals as goal
 

@@ -1,6 +1,6 @@
 use Rattle.std.proofs.Common.{sym, subst, arith, refl}
 use Rattle.std.specs.Prelude.{Contains}
-use Rattle.fr_edge.specs.Alternatives.{GoesWell}
+use Rattle.fr_edge.proofs.Terms.{GoesWell}
 use Rattle.fr_edge.proofs.Lists.{among-case, item-fits}
 use Rattle.fr_edge.proofs.steps.all_go_well.Goals as goal
 

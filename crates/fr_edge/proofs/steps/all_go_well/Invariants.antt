@@ -1,5 +1,4 @@
-use Rattle.fr_notes.specs.Note.{Alternative}
-use Rattle.fr_edge.specs.Alternatives.{IsAmong, GoesWell}
+use Rattle.fr_edge.proofs.Terms.{Alternative, IsAmong, GoesWell}
 use Rattle.fr_edge.proofs.steps.all_go_well.Given as goal
 
 abbrev pub invariant-loop-alternative : goal.invariant-loop-alternative

@@ -1,7 +1,6 @@
 use Rattle.std.proofs.Common.{refl, subst}
 use Rattle.std.specs.Prelude.{◌↔◌, IsTrue, Contains}
-use Rattle.fr_notes.specs.Note.{Alternative}
-use Rattle.fr_notes.specs.Known.{IsLeft, NeverSteps, Keeps}
+use Rattle.fr_edge.proofs.Terms.{Alternative, IsLeft, NeverSteps, Keeps}
 use Rattle.fr_edge.proofs.Targets.{left-goes}
 use Rattle.fr_edge.proofs.steps.goes_well.Goals as goal
 

@@ -1,6 +1,5 @@
 use Rattle.std.proofs.Common.{Some, sym, subst}
-use Rattle.fr_calls.specs.declared.way.Way.TheVariants.{Then, Else}
-use Rattle.fr_edge.specs.Alternatives.{WayOutcome, GoesOutcome}
+use Rattle.fr_edge.proofs.Terms.{Then, Else, WayOutcome, GoesOutcome}
 use Rattle.fr_edge.proofs.Targets.{both-miss, then-misses, else-outcome}
 use Rattle.fr_edge.proofs.steps.least_missed.Goals as goal
 

@@ -1,5 +1,5 @@
 use Rattle.std.proofs.Common.{Contains, sym, ap, ◌∙◌, subst, arith}
-use Rattle.fr_program.specs.Points.{point_number}
+use Rattle.fr_edge.proofs.Terms.{point_number}
 use Rattle.fr_edge.proofs.Firsts.{pc-small, landed}
 use Rattle.fr_edge.proofs.Targets.{no-target, others, all-go, missing}
 use Rattle.fr_edge.proofs.steps.missed.Goals as goal

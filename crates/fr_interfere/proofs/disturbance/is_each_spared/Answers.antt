@@ -1,7 +1,6 @@
 use Rattle.std.proofs.Common.{sym, subst, arith, refl}
 use Rattle.std.specs.Prelude.{Contains}
-use Rattle.fr_notes.specs.Note.{Alternative}
-use Rattle.fr_interfere.specs.Disturbance.{IsSparedByRows}
+use Rattle.fr_interfere.proofs.Terms.{Alternative, IsSparedByRows}
 use Rattle.fr_interfere.proofs.Lists.{among-case, item-fits}
 use Rattle.fr_interfere.proofs.disturbance.is_each_spared.Goals as goal
 

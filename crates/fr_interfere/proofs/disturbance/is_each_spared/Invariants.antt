@@ -1,8 +1,5 @@
 use Rattle.std.specs.Prelude.{◌≢◌, Contains}
-use Rattle.fr_program.specs.declared.ids.Point.{Point}
-use Rattle.fr_program.specs.Lookup.{IsPoint}
-use Rattle.fr_notes.specs.Note.{Alternative}
-use Rattle.fr_interfere.specs.Disturbance.{IsAmong, IsSparedByRows}
+use Rattle.fr_interfere.proofs.Terms.{Point, IsPoint, Alternative, IsAmong, IsSparedByRows}
 use Rattle.fr_interfere.proofs.disturbance.is_each_spared.Given as goal
 
 abbrev pub invariant-loop-alternative : goal.invariant-loop-alternative

@@ -1,5 +1,5 @@
 use Rattle.std.proofs.Common.{sym, subst}
-use Rattle.fr_interfere.specs.Effects.{AllBear, IsComputable}
+use Rattle.fr_interfere.proofs.Terms.{AllBear, IsComputable}
 use Rattle.fr_interfere.proofs.BearLaws.{computable, borne-spared}
 use Rattle.fr_interfere.proofs.disturbance.is_left.Goals as goal
 

@@ -1,7 +1,5 @@
 use Rattle.std.proofs.Common.{refl, sym, subst}
-use Rattle.fr_calls.specs.declared.way.Way.TheVariants.{Then, Else}
-use Rattle.fr_notes.specs.Known.{KnownFits}
-use Rattle.fr_notes.proofs.PairLaws.{meet-compatible}
+use Rattle.fr_interfere.proofs.Terms.{Then, Else, KnownFits, meet-compatible}
 use Rattle.fr_interfere.proofs.DisturbanceLaws.{unmet-spares, by-row}
 use Rattle.fr_interfere.proofs.disturbance.is_spared.Goals as goal
 

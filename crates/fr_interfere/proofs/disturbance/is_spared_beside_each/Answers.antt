@@ -1,6 +1,6 @@
 use Rattle.std.proofs.Common.{sym, subst, arith, refl}
 use Rattle.std.specs.Prelude.{Contains}
-use Rattle.fr_interfere.specs.Disturbance.{IsSparedByRows}
+use Rattle.fr_interfere.proofs.Terms.{IsSparedByRows}
 use Rattle.fr_interfere.proofs.Lists.{among-case, item-fits}
 use Rattle.fr_interfere.proofs.disturbance.is_spared_beside_each.Goals as goal
 

@@ -1,8 +1,5 @@
 use Rattle.std.specs.Prelude.{◌≢◌}
-use Rattle.fr_program.specs.declared.ids.Point.{Point}
-use Rattle.fr_program.specs.Lookup.{IsPoint}
-use Rattle.fr_notes.specs.Note.{Alternative}
-use Rattle.fr_interfere.specs.Disturbance.{IsAmong, IsSparedByRows}
+use Rattle.fr_interfere.proofs.Terms.{Point, IsPoint, Alternative, IsAmong, IsSparedByRows}
 use Rattle.fr_interfere.proofs.disturbance.is_spared_beside_each.Given as goal
 
 abbrev pub invariant-loop-other : goal.invariant-loop-other

@@ -1,8 +1,6 @@
 use Rattle.std.proofs.Common.{◌≡◌, sym, ap, subst}
 use Rattle.std.specs.Prelude.{◌≢◌, ◌↔◌, IsTrue}
-use Rattle.fr_program.specs.Lookup.{IsPoint}
-use Rattle.fr_notes.specs.Fits.{NoteFits}
-use Rattle.fr_notes.specs.Noted.{note_at}
+use Rattle.fr_interfere.proofs.Terms.{IsPoint, NoteFits, note_at}
 use Rattle.fr_interfere.proofs.DisturbanceLaws.{numbered-point, same-point, each-undisturbed, undisturbed-there}
 use Rattle.fr_interfere.proofs.disturbance.undisturbed.Goals as goal
 

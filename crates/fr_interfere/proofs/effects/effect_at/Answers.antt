@@ -1,5 +1,5 @@
 use Rattle.std.proofs.Common.{sym, subst}
-use Rattle.fr_interfere.specs.Effects.{HasTarget, IsComputable}
+use Rattle.fr_interfere.proofs.Terms.{HasTarget, IsComputable}
 use Rattle.fr_interfere.proofs.BearLaws.{computable}
 use Rattle.fr_interfere.proofs.UnsaidLaws.{has-target}
 use Rattle.fr_interfere.proofs.effects.effect_at.Goals as goal

@@ -1,8 +1,5 @@
 use Rattle.std.proofs.Common.{◌<◌, length, refl, sym, subst, arith, get_or}
-use Rattle.fr_program.specs.declared.ids.ObjId.{ObjId}
-use Rattle.fr_notes.specs.declared.claim.Claim.{Claim}
-use Rattle.fr_notes.specs.declared.claim.Claim.TheVariants.{NotHeld}
-use Rattle.fr_notes.specs.Known.{ClaimsMeet}
+use Rattle.fr_interfere.proofs.Terms.{ObjId, Claim, NotHeld, ClaimsMeet}
 use Rattle.fr_interfere.proofs.HullLaws.{IsWiderClaim, HasClaim, same-claim, join-claims, grown-none, grown-more, wider-has-claim}
 use Rattle.fr_interfere.proofs.hull.cover_claims.Goals as goal
 

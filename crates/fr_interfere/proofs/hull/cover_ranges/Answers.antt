@@ -1,6 +1,5 @@
 use Rattle.std.proofs.Common.{◌<◌, length, refl, subst, arith, get_or}
-use Rattle.fr_notes.specs.Implication.{IsPart}
-use Rattle.fr_notes.specs.View.{ends_of}
+use Rattle.fr_interfere.proofs.Terms.{IsPart, ends_of}
 use Rattle.fr_interfere.proofs.HullLaws.{IsWiderRange, HasRange, same-range, join-ranges, grown-none, grown-more, IsLeastOf, has-one, has-other, wider-has-range}
 use Rattle.fr_interfere.proofs.hull.cover_ranges.Goals as goal
 

@@ -1,7 +1,5 @@
 use Rattle.std.proofs.Common.{◌≡◌, sym, ◌∙◌, subst, arith, refl, get_or, ⊎_elim}
-use Rattle.std.proofs.lemmas.Bool.{cases_lt}
-use Rattle.std.proofs.lemmas.List.{get_or_default}
-use Rattle.fr_interfere.specs.Hull.{IsApart}
+use Rattle.fr_interfere.proofs.Terms.{cases_lt, get_or_default, IsApart}
 use Rattle.fr_interfere.proofs.hull.excludes_range.Goals as goal
 
 pub loop-entry-init : goal.loop-entry-init

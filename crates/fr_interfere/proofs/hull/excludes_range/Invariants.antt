@@ -1,7 +1,5 @@
 use Rattle.std.proofs.Common.{◌≡◌, ℕ, ◌<◌, get_or}
-use Rattle.fr_program.specs.declared.ids.VarId.{VarId}
-use Rattle.fr_program.specs.declared.range.Range.{Range}
-use Rattle.fr_interfere.specs.Hull.{IsApart}
+use Rattle.fr_interfere.proofs.Terms.{VarId, Range, IsApart}
 use Rattle.fr_interfere.proofs.hull.excludes_range.Given as goal
 
 -- none of the ranges so far is apart

@@ -1,11 +1,8 @@
 -- Two ranges have no number in common where one ends before the other begins.
 use Rattle.std.proofs.Common.{◌≡◌, arith, rules, subst, sym}
 use Rattle.std.specs.Prelude.{◌↔◌, ◌≤ℤ◌, ◌<ℤ◌, ℤ, FitsSigned, IsTrue, int_lt}
-use Rattle.std.specs.Int.{int_max, int_min}
-use Rattle.std.proofs.lemmas.Int.{by_lt_z, clamps, ints, to_z-of_z}
+use Rattle.fr_interfere.proofs.Terms.{int_max, int_min, by_lt_z, clamps, ints, to_z-of_z, RangesMeet, ends_of}
 use mir.Syntax.{w128}
-use Rattle.fr_notes.specs.Pairs.{RangesMeet}
-use Rattle.fr_notes.specs.View.{ends_of}
 use Rattle.fr_interfere.proofs.hull.is_apart.Goals as goal
 
 less : (x y m n : ℤ) → x ≡ m → y ≡ n → IsTrue (int_lt x y) ↔ (m <ℤ n)

@@ -1,7 +1,5 @@
 use Rattle.std.proofs.Common.{Some, sym, subst}
-use Rattle.fr_notes.specs.Known.{joint_range}
-use Rattle.fr_notes.specs.Reckoning.{IsSpanIn}
-use Rattle.fr_interfere.specs.Hull.{GivesIn}
+use Rattle.fr_interfere.proofs.Terms.{joint_range, IsSpanIn, GivesIn}
 use Rattle.fr_interfere.proofs.hull.written_by.Goals as goal
 
 pub returns-in-Sets : goal.returns-in-Sets

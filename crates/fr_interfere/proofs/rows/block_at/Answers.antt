@@ -1,6 +1,5 @@
 use Rattle.std.proofs.Common.{get_or}
-use Rattle.std.proofs.lemmas.Option.{slice_get-get_or}
-use Rattle.fr_interfere.specs.declared.rows.Run.{Run}
+use Rattle.fr_interfere.proofs.Terms.{slice_get-get_or, Run}
 use Rattle.fr_interfere.proofs.RowLaws.{has-run, run-listed}
 use Rattle.fr_interfere.proofs.rows.block_at.Goals as goal
 

@@ -1,10 +1,7 @@
 -- At each place is the block of its run.
 use Rattle.std.proofs.Common.{◌≡◌, ◌<◌, ℕ, length, sym, ap, subst, arith}
 use Rattle.std.specs.Prelude.{All, IfOk}
-use Rattle.std.specs.List.{AllZip, range_with_len}
-use Rattle.rayon.proofs.ListFacts.{IfOk-then}
-use Rattle.rayon.proofs.ToStd.{nat_range-All}
-use Rattle.fr_interfere.specs.Rows.{IsBlockAt, IsInRun, IsRun}
+use Rattle.fr_interfere.proofs.Terms.{AllZip, range_with_len, IfOk-then, nat_range-All, IsBlockAt, IsInRun, IsRun}
 use Rattle.fr_interfere.proofs.RowLaws.{made-list, blocks-each, blocks-found}
 use Rattle.fr_interfere.proofs.rows.blocks_by.Goals as goal
 

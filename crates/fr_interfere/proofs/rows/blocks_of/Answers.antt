@@ -1,10 +1,6 @@
 use Rattle.std.proofs.Common.{◌≡◌, [], ◌∷◌, ◌++◌, get_or, sym, ◌∙◌, subst, arith, ⊎_elim}
 use Rattle.std.specs.Prelude.{◌<◌, All, Any, Contains}
-use Rattle.std.proofs.lemmas.Bool.{cases_lt}
-use Rattle.std.proofs.lemmas.List.{get_or_default}
-use Rattle.std.proofs.lemmas.List.Elements.{All-push}
-use Rattle.fr_program.specs.Points.{point_number}
-use Rattle.fr_interfere.specs.Rows.{IsBlock}
+use Rattle.fr_interfere.proofs.Terms.{cases_lt, get_or_default, All-push, point_number, IsBlock}
 use Rattle.fr_interfere.proofs.RowLaws.{run-listed, in-run, any-before, any-last}
 use Rattle.fr_interfere.proofs.rows.blocks_of.Goals as goal
 

@@ -1,6 +1,6 @@
 use Rattle.std.proofs.Common.{ℕ, ◌<◌, ◌≤◌, ◌-◌, length, get_or}
 use Rattle.std.specs.Prelude.{All, Any, Contains}
-use Rattle.fr_interfere.specs.Rows.{IsBlock}
+use Rattle.fr_interfere.proofs.Terms.{IsBlock}
 use Rattle.fr_interfere.proofs.rows.blocks_of.Given as goal
 
 -- the blocks have the points before this place

@@ -1,8 +1,5 @@
 use Rattle.std.proofs.Common.{◌≤◌, length, get_or, sym, subst, arith}
-use Rattle.std.specs.List.{AllWithin}
-use Rattle.std.proofs.lemmas.List.Elements.{AllWithin-more, AllWithin-upto, All-from_all_within, at_read}
-use Rattle.fr_interfere.specs.declared.rows.Block.{Block}
-use Rattle.fr_interfere.specs.Rows.{IsBlock, IsTold}
+use Rattle.fr_interfere.proofs.Terms.{AllWithin, AllWithin-more, AllWithin-upto, All-from_all_within, at_read, Block, IsBlock, IsTold}
 use Rattle.fr_interfere.proofs.ClosedLaws.{none-closed, told-still, all-told}
 use Rattle.fr_interfere.proofs.rows.closed_actors.Goals as goal
 

@@ -1,9 +1,6 @@
 use Rattle.std.proofs.Common.{◌≡◌, Some}
 use Rattle.std.specs.Prelude.{slice_get}
-use Rattle.std.specs.List.{AllWithin}
-use Rattle.fr_program.specs.declared.ids.Point.{Point}
-use Rattle.fr_program.specs.Points.{points_of}
-use Rattle.fr_interfere.specs.Rows.{IsTold}
+use Rattle.fr_interfere.proofs.Terms.{AllWithin, Point, points_of, IsTold}
 use Rattle.fr_interfere.proofs.rows.closed_actors.Given as goal
 
 -- each block so far is told

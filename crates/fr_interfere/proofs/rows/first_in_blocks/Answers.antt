@@ -1,7 +1,5 @@
 use Rattle.std.proofs.Common.{sym, ◌∙◌, subst, arith}
-use Rattle.std.proofs.lemmas.Option.{same_Some}
-use Rattle.fr_interfere.specs.Rows.{IsBlock, IsInSome}
-use Rattle.fr_interfere.specs.Spoilers.{IsBelow, IsListed}
+use Rattle.fr_interfere.proofs.Terms.{same_Some, IsBlock, IsInSome, IsBelow, IsListed}
 use Rattle.fr_interfere.proofs.Lists.{at-get}
 use Rattle.fr_interfere.proofs.RowLaws.{IsInBlock}
 use Rattle.fr_interfere.proofs.SpoilerLaws.{first-fewer, one-more, none-yet}

@@ -1,8 +1,6 @@
 use Rattle.std.proofs.Common.{◌≡◌, Some}
 use Rattle.std.specs.Prelude.{slice_get}
-use Rattle.fr_program.specs.declared.ids.Point.{Point}
-use Rattle.fr_program.specs.Points.{points_of}
-use Rattle.fr_interfere.specs.Spoilers.{IsFirstOf, IsBelow}
+use Rattle.fr_interfere.proofs.Terms.{Point, points_of, IsFirstOf, IsBelow}
 use Rattle.fr_interfere.proofs.RowLaws.{IsInBlock}
 use Rattle.fr_interfere.proofs.rows.first_in_blocks.Given as goal
 

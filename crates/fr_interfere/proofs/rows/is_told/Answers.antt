@@ -1,5 +1,5 @@
 use Rattle.std.proofs.Common.{◌≤◌, length, false, sym, ◌∙◌, inl, inr, arith}
-use Rattle.std.proofs.lemmas.List.{get_or_past}
+use Rattle.fr_interfere.proofs.Terms.{get_or_past}
 use Rattle.fr_interfere.proofs.ClosedLaws.{unset-here}
 use Rattle.fr_interfere.proofs.RowLaws.{spared-points}
 use Rattle.fr_interfere.proofs.rows.is_told.Goals as goal

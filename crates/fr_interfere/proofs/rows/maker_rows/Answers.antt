@@ -1,9 +1,6 @@
 -- Each list of the index is one of rising numbers of points.
 use Rattle.std.proofs.Common.{◌≡◌, Some, length, sym, ap, ◌∙◌, subst, arith}
-use Rattle.std.proofs.lemmas.List.{length-map}
-use Rattle.fr_program.specs.View.{object_of}
-use Rattle.fr_interfere.specs.Effects.{made_of}
-use Rattle.fr_interfere.specs.Rows.{AreListed}
+use Rattle.fr_interfere.proofs.Terms.{length-map, object_of, made_of, AreListed}
 use Rattle.fr_interfere.proofs.RowLaws.{lists-listed, rows-none, rows-more}
 use Rattle.fr_interfere.proofs.rows.maker_rows.Goals as goal
 

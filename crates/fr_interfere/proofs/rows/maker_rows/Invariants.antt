@@ -1,5 +1,5 @@
 use Rattle.std.proofs.Common.{◌≡◌, length}
-use Rattle.fr_interfere.specs.Rows.{AreRows}
+use Rattle.fr_interfere.proofs.Terms.{AreRows}
 use Rattle.fr_interfere.proofs.rows.maker_rows.Given as goal
 
 -- the rows of the objects so far

@@ -1,7 +1,6 @@
 -- A list of the index is one of rising numbers of points.
 use Rattle.std.proofs.Common.{◌≡◌, Some, sym, subst}
-use Rattle.fr_interfere.specs.Effects.{target_of}
-use Rattle.fr_interfere.specs.Rows.{AreListed}
+use Rattle.fr_interfere.proofs.Terms.{target_of, AreListed}
 use Rattle.fr_interfere.proofs.RowLaws.{lists-listed}
 use Rattle.fr_interfere.proofs.rows.row_of_variable.Goals as goal
 

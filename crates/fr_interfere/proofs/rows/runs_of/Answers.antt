@@ -1,9 +1,6 @@
 use Rattle.std.proofs.Common.{◌≡◌, [], ◌∷◌, ◌++◌, sym, subst, arith, ⊎_elim}
 use Rattle.std.specs.Prelude.{◌<◌, ◌≤◌, All}
-use Rattle.std.proofs.lemmas.Bool.{cases_lt}
-use Rattle.std.proofs.lemmas.List.Elements.{All-push}
-use Rattle.fr_interfere.specs.declared.rows.Run.{Run}
-use Rattle.fr_interfere.specs.Rows.{IsRun, IsInRun}
+use Rattle.fr_interfere.proofs.Terms.{cases_lt, All-push, Run, IsRun, IsInRun}
 use Rattle.fr_interfere.proofs.RowLaws.{any-before, any-last}
 use Rattle.fr_interfere.proofs.rows.runs_of.Goals as goal
 

@@ -1,6 +1,6 @@
 use Rattle.std.proofs.Common.{ℕ, ◌<◌, ◌≤◌, ◌-◌, length}
 use Rattle.std.specs.Prelude.{All}
-use Rattle.fr_interfere.specs.Rows.{IsRun, IsInRun}
+use Rattle.fr_interfere.proofs.Terms.{IsRun, IsInRun}
 use Rattle.fr_interfere.proofs.rows.runs_of.Given as goal
 
 -- the runs have the places before this one

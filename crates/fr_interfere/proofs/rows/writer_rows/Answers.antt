@@ -1,8 +1,6 @@
 -- One row after the other.
 use Rattle.std.proofs.Common.{length, refl, sym, ap, ◌∙◌, arith}
-use Rattle.std.proofs.lemmas.List.{length-map}
-use Rattle.fr_program.specs.View.{variable_of}
-use Rattle.fr_interfere.specs.Index.{list_at}
+use Rattle.fr_interfere.proofs.Terms.{length-map, variable_of, list_at}
 use Rattle.fr_interfere.proofs.RowLaws.{rows-none, rows-more}
 use Rattle.fr_interfere.proofs.rows.writer_rows.Goals as goal
 

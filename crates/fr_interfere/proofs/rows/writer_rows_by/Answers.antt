@@ -1,13 +1,7 @@
 -- At each place is the row of its variable.
 use Rattle.std.proofs.Common.{◌≡◌, ◌<◌, ℕ, Some, length, sym, ap, ◌∙◌, subst, arith}
 use Rattle.std.specs.Prelude.{Option, IfOk, IfSome}
-use Rattle.std.specs.List.{AllZip, range_with_len}
-use Rattle.std.proofs.lemmas.List.{length-map}
-use Rattle.rayon.proofs.ListFacts.{IfOk-then}
-use Rattle.rayon.proofs.ToStd.{nat_range-All}
-use Rattle.fr_program.specs.View.{variable_of}
-use Rattle.fr_interfere.specs.Index.{list_at}
-use Rattle.fr_interfere.specs.Rows.{IsRow}
+use Rattle.fr_interfere.proofs.Terms.{AllZip, range_with_len, length-map, IfOk-then, nat_range-All, variable_of, list_at, IsRow}
 use Rattle.fr_interfere.specs.declared.rows.Row.{Row}
 use Rattle.fr_interfere.proofs.RowLaws.{made-list}
 use Rattle.fr_interfere.proofs.rows.writer_rows_by.Goals as goal

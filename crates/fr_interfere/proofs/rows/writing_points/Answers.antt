@@ -1,7 +1,5 @@
 use Rattle.std.proofs.Common.{◌≡◌, length, sym, subst, arith}
-use Rattle.fr_program.specs.Points.{points_of}
-use Rattle.fr_interfere.specs.Index.{Lists}
-use Rattle.fr_interfere.specs.Rows.{WritesOne}
+use Rattle.fr_interfere.proofs.Terms.{points_of, Lists, WritesOne}
 use Rattle.fr_interfere.proofs.IndexLaws.{lists-none}
 use Rattle.fr_interfere.proofs.rows.writing_points.Goals as goal
 

@@ -1,5 +1,4 @@
-use Rattle.fr_interfere.specs.Index.{Lists}
-use Rattle.fr_interfere.specs.Rows.{WritesOne}
+use Rattle.fr_interfere.proofs.Terms.{Lists, WritesOne}
 use Rattle.fr_interfere.proofs.rows.writing_points.Given as goal
 
 -- the points so far that write a variable

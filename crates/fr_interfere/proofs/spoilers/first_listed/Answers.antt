@@ -1,7 +1,6 @@
 -- The numbers rise, so the first of the points that disturbs is the one with the least number.
 use Rattle.std.proofs.Common.{arith}
-use Rattle.fr_program.specs.Points.{points_of}
-use Rattle.fr_interfere.specs.Undisturbed.{Undisturbed}
+use Rattle.fr_interfere.proofs.Terms.{points_of, Undisturbed}
 use Rattle.fr_interfere.proofs.IndexLaws.{checked-more, checked-point, earlier}
 use Rattle.fr_interfere.proofs.Lists.{get-there}
 use Rattle.fr_interfere.proofs.spoilers.first_listed.Goals as goal

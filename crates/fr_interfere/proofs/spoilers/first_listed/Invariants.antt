@@ -1,7 +1,5 @@
 use Rattle.std.specs.Prelude.{◌≡◌, Some, slice_get}
-use Rattle.fr_program.specs.declared.ids.Point.{Point}
-use Rattle.fr_program.specs.Points.{points_of}
-use Rattle.fr_interfere.specs.Undisturbed.{Undisturbed}
+use Rattle.fr_interfere.proofs.Terms.{Point, points_of, Undisturbed}
 use Rattle.fr_interfere.proofs.IndexLaws.{AreChecked}
 use Rattle.fr_interfere.proofs.spoilers.first_listed.Given as goal
 

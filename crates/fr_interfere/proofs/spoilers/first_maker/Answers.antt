@@ -1,7 +1,5 @@
 use Rattle.std.proofs.Common.{arith, ap, length}
-use Rattle.std.proofs.lemmas.List.{length-map}
-use Rattle.fr_program.specs.View.{object_of}
-use Rattle.fr_interfere.specs.Spoilers.{MakesOne}
+use Rattle.fr_interfere.proofs.Terms.{length-map, object_of, MakesOne}
 use Rattle.fr_interfere.proofs.SpoilerLaws.{one-more, none-yet, enough}
 use Rattle.fr_interfere.proofs.spoilers.first_maker.Goals as goal
 

@@ -1,7 +1,5 @@
 use Rattle.std.proofs.Common.{arith, ap, length}
-use Rattle.std.proofs.lemmas.List.{length-map}
-use Rattle.fr_program.specs.View.{variable_of}
-use Rattle.fr_interfere.specs.Spoilers.{WritesInside}
+use Rattle.fr_interfere.proofs.Terms.{length-map, variable_of, WritesInside}
 use Rattle.fr_interfere.proofs.SpoilerLaws.{one-more, none-yet, enough}
 use Rattle.fr_interfere.proofs.spoilers.first_writer.Goals as goal
 

@@ -1,7 +1,5 @@
 use Rattle.std.specs.Prelude.{◌≡◌, Some, slice_get}
-use Rattle.fr_program.specs.declared.ids.Point.{Point}
-use Rattle.fr_program.specs.Points.{points_of}
-use Rattle.fr_interfere.specs.Spoilers.{IsFirstOf, WritesInside, IsBelow}
+use Rattle.fr_interfere.proofs.Terms.{Point, points_of, IsFirstOf, WritesInside, IsBelow}
 use Rattle.fr_interfere.proofs.spoilers.first_writer.Given as goal
 
 -- the first one so far

@@ -1,11 +1,7 @@
 -- Where the note doesn't speak of the variable, no such step disturbs it; else each such step's point is in the list.
 use Rattle.std.proofs.Common.{◌≡◌, Some, length, sym, subst}
 use Rattle.std.specs.Prelude.{All}
-use Rattle.fr_program.specs.Points.{points_of}
-use Rattle.fr_interfere.specs.Effects.{target_of, IsFree}
-use Rattle.fr_interfere.specs.Index.{Lists}
-use Rattle.fr_interfere.specs.Rows.{AreListed, IsRow}
-use Rattle.fr_interfere.specs.Spoilers.{IsListed, WritesInside}
+use Rattle.fr_interfere.proofs.Terms.{points_of, target_of, IsFree, Lists, AreListed, IsRow, IsListed, WritesInside}
 use Rattle.fr_interfere.proofs.IndexLaws.{listed-point}
 use Rattle.fr_interfere.proofs.RowLaws.{lists-listed}
 use Rattle.fr_interfere.proofs.SpoilerLaws.{first-fewer}

@@ -1,9 +1,7 @@
 -- A leaver was asked, and each other point stays whatever its note says.
 use Rattle.std.proofs.Common.{length, refl, sym, subst, arith, ⊎_elim}
 use Rattle.std.specs.Prelude.{Contains}
-use Rattle.fr_program.specs.Points.{points_of, point_number}
-use Rattle.fr_interfere.specs.Index.{CanLeave, Lists}
-use Rattle.fr_interfere.specs.Staying.{StaysAt}
+use Rattle.fr_interfere.proofs.Terms.{points_of, point_number, CanLeave, Lists, StaysAt}
 use Rattle.fr_interfere.proofs.IndexLaws.{checked-more, checked-point, in-list, numbers-below}
 use Rattle.fr_interfere.proofs.Lists.{get-there}
 use Rattle.fr_interfere.proofs.SpoilerLaws.{unlisted-stays}

@@ -1,4 +1,4 @@
-use Rattle.fr_interfere.specs.Staying.{StaysAt}
+use Rattle.fr_interfere.proofs.Terms.{StaysAt}
 use Rattle.fr_interfere.proofs.IndexLaws.{AreChecked}
 use Rattle.fr_interfere.proofs.staying.all_stay.Given as goal
 

@@ -1,7 +1,5 @@
 use Rattle.std.specs.Prelude.{◌≡◌, ◌<◌, ℕ, Some, slice_get}
-use Rattle.fr_program.specs.declared.ids.Point.{Point}
-use Rattle.fr_program.specs.Points.{points_of}
-use Rattle.fr_ends.specs.Guarded.{Near}
+use Rattle.fr_judge.proofs.Terms.{Point, points_of, Near}
 use Rattle.fr_judge.proofs.deletion.deleter.Given as goal
 
 -- no delete at the points so far is a danger

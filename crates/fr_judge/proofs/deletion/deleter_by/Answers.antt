@@ -1,8 +1,6 @@
 -- Where the point isn't inside a call, no delete is a danger to it.
 use Rattle.std.proofs.Common.{◌≡◌, Some, None, sym, ◌∙◌, subst}
-use Rattle.std.proofs.lemmas.Option.{same_Some}
-use Rattle.fr_program.specs.Lookup.{instr_of}
-use Rattle.fr_ends.specs.Nearness.{used_inside}
+use Rattle.fr_judge.proofs.Terms.{same_Some, instr_of, used_inside}
 use Rattle.fr_judge.proofs.Deletes.{outside-near, used-there}
 use Rattle.fr_judge.proofs.deletion.deleter_by.Goals as goal
 

@@ -1,11 +1,6 @@
 -- The list rises, so the first of its points that is a danger is the one with the least number.
 use Rattle.std.proofs.Common.{◌≡◌, Some, length, sym, subst, arith}
-use Rattle.fr_program.specs.Points.{points_of}
-use Rattle.fr_program.proofs.PointLaws.{points_are_numbered}
-use Rattle.fr_interfere.specs.Effects.{made_of}
-use Rattle.fr_interfere.specs.Index.{Lists}
-use Rattle.fr_interfere.proofs.IndexLaws.{checked-more, numbers-below, earlier}
-use Rattle.fr_ends.specs.Guarded.{Near}
+use Rattle.fr_judge.proofs.Terms.{points_of, points_are_numbered, made_of, Lists, checked-more, numbers-below, earlier, Near}
 use Rattle.fr_judge.proofs.Deletes.{checked-near}
 use Rattle.fr_judge.proofs.deletion.first_delete.Goals as goal
 

@@ -1,8 +1,5 @@
 use Rattle.std.specs.Prelude.{◌≡◌, Some, slice_get}
-use Rattle.fr_program.specs.declared.ids.Point.{Point}
-use Rattle.fr_program.specs.Points.{points_of}
-use Rattle.fr_interfere.proofs.IndexLaws.{AreChecked}
-use Rattle.fr_ends.specs.Guarded.{Near}
+use Rattle.fr_judge.proofs.Terms.{Point, points_of, AreChecked, Near}
 use Rattle.fr_judge.proofs.deletion.first_delete.Given as goal
 
 -- no delete at the points so far is a danger

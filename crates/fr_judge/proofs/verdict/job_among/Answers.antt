@@ -1,6 +1,6 @@
 -- Each call says whether the parts of one kind are kept; the first kind that isn't gives the answer.
 use Rattle.std.proofs.Common.{Some, None, ap, subst}
-use Rattle.fr_edge.specs.FirstOwn.{IsFirstOwn}
+use Rattle.fr_judge.proofs.Terms.{IsFirstOwn}
 use Rattle.fr_judge.proofs.Firsts.{own-first, guard-first, near-first, spoiled-first, all-kept, first-is-of}
 use Rattle.fr_judge.proofs.verdict.job_among.Goals as goal
 

@@ -1,7 +1,7 @@
 -- The points before the one that the loop is at keep every part; so the first that fails is the least one, and where the
 -- loop ends, all keep.
 use Rattle.std.proofs.Common.{refl, arith}
-use Rattle.fr_judge.specs.Verdict.{Yes, KeepsAll}
+use Rattle.fr_judge.proofs.Terms.{Yes, KeepsAll}
 use Rattle.fr_judge.proofs.Points.{all-keep, first-failure, yes-safe}
 use Rattle.fr_judge.proofs.Walks.{one-more}
 use Rattle.fr_judge.proofs.verdict.judge_among.Goals as goal

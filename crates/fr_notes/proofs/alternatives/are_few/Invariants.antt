@@ -1,5 +1,5 @@
 use Rattle.std.proofs.Common.{◌≡◌, ◌≤◌, length, take}
-use Rattle.fr_notes.specs.Alternatives.{joined}
+use Rattle.fr_notes.proofs.Terms.{joined}
 use Rattle.fr_notes.proofs.alternatives.are_few.Given as goal
 
 abbrev pub invariant-loop-note : goal.invariant-loop-note

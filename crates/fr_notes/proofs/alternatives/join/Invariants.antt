@@ -1,5 +1,5 @@
 use Rattle.std.proofs.Common.{◌≡◌, ◌≤◌, ◌+◌, ◌++◌, length, vec_len, vec_capacity}
-use Rattle.fr_notes.specs.Alternatives.{joined}
+use Rattle.fr_notes.proofs.Terms.{joined}
 use Rattle.fr_notes.proofs.alternatives.join.Given as goal
 
 -- what is left completes what there is, and has room

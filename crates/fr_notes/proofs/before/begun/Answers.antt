@@ -1,10 +1,5 @@
 use Rattle.std.proofs.Common.{refl, sym, ap, ◌∙◌, subst}
-use Rattle.fr_program.specs.declared.ids.Side.TheVariants.{Before}
-use Rattle.fr_program.specs.declared.instr.Instr.TheVariants.{Call as Calls}
-use Rattle.fr_program.specs.declared.instr.Call.TheVariants.{On}
-use Rattle.fr_calls.specs.declared.way.Way.TheVariants.{Then}
-use Rattle.fr_notes.specs.Holding.{living, is_given_unheld}
-use Rattle.fr_notes.specs.Spot.{Leaves, claiming}
+use Rattle.fr_notes.proofs.Terms.{Before, Calls, On, Then, living, is_given_unheld, Leaves, claiming}
 use Rattle.fr_notes.proofs.LifeRows.{begin-left}
 use Rattle.fr_notes.proofs.Never.{dead-never, unheld-never}
 use Rattle.fr_notes.proofs.BeforeLaws.{as-made}

@@ -1,7 +1,5 @@
 use Rattle.std.proofs.Common.{sym, subst}
-use Rattle.fr_program.specs.declared.instr.Instr.TheVariants.{If}
-use Rattle.fr_notes.specs.Change.{narrowed_to}
-use Rattle.fr_notes.specs.Spot.{Leaves}
+use Rattle.fr_notes.proofs.Terms.{If, narrowed_to, Leaves}
 use Rattle.fr_notes.proofs.VariableRows.{if-left, if-never}
 use Rattle.fr_notes.proofs.BeforeLaws.{as-made, both-made, both-named}
 use Rattle.fr_notes.proofs.before.branched.Goals as goal

@@ -1,7 +1,5 @@
 use Rattle.std.proofs.Common.{sym, ap, ◌∙◌, subst}
-use Rattle.fr_calls.specs.declared.way.Way.TheVariants.{Then, Else}
-use Rattle.fr_notes.specs.Holding.{can_be_dead}
-use Rattle.fr_notes.specs.Known.{IsLeft}
+use Rattle.fr_notes.proofs.Terms.{Then, Else, can_be_dead, IsLeft}
 use Rattle.fr_notes.proofs.LifeRows.{creatable, not-creatable, create-left, create-fails-left, create-never}
 use Rattle.fr_notes.proofs.BeforeLaws.{as-made}
 use Rattle.fr_notes.proofs.before.created.Goals as goal

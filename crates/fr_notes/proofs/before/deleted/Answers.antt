@@ -1,10 +1,5 @@
 use Rattle.std.proofs.Common.{refl, sym, ap, ◌∙◌, subst}
-use Rattle.fr_program.specs.declared.ids.Side.TheVariants.{Before}
-use Rattle.fr_program.specs.declared.instr.Instr.TheVariants.{Call as Calls}
-use Rattle.fr_program.specs.declared.instr.Call.TheVariants.{Delete}
-use Rattle.fr_calls.specs.declared.way.Way.TheVariants.{Then}
-use Rattle.fr_notes.specs.Holding.{living}
-use Rattle.fr_notes.specs.Spot.{Leaves}
+use Rattle.fr_notes.proofs.Terms.{Before, Calls, Delete, Then, living, Leaves}
 use Rattle.fr_notes.proofs.LifeRows.{delete-left}
 use Rattle.fr_notes.proofs.Never.{dead-never}
 use Rattle.fr_notes.proofs.BeforeLaws.{as-made}

@@ -1,5 +1,5 @@
 use Rattle.std.proofs.Common.{◌+◌, sym, ap, ◌∙◌}
-use Rattle.fr_calls.specs.declared.way.Way.TheVariants.{Then}
+use Rattle.fr_notes.proofs.Terms.{Then}
 use Rattle.fr_notes.proofs.PlainRows.{enter-left}
 use Rattle.fr_notes.proofs.BeforeLaws.{as-made, crit-made}
 use Rattle.fr_notes.proofs.before.entered.Goals as goal

@@ -1,8 +1,6 @@
 use Rattle.std.proofs.Common.{Some, rules}
-use Rattle.fr_program.specs.declared.instr.Instr.TheVariants.{Pick}
-use Rattle.std.proofs.lemmas.List.Elements.{All-head}
+use Rattle.fr_notes.proofs.Terms.{Pick, All-head, Then}
 use Rattle.std.proofs.Common.{[], length, ◌<◌}
-use Rattle.fr_calls.specs.declared.way.Way.TheVariants.{Then}
 use Rattle.fr_notes.proofs.VariableRows.{pick-left}
 use Rattle.fr_notes.proofs.BeforeLaws.{as-made, first-made}
 use Rattle.fr_notes.proofs.before.picked.Goals as goal

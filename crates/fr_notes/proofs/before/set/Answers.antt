@@ -1,8 +1,5 @@
 use Rattle.std.proofs.Common.{Some, length, ◌<◌, ◌++◌}
-use Rattle.std.proofs.lemmas.List.Elements.{All-head, All-tail}
-use Rattle.fr_program.specs.Uses.{operand_variables}
-use Rattle.fr_program.specs.declared.instr.Instr.TheVariants.{Set}
-use Rattle.fr_calls.specs.declared.way.Way.TheVariants.{Then}
+use Rattle.fr_notes.proofs.Terms.{All-head, All-tail, operand_variables, Set, Then}
 use Rattle.fr_notes.proofs.VariableRows.{set-left}
 use Rattle.fr_notes.proofs.BeforeLaws.{as-made, first-made, both-named, set-apart}
 use Rattle.fr_notes.proofs.before.set.Goals as goal

@@ -1,5 +1,5 @@
 use Rattle.std.proofs.Common.{◌+◌, ap}
-use Rattle.fr_calls.specs.declared.way.Way.TheVariants.{Then}
+use Rattle.fr_notes.proofs.Terms.{Then}
 use Rattle.fr_notes.proofs.PlainRows.{suspend-left}
 use Rattle.fr_notes.proofs.BeforeLaws.{as-made, susp-made}
 use Rattle.fr_notes.proofs.before.suspended.Goals as goal

@@ -1,9 +1,6 @@
 -- An entry that fails the test is one that can't be; one that passes it is one more that can.
 use Rattle.std.proofs.Common.{get_or, refl, sym}
-use Rattle.std.proofs.lemmas.List.{get_or_default}
-use Rattle.std.proofs.lemmas.List.Elements.{AllWithin-more, at_read}
-use Rattle.fr_program.proofs.FaultLemmas.{refuted}
-use Rattle.fr_notes.specs.Parts.{IsCount}
+use Rattle.fr_notes.proofs.Terms.{get_or_default, AllWithin-more, at_read, refuted, IsCount}
 use Rattle.fr_notes.proofs.checks.check_counts.Goals as goal
 
 pub returns-then-not-may_be_held-clause-err : goal.returns-then-not-may_be_held-clause-err

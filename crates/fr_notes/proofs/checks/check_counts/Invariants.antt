@@ -1,5 +1,4 @@
-use Rattle.std.specs.List.{AllWithin}
-use Rattle.fr_notes.specs.Parts.{IsCount}
+use Rattle.fr_notes.proofs.Terms.{AllWithin, IsCount}
 use Rattle.fr_notes.proofs.checks.check_counts.Given as goal
 
 -- no entry so far has the fault

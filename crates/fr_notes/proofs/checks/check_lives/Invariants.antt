@@ -1,6 +1,5 @@
 use Rattle.std.specs.Prelude.{IsTrue}
-use Rattle.std.specs.List.{AllWithin}
-use Rattle.fr_notes.specs.Parts.{is_live_said}
+use Rattle.fr_notes.proofs.Terms.{AllWithin, is_live_said}
 use Rattle.fr_notes.proofs.checks.check_lives.Given as goal
 
 -- no dead object so far is said to be live or held

@@ -1,7 +1,7 @@
 -- The entry that isn't inside is one of the parts.
 use Rattle.std.proofs.Common.{sym, subst, Any}
 use Rattle.std.proofs.lemmas.Result.{err_from_is_err_and}
-use Rattle.fr_notes.specs.Parts.{IsNarrowing, HasFault}
+use Rattle.fr_notes.proofs.Terms.{IsNarrowing, HasFault}
 use Rattle.fr_notes.proofs.checks.check_note.Goals as goal
 
 pub returns-in_err-check_spans-clause-stands : goal.returns-in_err-check_spans-clause-stands

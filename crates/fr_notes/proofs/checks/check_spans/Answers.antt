@@ -1,8 +1,6 @@
 -- An entry that fails the test is one that isn't inside; one that passes it is one more that is.
 use Rattle.std.proofs.Common.{refl, sym}
-use Rattle.std.proofs.lemmas.List.Elements.{AllWithin-more, at_read}
-use Rattle.fr_program.proofs.FaultLemmas.{refuted}
-use Rattle.fr_notes.specs.Parts.{IsNarrowing}
+use Rattle.fr_notes.proofs.Terms.{AllWithin-more, at_read, refuted, IsNarrowing}
 use Rattle.fr_notes.proofs.checks.check_spans.Goals as goal
 
 pub returns-then-not-is_narrowing-clause-err : goal.returns-then-not-is_narrowing-clause-err

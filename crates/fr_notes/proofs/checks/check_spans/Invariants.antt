@@ -1,5 +1,4 @@
-use Rattle.std.specs.List.{AllWithin}
-use Rattle.fr_notes.specs.Parts.{IsNarrowing}
+use Rattle.fr_notes.proofs.Terms.{AllWithin, IsNarrowing}
 use Rattle.fr_notes.proofs.checks.check_spans.Given as goal
 
 -- no entry so far has the fault

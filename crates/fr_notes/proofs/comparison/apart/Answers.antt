@@ -1,6 +1,5 @@
 use Rattle.std.proofs.Common.{arith, ◌≡◌, ap}
-use Rattle.std.proofs.lemmas.Int.{ints}
-use Rattle.std.proofs.lemmas.Option.{IfSome_then}
+use Rattle.fr_notes.proofs.Terms.{ints, IfSome_then}
 use mir.Val.{of_z}
 use mir.Syntax.{w128}
 use Rattle.fr_notes.proofs.ComparisonLaws.{none_then, least-apart, least-without, none-without}

@@ -1,10 +1,8 @@
 use Rattle.std.proofs.Common.{arith, ◌≡◌, ap, ◌∙◌}
 use Rattle.std.specs.Prelude.{◌+ℤ◌, ◌-ℤ◌}
-use Rattle.std.proofs.lemmas.Int.{ints}
+use Rattle.fr_notes.proofs.Terms.{ints, int_min, int_max, IsBelow, NoPair}
 use mir.Val.{to_z, of_z}
-use Rattle.std.specs.Int.{int_min, int_max}
 use mir.Syntax.{w128}
-use Rattle.fr_notes.specs.Comparison.{IsBelow, NoPair}
 use Rattle.fr_notes.proofs.ComparisonLaws.{if_none, below-made}
 use Rattle.fr_notes.proofs.comparison.below.Goals as goal
 

@@ -1,5 +1,5 @@
 use Rattle.std.specs.Prelude.{◌≢◌}
-use Rattle.fr_notes.specs.Comparison.{turned}
+use Rattle.fr_notes.proofs.Terms.{turned}
 use Rattle.fr_notes.proofs.ComparisonLaws.{if_none, apart-turned, no-pair-same, no-pair-turned, turned-least}
 use Rattle.fr_notes.proofs.comparison.both_apart.Goals as goal
 

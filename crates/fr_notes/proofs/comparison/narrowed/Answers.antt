@@ -1,8 +1,6 @@
 use Rattle.std.proofs.Common.{◌≡◌}
 use Rattle.std.specs.Prelude.{◌≢◌, pos}
-use Rattle.std.proofs.lemmas.Option.{IfSome_then}
-use Rattle.fr_program.specs.declared.instr.Comparison.TheVariants.{Less, AtMost, Greater, AtLeast, Equal, NotEqual}
-use Rattle.fr_notes.specs.Comparison.{Compares, IsBelow, turned}
+use Rattle.fr_notes.proofs.Terms.{IfSome_then, Less, AtMost, Greater, AtLeast, Equal, NotEqual, Compares, IsBelow, turned}
 use Rattle.fr_notes.proofs.ComparisonLaws.{none_then, are-least-same, no-pair-same, less, at-most, greater, at-least, equal, not-equal, exchanged-some, exchanged-none}
 use Rattle.fr_notes.proofs.comparison.narrowed.Goals as goal
 

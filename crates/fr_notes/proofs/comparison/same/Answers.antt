@@ -1,5 +1,5 @@
 use Rattle.std.proofs.Common.{arith, ◌≡◌}
-use Rattle.std.proofs.lemmas.Int.{ints, clamps}
+use Rattle.fr_notes.proofs.Terms.{ints, clamps}
 use Rattle.fr_notes.proofs.ComparisonLaws.{same-made}
 use Rattle.fr_notes.proofs.comparison.same.Goals as goal
 

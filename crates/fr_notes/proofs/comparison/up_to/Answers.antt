@@ -1,6 +1,5 @@
 use Rattle.std.proofs.Common.{arith}
-use Rattle.std.proofs.lemmas.Int.{ints, clamps}
-use Rattle.std.proofs.lemmas.Option.{IfSome_then}
+use Rattle.fr_notes.proofs.Terms.{ints, clamps, IfSome_then}
 use Rattle.fr_notes.proofs.ComparisonLaws.{none_then}
 use Rattle.fr_notes.proofs.comparison.up_to.Goals as goal
 

@@ -1,7 +1,6 @@
 use Rattle.std.proofs.Common.{arith, ap, inl, inr}
 use Rattle.std.specs.Prelude.{pos, negsuc}
-use Rattle.std.proofs.lemmas.Int.{ints}
-use Rattle.std.proofs.lemmas.Option.{IfSome_then}
+use Rattle.fr_notes.proofs.Terms.{ints, IfSome_then}
 use mir.Val.{of_z}
 use mir.Syntax.{w128}
 use Rattle.fr_notes.proofs.ComparisonLaws.{none_then, without-made, without-none, IsMoved}

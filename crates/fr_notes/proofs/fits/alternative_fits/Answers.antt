@@ -1,7 +1,6 @@
 -- An alternative fits where its claims and its ranges do: depths have a byte, and ranges have their ends in order.
 use Rattle.std.proofs.Common.{subst, sym, arith}
-use Rattle.fr_notes.specs.Note.{Alternative}
-use Rattle.fr_notes.specs.Fits.{AlternativeFits, ClaimsFit}
+use Rattle.fr_notes.proofs.Terms.{Alternative, AlternativeFits, ClaimsFit}
 use Rattle.fr_notes.proofs.FitLemmas.{fits-from_parts, ranges-from_fits}
 use Rattle.fr_notes.proofs.fits.alternative_fits.Goals as goal
 

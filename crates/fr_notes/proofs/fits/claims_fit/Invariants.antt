@@ -1,7 +1,5 @@
 use Rattle.std.proofs.Common.{ℕ, ◌<◌, get_or}
-use Rattle.fr_calls.specs.State.{kind_of}
-use Rattle.fr_notes.specs.Note.{NotHeld}
-use Rattle.fr_notes.specs.Fits.{CanClaim}
+use Rattle.fr_notes.proofs.Terms.{kind_of, NotHeld, CanClaim}
 use Rattle.fr_notes.proofs.fits.claims_fit.Given as goal
 
 -- each claim so far can be said of its object

@@ -1,11 +1,7 @@
 -- A range of the code stands in the list of ends, as the pair of its ends.
 use Rattle.std.proofs.Common.{◌<◌, ◌∙◌, below_more, get_or, length, map, subst, sym}
 use Rattle.std.specs.Prelude.{pos}
-use Rattle.std.proofs.lemmas.Bool.{false≢true}
-use Rattle.std.proofs.lemmas.List.{length-map}
-use Rattle.fr_program.proofs.FaultLemmas.{refuted}
-use Rattle.fr_notes.specs.Fits.{IsWithinDeclared}
-use Rattle.fr_notes.specs.View.{ends_of}
+use Rattle.fr_notes.proofs.Terms.{false≢true, length-map, refuted, IsWithinDeclared, ends_of}
 use Rattle.fr_notes.proofs.ImplicationLemmas.{ends-at}
 use Rattle.fr_notes.proofs.fits.ranges_fit.Goals as goal
 

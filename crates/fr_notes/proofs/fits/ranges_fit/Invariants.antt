@@ -1,7 +1,6 @@
 use Rattle.std.proofs.Common.{ℕ, ◌<◌, get_or, map}
 use Rattle.std.specs.Prelude.{pos}
-use Rattle.fr_notes.specs.Fits.{IsWithinDeclared}
-use Rattle.fr_notes.specs.View.{ends_of}
+use Rattle.fr_notes.proofs.Terms.{IsWithinDeclared, ends_of}
 use Rattle.fr_notes.proofs.fits.ranges_fit.Given as goal
 
 -- each range so far is inside the declared one

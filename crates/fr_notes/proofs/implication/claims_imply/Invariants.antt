@@ -1,6 +1,5 @@
 use Rattle.std.proofs.Common.{ℕ, ◌<◌, get_or}
-use Rattle.fr_notes.specs.Note.{NotHeld}
-use Rattle.fr_notes.specs.Implication.{ClaimImplies}
+use Rattle.fr_notes.proofs.Terms.{NotHeld, ClaimImplies}
 use Rattle.fr_notes.proofs.implication.claims_imply.Given as goal
 
 -- each claim so far implies the other one of its object

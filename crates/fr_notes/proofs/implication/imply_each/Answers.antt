@@ -1,6 +1,5 @@
 -- An alternative that passes the test is one more that implies some other one.
-use Rattle.std.proofs.lemmas.List.Elements.{AllWithin-more, at_read}
-use Rattle.fr_notes.specs.Implication.{ImpliesSome}
+use Rattle.fr_notes.proofs.Terms.{AllWithin-more, at_read, ImpliesSome}
 use Rattle.fr_notes.proofs.implication.imply_each.Goals as goal
 
 pub loop-alternative-preserved : goal.loop-alternative-preserved

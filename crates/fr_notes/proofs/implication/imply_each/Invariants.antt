@@ -1,5 +1,4 @@
-use Rattle.std.specs.List.{AllWithin}
-use Rattle.fr_notes.specs.Implication.{ImpliesSome}
+use Rattle.fr_notes.proofs.Terms.{AllWithin, ImpliesSome}
 use Rattle.fr_notes.proofs.implication.imply_each.Given as goal
 
 -- each alternative so far implies some other one

@@ -1,7 +1,6 @@
 use Rattle.std.proofs.Common.{ℕ, ◌<◌, get_or, map}
 use Rattle.std.specs.Prelude.{pos}
-use Rattle.fr_notes.specs.Implication.{IsPart}
-use Rattle.fr_notes.specs.View.{ends_of}
+use Rattle.fr_notes.proofs.Terms.{IsPart, ends_of}
 use Rattle.fr_notes.proofs.implication.ranges_imply.Given as goal
 
 -- each range so far is part of the other one of its variable

@@ -1,10 +1,5 @@
 use Rattle.std.proofs.Common.{refl, sym, ap, ◌∙◌, subst}
-use Rattle.fr_program.specs.declared.ids.Side.TheVariants.{Inside}
-use Rattle.fr_program.specs.declared.instr.Instr.TheVariants.{Call as Calls}
-use Rattle.fr_program.specs.declared.instr.Call.TheVariants.{On}
-use Rattle.fr_calls.specs.Rule.{is_unsuited}
-use Rattle.fr_notes.specs.Holding.{living, is_given_unheld}
-use Rattle.fr_notes.specs.Spot.{Leaves}
+use Rattle.fr_notes.proofs.Terms.{Inside, Calls, On, is_unsuited, living, is_given_unheld, Leaves}
 use Rattle.fr_notes.proofs.Never.{dead-never, unheld-never, unsuited-never}
 use Rattle.fr_notes.proofs.inside.change_inside.Goals as goal
 

@@ -1,7 +1,5 @@
 use Rattle.std.proofs.Common.{◌<◌, ℕ, slice_index_or}
-use Rattle.fr_notes.specs.Note.{NotHeld}
-use Rattle.fr_notes.specs.Implication.{ClaimImplies}
-use Rattle.fr_notes.specs.Known.{joint_claim, claim_after}
+use Rattle.fr_notes.proofs.Terms.{NotHeld, ClaimImplies, joint_claim, claim_after}
 use Rattle.fr_notes.proofs.kept.says_claims.Given as goal
 
 abbrev pub invariant-loop-object : goal.invariant-loop-object

@@ -1,7 +1,5 @@
 use Rattle.std.proofs.Common.{below_more, sym, subst}
-use Rattle.fr_notes.specs.Change.{new_range}
-use Rattle.fr_notes.specs.Implication.{IsPart}
-use Rattle.fr_notes.specs.Known.{joint_range}
+use Rattle.fr_notes.proofs.Terms.{new_range, IsPart, joint_range}
 use Rattle.fr_notes.proofs.ChangeLaws.{at-map}
 use Rattle.fr_notes.proofs.kept.says_ranges.Goals as goal
 

@@ -1,8 +1,5 @@
 use Rattle.std.proofs.Common.{◌<◌, ℕ, pos, map, slice_index_or}
-use Rattle.fr_notes.specs.View.{ends_of}
-use Rattle.fr_notes.specs.Change.{new_range}
-use Rattle.fr_notes.specs.Implication.{IsPart}
-use Rattle.fr_notes.specs.Known.{joint_range}
+use Rattle.fr_notes.proofs.Terms.{ends_of, new_range, IsPart, joint_range}
 use Rattle.fr_notes.proofs.kept.says_ranges.Given as goal
 
 abbrev pub invariant-loop-variable : goal.invariant-loop-variable

@@ -1,7 +1,6 @@
 use Rattle.std.proofs.Common.{◌<◌, ℕ, slice_index_or}
-use Rattle.fr_notes.specs.Note.{NotHeld, claim_of}
-use Rattle.fr_notes.specs.Implication.{ClaimImplies}
-use Rattle.fr_notes.specs.Known.{joined, other_after}
+use Rattle.fr_notes.proofs.Terms.{NotHeld, claim_of, ClaimImplies, other_after}
+use Rattle.fr_notes.specs.Known.{joined}
 use Rattle.fr_notes.proofs.kept.spares_claims.Given as goal
 
 abbrev pub invariant-loop-object : goal.invariant-loop-object

@@ -1,6 +1,5 @@
 use Rattle.std.proofs.Common.{ℕ, ◌<◌, get_or}
-use Rattle.fr_notes.specs.Note.{NotHeld}
-use Rattle.fr_notes.specs.Known.{ClaimsMeet}
+use Rattle.fr_notes.proofs.Terms.{NotHeld, ClaimsMeet}
 use Rattle.fr_notes.proofs.pairs.each_claim_meets.Given as goal
 
 -- each two claims of one object so far can be true of it

@@ -1,10 +1,7 @@
 -- A range of the code is in the list of ends, as the pair of its ends.
 use Rattle.std.proofs.Common.{get_or, map, below_more, subst, arith}
 use Rattle.std.specs.Prelude.{pos}
-use Rattle.std.proofs.lemmas.Bool.{false≢true}
-use Rattle.fr_program.proofs.FaultLemmas.{refuted}
-use Rattle.fr_notes.specs.Pairs.{RangesMeet}
-use Rattle.fr_notes.specs.View.{ends_of}
+use Rattle.fr_notes.proofs.Terms.{false≢true, refuted, RangesMeet, ends_of}
 use Rattle.fr_notes.proofs.ImplicationLemmas.{ends-at}
 use Rattle.fr_notes.proofs.pairs.each_range_meets.Goals as goal
 

@@ -1,7 +1,6 @@
 use Rattle.std.proofs.Common.{ℕ, ◌<◌, get_or, map}
 use Rattle.std.specs.Prelude.{pos}
-use Rattle.fr_notes.specs.Pairs.{RangesMeet}
-use Rattle.fr_notes.specs.View.{ends_of}
+use Rattle.fr_notes.proofs.Terms.{RangesMeet, ends_of}
 use Rattle.fr_notes.proofs.pairs.each_range_meets.Given as goal
 
 -- each two ranges of one variable so far have a number in common

@@ -1,9 +1,7 @@
 -- Two ranges meet where each begins before the other's end.
 use Rattle.std.proofs.Common.{◌≡◌, ◌∙◌, arith, rules, sym}
 use Rattle.std.specs.Prelude.{◌↔◌, ◌≤ℤ◌, ℤ, FitsSigned, IsTrue, int_le}
-use Rattle.std.specs.Int.{int_max, int_min}
-use Rattle.std.proofs.lemmas.Bool.{false≢true}
-use Rattle.std.proofs.lemmas.Int.{clamps, ints, to_z-of_z}
+use Rattle.fr_notes.proofs.Terms.{int_max, int_min, false≢true, clamps, ints, to_z-of_z}
 use mir.Syntax.{w128}
 use Rattle.fr_notes.proofs.pairs.ranges_meet.Goals as goal
 

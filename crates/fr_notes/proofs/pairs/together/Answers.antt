@@ -1,5 +1,5 @@
 use Rattle.std.specs.Prelude.{Any, IsTrue, ◌↔◌}
-use Rattle.fr_notes.specs.Pairs.{MeetsSome}
+use Rattle.fr_notes.proofs.Terms.{MeetsSome}
 use Rattle.fr_notes.proofs.PairLaws.{together-both}
 use Rattle.fr_notes.proofs.pairs.together.Goals as goal
 

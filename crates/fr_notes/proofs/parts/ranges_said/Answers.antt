@@ -1,10 +1,6 @@
 -- The range that is pushed is what the parts say of the next variable.
 use Rattle.std.proofs.Common.{◌≡◌, ◌∙◌, ◌++◌, [], ◌∷◌, map, ap, sym, arith}
-use Rattle.std.specs.List.{range_with_len}
-use Rattle.std.proofs.lemmas.List.{map_push}
-use Rattle.std.proofs.lemmas.List.FromFn.{map-range_with_len_more}
-use Rattle.fr_notes.specs.Parts.{range_said}
-use Rattle.fr_notes.specs.View.{ends_of}
+use Rattle.fr_notes.proofs.Terms.{range_with_len, map_push, map-range_with_len_more, range_said, ends_of}
 use Rattle.fr_notes.proofs.parts.ranges_said.Goals as goal
 
 pub loop-variable-preserved : goal.loop-variable-preserved

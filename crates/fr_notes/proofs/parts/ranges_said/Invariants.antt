@@ -1,7 +1,5 @@
 use Rattle.std.proofs.Common.{◌≡◌, map}
-use Rattle.std.specs.List.{range_with_len}
-use Rattle.fr_notes.specs.Parts.{range_said}
-use Rattle.fr_notes.specs.View.{ends_of}
+use Rattle.fr_notes.proofs.Terms.{range_with_len, range_said, ends_of}
 use Rattle.fr_notes.proofs.parts.ranges_said.Given as goal
 
 -- the ranges so far are those of the variables so far

@@ -1,8 +1,6 @@
 -- Each call leaves what the function that has it says.
 use Rattle.std.proofs.Common.{Some, ap, refl, sym, subst}
-use Rattle.fr_program.specs.declared.instr.Instr.TheVariants.{Call as Calls}
-use Rattle.fr_calls.specs.declared.way.Way.TheVariants.{Then}
-use Rattle.fr_notes.specs.Spot.{LeavesBefore}
+use Rattle.fr_notes.proofs.Terms.{Calls, Then, LeavesBefore}
 use Rattle.fr_notes.proofs.PlainRows.{yield-left, delay-left, end-left}
 use Rattle.fr_notes.proofs.BeforeLaws.{as-made, left-here}
 use Rattle.fr_notes.proofs.steps.called.Goals as goal

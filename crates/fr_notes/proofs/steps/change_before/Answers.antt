@@ -1,6 +1,6 @@
 -- Each row leaves what the function that has it says.
 use Rattle.std.proofs.Common.{None, Some, refl}
-use Rattle.fr_calls.specs.declared.way.Way.TheVariants.{Then, Else}
+use Rattle.fr_notes.proofs.Terms.{Then, Else}
 use Rattle.fr_notes.proofs.PlainRows.{goto-left, no-row, return-left}
 use Rattle.fr_notes.proofs.BeforeLaws.{as-made, left-here}
 use Rattle.fr_notes.proofs.steps.change_before.Goals as goal

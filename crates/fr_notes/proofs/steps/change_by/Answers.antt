@@ -1,7 +1,5 @@
 use Rattle.std.proofs.Common.{◌≡◌, sym, ap, ◌∙◌}
-use Rattle.fr_program.specs.declared.instr.Instr.TheVariants.{Call as Calls}
-use Rattle.fr_program.specs.declared.instr.Call.TheVariants.{On}
-use Rattle.fr_calls.specs.Rule.{first_forbidden}
+use Rattle.fr_notes.proofs.Terms.{Calls, On, first_forbidden}
 use Rattle.fr_notes.proofs.Never.{forbidden-never}
 use Rattle.fr_notes.proofs.StepLaws.{object-there}
 use Rattle.fr_notes.proofs.steps.change_by.Goals as goal

@@ -1,5 +1,5 @@
 use Rattle.std.proofs.Common.{◌≢◌, ◌<◌, ℕ, get_or}
-use Rattle.fr_order.specs.declared.edge.Edge.{Edge}
+use Rattle.fr_order.proofs.Terms.{Edge}
 use Rattle.fr_order.proofs.cycle.arrival.Given as goal
 
 -- no edge so far leads to the mutex

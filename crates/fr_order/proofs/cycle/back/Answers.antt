@@ -1,5 +1,5 @@
 use Rattle.std.proofs.Common.{get_or}
-use Rattle.std.proofs.lemmas.List.Elements.{Contains-get_or}
+use Rattle.fr_order.proofs.Terms.{Contains-get_or}
 use Rattle.fr_order.proofs.WalkLemmas.{no-edge, back-more, back-closes}
 use Rattle.fr_order.proofs.cycle.back.Goals as goal
 

@@ -1,5 +1,4 @@
-use Rattle.fr_order.specs.Graph.{LeadsFrom}
-use Rattle.fr_order.specs.Peeled.{AreAmong}
+use Rattle.fr_order.proofs.Terms.{LeadsFrom, AreAmong}
 use Rattle.fr_order.proofs.cycle.back.Given as goal
 
 abbrev pub invariant-steps : goal.invariant-steps

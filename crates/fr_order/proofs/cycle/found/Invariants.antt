@@ -1,5 +1,5 @@
 use Rattle.std.proofs.Common.{◌≢◌, ◌<◌, ℕ, get_or}
-use Rattle.fr_program.specs.declared.ids.ObjId.{ObjId}
+use Rattle.fr_order.proofs.Terms.{ObjId}
 use Rattle.fr_order.proofs.cycle.found.Given as goal
 
 -- the mutex isn't at any of the places so far

@@ -1,6 +1,5 @@
 use Rattle.std.proofs.Common.{sym, subst}
-use Rattle.std.proofs.lemmas.List.Elements.{Contains-get_or}
-use Rattle.fr_order.specs.Peeled.{AreAmong}
+use Rattle.fr_order.proofs.Terms.{Contains-get_or, AreAmong}
 use Rattle.fr_order.proofs.WalkLemmas.{among-push, no-edge}
 use Rattle.fr_order.proofs.cycle.reach.Goals as goal
 use Rattle.fr_order.proofs.cycle.reach.Goals.{then-edge-from+then-is_none+in_ok-push, else-edge-from}

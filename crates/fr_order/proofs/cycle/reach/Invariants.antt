@@ -1,4 +1,4 @@
-use Rattle.fr_order.specs.Peeled.{AreAmong}
+use Rattle.fr_order.proofs.Terms.{AreAmong}
 use Rattle.fr_order.proofs.cycle.reach.Given as goal
 
 abbrev pub invariant-loop-edge : goal.invariant-loop-edge

@@ -1,5 +1,5 @@
 use Rattle.std.proofs.Common.{sym, subst}
-use Rattle.fr_order.specs.Peeled.{AreAmong}
+use Rattle.fr_order.proofs.Terms.{AreAmong}
 use Rattle.fr_order.proofs.cycle.reach_all.Goals as goal
 use Rattle.fr_order.proofs.cycle.reach_all.Goals.{then-done-len+in_ok-reached-2, else-done-len}
 

@@ -1,4 +1,4 @@
-use Rattle.fr_order.specs.Peeled.{AreAmong}
+use Rattle.fr_order.proofs.Terms.{AreAmong}
 use Rattle.fr_order.proofs.cycle.reach_all.Given as goal
 
 abbrev pub invariant-loop-done : goal.invariant-loop-done

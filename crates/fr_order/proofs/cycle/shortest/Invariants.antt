@@ -1,4 +1,4 @@
-use Rattle.fr_order.specs.Graph.{IsCycleOf}
+use Rattle.fr_order.proofs.Terms.{IsCycleOf}
 use Rattle.fr_order.proofs.cycle.shortest.Given as goal
 
 abbrev pub invariant-loop-more : goal.invariant-loop-more

@@ -1,5 +1,5 @@
 use Rattle.std.specs.Prelude.{vec_len}
-use Rattle.fr_order.specs.Peeled.{IsWalk}
+use Rattle.fr_order.proofs.Terms.{IsWalk}
 use Rattle.fr_order.proofs.cycle.walk.Given as goal
 
 abbrev pub invariant-walk : goal.invariant-walk

@@ -1,5 +1,5 @@
 use Rattle.std.proofs.Common.{◌+◌, sym, subst, ◌∙◌, arith}
-use Rattle.fr_order.specs.Edges.{AreEdges, HasEdgesBelow, HasEdgesFrom}
+use Rattle.fr_order.proofs.Terms.{AreEdges, HasEdgesBelow, HasEdgesFrom}
 use Rattle.fr_order.proofs.EdgeLemmas.{can-no, are-more, below-kept, from-more, from-other, below-next}
 use Rattle.fr_order.proofs.edges.add_edges.Goals as goal
 use Rattle.fr_order.proofs.edges.add_edges.Goals.{then-can_be_edge+in-Some+in_ok-push, then-can_be_edge+in_default, else-can_be_edge}

@@ -1,4 +1,4 @@
-use Rattle.fr_order.specs.Edges.{AreEdges, HasEdgesBelow, HasEdgesFrom}
+use Rattle.fr_order.proofs.Terms.{AreEdges, HasEdgesBelow, HasEdgesFrom}
 use Rattle.fr_order.proofs.edges.add_edges.Given as goal
 
 abbrev pub invariant-loop-number : goal.invariant-loop-number

@@ -1,6 +1,5 @@
 use Rattle.std.proofs.Common.{◌+◌, sym, subst, ◌∙◌, arith}
-use Rattle.fr_program.specs.Lookup.{instr_of}
-use Rattle.fr_order.specs.Edges.{ArePoints, HasTakesBelow}
+use Rattle.fr_order.proofs.Terms.{instr_of, ArePoints, HasTakesBelow}
 use Rattle.fr_order.proofs.EdgeLemmas.{not-inside, points-more, below-more, below-other, below-all}
 use Rattle.fr_order.proofs.edges.all_takes.Goals as goal
 use Rattle.fr_order.proofs.edges.all_takes.Goals.{then-is_inside_any_take+in_ok-push, else-is_inside_any_take}

@@ -1,5 +1,5 @@
 use Rattle.std.proofs.Common.{ℕ}
-use Rattle.fr_order.specs.Edges.{ArePoints, HasTakesBelow}
+use Rattle.fr_order.proofs.Terms.{ArePoints, HasTakesBelow}
 use Rattle.fr_order.proofs.edges.all_takes.Given as goal
 
 abbrev pub invariant-loop-number : goal.invariant-loop-number

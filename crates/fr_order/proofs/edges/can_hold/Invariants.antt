@@ -1,6 +1,5 @@
 use Rattle.std.proofs.Common.{◌≡◌, ◌<◌, ℕ, get_or}
-use Rattle.fr_notes.specs.declared.claim.Claim.TheVariants.{HeldTimes}
-use Rattle.fr_notes.specs.Note.{Alternative, claim_of}
+use Rattle.fr_order.proofs.Terms.{HeldTimes, Alternative, claim_of}
 use Rattle.fr_order.proofs.edges.can_hold.Given as goal
 
 -- no alternative so far says that the mutex is held

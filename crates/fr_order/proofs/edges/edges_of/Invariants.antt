@@ -1,4 +1,4 @@
-use Rattle.fr_order.specs.Edges.{AreEdges, HasEdgesBelow}
+use Rattle.fr_order.proofs.Terms.{AreEdges, HasEdgesBelow}
 use Rattle.fr_order.proofs.edges.edges_of.Given as goal
 
 abbrev pub invariant-loop-number : goal.invariant-loop-number

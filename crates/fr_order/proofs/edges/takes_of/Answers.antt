@@ -1,5 +1,5 @@
 use Rattle.std.proofs.Common.{◌+◌, sym, subst, ◌∙◌, arith, get_or}
-use Rattle.fr_order.specs.Edges.{AreInside}
+use Rattle.fr_order.proofs.Terms.{AreInside}
 use Rattle.fr_order.proofs.EdgeLemmas.{HasTakesAmong, inside-yes, takes-more, among-more, among-other, among-all, among-whole}
 use Rattle.fr_order.proofs.edges.takes_of.Goals as goal
 use Rattle.fr_order.proofs.edges.takes_of.Goals.{then-is_inside_take+in_ok-push, else-is_inside_take}

@@ -1,4 +1,4 @@
-use Rattle.fr_order.specs.Edges.{AreInside}
+use Rattle.fr_order.proofs.Terms.{AreInside}
 use Rattle.fr_order.proofs.EdgeLemmas.{HasTakesAmong}
 use Rattle.fr_order.proofs.edges.takes_of.Given as goal
 

@@ -1,6 +1,5 @@
 use Rattle.std.proofs.Common.{◌≡◌, ◌<◌, ℕ, get_or}
-use Rattle.fr_order.specs.declared.edge.Edge.{Edge}
-use Rattle.fr_order.specs.Graph.{IsListed}
+use Rattle.fr_order.proofs.Terms.{Edge, IsListed}
 use Rattle.fr_order.proofs.peeling.blocker.Given as goal
 
 -- each edge to the mutex so far comes from one in the order

@@ -1,7 +1,5 @@
 use Rattle.std.proofs.Common.{below_more, get_or, subst}
-use Rattle.fr_program.specs.declared.ids.ObjId.{ObjId}
-use Rattle.fr_order.specs.declared.edge.Edge.{Edge}
-use Rattle.fr_order.specs.Peeled.{Blocks}
+use Rattle.fr_order.proofs.Terms.{ObjId, Edge, Blocks}
 use Rattle.fr_order.proofs.GraphLemmas.{any-default, some-there}
 use Rattle.fr_order.proofs.peeling.first_free.Goals as goal
 

@@ -1,7 +1,5 @@
 use Rattle.std.proofs.Common.{◌<◌, ℕ, get_or}
-use Rattle.fr_program.specs.declared.ids.ObjId.{ObjId}
-use Rattle.fr_order.specs.declared.edge.Edge.{Edge}
-use Rattle.fr_order.specs.Peeled.{Blocks}
+use Rattle.fr_order.proofs.Terms.{ObjId, Edge, Blocks}
 use Rattle.fr_order.proofs.peeling.first_free.Given as goal
 
 -- to each mutex of the rest so far leads an edge from one that isn't in the order

@@ -1,7 +1,5 @@
 use Rattle.std.proofs.Common.{◌<◌, length, inr, sym, subst}
-use Rattle.std.proofs.lemmas.List.Elements.{All-nil}
-use Rattle.fr_order.specs.Graph.{IsEnd}
-use Rattle.fr_order.specs.Peeled.{AreEnds}
+use Rattle.fr_order.proofs.Terms.{All-nil, IsEnd, AreEnds}
 use Rattle.fr_order.proofs.PeelLemmas.{none-listed, peel-more, ends-moved, peeled}
 use Rattle.fr_order.proofs.peeling.peel.Goals as goal
 

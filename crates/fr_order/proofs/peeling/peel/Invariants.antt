@@ -1,5 +1,5 @@
 use Rattle.std.specs.Prelude.{vec_len}
-use Rattle.fr_order.specs.Peeled.{IsUpward, AreRest, AreEnds}
+use Rattle.fr_order.proofs.Terms.{IsUpward, AreRest, AreEnds}
 use Rattle.fr_order.proofs.peeling.peel.Given as goal
 
 abbrev pub invariant-free : goal.invariant-free

@@ -1,5 +1,5 @@
 use Rattle.std.proofs.Common.{get_or, sym, ap, ◌∙◌, arith, ⊎_elim}
-use Rattle.std.proofs.lemmas.Bool.Decides.{eqb_tells}
+use Rattle.fr_order.proofs.Terms.{eqb_tells}
 use Rattle.std.proofs.Common.{below_more}
 use Rattle.fr_order.proofs.GraphLemmas.{any-default, nat_eq-true, place-is, place-none}
 use Rattle.fr_order.proofs.peeling.place_in.Goals as goal

@@ -1,5 +1,5 @@
 use Rattle.std.proofs.Common.{◌+◌, sym, subst, refl, arith}
-use Rattle.fr_order.specs.Peeled.{AreEnds}
+use Rattle.fr_order.proofs.Terms.{AreEnds}
 use Rattle.fr_order.proofs.EndLemmas.{HasEndsBelow, ends-other, ends-more, ends-all, only-more}
 use Rattle.fr_order.proofs.settling.ends.Goals as goal
 use Rattle.fr_order.proofs.settling.ends.Goals.{then-is_end+in_ok-push, else-is_end}

@@ -1,4 +1,4 @@
-use Rattle.fr_order.specs.Peeled.{AreEnds}
+use Rattle.fr_order.proofs.Terms.{AreEnds}
 use Rattle.fr_order.proofs.EndLemmas.{HasEndsBelow}
 use Rattle.fr_order.proofs.settling.ends.Given as goal
 

@@ -1,5 +1,5 @@
 use Rattle.std.proofs.Common.{◌≢◌, ◌<◌, ℕ, get_or}
-use Rattle.fr_order.specs.declared.edge.Edge.{Edge}
+use Rattle.fr_order.proofs.Terms.{Edge}
 use Rattle.fr_order.proofs.settling.is_end.Given as goal
 
 -- the mutex isn't at an end of an edge so far

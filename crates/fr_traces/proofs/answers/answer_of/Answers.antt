@@ -1,8 +1,6 @@
 -- The status of a refusal.
 use Rattle.std.proofs.Common.{◌==◌, ◌≡◌, ◌≤◌, Result, Ok, Err, IfOk, subst, sym}
-use Rattle.fr_formats.specs.declared.answer.AnswerKind.{AnswerKind}
-use Rattle.fr_formats.specs.Answers.{status_of as kind_status}
-use Rattle.fr_trail.specs.declared.answer.TraceAnswer.{TraceAnswer}
+use Rattle.fr_traces.proofs.Terms.{AnswerKind, kind_status, TraceAnswer}
 use Rattle.fr_outcome.specs.Checked.{fault_status}
 use Rattle.fr_traces.proofs.Following.{refused-least}
 use Rattle.fr_traces.proofs.answers.answer_of.Goals as goal

@@ -1,8 +1,6 @@
 -- The answer on the heap is the one that was found.
 use Rattle.std.proofs.Common.{◌≡◌, Result, Ok, Err, IfOk, subst, sym}
-use Rattle.fr_trail.specs.declared.answer.TraceAnswer.{TraceAnswer}
-use Rattle.fr_inputs.specs.Inputs.{Reads}
-use Rattle.fr_traces.specs.Traces.{IsAnswerAt, answered_at}
+use Rattle.fr_traces.proofs.Terms.{TraceAnswer, Reads, IsAnswerAt, answered_at}
 use Rattle.fr_traces.proofs.answers.answer_shown.Goals as goal
 
 kept : {E : Type 0} (Is : TraceAnswer → Type 0) (answer : TraceAnswer) (r : Result TraceAnswer E) → IfOk r (λ boxed. boxed ≡ answer) → Is answer → IfOk r Is

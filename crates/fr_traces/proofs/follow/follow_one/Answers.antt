@@ -1,9 +1,6 @@
 -- The one trace is answered and printed.
 use Rattle.std.proofs.Common.{[], ◌∷◌, false, string_bytes, subst}
-use Rattle.fr_wording.specs.Lines.{lines_text}
-use Rattle.fr_trail.specs.declared.answer.TraceAnswer.{TraceAnswer}
-use Rattle.fr_inputs.specs.Inputs.{Reads}
-use Rattle.fr_traces.specs.Traces.{AreTracesPrinted, TraceAnswerAt, answered_at}
+use Rattle.fr_traces.proofs.Terms.{lines_text, TraceAnswer, Reads, AreTracesPrinted, TraceAnswerAt, answered_at}
 use Rattle.fr_traces.proofs.Following.{one-alone}
 use Rattle.fr_traces.proofs.follow.follow_one.Goals as goal
 

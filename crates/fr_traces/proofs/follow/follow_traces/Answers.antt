@@ -1,6 +1,6 @@
 -- All that is named is answered for the application that was read, and what is written is of that.
 use Rattle.std.proofs.Common.{◌≤◌, arith, inl, refl}
-use Rattle.fr_inputs.specs.Inputs.{Reads}
+use Rattle.fr_traces.proofs.Terms.{Reads}
 use Rattle.fr_traces.proofs.Following.{puts-both}
 use Rattle.fr_traces.proofs.follow.follow_traces.Goals as goal
 

@@ -1,11 +1,9 @@
 -- The page has the heading and the line.
 use Rattle.std.proofs.Common.{◌≡◌, ◌++◌, ◌∙◌, ℕ, List, Result, Ok, Err, IfOk, String, ap, rules, string_bytes}
-use Rattle.std.specs.declared.alloc.Global.{Global}
-use Rattle.fr_formats.specs.declared.answer.AnswerKind.{AnswerKind}
+use Rattle.fr_traces.proofs.Terms.{Global, AnswerKind, IsTrailPage}
 use Rattle.fr_page.specs.declared.page.Page.{Page}
 use Rattle.fr_page.specs.Whole.{head_of}
 use Rattle.fr_lanes.specs.Pages.{page_kind}
-use Rattle.fr_traces.specs.Traces.{IsTrailPage}
 use Rattle.fr_traces.proofs.page.trail_page.Goals as goal
 
 written : {Y : Type 0} (kind : AnswerKind) (line : List ℕ) (page : Page) (r : Result (String Global) Y) → page.kind ≡ page_kind kind → string_bytes page.answer ≡ line

@@ -1,7 +1,6 @@
 -- What is added shows the answer.
 use Rattle.std.proofs.Common.{◌≡◌, ◌++◌, [], ◌∷◌, rules, string_bytes}
-use Rattle.fr_wording.specs.Lines.{lines_text}
-use Rattle.fr_traces.specs.Traces.{ShowsTrace, TraceAnswerAt}
+use Rattle.fr_traces.proofs.Terms.{lines_text, ShowsTrace, TraceAnswerAt}
 use Rattle.fr_traces.proofs.printed.add_trace.Goals as goal
 
 pub returns-clause-added : goal.returns-clause-added

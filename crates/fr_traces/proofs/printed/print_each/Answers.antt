@@ -1,13 +1,7 @@
 -- One trace more is answered and printed.
 use Rattle.std.proofs.Common.{◌≡◌, ◌≤◌, ◌∙◌, None, true, ap, arith, map, max, string_bytes, take}
-use Rattle.std.proofs.KnownBytes.{Appends-nil}
-use Rattle.std.proofs.lemmas.List.{map-append, take_more}
-use Rattle.fr_formats.specs.Answers.{status_of as kind_status}
-use Rattle.fr_wording.specs.Lines.{lines_text}
-use Rattle.fr_inputs.specs.Inputs.{Reads}
-use Rattle.fr_traces.specs.Traces.{AreTracesPrinted, TraceAnswerAt}
+use Rattle.fr_traces.proofs.Terms.{Appends-nil, map-append, take_more, kind_status, lines_text, Reads, AreTracesPrinted, TraceAnswerAt, status-most}
 use Rattle.fr_traces.proofs.Following.{answers-at, none-yet, of-same, printed-trace}
-use Rattle.fr_outcome.proofs.Printed.{status-most}
 use Rattle.fr_traces.proofs.printed.print_each.Goals as goal
 
 pub loop-path-init : goal.loop-path-init

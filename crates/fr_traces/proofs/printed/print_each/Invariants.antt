@@ -1,6 +1,5 @@
 use Rattle.std.proofs.Common.{◌≤◌, None, map, take, true}
-use Rattle.fr_inputs.specs.Inputs.{Reads}
-use Rattle.fr_traces.specs.Traces.{AreTraces, AreTracesPrinted}
+use Rattle.fr_traces.proofs.Terms.{Reads, AreTraces, AreTracesPrinted}
 use Rattle.fr_traces.proofs.printed.print_each.Given as goal
 
 -- the traces so far are answered and printed

@@ -1,7 +1,6 @@
 -- The report shows the answer.
 use Rattle.std.proofs.Common.{string_bytes}
-use Rattle.fr_wording.specs.Lines.{lines_text}
-use Rattle.fr_traces.specs.Traces.{ShowsTrace, TraceAnswerAt}
+use Rattle.fr_traces.proofs.Terms.{lines_text, ShowsTrace, TraceAnswerAt}
 use Rattle.fr_traces.proofs.Following.{reported-of}
 use Rattle.fr_traces.proofs.printed.report_one.Goals as goal
 

@@ -1,7 +1,5 @@
 use Rattle.std.proofs.Common.{◌≤◌, map, take}
-use Rattle.fr_outcome.specs.Each.{Each}
-use Rattle.fr_inputs.specs.Inputs.{Reads}
-use Rattle.fr_traces.specs.Traces.{AreTraces, ShowsTrace}
+use Rattle.fr_traces.proofs.Terms.{Each, Reads, AreTraces, ShowsTrace}
 use Rattle.fr_traces.proofs.printed.shown_each.Given as goal
 
 -- the traces so far are answered, and each answer is shown

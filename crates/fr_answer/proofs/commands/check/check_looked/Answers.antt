@@ -1,8 +1,7 @@
 -- What is shown is the verdict on both files.
 use Rattle.std.proofs.Common.{IfOk, refl, subst}
 use Rattle.std.specs.Prelude.{option_copied}
-use Rattle.fr_inputs.specs.Inputs.{Reads}
-use Rattle.fr_answer.specs.Commands.{IsCheckOf}
+use Rattle.fr_answer.proofs.Terms.{Reads, IsCheckOf}
 use Rattle.fr_answer.proofs.Showing.{paged-found, shown-of}
 use Rattle.fr_answer.proofs.commands.check.check_looked.Goals as goal
 

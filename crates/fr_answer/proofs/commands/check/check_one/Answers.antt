@@ -1,10 +1,8 @@
 -- The page's file passed.
 use Rattle.std.proofs.Common.{refl, rules}
 use Rattle.std.specs.Prelude.{option_copied}
-use Rattle.fr_inputs.specs.Inputs.{Reads}
-use Rattle.fr_answer.specs.Commands.{IsCheckOf}
+use Rattle.fr_answer.proofs.Terms.{Reads, IsCheckOf, may-of}
 use Rattle.fr_answer.proofs.Showing.{shown-none}
-use Rattle.fr_inputs.proofs.Looking.{may-of}
 use Rattle.fr_answer.proofs.commands.check.check_one.Goals as goal
 
 pub check_looked-requires : goal.check_looked-requires

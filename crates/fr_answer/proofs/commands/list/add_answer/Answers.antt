@@ -1,6 +1,6 @@
 -- What is added shows the answer.
 use Rattle.std.proofs.Common.{◌≡◌, ◌++◌, [], ◌∷◌, rules, string_bytes}
-use Rattle.fr_answer.specs.Commands.{Shows}
+use Rattle.fr_answer.proofs.Terms.{Shows}
 use Rattle.fr_answer.proofs.commands.list.add_answer.Goals as goal
 
 pub returns-clause-added : goal.returns-clause-added

@@ -1,7 +1,6 @@
 -- The answer that was found is the one that is added.
 use Rattle.std.proofs.Common.{string_bytes}
-use Rattle.fr_list.specs.Means.{shown}
-use Rattle.fr_inputs.specs.Inputs.{Reads}
+use Rattle.fr_answer.proofs.Terms.{shown, Reads}
 use Rattle.fr_answer.proofs.Listing.{line-added}
 use Rattle.fr_answer.proofs.commands.list.add_line.Goals as goal
 

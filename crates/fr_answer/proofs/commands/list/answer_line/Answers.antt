@@ -1,10 +1,7 @@
 -- The line names a certificate, or none.
 use Rattle.std.proofs.Common.{◌≤◌, ap, subst, sym, IfOk}
 use Rattle.std.specs.Prelude.{option_copied}
-use Rattle.fr_list.specs.Beside.{beside}
-use Rattle.fr_outcome.specs.Answers.{what_status}
-use Rattle.fr_inputs.specs.Inputs.{Reads}
-use Rattle.fr_answer.specs.Commands.{IsAnswerBy}
+use Rattle.fr_answer.proofs.Terms.{beside, what_status, Reads, IsAnswerBy}
 use Rattle.fr_answer.proofs.Showing.{line-by}
 use Rattle.fr_answer.proofs.commands.list.answer_line.Goals as goal
 

@@ -1,8 +1,6 @@
 -- The answer is the verdict on both files.
 use Rattle.std.proofs.Common.{◌∙◌, subst, IfOk, Some}
-use Rattle.fr_list.specs.Beside.{beside}
-use Rattle.fr_inputs.specs.Inputs.{Reads}
-use Rattle.fr_answer.specs.Commands.{IsAnswerBy, IsCheckOf}
+use Rattle.fr_answer.proofs.Terms.{beside, Reads, IsAnswerBy, IsCheckOf}
 use Rattle.fr_answer.proofs.Showing.{line-found}
 use Rattle.fr_answer.proofs.commands.list.checked_line.Goals as goal
 

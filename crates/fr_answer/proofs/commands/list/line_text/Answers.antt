@@ -1,10 +1,6 @@
 -- The text of a line, with those that follow.
 use Rattle.std.proofs.Common.{◌≡◌, ◌++◌, ℕ, List, Bool, Result, Ok, Err, IfOk, String, codes, rules, string_bytes}
-use Rattle.std.specs.declared.alloc.Global.{Global}
-use Rattle.fr_wording.specs.Lines.{lines_text}
-use Rattle.fr_outcome.specs.declared.answer.What.{What}
-use Rattle.fr_outcome.specs.Answers.{first_line}
-use Rattle.fr_answer.specs.Commands.{AreMore}
+use Rattle.fr_answer.proofs.Terms.{Global, lines_text, What, first_line, AreMore}
 use Rattle.fr_answer.proofs.commands.list.line_text.Goals as goal
 
 with-more : {Y : Type 0} (explains : Bool) (what : What) (heading more : List ℕ) (r : Result (String Global) Y) → AreMore explains what more

@@ -1,10 +1,6 @@
 -- The lines are all, or those that are always printed.
 use Rattle.std.proofs.Common.{Bool, true, false, ◌≡◌, IfOk, Result, String, Vec}
-use Rattle.std.specs.declared.alloc.Global.{Global}
-use Rattle.fr_wording.specs.Lines.{lines_text}
-use Rattle.fr_outcome.specs.declared.answer.What.{What}
-use Rattle.fr_outcome.specs.Answers.{AreLinesOf, second_text}
-use Rattle.fr_answer.specs.Commands.{AreMore}
+use Rattle.fr_answer.proofs.Terms.{Global, lines_text, What, AreLinesOf, second_text, AreMore}
 use Rattle.fr_answer.proofs.commands.list.more_lines.Goals as goal
 
 all : {Y : Type 0} (explains : Bool) (what : What) (r : Result (Vec (String Global) Global) Y) → explains ≡ true → IfOk r (λ lines. AreLinesOf what (lines_text lines.items))

@@ -1,15 +1,7 @@
 -- One line more is answered and printed.
 use Rattle.std.proofs.Common.{◌≡◌, ◌≤◌, ◌∙◌, [], ap, arith, map, max, refl, take}
-use Rattle.std.proofs.KnownBytes.{Appends-nil}
-use Rattle.std.proofs.lemmas.List.{map-append, take_more}
-use Rattle.std.proofs.lemmas.List.Elements.{All-nil}
-use Rattle.std.specs.Option.{is_some}
-use Rattle.fr_list.specs.Means.{shown}
-use Rattle.fr_outcome.specs.Answers.{kind_of, what_status}
-use Rattle.fr_inputs.specs.Inputs.{Reads}
-use Rattle.fr_answer.specs.Commands.{IsLineAnswer}
+use Rattle.fr_answer.proofs.Terms.{Appends-nil, map-append, take_more, All-nil, is_some, shown, kind_of, what_status, Reads, IsLineAnswer, status-most}
 use Rattle.fr_answer.proofs.Listing.{answered-at, printed-line}
-use Rattle.fr_outcome.proofs.Printed.{status-most}
 use Rattle.fr_answer.proofs.commands.list.print_each.Goals as goal
 
 pub loop-entry-init : goal.loop-entry-init

@@ -1,8 +1,5 @@
 use Rattle.std.proofs.Common.{◌≤◌, None, map, take}
-use Rattle.std.specs.Option.{is_some}
-use Rattle.fr_list.specs.Means.{shown}
-use Rattle.fr_inputs.specs.Inputs.{Reads}
-use Rattle.fr_answer.specs.Commands.{AreAnswered, AreLinesPrinted}
+use Rattle.fr_answer.proofs.Terms.{is_some, shown, Reads, AreAnswered, AreLinesPrinted}
 use Rattle.fr_answer.proofs.commands.list.print_each.Given as goal
 
 -- the lines so far are answered and printed

@@ -1,8 +1,6 @@
 -- The answer is what was proved.
 use Rattle.std.proofs.Common.{◌∙◌, subst, IfOk, None, List, ℕ, true}
-use Rattle.fr_list.specs.Beside.{beside}
-use Rattle.fr_inputs.specs.Inputs.{Reads}
-use Rattle.fr_answer.specs.Commands.{IsAnswerBy, IsProofAt}
+use Rattle.fr_answer.proofs.Terms.{beside, Reads, IsAnswerBy, IsProofAt}
 use Rattle.fr_answer.proofs.Showing.{line-found}
 use Rattle.fr_answer.proofs.commands.list.proved_line.Goals as goal
 

@@ -1,13 +1,7 @@
 -- One line more is answered and shown.
 use Rattle.std.proofs.Common.{◌≡◌, ◌≤◌, ◌∙◌, [], ap, arith, map, max, refl, take}
-use Rattle.std.proofs.lemmas.List.{map-append, take_more}
-use Rattle.std.proofs.lemmas.List.Elements.{All-nil}
-use Rattle.fr_list.specs.Means.{shown}
-use Rattle.fr_outcome.specs.Answers.{kind_of, what_status}
-use Rattle.fr_inputs.specs.Inputs.{Reads}
-use Rattle.fr_answer.specs.Commands.{IsLineAnswer}
+use Rattle.fr_answer.proofs.Terms.{map-append, take_more, All-nil, shown, kind_of, what_status, Reads, IsLineAnswer, status-most}
 use Rattle.fr_answer.proofs.Listing.{answered-at, shown-line}
-use Rattle.fr_outcome.proofs.Printed.{status-most}
 use Rattle.fr_answer.proofs.commands.list.shown_each.Goals as goal
 
 pub loop-listed-init : goal.loop-listed-init

@@ -1,9 +1,5 @@
 use Rattle.std.proofs.Common.{◌≤◌, map, take}
-use Rattle.fr_list.specs.Beside.{beside}
-use Rattle.fr_list.specs.Means.{shown}
-use Rattle.fr_inputs.specs.Inputs.{Reads}
-use Rattle.fr_answer.specs.Commands.{AreAnswered, Shows}
-use Rattle.fr_outcome.specs.Each.{Each}
+use Rattle.fr_answer.proofs.Terms.{beside, shown, Reads, AreAnswered, Shows, Each}
 use Rattle.fr_answer.proofs.commands.list.shown_each.Given as goal
 
 -- the lines so far are answered, and each answer is shown

@@ -1,10 +1,8 @@
 -- The places are those that were asked for.
 use Rattle.std.proofs.Common.{◌≡◌, Bool, Result, Ok, Err, IfOk, String, string_bytes}
-use Rattle.std.specs.declared.alloc.Global.{Global}
-use Rattle.fr_program.specs.Program.{Program}
+use Rattle.fr_answer.proofs.Terms.{Global, Program, AreShown, IsListed}
 use Rattle.fr_wording.specs.declared.sources.Sources.{Sources}
 use Rattle.fr_wording.specs.Listing.{points_text}
-use Rattle.fr_answer.specs.Commands.{AreShown, IsListed}
 use Rattle.fr_answer.proofs.commands.points.listed.Goals as goal
 
 of-listed : {Y : Type 0} (explains : Bool) (P : Program) (sources : Sources) (lines : Result (String Global) Y) → AreShown explains sources

@@ -1,6 +1,6 @@
 -- What is written is the listing of the application that was read.
 use Rattle.std.proofs.Common.{sym, subst}
-use Rattle.fr_inputs.specs.Inputs.{AsApp, Reads}
+use Rattle.fr_answer.proofs.Terms.{AsApp, Reads}
 use Rattle.fr_answer.proofs.commands.points.points.Goals as goal
 
 pub returns-in-Ok-clause-answered : goal.returns-in-Ok-clause-answered

@@ -1,6 +1,6 @@
 -- What is written is the listing.
 use Rattle.std.proofs.Common.{sym, subst}
-use Rattle.fr_answer.specs.Commands.{IsListed}
+use Rattle.fr_answer.proofs.Terms.{IsListed}
 use Rattle.fr_answer.proofs.commands.points.put_listed.Goals as goal
 
 pub returns-clause-put : goal.returns-clause-put

@@ -1,10 +1,8 @@
 -- Both outputs passed.
 use Rattle.std.proofs.Common.{refl, rules}
 use Rattle.std.specs.Prelude.{option_copied, ℕ, List}
-use Rattle.fr_inputs.specs.Inputs.{Reads}
-use Rattle.fr_answer.specs.Commands.{IsProofAt}
+use Rattle.fr_answer.proofs.Terms.{Reads, IsProofAt, may-of}
 use Rattle.fr_answer.proofs.Showing.{kept-same, paged-same, shown-none}
-use Rattle.fr_inputs.proofs.Looking.{may-of}
 use Rattle.fr_answer.proofs.commands.prove.prove.Goals as goal
 
 pub prove_looked-requires : goal.prove_looked-requires

@@ -1,8 +1,7 @@
 -- What is shown is what was proved, and a certificate is written where the verdict is yes.
 use Rattle.std.proofs.Common.{IfOk, List, ℕ, string_bytes, subst}
 use Rattle.std.specs.Prelude.{option_copied}
-use Rattle.fr_inputs.specs.Inputs.{Reads}
-use Rattle.fr_answer.specs.Commands.{IsProofAt}
+use Rattle.fr_answer.proofs.Terms.{Reads, IsProofAt}
 use Rattle.fr_answer.proofs.Showing.{kept-by, paged-found, proof-found, shown-of}
 use Rattle.fr_answer.proofs.commands.prove.prove_looked.Goals as goal
 

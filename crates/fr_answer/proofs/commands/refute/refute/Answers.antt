@@ -1,10 +1,8 @@
 -- The page's file passed.
 use Rattle.std.proofs.Common.{refl, rules}
 use Rattle.std.specs.Prelude.{option_copied}
-use Rattle.fr_inputs.specs.Inputs.{Reads}
-use Rattle.fr_answer.specs.Commands.{IsSearchAt}
+use Rattle.fr_answer.proofs.Terms.{Reads, IsSearchAt, may-of}
 use Rattle.fr_answer.proofs.Showing.{shown-none}
-use Rattle.fr_inputs.proofs.Looking.{may-of}
 use Rattle.fr_answer.proofs.commands.refute.refute.Goals as goal
 
 pub refute_looked-requires : goal.refute_looked-requires

@@ -1,8 +1,7 @@
 -- What is shown is what the search found.
 use Rattle.std.proofs.Common.{IfOk, subst}
 use Rattle.std.specs.Prelude.{option_copied}
-use Rattle.fr_inputs.specs.Inputs.{Reads}
-use Rattle.fr_answer.specs.Commands.{IsSearchAt}
+use Rattle.fr_answer.proofs.Terms.{Reads, IsSearchAt}
 use Rattle.fr_answer.proofs.Showing.{paged-found, shown-of}
 use Rattle.fr_answer.proofs.commands.refute.refute_looked.Goals as goal
 

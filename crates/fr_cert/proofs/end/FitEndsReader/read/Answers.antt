@@ -1,14 +1,5 @@
 use Rattle.std.proofs.Common.{List, [], sym, subst, map, inl, inr}
-use Rattle.std.proofs.lemmas.Result.{err_from_is_err_and}
-use Rattle.serde_json.specs.Data.{Items}
-use Rattle.serde_json.specs.View.{view}
-use Rattle.fr_program.specs.Program.{Program}
-use Rattle.fr_ends.specs.Fits.{EndFits, EndsFit}
-use Rattle.fr_ends.specs.Guard.{EndGuard}
-use Rattle.fr_ends.specs.View.{end_of}
-use Rattle.fr_cert.specs.Keys.{names_in}
-use Rattle.fr_cert.specs.Shapes.{IsObject, IsList}
-use Rattle.fr_cert.specs.Meaning.{IsEnd, AreFitEnds}
+use Rattle.fr_cert.proofs.Terms.{err_from_is_err_and, Items, view, Program, EndFits, EndsFit, EndGuard, end_of, names_in, IsObject, IsList, IsEnd, AreFitEnds}
 use Rattle.fr_cert.specs.declared.fault.CertFault.TheVariants as fault
 use Rattle.fr_cert.proofs.EntryLemmas.{each_both}
 use Rattle.fr_cert.proofs.TwiceLemmas.{twice_weaker}

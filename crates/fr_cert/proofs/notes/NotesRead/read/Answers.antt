@@ -1,5 +1,5 @@
 use Rattle.std.proofs.Common.{◌≡◌, Any, subst}
-use Rattle.serde_json.specs.View.{view}
+use Rattle.fr_cert.proofs.Terms.{view}
 use Rattle.fr_cert.proofs.ReadLemmas.{remembered_at, entry_more}
 use Rattle.fr_cert.proofs.notes.NotesRead.read.Goals as goal
 

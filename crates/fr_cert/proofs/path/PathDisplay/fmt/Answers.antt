@@ -1,9 +1,7 @@
 -- Each turn writes one step more behind a `/`.
 use Rattle.std.proofs.Common.{◌++◌, codes, map, take, refl, sym, subst, ap, ◌∙◌, append-nil, rules}
-use Rattle.std.specs.Fmt.{HasWritten}
+use Rattle.fr_cert.proofs.Terms.{HasWritten, take_all, step_of, step_text, more_text, path_text}
 use Rattle.std.proofs.lemmas.Grind.{put_two}
-use Rattle.std.proofs.lemmas.List.{take_all}
-use Rattle.fr_cert.specs.Path.{step_of, step_text, more_text, path_text}
 use Rattle.fr_cert.proofs.PathLemmas.{more_next}
 use Rattle.fr_cert.proofs.path.PathDisplay.fmt.Goals as goal
 

@@ -1,6 +1,5 @@
 use Rattle.std.proofs.Common.{◌≡◌, ◌∷◌, ◌++◌, map, take}
-use Rattle.std.specs.Fmt.{HasWritten, IsPlainFormatter}
-use Rattle.fr_cert.specs.Path.{PathStep, step_of, step_text, more_text}
+use Rattle.fr_cert.proofs.Terms.{HasWritten, IsPlainFormatter, PathStep, step_of, step_text, more_text}
 use Rattle.fr_cert.proofs.path.PathDisplay.fmt.Given as goal
 
 abbrev pub invariant-loop-step : goal.invariant-loop-step

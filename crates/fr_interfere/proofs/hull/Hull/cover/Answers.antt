@@ -1,6 +1,5 @@
 use Rattle.std.proofs.Common.{sym, ◌∙◌, subst}
-use Rattle.std.proofs.lemmas.List.{with_items_is}
-use Rattle.fr_interfere.specs.Hull.{CoversClaims, CoversRanges}
+use Rattle.fr_interfere.proofs.Terms.{with_items_is, CoversClaims, CoversRanges}
 use Rattle.fr_interfere.proofs.HullLaws.{covers-more}
 use Rattle.fr_interfere.proofs.hull.Hull.cover.Goals as goal
 

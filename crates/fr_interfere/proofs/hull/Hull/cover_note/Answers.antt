@@ -1,8 +1,6 @@
 use Rattle.std.proofs.Common.{get_or, refl, ◌∙◌, subst, arith, ⊎_elim}
 use Rattle.std.specs.Prelude.{All}
-use Rattle.std.proofs.lemmas.Bool.{cases_lt}
-use Rattle.std.proofs.lemmas.List.{get_or_default}
-use Rattle.fr_interfere.specs.Hull.{Covers}
+use Rattle.fr_interfere.proofs.Terms.{cases_lt, get_or_default, Covers}
 use Rattle.fr_interfere.proofs.Lists.{item-fits}
 use Rattle.fr_interfere.proofs.hull.Hull.cover_note.Goals as goal
 

@@ -1,7 +1,5 @@
 use Rattle.std.proofs.Common.{◌≡◌, ℕ, ◌<◌, get_or}
-use Rattle.fr_notes.specs.Note.{Alternative}
-use Rattle.fr_interfere.specs.declared.effects.Effect.{Effect}
-use Rattle.fr_interfere.specs.Hull.{Covers}
+use Rattle.fr_interfere.proofs.Terms.{Alternative, Effect, Covers}
 use Rattle.fr_interfere.proofs.hull.Hull.cover_note.Given as goal
 
 -- the hull covers the alternatives so far, and what it covered; its actor and its variable are as they were

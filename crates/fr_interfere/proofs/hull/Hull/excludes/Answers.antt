@@ -1,6 +1,6 @@
 use Rattle.std.proofs.Common.{refl, inl, inr, subst}
 use Rattle.std.specs.Prelude.{Any}
-use Rattle.fr_interfere.specs.Hull.{IsApart}
+use Rattle.fr_interfere.proofs.Terms.{IsApart}
 use Rattle.fr_interfere.proofs.HullLaws.{excludes-told}
 use Rattle.fr_interfere.proofs.hull.Hull.excludes.Goals as goal
 

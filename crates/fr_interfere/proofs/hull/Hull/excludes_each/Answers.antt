@@ -1,8 +1,6 @@
 use Rattle.std.proofs.Common.{get_or, refl, sym, ◌∙◌, subst, arith, ⊎_elim}
 use Rattle.std.specs.Prelude.{All}
-use Rattle.std.proofs.lemmas.Bool.{cases_lt}
-use Rattle.std.proofs.lemmas.List.{get_or_default}
-use Rattle.fr_interfere.specs.Hull.{Excludes}
+use Rattle.fr_interfere.proofs.Terms.{cases_lt, get_or_default, Excludes}
 use Rattle.fr_interfere.proofs.hull.Hull.excludes_each.Goals as goal
 
 pub returns-then-not-excludes : goal.returns-then-not-excludes

@@ -1,6 +1,5 @@
 use Rattle.std.proofs.Common.{ℕ, ◌<◌, get_or}
-use Rattle.fr_notes.specs.Note.{Alternative}
-use Rattle.fr_interfere.specs.Hull.{Excludes}
+use Rattle.fr_interfere.proofs.Terms.{Alternative, Excludes}
 use Rattle.fr_interfere.proofs.hull.Hull.excludes_each.Given as goal
 
 -- so it is of the alternatives so far

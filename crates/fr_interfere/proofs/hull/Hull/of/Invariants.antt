@@ -1,4 +1,4 @@
-use Rattle.fr_interfere.specs.Hull.{IsUnder}
+use Rattle.fr_interfere.proofs.Terms.{IsUnder}
 use Rattle.fr_interfere.proofs.IndexLaws.{AreChecked}
 use Rattle.fr_interfere.proofs.hull.Hull.of.Given as goal
 

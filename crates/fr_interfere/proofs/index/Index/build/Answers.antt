@@ -1,9 +1,6 @@
 use Rattle.std.proofs.Common.{◌≡◌, [], length, sym, ap, ◌∙◌, subst, arith}
 use Rattle.std.specs.Prelude.{replicate}
-use Rattle.std.proofs.lemmas.List.{length-map}
-use Rattle.fr_program.specs.Points.{points_of}
-use Rattle.fr_program.specs.View.{object_of, variable_of}
-use Rattle.fr_interfere.specs.Index.{IsIndexBelow}
+use Rattle.fr_interfere.proofs.Terms.{length-map, points_of, object_of, variable_of, IsIndexBelow}
 use Rattle.fr_interfere.proofs.IndexLaws.{index-none}
 use Rattle.fr_interfere.proofs.index.Index.build.Goals as goal
 

@@ -1,4 +1,4 @@
-use Rattle.fr_interfere.specs.Index.{IsIndexBelow}
+use Rattle.fr_interfere.proofs.Terms.{IsIndexBelow}
 use Rattle.fr_interfere.proofs.index.Index.build.Given as goal
 
 -- the index has the points so far

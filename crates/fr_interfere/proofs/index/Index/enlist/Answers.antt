@@ -1,10 +1,8 @@
 -- The point goes into the list of the variable that it writes, of the object that it creates or deletes, and of the leavers.
 use Rattle.std.proofs.Common.{◌+◌, sym, ap, ◌∙◌, subst}
 use Rattle.std.specs.Prelude.{◌↔◌, IsTrue}
-use Rattle.fr_interfere.specs.Effects.{target_of, made_of}
-use Rattle.fr_interfere.specs.Index.{CanLeave, IsIndexBelow, Lists}
+use Rattle.fr_interfere.proofs.Terms.{target_of, made_of, CanLeave, IsIndexBelow, Lists, enlisted}
 use Rattle.fr_interfere.specs.IndexView.{index_of}
-use Rattle.fr_interfere.specs.Listing.{enlisted}
 use Rattle.fr_interfere.proofs.IndexLaws.{index-more, lists-more, lists-same}
 use Rattle.fr_interfere.proofs.index.Index.enlist.Goals as goal
 

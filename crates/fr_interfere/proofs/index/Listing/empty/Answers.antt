@@ -1,6 +1,6 @@
 use Rattle.std.proofs.Common.{◌≡◌, ◌++◌, ◌∷◌, [], map, ap, ◌∙◌, arith}
 use Rattle.std.specs.Prelude.{replicate}
-use Rattle.std.proofs.lemmas.List.{map_push, replicate-append-replicate}
+use Rattle.fr_interfere.proofs.Terms.{map_push, replicate-append-replicate}
 use Rattle.fr_interfere.proofs.index.Listing.empty.Goals as goal
 
 pub loop-place-preserved : goal.loop-place-preserved

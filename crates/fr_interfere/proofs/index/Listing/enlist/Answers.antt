@@ -1,5 +1,5 @@
 use Rattle.std.proofs.Common.{sym, ap, ◌∙◌, Some}
-use Rattle.fr_interfere.specs.Listing.{enlisted}
+use Rattle.fr_interfere.proofs.Terms.{enlisted}
 use Rattle.fr_interfere.proofs.IndexLaws.{enlist-told}
 use Rattle.fr_interfere.proofs.index.Listing.enlist.Goals as goal
 

@@ -1,11 +1,7 @@
 -- Where all steps stay in declared ranges, only what the note says can be changed; else the leavers are looked at too.
 use Rattle.std.proofs.Common.{◌≡◌, Some, length, sym, subst}
 use Rattle.std.specs.Prelude.{slice_get}
-use Rattle.fr_program.specs.declared.ids.Point.{Point}
-use Rattle.fr_program.specs.Points.{points_of}
-use Rattle.fr_interfere.specs.Disturbance.{IsSpoiler}
-use Rattle.fr_interfere.specs.Index.{CanLeave, Lists}
-use Rattle.fr_interfere.specs.Spoilers.{IsFirstOf, IsListed}
+use Rattle.fr_interfere.proofs.Terms.{Point, points_of, IsSpoiler, CanLeave, Lists, IsFirstOf, IsListed}
 use Rattle.fr_interfere.proofs.IndexLaws.{numbers-below}
 use Rattle.fr_interfere.proofs.SpoilerLaws.{first-of-two, first-of-three}
 use Rattle.fr_interfere.proofs.interference.Interference.spoiler.Goals as goal

@@ -1,6 +1,5 @@
 use Rattle.std.proofs.Common.{sym, subst}
-use Rattle.fr_interfere.specs.Hull.{AreUnder}
-use Rattle.fr_interfere.specs.Rows.{AreListed}
+use Rattle.fr_interfere.proofs.Terms.{AreUnder, AreListed}
 use Rattle.fr_interfere.proofs.rows.Block.of.Goals as goal
 
 pub returns-clause-block : goal.returns-clause-block

@@ -1,5 +1,5 @@
 use Rattle.std.proofs.Common.{sym, subst}
-use Rattle.fr_interfere.specs.Rows.{AreListed, WritesOne}
+use Rattle.fr_interfere.proofs.Terms.{AreListed, WritesOne}
 use Rattle.fr_interfere.proofs.RowLaws.{lists-listed, hulls-of}
 use Rattle.fr_interfere.proofs.rows.Hulls.build.Goals as goal
 

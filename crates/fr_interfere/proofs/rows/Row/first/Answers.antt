@@ -1,8 +1,7 @@
 -- Each point of the row is under its hull, and in one of its blocks.
 use Rattle.std.proofs.Common.{sym, subst}
 use Rattle.std.specs.Prelude.{All}
-use Rattle.fr_interfere.specs.Rows.{IsBlock, IsInSome}
-use Rattle.fr_interfere.specs.Spoilers.{IsListed}
+use Rattle.fr_interfere.proofs.Terms.{IsBlock, IsInSome, IsListed}
 use Rattle.fr_interfere.proofs.RowLaws.{spared-points}
 use Rattle.fr_interfere.proofs.SpoilerLaws.{first-fewer}
 use Rattle.fr_interfere.proofs.rows.Row.first.Goals as goal

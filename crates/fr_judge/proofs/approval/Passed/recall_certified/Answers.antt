@@ -1,6 +1,6 @@
 -- Guards that fit have distinct turns.
 use Rattle.std.proofs.Common.{subst}
-use Rattle.fr_judge.specs.Sound.{Certified}
+use Rattle.fr_judge.proofs.Terms.{Certified}
 use Rattle.fr_judge.proofs.Telling.{fitting-distinct}
 use Rattle.fr_judge.proofs.approval.Passed.recall_certified.Goals as goal
 

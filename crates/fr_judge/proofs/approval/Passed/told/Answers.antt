@@ -1,5 +1,5 @@
 use Rattle.std.proofs.Common.{subst}
-use Rattle.fr_judge.specs.Told.{TellsVerdict}
+use Rattle.fr_judge.proofs.Terms.{TellsVerdict}
 use Rattle.fr_judge.proofs.Points.{yes-certified}
 use Rattle.fr_judge.proofs.approval.Passed.told.Goals as goal
 

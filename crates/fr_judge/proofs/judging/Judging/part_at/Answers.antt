@@ -1,8 +1,6 @@
 -- What is said of the application and the certificate inside is said of those that the contract sees.
 use Rattle.std.proofs.Common.{◌≡◌, Some, slice_get, subst}
-use Rattle.fr_program.specs.declared.ids.Point.{Point}
-use Rattle.fr_program.specs.Points.{points_of}
-use Rattle.fr_judge.specs.Told.{TellsFirst}
+use Rattle.fr_judge.proofs.Terms.{Point, points_of, TellsFirst}
 use Rattle.fr_judge.proofs.judging.Judging.part_at.Goals as goal
 
 pub returns-clause-first : goal.returns-clause-first

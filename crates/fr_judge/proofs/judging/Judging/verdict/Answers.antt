@@ -1,7 +1,6 @@
 -- What is said of the application and the certificate inside is said of those that the contract sees.
 use Rattle.std.proofs.Common.{subst}
-use Rattle.fr_calls.specs.Run.{IsSafe}
-use Rattle.fr_judge.specs.Told.{TellsVerdict, Speaks}
+use Rattle.fr_judge.proofs.Terms.{IsSafe, TellsVerdict, Speaks}
 use Rattle.fr_judge.proofs.judging.Judging.verdict.Goals as goal
 
 pub returns-clause-verdict : goal.returns-clause-verdict

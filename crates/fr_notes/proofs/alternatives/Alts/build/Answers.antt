@@ -1,5 +1,5 @@
 use Rattle.std.proofs.Common.{◌≡◌, ◌≤◌, ◌++◌, length, ap, subst, ◌∙◌}
-use Rattle.fr_notes.specs.Alternatives.{joined}
+use Rattle.fr_notes.proofs.Terms.{joined}
 use Rattle.fr_notes.proofs.AlternativesLemmas.{joined_fits}
 use Rattle.fr_notes.proofs.alternatives.Alts.build.Goals as goal
 

@@ -1,6 +1,5 @@
 use Rattle.std.proofs.Common.{sym, ap, ◌∙◌}
-use Rattle.fr_notes.specs.Holding.{mover_claim}
-use Rattle.fr_notes.specs.Spot.{resulting}
+use Rattle.fr_notes.proofs.Terms.{mover_claim, resulting}
 use Rattle.fr_notes.proofs.EndLaws.{fails-left, never-fails}
 use Rattle.fr_notes.proofs.inside.Ending.fails.Goals as goal
 

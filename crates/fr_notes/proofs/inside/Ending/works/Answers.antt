@@ -1,7 +1,5 @@
 use Rattle.std.proofs.Common.{sym, ap, ◌∙◌, subst}
-use Rattle.fr_calls.specs.declared.way.Way.TheVariants.{Then}
-use Rattle.fr_notes.specs.Holding.{mover_claim}
-use Rattle.fr_notes.specs.Spot.{EndLeaves, resulting}
+use Rattle.fr_notes.proofs.Terms.{Then, mover_claim, EndLeaves, resulting}
 use Rattle.fr_notes.proofs.EndLaws.{works-left, works-never, no-span}
 use Rattle.fr_notes.proofs.inside.Ending.works.Goals as goal
 

@@ -1,10 +1,8 @@
 use Rattle.std.specs.Prelude.{FitsSigned}
-use Rattle.std.proofs.lemmas.Int.{to_z-of_z}
+use Rattle.fr_notes.proofs.Terms.{to_z-of_z, Plus, Minus, joint_range}
 use mir.Syntax.{w64}
 use Rattle.std.proofs.Common.{rules}
-use Rattle.fr_program.specs.declared.instr.Operator.TheVariants.{Plus, Minus}
 use Rattle.fr_notes.proofs.ReckoningLaws.{span-made, left-scaled, right-scaled}
-use Rattle.fr_notes.specs.Known.{joint_range}
 use Rattle.fr_notes.proofs.known.Known.result.Goals as goal
 
 pub returns-in-Plus-default-default : goal.returns-in-Plus-default-default

@@ -1,7 +1,6 @@
 -- The alternative that the parts say fits, since none of the three faults is in them.
 use Rattle.std.proofs.Common.{subst, arith}
-use Rattle.std.proofs.lemmas.Grind.{common_steps}
-use Rattle.fr_notes.specs.Fits.{AlternativeFits}
+use Rattle.fr_notes.proofs.Terms.{common_steps, AlternativeFits}
 use Rattle.fr_notes.proofs.PartsLemmas.{said-fits}
 use Rattle.fr_notes.proofs.note.Alternative.build.Goals as goal
 

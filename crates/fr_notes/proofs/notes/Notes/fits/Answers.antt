@@ -1,10 +1,6 @@
 use Rattle.std.proofs.Common.{◌≡◌, ◌<◌, ◌≤◌, ◌∙◌, [], length, refl, sym, subst, arith}
-use Rattle.std.proofs.lemmas.Bool.{false≢true}
-use Rattle.std.proofs.lemmas.List.{get_or_default}
-use Rattle.std.proofs.lemmas.List.Elements.{AllWithin-more, AllWithin-upto, All-from_all_within, at_read}
-use Rattle.fr_program.proofs.FaultLemmas.{refuted}
+use Rattle.fr_notes.proofs.Terms.{false≢true, get_or_default, AllWithin-more, AllWithin-upto, All-from_all_within, at_read, refuted, NoteFits}
 use Rattle.fr_program.specs.Points.{points_of}
-use Rattle.fr_notes.specs.Fits.{NoteFits}
 use Rattle.fr_notes.proofs.notes.Notes.fits.Goals as goal
 
 pub returns-then-count-points : goal.returns-then-count-points

@@ -1,5 +1,4 @@
-use Rattle.std.specs.List.{AllWithin}
-use Rattle.fr_notes.specs.Fits.{NoteFits}
+use Rattle.fr_notes.proofs.Terms.{AllWithin, NoteFits}
 use Rattle.fr_notes.proofs.notes.Notes.fits.Given as goal
 
 -- each note so far fits

@@ -1,5 +1,5 @@
 use Rattle.std.proofs.Common.{◌<◌, ◌≤◌, ◌∙◌, [], Some, length, sym, ap, arith}
-use Rattle.std.proofs.lemmas.Option.{slice_get-get_or, slice_get_past}
+use Rattle.fr_notes.proofs.Terms.{slice_get-get_or, slice_get_past}
 use Rattle.fr_notes.proofs.notes.Notes.get.Goals as goal
 
 pub returns-then-number-len : goal.returns-then-number-len

@@ -1,5 +1,5 @@
 use Rattle.std.proofs.Common.{◌≡◌, [], length, get_or, sym, ap, ◌∙◌, rules}
-use Rattle.std.proofs.lemmas.List.{length-map}
+use Rattle.fr_notes.proofs.Terms.{length-map}
 use Rattle.fr_notes.proofs.PlaceLemmas.{each-own, each-placed}
 use Rattle.fr_notes.proofs.notes.Notes.len.Goals as goal
 

@@ -1,5 +1,5 @@
 use Rattle.std.proofs.Common.{◌<◌, ◌∙◌, [], length, get_or, ap, arith}
-use Rattle.std.proofs.lemmas.List.{get_or_default, length-map}
+use Rattle.fr_notes.proofs.Terms.{get_or_default, length-map}
 use Rattle.fr_notes.proofs.PlaceLemmas.{each-own, each-placed, theirs}
 use Rattle.fr_notes.proofs.notes.Notes.note.Goals as goal
 

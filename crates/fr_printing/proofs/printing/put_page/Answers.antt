@@ -1,7 +1,7 @@
 -- The page is that of the answer.
 use Rattle.std.proofs.Common.{inr, refl, subst}
 use Rattle.std.specs.Prelude.{string_bytes}
-use Rattle.fr_answer.proofs.printing.put_page.Goals as goal
+use Rattle.fr_printing.proofs.printing.put_page.Goals as goal
 
 pub returns-in-Ok-clause-paged : goal.returns-in-Ok-clause-paged
 returns-in-Ok-clause-paged g c =

@@ -3,10 +3,10 @@ use Rattle.std.proofs.Common.{◌≡◌, ℕ, List, [], ◌∷◌, Option, Some,
 use Rattle.std.specs.Io.KnownBytes.{Appends}
 use Rattle.fr_request.specs.declared.format.Format.{Format}
 use Rattle.fr_formats.specs.declared.answer.AnswerShown.{AnswerShown}
-use Rattle.fr_formats.specs.Reports.{IsReport}
 use Rattle.fr_outcome.specs.declared.answer.What.{What}
-use Rattle.fr_answer.specs.Commands.{IsPrinted, Shows}
-use Rattle.fr_answer.proofs.printing.print_formed.Goals as goal
+use Rattle.fr_printing.specs.Printing.{IsPrinted, Shows}
+use Rattle.fr_formats.specs.Reports.{IsReport}
+use Rattle.fr_printing.proofs.printing.print_formed.Goals as goal
 
 formed : {X Y : Type 0} (format : Format) (path : List ℕ) (what : What) (old new : Option (List ℕ)) (shown : AnswerShown) (all : List AnswerShown) (r : Result X Y) → all ≡ shown ∷ [] → Shows path what shown
     → IfOk r (λ _. (text : List ℕ) × IsReport format all text × Appends old new text) → IfOk r (λ _. IsPrinted (Some format) path what old new)

@@ -2,8 +2,8 @@
 use Rattle.std.proofs.Common.{◌≡◌, ◌≤◌, subst, sym}
 use Rattle.std.specs.Prelude.{option_copied}
 use Rattle.fr_outcome.specs.Answers.{HasFound, what_status}
-use Rattle.fr_answer.proofs.Showing.{kept-found, most-found, paged-as, refused-found, shown-found}
-use Rattle.fr_answer.proofs.printing.show_found.Goals as goal
+use Rattle.fr_printing.proofs.Showing.{kept-found, most-found, paged-as, refused-found, shown-found}
+use Rattle.fr_printing.proofs.printing.show_found.Goals as goal
 
 pub returns-clause-answered : goal.returns-clause-answered
 returns-clause-answered g c =

@@ -3,9 +3,9 @@ ghost use Rattle.std.specs.Prelude.{◌≡◌, ◌≤◌, ◌⊎◌, ℕ, List, 
 ghost use Rattle.std.specs.Io.KnownBytes.{Appends};
 ghost use Rattle.fr_outcome.specs.Answers.{HasFound, IsTextOf, what_status};
 ghost use Rattle.fr_outcome.specs.Checked.{fault_status};
-ghost use Rattle.fr_answer.specs.Commands.{IsPaged, IsPrinted, IsShown, IsTextPrinted};
+ghost use Rattle.fr_printing.specs.Printing.{IsPaged, IsPrinted, IsShown, IsTextPrinted};
 
-use crate::ways::Asked;
+use crate::asked::Asked;
 use fr_files::OutputFault;
 use fr_formats::Source;
 use fr_inputs::{Files, refusal_of_file, refusal_of_outputs};
@@ -45,7 +45,7 @@ fn print_whole<E: Write>(alloc: Global, what: &What, err: &mut E) -> u8
 
 /// Prints a refusal on standard error, its line first, and gives its exit status. Where there is no memory for its text it prints
 /// `machine: memory`, and the status is 3; it is 3 too where the writer failed.
-pub(crate) fn refuse<E: Write>(alloc: Global, refusal: Refusal, err: &mut E) -> u8
+pub fn refuse<E: Write>(alloc: Global, refusal: Refusal, err: &mut E) -> u8
     ensures refused { result ≡ 2 → fault_status refusal.fault ≡ 2 }
     ensures printed { result ≡ 2 → (text : List ℕ) × IsTextOf (What.Refused refusal) text × Appends (E.contents err.old) (E.contents err.new) text }
     ensures least { 2 ≤ result }
@@ -155,7 +155,7 @@ fn put_page<F: Files>(
 }
 
 /// Prints the warnings on standard error, each after this text.
-pub(crate) fn warn<E: Write>(
+pub fn warn<E: Write>(
     alloc: Global,
     answer: &Answer,
     before: &str,
@@ -171,7 +171,7 @@ pub(crate) fn warn<E: Write>(
 }
 
 /// Prints an answer as it is asked for, writes its page where one is wanted, and gives the exit status.
-pub(crate) fn show<F: Files, O: Write, E: Write>(
+pub fn show<F: Files, O: Write, E: Write>(
     alloc: Global,
     answer: &Answer,
     asked: Asked,
@@ -197,7 +197,7 @@ pub(crate) fn show<F: Files, O: Write, E: Write>(
 }
 
 /// Prints what a command found out for these files as it is asked for, writes its page where one is wanted, and gives the exit status.
-pub(crate) fn show_found<F: Files, O: Write, E: Write>(
+pub fn show_found<F: Files, O: Write, E: Write>(
     alloc: Global,
     source: Source,
     found: Result<(AppText, What), Refusal>,
@@ -222,7 +222,7 @@ pub(crate) fn show_found<F: Files, O: Write, E: Write>(
 }
 
 /// Prints that the outputs of a command are refused, and writes no page; gives the exit status.
-pub(crate) fn show_outputs_refused<F: Files, O: Write, E: Write>(
+pub fn show_outputs_refused<F: Files, O: Write, E: Write>(
     alloc: Global,
     source: Source,
     fault: &OutputFault,

@@ -1,0 +1,9 @@
+// How the answer of a command is printed: as a text for a person, or in a form that machines read, with its warnings, and as a page where
+// one is wanted. What is printed for a refusal goes to standard error.
+#![tactic(auto)]
+
+mod asked;
+mod printing;
+
+pub use asked::Asked;
+pub use printing::{refuse, show_found, show_outputs_refused, warn};
