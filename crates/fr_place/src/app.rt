@@ -1,12 +1,11 @@
 // The place of an application's refusal.
 use crate::build::push_build;
 use crate::faulty::{push_missing, push_named, push_unknown_key, push_wrong_type};
-use crate::line::{push_line, push_plain};
+use crate::line::push_line;
 use crate::lines::Lines;
-use crate::position::{position_at, push_marked, push_position};
-use crate::shown::push_start;
-use crate::table::{has_name, line_at};
-use fr_code::entries_at;
+use crate::position::{position_at, push_position};
+use crate::shown::Start;
+use crate::table::{line_at, table_named};
 use fr_escape::Place;
 use fr_instr::LineFault;
 use fr_reader::{Key, MOST_BYTES, ReadFault, names_in};
@@ -15,37 +14,23 @@ use toml::Table;
 
 /// Appends where the text is no TOML.
 fn push_toml(out: &mut Lines, bytes: &[u8], error: &toml::de::Error) {
-    let Some(span) = error.span() else {
-        return out.refuse();
-    };
-    let position = position_at(bytes, span.start);
-    push_position(out, position);
-    out.say_all(&[": ", error.message()]);
-    push_marked(out, position.before, position.behind);
-}
-
-/// The line with this number of the actor with this name.
-fn line_of<'a>(whole: &'a Table, actor: &str, index: usize) -> Option<&'a str> {
-    for value in entries_at(whole, Key::Actor) {
-        if has_name(value, actor) {
-            return line_at(value.as_table()?, index);
-        }
+    match error.span() {
+        Some(span) => push_position(out, position_at(bytes, span.start), error.message()),
+        None => out.refuse(),
     }
-    None
 }
 
 /// Appends a line that can't be read, with its place.
 fn push_bad_line(out: &mut Lines, whole: &Table, actor: &str, index: usize) {
-    let Some(line) = line_of(whole, actor, index) else {
+    let found = table_named(whole, Key::Actor, actor);
+    let Some(line) = found.and_then(|table| line_at(table, index)) else {
         return;
     };
-    push_start(out, actor.as_bytes());
-    out.number(" ", index as i128);
-    out.say(":");
+    out.say(format_args!("{} {index}:", Start(actor)));
     match names_in(out.alloc, whole) {
         Ok(names) => push_line(out, whole, &names, line),
         Err(error) if error.is_memory() => out.refuse(),
-        Err(_) => push_plain(out, line),
+        Err(_) => out.say(Start(line)),
     }
 }
 
@@ -84,8 +69,7 @@ pub fn is_unknown_word(fault: &ReadFault) -> bool {
 /// Appends the place of a fault that is present in these bytes.
 fn push_place(out: &mut Lines, bytes: &[u8], fault: &ReadFault) {
     if matches!(fault, ReadFault::TooLong) {
-        out.number("the file has over ", MOST_BYTES as i128);
-        return out.say(" bytes");
+        return out.say(format_args!("the file has over {MOST_BYTES} bytes"));
     }
     match toml::table_from_slice(out.alloc, bytes) {
         Ok(table) => push_fault(out, &table, fault),

@@ -1,14 +1,14 @@
 // What stands against what, where the parts are no application.
 use crate::lines::Lines;
-use crate::note::kind_text;
-use crate::shown::push_start;
-use crate::table::{entry_at, line_at, lines_of, number_at, push_entry, text_or_none};
+use crate::misfit::kind_text;
+use crate::shown::Start;
+use crate::table::{line_at, name_of, number_at, push_entry};
 use fr_code::{code_of, entries_at};
 use fr_program::{
-    Act, Actor, ActorId, BuildFault, Call, CodeLine, Instr, Kind, MOST_SIZE, Parts, VarId, Variable,
+    Act, ActorId, BuildFault, Call, CodeLine, Instr, Kind, MOST_SIZE, Parts, VarId, Variable,
 };
 use fr_reader::{Key, parts_in};
-use toml::Table;
+use toml::{Table, Value};
 
 /// The variable with this number.
 fn variable_at(parts: &Parts, x: Option<VarId>) -> Option<&Variable> {
@@ -17,14 +17,13 @@ fn variable_at(parts: &Parts, x: Option<VarId>) -> Option<&Variable> {
 
 /// Appends each shared variable of the instruction, place by place.
 fn push_shared(out: &mut Lines, parts: &Parts, instr: Instr) {
-    out.text("shared here: ");
+    write!(out, "shared here: ");
     let mut between = "";
     for x in &instr.variables().by_place() {
         if let Some(variable) = variable_at(parts, *x)
             && variable.owner.is_none()
         {
-            out.text(between);
-            out.text(variable.name.as_str());
+            write!(out, "{between}{}", variable.name);
             between = ", ";
         }
     }
@@ -39,8 +38,8 @@ fn push_owners(out: &mut Lines, parts: &Parts, actor: ActorId, instr: Instr) {
             && owner.0 != actor.0
             && let Some(other) = parts.actors.get(owner.0)
         {
-            let name = variable.name.as_str();
-            out.say_all(&[name, " is owned by ", other.name.as_str()]);
+            let (name, owner) = (variable.name.as_str(), other.name.as_str());
+            out.say(format_args!("{name} is owned by {owner}"));
         }
     }
 }
@@ -50,8 +49,8 @@ fn push_kind(out: &mut Lines, parts: &Parts, instr: Instr) {
     if let Some(id) = instr.object()
         && let Some(object) = parts.objects.get(id.0)
     {
-        out.texts(&[object.name.as_str(), " has the kind "]);
-        out.say_all(&[kind_text(object.kind), ", which this call isn't for"]);
+        let (name, kind) = (object.name.as_str(), kind_text(object.kind));
+        out.say(format_args!("{name} has the kind {kind}, which this call isn't for"));
     }
 }
 
@@ -74,27 +73,11 @@ fn push_ranges(out: &mut Lines, parts: &Parts, instr: Instr) {
     if let Some(variable) = variable_at(parts, named.target.or(named.right))
         && let Some((least, most)) = range_given(parts, instr)
     {
-        out.text(variable.name.as_str());
-        out.number(" is declared from ", variable.lo as i128);
-        out.number(" to ", variable.hi as i128);
-        out.number(", and is given ", least as i128);
-        out.number(" to ", most as i128);
-        out.end();
+        let (name, lo, hi) = (variable.name.as_str(), variable.lo, variable.hi);
+        out.say(format_args!(
+            "{name} is declared from {lo} to {hi}, and is given {least} to {most}"
+        ));
     }
-}
-
-/// The number of the last of so many lines.
-fn last_of(lines: usize) -> usize {
-    lines.saturating_sub(1)
-}
-
-/// Appends how many lines the actor has.
-fn push_length(out: &mut Lines, actor: &Actor) {
-    let lines = actor.code.len();
-    out.texts(&["lines of ", actor.name.as_str()]);
-    out.number(": ", lines as i128);
-    out.number(", from 0 to ", last_of(lines) as i128);
-    out.end();
 }
 
 /// Appends what stands against what in the line with this number of this actor.
@@ -105,16 +88,19 @@ fn push_reason(out: &mut Lines, parts: &Parts, at: CodeLine, fault: BuildFault) 
     let Some(instr) = actor.code.get(at.pc) else {
         return;
     };
+    let (name, lines) = (actor.name.as_str(), actor.code.len());
     match fault {
         BuildFault::BadRange(_) => out.say("the first number is above the second"),
-        BuildFault::BadTarget(_) => push_length(out, actor),
+        BuildFault::BadTarget(_) => {
+            let last = lines.saturating_sub(1);
+            out.say(format_args!("lines of {name}: {lines}, from 0 to {last}"));
+        }
         BuildFault::TwoShared(_) => push_shared(out, parts, *instr),
         BuildFault::NotOwner(_) => push_owners(out, parts, at.actor, *instr),
         BuildFault::KindMismatch(_) => push_kind(out, parts, *instr),
-        BuildFault::FromIsrInTask(_) => out.say_all(&[
-            actor.name.as_str(),
-            " is a task, and this call is for interrupts",
-        ]),
+        BuildFault::FromIsrInTask(_) => out.say(format_args!(
+            "{name} is a task, and this call is for interrupts"
+        )),
         BuildFault::ResultRange(_) => push_ranges(out, parts, *instr),
         BuildFault::Operands(_) => out.say(
             "its operands are one variable twice, or two variables of a product",
@@ -123,81 +109,62 @@ fn push_reason(out: &mut Lines, parts: &Parts, at: CodeLine, fault: BuildFault) 
     }
 }
 
-/// Appends the line with this number of the actor.
-fn push_code_line(out: &mut Lines, actor: &Table, index: usize, line: &str) {
-    out.text(text_or_none(actor, Key::Name));
-    out.number(" ", index as i128);
-    out.text(": ");
-    push_start(out, line.as_bytes());
-    out.end();
+/// Appends the line with this number of the actor with this number, and returns whether there is one.
+fn push_code_line(out: &mut Lines, actor: &Value, index: usize) -> bool {
+    let (name, line) = (name_of(actor).unwrap_or(""), line_at(actor, index));
+    if let Some(line) = line {
+        out.say(format_args!("{name} {index}: {}", Start(line)));
+    }
+    line.is_some()
 }
 
 /// Appends the line at which the parts have the fault, and what stands against what.
 fn push_at_line(out: &mut Lines, whole: &Table, at: CodeLine, fault: BuildFault) {
-    let Some(actor) = entry_at(whole, Key::Actor, at.actor.0) else {
-        return;
-    };
-    let Some(line) = line_at(actor, at.pc) else {
-        return;
-    };
-    push_code_line(out, actor, at.pc, line);
-    match parts_in(out.alloc, whole) {
-        Ok(parts) => push_reason(out, &parts, at, fault),
-        Err(error) if error.is_memory() => out.refuse(),
-        Err(_) => {}
+    if let Some(actor) = entries_at(whole, Key::Actor).get(at.actor.0)
+        && push_code_line(out, actor, at.pc)
+    {
+        match parts_in(out.alloc, whole) {
+            Ok(parts) => push_reason(out, &parts, at, fault),
+            Err(error) if error.is_memory() => out.refuse(),
+            Err(_) => {}
+        }
     }
 }
 
 /// Appends that the code of the actor with this number has no end.
 fn push_falling_off(out: &mut Lines, whole: &Table, actor: ActorId) {
-    let Some(actor) = entry_at(whole, Key::Actor, actor.0) else {
+    let Some(actor) = entries_at(whole, Key::Actor).get(actor.0) else {
         return;
     };
-    let last = last_of(lines_of(actor).len());
-    match line_at(actor, last) {
-        Some(line) => {
-            push_code_line(out, actor, last, line);
-            out.say("the last line has to be a goto, a return or vTaskDelete(NULL)");
-        }
-        None => out.say_all(&[text_or_none(actor, Key::Name), " has no line"]),
+    if push_code_line(out, actor, code_of(actor).len().saturating_sub(1)) {
+        out.say("the last line has to be a goto, a return or vTaskDelete(NULL)");
+    } else {
+        let name = name_of(actor).unwrap_or("");
+        out.say(format_args!("{name} has no line"));
     }
-}
-
-/// How many lines the actor with the most lines has.
-fn most_lines(whole: &Table) -> usize {
-    let mut most = 0;
-    for actor in entries_at(whole, Key::Actor) {
-        most = code_of(actor).len().max(most);
-    }
-    most
-}
-
-/// How many tables the list at this key has.
-fn count_at(whole: &Table, key: Key) -> i128 {
-    entries_at(whole, key).len() as i128
 }
 
 /// Appends how many things there are of each sort.
 fn push_counts(out: &mut Lines, whole: &Table) {
-    out.number("actors: ", count_at(whole, Key::Actor));
-    out.number(", at most 32; variables: ", count_at(whole, Key::Variable));
-    out.say(", at most 64");
-    out.number("objects: ", count_at(whole, Key::Object));
-    out.number(
-        ", at most 64; lines of an actor: ",
-        most_lines(whole) as i128,
-    );
-    out.say(", at most 512");
-}
-
-/// The range that a table gives.
-fn range_in(table: &Table) -> Option<(i64, i64)> {
-    Some((number_at(table, Key::Lo)?, number_at(table, Key::Hi)?))
+    let actors = entries_at(whole, Key::Actor);
+    let lines = actors
+        .iter()
+        .map(|actor| code_of(actor).len())
+        .max()
+        .unwrap_or(0);
+    let actors = actors.len();
+    let variables = entries_at(whole, Key::Variable).len();
+    let objects = entries_at(whole, Key::Object).len();
+    out.say(format_args!("actors: {actors}, at most 32; variables: {variables}, at most 64"));
+    out.say(format_args!(
+        "objects: {objects}, at most 64; lines of an actor: {lines}, at most 512"
+    ));
 }
 
 /// Whether the numbers of a variable or an object are in their limits.
-fn is_in_limits(table: &Table) -> bool {
-    let (lo, hi) = range_in(table).unwrap_or((0, 0));
+fn is_in_limits(table: &Value) -> bool {
+    let lo = number_at(table, Key::Lo).unwrap_or(0);
+    let hi = number_at(table, Key::Hi).unwrap_or(lo);
     let init = number_at(table, Key::Init).unwrap_or(lo);
     let size = number_at(table, Key::Size).unwrap_or(1);
     let first = number_at(table, Key::First).unwrap_or(0);
@@ -209,40 +176,28 @@ fn is_in_limits(table: &Table) -> bool {
         && first <= size
 }
 
-/// The keys of the numbers of a variable or an object.
-static NUMBERS: [Key; 5] = [Key::Size, Key::First, Key::Lo, Key::Hi, Key::Init];
-
-/// Appends the numbers of a table.
-fn push_numbers(out: &mut Lines, table: &Table) {
-    for key in &NUMBERS {
-        if let Some(number) = number_at(table, *key) {
-            out.texts(&[", ", key.text()]);
-            out.number(" = ", number as i128);
-        }
-    }
-}
-
-/// Appends each variable or object whose numbers are out of their limits.
-fn push_bad_entries(out: &mut Lines, whole: &Table, key: Key) {
-    for (index, value) in entries_at(whole, key).iter().enumerate() {
-        if let Some(table) = value.as_table()
-            && !is_in_limits(table)
-        {
-            push_entry(out, whole, key, index);
-            push_numbers(out, table);
-            out.end();
-        }
-    }
-}
-
-/// Appends each declaration with a number out of its limits, and the limits.
+/// Appends each variable and each object whose numbers are out of their limits, and the limits.
 fn push_declarations(out: &mut Lines, whole: &Table) {
-    push_bad_entries(out, whole, Key::Variable);
-    push_bad_entries(out, whole, Key::Object);
-    out.number(
-        "init is from lo to hi, first from 0 to size, and size from 1 to ",
-        MOST_SIZE as i128,
-    );
+    for list in [Key::Variable, Key::Object] {
+        for (index, table) in entries_at(whole, list).iter().enumerate() {
+            if !is_in_limits(table) {
+                push_entry(out, whole, list, index);
+                push_numbers(out, table);
+            }
+        }
+    }
+    out.say(format_args!(
+        "init is from lo to hi, first from 0 to size, and size from 1 to {MOST_SIZE}"
+    ));
+}
+
+/// Appends the numbers of a variable or an object, and ends the line.
+fn push_numbers(out: &mut Lines, table: &Value) {
+    for key in [Key::Size, Key::First, Key::Lo, Key::Hi, Key::Init] {
+        if let Some(number) = number_at(table, key) {
+            write!(out, ", {} = {number}", key.text());
+        }
+    }
     out.end();
 }
 

@@ -1,35 +1,30 @@
 // What is wrong with a table of an application's text.
 use crate::lines::Lines;
-use crate::nearness::{push_nearest, push_nearest_at};
-use crate::shown::{push_listed, push_quoted};
-use crate::table::{
-    entry_at, has_name, lines_of, push_table, push_value, table_named, text_or_none,
-};
+use crate::nearness::push_nearest;
+use crate::shown::Quoted;
+use crate::table::{LISTS, name_of, push_table, push_value, value_in};
 use fr_code::entries_at;
 use fr_reader::{Key, TableName};
+use std::alloc::{AllocError, Global};
 use toml::{Table, Value};
 
-/// The kinds of objects, as the text has them.
-static OBJECT_KINDS: [&str; 7] = [
-    "queue",
-    "binary",
-    "counting",
-    "mutex",
-    "recursive",
-    "stream",
-    "message",
+/// The kinds of objects, as the text has them, each with its keys.
+static KINDS: [(&str, &[&str]); 7] = [
+    ("queue", &["name", "kind", "live", "size", "lo", "hi"]),
+    ("binary", &["name", "kind", "live"]),
+    ("counting", &["name", "kind", "live", "size", "first"]),
+    ("mutex", &["name", "kind", "live"]),
+    ("recursive", &["name", "kind", "live"]),
+    ("stream", &["name", "kind", "live", "size"]),
+    ("message", &["name", "kind", "live", "size"]),
 ];
 
-/// The kinds of actors, as the text has them.
-static ACTOR_KINDS: [&str; 2] = ["task", "interrupt"];
-
-/// The keys that an object of this kind has.
-fn keys_of_kind(kind: &str) -> &'static [&'static str] {
-    match kind {
-        "queue" => &["name", "kind", "live", "size", "lo", "hi"],
-        "counting" => &["name", "kind", "live", "size", "first"],
-        "stream" | "message" => &["name", "kind", "live", "size"],
-        _ => &["name", "kind", "live"],
+/// The keys that an object has that gives itself this kind.
+fn keys_of_kind(kind: Option<&Value>) -> &'static [&'static str] {
+    let kind = kind.and_then(Value::as_str);
+    match KINDS.iter().find(|row| Some(row.0) == kind) {
+        Some((_, keys)) => keys,
+        None => &[],
     }
 }
 
@@ -38,10 +33,7 @@ fn keys_of(whole: &Table, name: TableName) -> &'static [&'static str] {
     match name {
         TableName::Whole => &["variable", "object", "actor"],
         TableName::Variable(_) => &["name", "lo", "hi", "init", "owner"],
-        TableName::Object(index) => match entry_at(whole, Key::Object, index) {
-            Some(object) => keys_of_kind(text_or_none(object, Key::Kind)),
-            None => &[],
-        },
+        TableName::Object(_) => keys_of_kind(value_in(whole, name, Key::Kind)),
         TableName::Actor(_) => &["name", "kind", "code"],
     }
 }
@@ -61,93 +53,80 @@ fn wanted_at(name: TableName, key: Key) -> &'static str {
     }
 }
 
+/// The names in the tables of the list at this key.
+pub(crate) fn names_at(alloc: Global, whole: &Table, list: Key) -> Result<Vec<&str>, AllocError> {
+    entries_at(whole, list)
+        .iter()
+        .filter_map(name_of)
+        .collect(alloc)
+}
+
 /// Appends the nearest of the words of which one has to be at the key of a table, if there are such words, and ends
 /// the line.
 fn push_nearest_word(out: &mut Lines, whole: &Table, name: TableName, key: Key, word: &str) {
-    match (key, name) {
-        (Key::Owner, _) => push_nearest_at(out, whole, Key::Actor, word),
-        (Key::Kind, TableName::Actor(_)) => push_nearest(out, word, &ACTOR_KINDS),
-        (Key::Kind, _) => push_nearest(out, word, &OBJECT_KINDS),
-        _ => out.end(),
-    }
+    let words = match (key, name) {
+        (Key::Owner, _) => names_at(out.alloc, whole, Key::Actor),
+        (Key::Kind, TableName::Actor(_)) => Vec::from_slice(out.alloc, &["task", "interrupt"]),
+        (Key::Kind, _) => KINDS.iter().map(|row| row.0).collect(out.alloc),
+        _ => return out.end(),
+    };
+    push_nearest(out, word, words);
 }
 
 /// Appends that the table lacks the key.
 pub(crate) fn push_missing(out: &mut Lines, whole: &Table, name: TableName, key: Key) {
     push_table(out, whole, name);
-    out.say_all(&[
-        ": ",
-        key.text(),
-        " is missing; it is ",
-        wanted_at(name, key),
-    ]);
+    let (key, wanted) = (key.text(), wanted_at(name, key));
+    out.say(format_args!(": {key} is missing; it is {wanted}"));
 }
 
-/// The value in an actor's code that is no text.
-fn line_that_is_none(code: &[Value]) -> Option<(usize, &Value)> {
-    for (index, line) in code.iter().enumerate() {
-        if line.as_str().is_none() {
-            return Some((index, line));
-        }
-    }
-    None
-}
-
-/// Appends the value at the key of the table, or the entry of code that is no text.
-fn push_found(out: &mut Lines, table: &Table, key: Key) {
+/// Appends the value at the key of a table, or the entry of code that is no text.
+fn push_found(out: &mut Lines, key: Key, value: &Value) {
     if matches!(key, Key::Code)
-        && let Some((index, value)) = line_that_is_none(lines_of(table))
+        && let Value::Array(code) = value
+        && let Some(index) = code.iter().position(|line| line.as_str().is_none())
+        && let Some(line) = code.get(index)
     {
-        out.number(": entry ", index as i128);
-        out.text(" of code is ");
-        push_value(out, value);
-    } else if let Some(value) = table.get(key.text()) {
-        out.texts(&[": ", key.text(), " = "]);
-        push_value(out, value);
+        write!(out, ": entry {index} of code is ");
+        return push_value(out, line);
     }
+    write!(out, ": {} = ", key.text());
+    push_value(out, value);
 }
 
 /// Appends that the table has a wrong value at the key, and what it has to be.
 pub(crate) fn push_wrong_type(out: &mut Lines, whole: &Table, name: TableName, key: Key) {
     push_table(out, whole, name);
     let wanted = wanted_at(name, key);
-    let Some(table) = table_named(whole, name) else {
-        return out.say_all(&[": it has to be ", wanted]);
+    let Some(value) = value_in(whole, name, key) else {
+        return out.say(format_args!(": it has to be {wanted}"));
     };
-    push_found(out, table, key);
-    out.texts(&["; it has to be ", wanted]);
-    push_nearest_word(out, whole, name, key, text_or_none(table, key));
+    push_found(out, key, value);
+    write!(out, "; it has to be {wanted}");
+    push_nearest_word(out, whole, name, key, value.as_str().unwrap_or(""));
 }
 
 /// Appends that the table has a key that is none there.
 pub(crate) fn push_unknown_key(out: &mut Lines, whole: &Table, name: TableName, key: &str) {
     push_table(out, whole, name);
-    out.text(": ");
-    push_quoted(out, key);
-    out.text(" is none of its keys");
+    write!(out, ": {} is none of its keys", Quoted(key));
     let keys = keys_of(whole, name);
-    push_nearest(out, key, keys);
-    out.text("its keys: ");
-    push_listed(out, keys);
-    out.end();
-}
-
-/// Appends each table of a list that has the name.
-fn push_holders(out: &mut Lines, whole: &Table, key: Key, name: &str) {
-    for (index, value) in entries_at(whole, key).iter().enumerate() {
-        if has_name(value, name) {
-            out.text(key.text());
-            out.number(" ", index as i128);
-            out.text(" has the name ");
-            push_quoted(out, name);
-            out.end();
-        }
+    push_nearest(out, key, Vec::from_slice(out.alloc, keys));
+    write!(out, "its keys: ");
+    for (index, key) in keys.iter().enumerate() {
+        write!(out, "{}{key}", if index > 0 { ", " } else { "" });
     }
+    out.end();
 }
 
 /// Appends each table that has the name.
 pub(crate) fn push_named(out: &mut Lines, whole: &Table, name: &str) {
-    push_holders(out, whole, Key::Variable, name);
-    push_holders(out, whole, Key::Object, name);
-    push_holders(out, whole, Key::Actor, name);
+    for list in LISTS {
+        for (index, table) in entries_at(whole, list).iter().enumerate() {
+            if name_of(table) == Some(name) {
+                let (list, name) = (list.text(), Quoted(name));
+                out.say(format_args!("{list} {index} has the name {name}"));
+            }
+        }
+    }
 }

@@ -1,14 +1,13 @@
 // A line of code that can't be read: where it goes wrong, and what is wrong there.
+use crate::faulty::names_at;
 use crate::lines::Lines;
-use crate::nearness::{push_nearest, push_nearest_at};
+use crate::nearness::push_nearest;
 use crate::position::push_marked;
 use crate::recipe::recipe_for;
-use crate::shown::push_start;
-use crate::table::has_name;
-use fr_code::entries_at;
+use crate::shown::Start;
+use crate::table::{LISTS, table_named};
 use fr_instr::{LineFault, Names, Sign, Token, next_token, read_line_at, row_named, rows};
 use fr_reader::Key;
-use std::alloc::{AllocError, Global};
 use toml::Table;
 
 /// The bytes as a text, and no text where they are none.
@@ -52,32 +51,12 @@ fn call_with_recipe(line: &str) -> Option<(&str, usize)> {
 }
 
 /// A thing of the sort of which the tables at this key are.
-fn one_of(key: Key) -> &'static str {
-    match key {
+fn one_of(list: Key) -> &'static str {
+    match list {
         Key::Variable => "a variable",
         Key::Object => "an object",
         _ => "an actor",
     }
-}
-
-/// Whether a table in the list at the key has the name.
-fn is_named(whole: &Table, key: Key, name: &str) -> bool {
-    for value in entries_at(whole, key) {
-        if has_name(value, name) {
-            return true;
-        }
-    }
-    false
-}
-
-/// The list with a table that has the name.
-fn list_with(whole: &Table, name: &str) -> Option<Key> {
-    for key in &[Key::Variable, Key::Object, Key::Actor] {
-        if is_named(whole, *key, name) {
-            return Some(*key);
-        }
-    }
-    None
 }
 
 /// Appends what is wrong with a name: what else it names, or which name is nearest. An object's name has to be behind an opening
@@ -88,36 +67,14 @@ fn push_unknown_name(out: &mut Lines, whole: &Table, before: &str, word: &str) {
     } else {
         Key::Variable
     };
-    match list_with(whole, word) {
-        Some(key) => {
-            out.text(word);
-            out.texts(&[" is ", one_of(key), ", and "]);
-            out.say_all(&[one_of(wanted), " is wanted here"]);
-        }
-        None => {
-            out.texts(&["no ", wanted.text(), " has the name "]);
-            out.text(word);
-            push_nearest_at(out, whole, wanted, word);
+    for list in LISTS {
+        if table_named(whole, list, word).is_some() {
+            let (found, wanted) = (one_of(list), one_of(wanted));
+            return out.say(format_args!("{word} is {found}, and {wanted} is wanted here"));
         }
     }
-}
-
-/// The names of the calls that lines have.
-fn call_names(alloc: Global) -> Result<Vec<&'static str>, AllocError> {
-    let mut names = Vec::new(alloc);
-    for row in rows() {
-        names.push(row.0)?;
-    }
-    Ok(names)
-}
-
-/// Appends that no call has the name, and the nearest one.
-fn push_unknown_call(out: &mut Lines, word: &str) {
-    out.texts(&["no call has the name ", word]);
-    match call_names(out.alloc) {
-        Ok(names) => push_nearest(out, word, &names),
-        Err(_) => out.refuse(),
-    }
+    write!(out, "no {} has the name {word}", wanted.text());
+    push_nearest(out, word, names_at(out.alloc, whole, wanted));
 }
 
 /// How many arguments are between the brackets of the call that the text begins with.
@@ -134,10 +91,8 @@ fn arguments_in(text: &str) -> usize {
 /// Appends how many arguments the call has that the text begins with, and how many it is given.
 fn push_arguments(out: &mut Lines, text: &str, word: &str) {
     if let Some((_, _, places, _)) = row_named(word.as_bytes()) {
-        out.texts(&["arguments of ", word]);
-        out.number(": ", places.len() as i128);
-        out.number(" wanted, ", arguments_in(text) as i128);
-        out.say(" given");
+        let (wanted, given) = (places.len(), arguments_in(text));
+        out.say(format_args!("arguments of {word}: {wanted} wanted, {given} given"));
     }
 }
 
@@ -151,20 +106,19 @@ fn has_leading_zero(number: &str) -> bool {
 fn push_reason(out: &mut Lines, whole: &Table, before: &str, behind: &str, fault: LineFault) {
     let word = word_of(behind);
     match fault {
-        LineFault::Memory => {}
-        LineFault::Syntax => out.say(if behind.is_empty() {
-            "the line ends too soon"
-        } else {
-            "this doesn't fit here"
-        }),
+        LineFault::Memory => out.refuse(),
+        LineFault::Syntax if behind.is_empty() => out.say("the line ends too soon"),
+        LineFault::Syntax => out.say("this doesn't fit here"),
         LineFault::UnknownName => push_unknown_name(out, whole, before, word),
-        LineFault::UnknownCall => push_unknown_call(out, word),
+        LineFault::UnknownCall => {
+            write!(out, "no call has the name {word}");
+            push_nearest(out, word, rows().iter().map(|row| row.0).collect(out.alloc));
+        }
         LineFault::ArgCount => push_arguments(out, behind, word),
-        LineFault::BadNumber => out.say(if has_leading_zero(word) {
-            "a number has no leading zero, and 0 no sign"
-        } else {
-            "this number is out of the limits of its place"
-        }),
+        LineFault::BadNumber if has_leading_zero(word) => {
+            out.say("a number has no leading zero, and 0 no sign")
+        }
+        LineFault::BadNumber => out.say("this number is out of the limits of its place"),
     }
 }
 
@@ -175,31 +129,19 @@ fn push_split<'a>(out: &mut Lines, line: &'a str, at: usize) -> (&'a str, &'a st
     (before, behind)
 }
 
-/// Appends the line with a mark under this call at this place, and the recipe for it.
-fn push_recipe(out: &mut Lines, line: &str, name: &str, at: usize) {
-    push_split(out, line, at);
-    out.texts(&["no line has ", name, ": "]);
-    out.say(recipe_for(name).unwrap_or(""));
-}
-
 /// Appends the line with a mark under what is at fault, and what is wrong there. A call that no line has is at fault, whatever
 /// else is.
 pub(crate) fn push_line(out: &mut Lines, whole: &Table, names: &Names, line: &str) {
     if let Some((name, at)) = call_with_recipe(line) {
-        return push_recipe(out, line, name, at);
+        push_split(out, line, at);
+        let recipe = recipe_for(name).unwrap_or("");
+        return out.say(format_args!("no line has {name}: {recipe}"));
     }
     match read_line_at(out.alloc, line, names) {
-        Ok(_) => push_plain(out, line),
-        Err(error) if error.fault == LineFault::Memory => out.refuse(),
+        Ok(_) => out.say(Start(line)),
         Err(error) => {
             let (before, behind) = push_split(out, line, error.at);
             push_reason(out, whole, before, behind, error.fault);
         }
     }
-}
-
-/// Appends the start of the line.
-pub(crate) fn push_plain(out: &mut Lines, line: &str) {
-    push_start(out, line.as_bytes());
-    out.end();
 }

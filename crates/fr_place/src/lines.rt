@@ -1,6 +1,8 @@
 // The lines of a place while they are written.
+use crate::shown::Start;
 use fr_escape::{Place, place_of_texts};
 use std::alloc::{AllocError, Global};
+use std::fmt::Display;
 use std::mem::replace;
 
 /// The lines that are done, and the one that is being written. Once an allocation was refused, they lack a part, and no place is
@@ -30,31 +32,18 @@ impl Lines {
         self.is_refused = true;
     }
 
-    /// Writes a character.
-    pub(crate) fn character(&mut self, character: char) {
-        if self.open.push(character).is_err() {
+    /// Writes a text. `write!` calls this.
+    pub(crate) fn write_fmt<D: Display + Drop>(&mut self, text: D) {
+        if self.open.write(text).is_err() {
             self.refuse();
         }
     }
 
-    /// Writes a text.
-    pub(crate) fn text(&mut self, text: &str) {
-        if self.open.push_str(text).is_err() {
-            self.refuse();
-        }
-    }
-
-    /// Writes the texts, one behind the other.
-    pub(crate) fn texts(&mut self, texts: &[&str]) {
-        for text in texts {
-            self.text(text);
-        }
-    }
-
-    /// Writes a text, and a number behind it.
-    pub(crate) fn number(&mut self, text: &str, number: i128) {
-        if write!(self.open, "{text}{number}").is_err() {
-            self.refuse();
+    /// Writes a value as it is printed, and no more than is shown of a text.
+    pub(crate) fn printed<D: Display + Drop>(&mut self, value: D) {
+        match format!(in self.alloc; "{value}") {
+            Ok(text) => write!(self, "{}", Start(text.as_str())),
+            Err(_) => self.refuse(),
         }
     }
 
@@ -72,14 +61,8 @@ impl Lines {
     }
 
     /// Writes the rest of a line, and ends it.
-    pub(crate) fn say(&mut self, text: &str) {
-        self.text(text);
-        self.end();
-    }
-
-    /// Writes the rest of a line in several texts, and ends it.
-    pub(crate) fn say_all(&mut self, texts: &[&str]) {
-        self.texts(texts);
+    pub(crate) fn say<D: Display + Drop>(&mut self, text: D) {
+        self.write_fmt(text);
         self.end();
     }
 

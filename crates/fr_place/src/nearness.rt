@@ -3,12 +3,8 @@ ghost use Rattle.std.specs.Prelude.{◌≤◌, ◌<◌, All, IfNone, IfOk, IfSom
 ghost use Rattle.fr_place.specs.Told.{IsNearest, edits, too_many};
 
 use crate::lines::Lines;
-use crate::scope::{Scope, Thing};
-use crate::table::names_at;
-use fr_reader::Key;
 use std::alloc::{AllocError, Global};
 use strsim::levenshtein;
-use toml::Table;
 
 /// One more than the most edits between a word and a name that is told for it.
 const TOO_MANY_EDITS: usize = 3;
@@ -46,26 +42,13 @@ pub fn nearest<'a>(
 }
 
 /// Appends that the name is nearest, if there is one, and ends the line.
-pub(crate) fn push_nearest(out: &mut Lines, word: &str, names: &[&str]) {
-    match nearest(out.alloc, word, names) {
-        Ok(Some(name)) => out.say_all(&["; the nearest is ", name]),
+pub(crate) fn push_nearest(out: &mut Lines, word: &str, names: Result<Vec<&str>, AllocError>) {
+    let Ok(names) = names else {
+        return out.refuse();
+    };
+    match nearest(out.alloc, word, &names) {
+        Ok(Some(name)) => out.say(format_args!("; the nearest is {name}")),
         Ok(None) => out.end(),
-        Err(_) => out.refuse(),
-    }
-}
-
-/// Appends the nearest of the names in the tables of the list at this key, and ends the line.
-pub(crate) fn push_nearest_at(out: &mut Lines, whole: &Table, key: Key, word: &str) {
-    match names_at(out.alloc, whole, key) {
-        Ok(names) => push_nearest(out, word, &names),
-        Err(_) => out.refuse(),
-    }
-}
-
-/// Appends the name of a thing of this sort that is nearest, and ends the line.
-pub(crate) fn push_nearest_name(scope: &Scope, out: &mut Lines, word: &str, wanted: Thing) {
-    match scope.names_of(wanted) {
-        Ok(names) => push_nearest(out, word, &names),
         Err(_) => out.refuse(),
     }
 }

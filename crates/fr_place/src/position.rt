@@ -1,6 +1,6 @@
 // Places in a text by line and column, and a line with a mark below it.
 use crate::lines::Lines;
-use crate::shown::{push_blanks, push_shown};
+use crate::shown::Shown;
 
 /// The most bytes of a line that are shown before a mark.
 const MOST_BEFORE: usize = 60;
@@ -12,50 +12,27 @@ const MOST_BEHIND: usize = 40;
 #[derive(Clone, Copy)]
 pub(crate) struct Position<'a> {
     /// The number of the line, from 1.
-    pub line: usize,
+    line: usize,
     /// The bytes of the line that are before the place.
-    pub before: &'a [u8],
+    before: &'a [u8],
     /// The bytes of the line from the place on.
-    pub behind: &'a [u8],
-}
-
-/// Whether the byte ends a line.
-fn is_newline(byte: u8) -> bool {
-    byte == b'\n'
-}
-
-/// How many lines end in these bytes.
-fn lines_ended(bytes: &[u8]) -> usize {
-    let mut count = 0usize;
-    for byte in bytes {
-        if is_newline(*byte) {
-            count = count.saturating_add(1);
-        }
-    }
-    count
-}
-
-/// The bytes without a carriage return at their end.
-fn without_return(line: &[u8]) -> &[u8] {
-    line.strip_suffix(b"\r").unwrap_or(line)
+    behind: &'a [u8],
 }
 
 /// The line of the text that follows so many other ones, and no text where there is none.
 fn line_after(text: &[u8], lines: usize) -> &[u8] {
-    match text.split(|byte| is_newline(*byte)).nth(lines) {
-        Some(line) => line,
-        None => b"",
-    }
+    text.split(|byte| *byte == b'\n').nth(lines).unwrap_or(b"")
 }
 
-/// The place of the byte with this number, or the end of the text.
+/// The place of the byte with this number, or the end of the text. A carriage return at the end of the line is left out.
 pub(crate) fn position_at(text: &[u8], offset: usize) -> Position<'_> {
     let (front, back) = text.split_at(offset.min(text.len()));
-    let lines = lines_ended(front);
+    let lines = front.iter().filter(|byte| **byte == b'\n').count();
+    let behind = line_after(back, 0);
     Position {
         line: lines.saturating_add(1),
         before: line_after(front, lines),
-        behind: without_return(line_after(back, 0)),
+        behind: behind.strip_suffix(b"\r").unwrap_or(behind),
     }
 }
 
@@ -70,21 +47,19 @@ pub(crate) fn position_in(text: &[u8], line: usize, column: usize) -> Position<'
     }
 }
 
-/// Appends the line and the column of a place.
-pub(crate) fn push_position(out: &mut Lines, position: Position<'_>) {
+/// Appends the line and the column of a place with what is wrong there, and its line with a mark.
+pub(crate) fn push_position(out: &mut Lines, position: Position<'_>, fault: &str) {
     let column = position.before.len().saturating_add(1);
-    out.number("line ", position.line as i128);
-    out.number(", column ", column as i128);
+    out.say(format_args!("line {}, column {column}: {fault}", position.line));
+    push_marked(out, position.before, position.behind);
 }
 
 /// Appends the line of a place and, below it, a mark under the place.
 pub(crate) fn push_marked(out: &mut Lines, before: &[u8], behind: &[u8]) {
     let (_, before) = before.split_at(before.len().saturating_sub(MOST_BEFORE));
     let (behind, _) = behind.split_at(behind.len().min(MOST_BEHIND));
-    push_shown(out, before);
-    let blanks = out.width();
-    push_shown(out, behind);
-    out.end();
-    push_blanks(out, blanks);
-    out.say("^");
+    write!(out, "{}", Shown(before));
+    let width = out.width();
+    out.say(Shown(behind));
+    out.say(format_args!("{:width$}^", ""));
 }

@@ -51,26 +51,17 @@ static LINE_RECIPES: [Recipe; 2] = recipes! {
 
 /// What to write in place of a call, by the first of these recipes for it.
 fn recipe_among(recipes: &[Recipe], call: &str) -> Option<&'static str> {
-    for recipe in recipes {
-        if call.starts_with(recipe.calls) {
-            return Some(recipe.instead);
-        }
-    }
-    None
+    let mut found = recipes.iter();
+    Some(found.find(|recipe| call.starts_with(recipe.calls))?.instead)
 }
 
 /// What to write in place of a call that no line has: where the recipe for it is; None where there is none.
 pub(crate) fn recipe_for(call: &str) -> Option<&'static str> {
-    match recipe_among(&RECIPES, call) {
-        Some(instead) => Some(instead),
-        None => recipe_among(&LINE_RECIPES, call),
-    }
+    recipe_among(&RECIPES, call).or(recipe_among(&LINE_RECIPES, call))
 }
 
 /// The same of a call that no source has, which begins at this column of a line of a source, from 1.
 pub fn recipe_at(line: &str, column: usize) -> Option<&'static str> {
-    match line.split_at_checked(column.checked_sub(1)?) {
-        Some((_, after)) => recipe_among(&RECIPES, after),
-        None => None,
-    }
+    let (_, after) = line.split_at_checked(column.checked_sub(1)?)?;
+    recipe_among(&RECIPES, after)
 }

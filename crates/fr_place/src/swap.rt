@@ -5,12 +5,8 @@ use std::alloc::{AllocError, Global};
 
 /// The first byte that is no blank, and 0 where there is none.
 fn first_byte(text: &[u8]) -> u8 {
-    for byte in text {
-        if !byte.is_ascii_whitespace() {
-            return *byte;
-        }
-    }
-    0
+    let mut bytes = text.iter().copied();
+    bytes.find(|byte| !byte.is_ascii_whitespace()).unwrap_or(0)
 }
 
 /// Whether the two files seem to be swapped: the application's begins as a certificate does, with `{`, and the

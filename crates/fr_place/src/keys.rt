@@ -1,0 +1,73 @@
+// The keys of a certificate's objects.
+use fr_reader::Key;
+use std::alloc::{AllocError, Global};
+
+/// A key that an object of a certificate may have, with what is said of a value behind it.
+pub(crate) struct Row {
+    /// The last key on the way to the object; the whole text has none.
+    around: &'static str,
+    key: &'static str,
+    /// What has to be at the key.
+    pub wanted: &'static str,
+    /// What the names behind the key are of, as the key of their list in an application's text.
+    pub named: Option<Key>,
+    /// What else can be wrong behind the key.
+    pub reason: &'static str,
+    /// For a guard: which of its sorts has the key.
+    pub sort: u8,
+}
+
+/// The rows of the table, a row a line.
+macro_rules! rows {
+    ($($around:literal $key:literal $wanted:literal, $named:expr, $reason:literal, $sort:literal;)*) => {
+        [$(Row { around: $around, key: $key, wanted: $wanted, named: $named, reason: $reason, sort: $sort }),*]
+    };
+}
+
+static ROWS: [Row; 16] = rows! {
+    "" "version" "1 or 2", None, "", 0;
+    "" "ends" "a list", None, "", 0;
+    "" "notes" "a list", None, "", 0;
+    "ends" "buffer" "an object's name", Some(Key::Object), "", 0;
+    "ends" "end" "writer or reader", None, "", 0;
+    "ends" "guard" "critical, or an object with sole, mutex or turn", None, "; wanted: a number of 64 bits with a sign", 0;
+    "guard" "sole" "an actor's name", Some(Key::Actor), "", 1;
+    "guard" "mutex" "an object's name", Some(Key::Object), "", 2;
+    "guard" "turn" "a variable's name", Some(Key::Variable), "", 3;
+    "guard" "values" "an object with a number at each name", Some(Key::Actor), "", 3;
+    "notes" "held" "an object with a number at each name", Some(Key::Object), "; wanted: 1 to 255", 0;
+    "notes" "crit" "a whole number", None, "; wanted: 0 to 255", 0;
+    "notes" "susp" "a whole number", None, "; wanted: 0 to 255", 0;
+    "notes" "live" "a list of names", Some(Key::Object), " is listed twice", 0;
+    "notes" "dead" "a list of names", Some(Key::Object), " is listed twice", 0;
+    "notes" "range" "an object with a list of two numbers at each name", Some(Key::Variable), ": the first number is above the second", 0;
+};
+
+/// The row of a key.
+pub(crate) fn row_of(key: &str) -> Option<&'static Row> {
+    ROWS.iter().find(|row| row.key == key)
+}
+
+/// The row of a key of the objects with this last key on the way to them.
+pub(crate) fn row_in(around: &str, key: &str) -> Option<&'static Row> {
+    row_of(key).filter(|row| row.around == around)
+}
+
+/// The keys of the objects with this last key on the way to them; none of those that have no keys of their own.
+pub(crate) fn keys_in(alloc: Global, around: &str) -> Result<Vec<&'static str>, AllocError> {
+    let rows = ROWS.iter().filter(|row| row.around == around);
+    rows.map(|row| row.key).collect(alloc)
+}
+
+/// Whether objects with this last key on the way to them have keys of their own.
+pub(crate) fn has_keys(around: &str) -> bool {
+    ROWS.iter().any(|row| row.around == around)
+}
+
+/// Whether the guard has a key of a sort of guard that is listed before that of the row.
+pub(crate) fn is_after_another(row: &Row, guard: &serde_json::Value) -> bool {
+    let mut others = ROWS
+        .iter()
+        .filter(|other| 0 < other.sort && other.sort < row.sort);
+    others.any(|other| guard.get(other.key).is_some())
+}
