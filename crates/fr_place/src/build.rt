@@ -98,13 +98,13 @@ fn push_reason(out: &mut Lines, parts: &Parts, at: CodeLine, fault: BuildFault) 
         BuildFault::TwoShared(_) => push_shared(out, parts, *instr),
         BuildFault::NotOwner(_) => push_owners(out, parts, at.actor, *instr),
         BuildFault::KindMismatch(_) => push_kind(out, parts, *instr),
-        BuildFault::FromIsrInTask(_) => out.say(format_args!(
-            "{name} is a task, and this call is for interrupts"
-        )),
+        BuildFault::FromIsrInTask(_) => {
+            out.say(format_args!("{name} is a task, and this call is for interrupts"));
+        }
         BuildFault::ResultRange(_) => push_ranges(out, parts, *instr),
-        BuildFault::Operands(_) => out.say(
-            "its operands are one variable twice, or two variables of a product",
-        ),
+        BuildFault::Operands(_) => {
+            out.say("its operands are one variable twice, or two variables of a product");
+        }
         _ => {}
     }
 }
@@ -147,12 +147,8 @@ fn push_falling_off(out: &mut Lines, whole: &Table, actor: ActorId) {
 /// Appends how many things there are of each sort.
 fn push_counts(out: &mut Lines, whole: &Table) {
     let actors = entries_at(whole, Key::Actor);
-    let lines = actors
-        .iter()
-        .map(|actor| code_of(actor).len())
-        .max()
-        .unwrap_or(0);
-    let actors = actors.len();
+    let lines = actors.iter().map(|actor| code_of(actor).len()).max();
+    let (actors, lines) = (actors.len(), lines.unwrap_or(0));
     let variables = entries_at(whole, Key::Variable).len();
     let objects = entries_at(whole, Key::Object).len();
     out.say(format_args!("actors: {actors}, at most 32; variables: {variables}, at most 64"));
@@ -168,12 +164,9 @@ fn is_in_limits(table: &Value) -> bool {
     let init = number_at(table, Key::Init).unwrap_or(lo);
     let size = number_at(table, Key::Size).unwrap_or(1);
     let first = number_at(table, Key::First).unwrap_or(0);
-    lo <= init
-        && init <= hi
-        && 1 <= size
-        && size <= i64::from(MOST_SIZE)
-        && 0 <= first
-        && first <= size
+    (lo..=hi).contains(&init)
+        && (1..=i64::from(MOST_SIZE)).contains(&size)
+        && (0..=size).contains(&first)
 }
 
 /// Appends each variable and each object whose numbers are out of their limits, and the limits.

@@ -19,16 +19,12 @@ fn push_json(out: &mut Lines, bytes: &[u8], error: &serde_json::Error) {
         return out.refuse();
     }
     let position = position_in(bytes, error.line(), error.column());
-    let is_short = error.is_eof();
-    push_position(
-        out,
-        position,
-        if is_short {
-            "the text ends too soon"
-        } else {
-            "no JSON"
-        },
-    );
+    let fault = if error.is_eof() {
+        "the text ends too soon"
+    } else {
+        "no JSON"
+    };
+    push_position(out, position, fault);
 }
 
 /// Appends a value: a text, a number or a word as it is written, else what it is.
@@ -91,22 +87,11 @@ fn push_shape(out: &mut Lines, tree: &Value, steps: &[Step]) {
 
 /// The names of the application's variables, objects or actors, in order, for the key of their list in its text.
 fn names_at(alloc: Global, app: &App, list: Key) -> Result<Vec<&str>, AllocError> {
+    let (variables, objects, actors) = (app.variables(), app.objects(), app.actors());
     match list {
-        Key::Variable => app
-            .variables()
-            .iter()
-            .map(|variable| variable.name.as_str())
-            .collect(alloc),
-        Key::Object => app
-            .objects()
-            .iter()
-            .map(|object| object.name.as_str())
-            .collect(alloc),
-        _ => app
-            .actors()
-            .iter()
-            .map(|actor| actor.name.as_str())
-            .collect(alloc),
+        Key::Variable => variables.iter().map(|it| it.name.as_str()).collect(alloc),
+        Key::Object => objects.iter().map(|it| it.name.as_str()).collect(alloc),
+        _ => actors.iter().map(|it| it.name.as_str()).collect(alloc),
     }
 }
 
@@ -143,8 +128,7 @@ fn push_misfit(out: &mut Lines, app: &App, tree: &Value, steps: &[Step], is_note
 /// Appends how many alternatives there are.
 fn push_alternatives(out: &mut Lines, tree: &Value, steps: &[Step]) {
     if let Some(Value::Array(list)) = value_at(tree, steps) {
-        let count = list.len();
-        write!(out, ": {count} alternatives; 1 to 4 are allowed");
+        write!(out, ": {} alternatives; 1 to 4 are allowed", list.len());
     }
     out.end();
 }

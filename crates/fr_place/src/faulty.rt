@@ -22,10 +22,12 @@ static KINDS: [(&str, &[&str]); 7] = [
 /// The keys that an object has that gives itself this kind.
 fn keys_of_kind(kind: Option<&Value>) -> &'static [&'static str] {
     let kind = kind.and_then(Value::as_str);
-    match KINDS.iter().find(|row| Some(row.0) == kind) {
-        Some((_, keys)) => keys,
-        None => &[],
+    for (other, keys) in &KINDS {
+        if Some(*other) == kind {
+            return keys;
+        }
     }
+    &[]
 }
 
 /// The keys that a table with this name has.
@@ -55,22 +57,22 @@ fn wanted_at(name: TableName, key: Key) -> &'static str {
 
 /// The names in the tables of the list at this key.
 pub(crate) fn names_at(alloc: Global, whole: &Table, list: Key) -> Result<Vec<&str>, AllocError> {
-    entries_at(whole, list)
-        .iter()
-        .filter_map(name_of)
-        .collect(alloc)
+    let tables = entries_at(whole, list).iter();
+    tables.filter_map(name_of).collect(alloc)
 }
 
 /// Appends the nearest of the words of which one has to be at the key of a table, if there are such words, and ends
 /// the line.
 fn push_nearest_word(out: &mut Lines, whole: &Table, name: TableName, key: Key, word: &str) {
-    let words = match (key, name) {
-        (Key::Owner, _) => names_at(out.alloc, whole, Key::Actor),
-        (Key::Kind, TableName::Actor(_)) => Vec::from_slice(out.alloc, &["task", "interrupt"]),
-        (Key::Kind, _) => KINDS.iter().map(|row| row.0).collect(out.alloc),
-        _ => return out.end(),
-    };
-    push_nearest(out, word, words);
+    let alloc = out.alloc;
+    match (key, name) {
+        (Key::Owner, _) => push_nearest(out, word, names_at(alloc, whole, Key::Actor)),
+        (Key::Kind, TableName::Actor(_)) => {
+            push_nearest(out, word, Vec::from_slice(alloc, &["task", "interrupt"]));
+        }
+        (Key::Kind, _) => push_nearest(out, word, KINDS.iter().map(|row| row.0).collect(alloc)),
+        _ => out.end(),
+    }
 }
 
 /// Appends that the table lacks the key.

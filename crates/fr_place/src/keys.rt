@@ -1,5 +1,6 @@
 // The keys of a certificate's objects.
 use fr_reader::Key;
+use serde_json::Value;
 use std::alloc::{AllocError, Global};
 
 /// A key that an object of a certificate may have, with what is said of a value behind it.
@@ -65,9 +66,8 @@ pub(crate) fn has_keys(around: &str) -> bool {
 }
 
 /// Whether the guard has a key of a sort of guard that is listed before that of the row.
-pub(crate) fn is_after_another(row: &Row, guard: &serde_json::Value) -> bool {
-    let mut others = ROWS
-        .iter()
-        .filter(|other| 0 < other.sort && other.sort < row.sort);
-    others.any(|other| guard.get(other.key).is_some())
+pub(crate) fn is_after_another(row: &Row, guard: &Value) -> bool {
+    ROWS.iter().any(|other| {
+        (1..row.sort).contains(&other.sort) && guard.get(other.key).is_some()
+    })
 }

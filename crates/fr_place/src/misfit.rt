@@ -64,10 +64,8 @@ fn push_count(out: &mut Lines, app: &App, name: &str, count: &Value) {
 
 /// Whether the list at the key `live` has the name.
 fn is_live(note: &Value, name: &Value) -> bool {
-    match note.get("live") {
-        Some(Value::Array(live)) => live.iter().any(|other| other.as_str() == name.as_str()),
-        _ => false,
-    }
+    let live = note.get("live").and_then(Value::as_array);
+    live.is_some_and(|live| live.iter().any(|other| other.as_str() == name.as_str()))
 }
 
 /// How often the object with this name is held.
@@ -101,18 +99,16 @@ pub(crate) fn push_note(out: &mut Lines, app: &App, note: &Value) {
 
 /// Appends the kind of the object that a value names, where it is none of these two, and returns whether it did.
 fn push_kind(out: &mut Lines, app: &App, named: Option<&Value>, wanted: [&str; 2]) -> bool {
-    let Some(name) = named.and_then(Value::as_str) else {
-        return false;
-    };
-    let Some(kind) = kind_named(app, name) else {
-        return false;
-    };
-    let (kind, [one, other]) = (kind_text(kind), wanted);
-    if kind == one || kind == other {
-        return false;
+    if let Some(name) = named.and_then(Value::as_str)
+        && let Some(kind) = kind_named(app, name)
+    {
+        let (kind, [one, other]) = (kind_text(kind), wanted);
+        if kind != one && kind != other {
+            out.say(format_args!("{name} has the kind {kind}; wanted: {one} or {other}"));
+            return true;
+        }
     }
-    out.say(format_args!("{name} has the kind {kind}; wanted: {one} or {other}"));
-    true
+    false
 }
 
 /// Appends why an end of a buffer has a guard that doesn't fit.

@@ -49,8 +49,8 @@ pub(crate) fn position_in(text: &[u8], line: usize, column: usize) -> Position<'
 
 /// Appends the line and the column of a place with what is wrong there, and its line with a mark.
 pub(crate) fn push_position(out: &mut Lines, position: Position<'_>, fault: &str) {
-    let column = position.before.len().saturating_add(1);
-    out.say(format_args!("line {}, column {column}: {fault}", position.line));
+    let (line, column) = (position.line, position.before.len().saturating_add(1));
+    out.say(format_args!("line {line}, column {column}: {fault}"));
     push_marked(out, position.before, position.behind);
 }
 

@@ -40,8 +40,7 @@ fn push_point(out: &mut Lines, app: &App, number: usize) {
     if number < app.points() {
         let point = app.point(number);
         if let Some(actor) = app.actors().get(point.actor.0) {
-            let side = point.side.text();
-            write!(out, " ({} {} {side})", actor.name, point.pc);
+            write!(out, " ({} {} {})", actor.name, point.pc, point.side.text());
         }
     }
 }

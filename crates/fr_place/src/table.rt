@@ -25,9 +25,8 @@ pub(crate) fn name_of(table: &Value) -> Option<&str> {
 
 /// The table in the list at this key that gives itself this name.
 pub(crate) fn table_named<'a>(whole: &'a Table, list: Key, name: &str) -> Option<&'a Value> {
-    entries_at(whole, list)
-        .iter()
-        .find(|table| name_of(table) == Some(name))
+    let mut tables = entries_at(whole, list).iter();
+    tables.find(|table| name_of(table) == Some(name))
 }
 
 /// The text of the line with this number of an actor's code.
