@@ -2,6 +2,7 @@
 
 use crate::fault::{Fault, Spot, wrong, wrong_about, wrong_with};
 use crate::kernel::{Kernel, Place, kernel_named};
+use crate::near::{OF_CALLS, hint_for};
 use crate::program::{Argument, Call, Home, Object, Operand, Range, Variable};
 use crate::reader::{Reader, other_meaning};
 use crate::scope::Meaning;
@@ -26,16 +27,10 @@ fn instead_of(name: &str) -> &'static str {
     let is_upper = matches!(name.as_bytes().get(1).copied(), Some(b'A'..=b'Z'));
     let is_of_kernel = is_upper && (name.starts_with("x") || name.starts_with("v"))
         || name.starts_with("ulTask");
-    match name {
-        "portYIELD_FROM_ISR" | "portEND_SWITCHING_ISR" => "': leave it out",
-        "assert" => "': write configASSERT",
-        "uxQueueMessagesWaiting"
-        | "uxQueueMessagesWaitingFromISR"
-        | "uxQueueSpacesAvailable"
-        | "uxSemaphoreGetCount"
-        | "xTaskGetTickCount" => "': write any(..), as in 'n = any(0, 4);'",
-        _ if is_of_kernel => "'",
-        _ => "': leave it out if it makes no kernel call, and write any(..) for its answer",
+    match hint_for(&OF_CALLS, name) {
+        Some(hint) => hint,
+        None if is_of_kernel => "'",
+        None => "': leave it out if it makes no kernel call, and write any(..) for its answer",
     }
 }
 
@@ -173,12 +168,11 @@ impl<'a> Reader<'a> {
         };
         match self.program.objects.get(place) {
             Some(object) if !kernel.is_for(object.kind) => {
-                let kinds = kernel.kinds_text(self.alloc)?;
                 let words = &[
                     Word::Text(object.name),
                     Word::Text(object.kind.text()),
                     Word::Text(kernel.name),
-                    Word::Text(kinds.as_str()),
+                    Word::Text(kernel.kinds_text()),
                 ];
                 Err(wrong_with(self.alloc, token.spot, "'%' is a %, and % is for: %", words))
             }

@@ -59,12 +59,13 @@ impl<'a> Cursor<'a> {
     pub(crate) fn is_at_surplus(&self, most: usize) -> bool {
         let mut count = 2usize;
         let mut depth = 1usize;
-        for token in self.tokens.iter().skip(self.next) {
-            match token.text {
-                "(" => depth = depth.saturating_add(1),
-                ")" => depth = depth.saturating_sub(1),
-                "," if depth == 1 => count = count.saturating_add(1),
-                _ => {}
+        for token in self.tokens.get(self.next..).unwrap_or(&[]) {
+            if token.text == "(" {
+                depth = depth.saturating_add(1);
+            } else if token.text == ")" {
+                depth = depth.saturating_sub(1);
+            } else if token.text == "," && depth == 1 {
+                count = count.saturating_add(1);
             }
             if depth == 0 {
                 break;

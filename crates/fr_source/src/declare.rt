@@ -2,8 +2,9 @@
 
 use crate::cursor::Cursor;
 use crate::fault::{Fault, Spot, clipped, wrong, wrong_about, wrong_with};
+use crate::kernel::DECLARATIONS;
 use crate::lines::Lines;
-use crate::near::near_among;
+use crate::near::{OF_C, hint_for, near_among};
 use crate::program::{
     Action, Actor, Home, MOST_VARIABLES, Object, ObjectKind, Owner, Program, Range, Variable,
 };
@@ -29,22 +30,6 @@ const SIZES: Range = Range {
     high: 65_535,
 };
 
-/// The words that begin a declaration.
-static DECLARATIONS: [&str; 12] = [
-    "const",
-    "shared",
-    "task",
-    "interrupt",
-    "function",
-    "queue",
-    "binary",
-    "counting",
-    "mutex",
-    "recursive",
-    "stream",
-    "message",
-];
-
 /// What the source declares.
 pub(crate) fn program_in<'a>(
     alloc: Global,
@@ -55,50 +40,6 @@ pub(crate) fn program_in<'a>(
     reader.declarations()
 }
 
-/// Words that begin a declaration of C, and what to write in place of it.
-static OF_C: [(&str, &str); 19] = [
-    ("volatile", SHARED),
-    ("static", SHARED),
-    ("unsigned", SHARED),
-    ("int", SHARED),
-    ("bool", SHARED),
-    ("uint8_t", SHARED),
-    ("uint16_t", SHARED),
-    ("uint32_t", SHARED),
-    ("BaseType_t", SHARED),
-    ("UBaseType_t", SHARED),
-    ("StreamBufferHandle_t", ": write 'stream s[64];'"),
-    ("MessageBufferHandle_t", ": write 'message m[64];'"),
-    ("QueueHandle_t", ": write 'queue q[8] of 0..9;'"),
-    (
-        "SemaphoreHandle_t",
-        ": write 'mutex m;', 'binary b;' or 'counting c[8] first 0;'",
-    ),
-    ("TaskHandle_t", ": leave it out"),
-    (
-        "void",
-        ": write 'task t {', 'interrupt i {' or 'function f() {'",
-    ),
-    (
-        "var",
-        ": write 'shared n in 0..8;' here, or put it into a task",
-    ),
-    ("isr", ": write 'interrupt i {'"),
-    ("ISR", ": write 'interrupt i {'"),
-];
-
-const SHARED: &str = ": write 'shared n in 0..8;' for what several use";
-
-/// What to write in place of a declaration of C that begins with this word.
-fn in_place_of(word: &str) -> &'static str {
-    for (begin, instead) in &OF_C {
-        if *begin == word {
-            return *instead;
-        }
-    }
-    ""
-}
-
 /// The fault that a word begins no declaration.
 fn no_declaration(alloc: Global, word: Token<'_>) -> Fault {
     let (shown, spot) = (clipped(word.text), word.spot);
@@ -107,7 +48,7 @@ fn no_declaration(alloc: Global, word: Token<'_>) -> Fault {
         binary, counting, mutex, recursive, stream, message; found '";
     let (form, more) = match near_among(&DECLARATIONS, word.text) {
         Some(near) => ("%%'. Did you mean '%'?", near),
-        None => ("%%'%", in_place_of(word.text)),
+        None => ("%%'%", hint_for(&OF_C, word.text).unwrap_or("")),
     };
     let words = &[Word::Text(what), Word::Text(shown), Word::Text(more)];
     wrong_with(alloc, spot, form, words)

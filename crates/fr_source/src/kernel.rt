@@ -2,6 +2,7 @@
 
 use crate::near::is_near;
 use crate::program::ObjectKind;
+use crate::texts::{Word, filled};
 use std::alloc::{AllocError, Global};
 
 /// What is in an argument's place.
@@ -65,28 +66,32 @@ impl Kernel {
         false
     }
 
-    /// The kinds of objects that the call is for.
-    pub(crate) fn kinds_text(&self, alloc: Global) -> Result<String, AllocError> {
-        let mut text = String::new(alloc);
-        for one in self.kinds {
-            text.push_str(if text.is_empty() { "" } else { ", " })?;
-            text.push_str(one.text())?;
+    /// The kinds of objects that the call is for: one, or those of all semaphores.
+    pub(crate) fn kinds_text(&self) -> &'static str {
+        match self.kinds {
+            [kind] => kind.text(),
+            _ => "binary, counting, mutex, recursive",
         }
-        Ok(text)
+    }
+
+    /// What the argument in this place is.
+    fn place_text(&self, place: usize) -> Word<'static> {
+        match self.places.get(place) {
+            Some(place) => Word::Text(place.text()),
+            None => Word::Text(""),
+        }
     }
 
     /// The call's name, with what its arguments are.
     pub(crate) fn shape(&self, alloc: Global) -> Result<String, AllocError> {
-        let mut shape = String::from_str(alloc, self.name)?;
-        shape.push_str("(")?;
-        let mut before = "";
-        for what in self.places {
-            shape.push_str(before)?;
-            shape.push_str(what.text())?;
-            before = ", ";
-        }
-        shape.push_str(")")?;
-        Ok(shape)
+        let (first, second) = (self.place_text(0), self.place_text(1));
+        let words = &[Word::Text(self.name), first, second, self.place_text(2)];
+        let form = match self.places.len() {
+            0 | 1 => "%(%)",
+            2 => "%(%, %)",
+            _ => "%(%, %, %)",
+        };
+        filled(alloc, form, words)
     }
 
     /// Whether the call is for interrupts alone.
@@ -175,30 +180,18 @@ pub(crate) fn kernel_near(word: &str) -> Option<&'static str> {
     None
 }
 
+/// A table of words, several on a line.
+macro_rules! words {
+    ($($word:literal)*) => {
+        [$($word),*]
+    };
+}
+
 /// The words of statements, and those that a line of the application has: no name may be one.
-static WORDS: [&str; 21] = [
-    "if",
-    "else",
-    "while",
-    "for",
-    "do",
-    "switch",
-    "case",
-    "default",
-    "break",
-    "continue",
-    "goto",
-    "return",
-    "var",
-    "static",
-    "any",
-    "set",
-    "pick",
-    "NULL",
-    "portMAX_DELAY",
-    "pdMS_TO_TICKS",
-    "configASSERT",
-];
+static WORDS: [&str; 21] = words! {
+    "if" "else" "while" "for" "do" "switch" "case" "default" "break" "continue" "goto" "return" "var" "static"
+    "any" "set" "pick" "NULL" "portMAX_DELAY" "pdMS_TO_TICKS" "configASSERT"
+};
 
 /// Whether the text is one of some words.
 pub(crate) fn is_among(text: &str, words: &[&str]) -> bool {
@@ -225,25 +218,12 @@ pub(crate) fn value_of(text: &str) -> Option<i64> {
 }
 
 /// The types of C that a reader may expect.
-pub(crate) static TYPES: [&str; 20] = [
-    "int",
-    "uint",
-    "unsigned",
-    "signed",
-    "char",
-    "short",
-    "long",
-    "bool",
-    "size_t",
-    "float",
-    "double",
-    "int8_t",
-    "int16_t",
-    "int32_t",
-    "int64_t",
-    "uint8_t",
-    "uint16_t",
-    "uint32_t",
-    "BaseType_t",
-    "UBaseType_t",
-];
+pub(crate) static TYPES: [&str; 20] = words! {
+    "int" "uint" "unsigned" "signed" "char" "short" "long" "bool" "size_t" "float" "double" "int8_t" "int16_t"
+    "int32_t" "int64_t" "uint8_t" "uint16_t" "uint32_t" "BaseType_t" "UBaseType_t"
+};
+
+/// The words that begin a declaration.
+pub(crate) static DECLARATIONS: [&str; 12] = words! {
+    "const" "shared" "task" "interrupt" "function" "queue" "binary" "counting" "mutex" "recursive" "stream" "message"
+};

@@ -1,4 +1,4 @@
-// Names that are nearly the same as a word that means nothing.
+// What to write in place of a word that means nothing.
 
 /// How many bytes two texts share at the front.
 fn shared_at_front(word: &[u8], name: &[u8]) -> usize {
@@ -38,6 +38,46 @@ pub(crate) fn near_among(words: &[&'static str], word: &str) -> Option<&'static 
     for one in words {
         if is_near(word, one) {
             return Some(*one);
+        }
+    }
+    None
+}
+
+/// Pairs of a word and what to write in place of it: a hint and its words a line.
+macro_rules! hints {
+    ($($hint:literal: $($word:literal)*;)*) => {
+        [$($(($word, $hint),)*)*]
+    };
+}
+
+/// Words that begin a declaration of C.
+pub(crate) static OF_C: [(&str, &str); 19] = hints! {
+    ": write 'shared n in 0..8;' for what several use":
+        "volatile" "static" "unsigned" "int" "bool" "uint8_t" "uint16_t" "uint32_t" "BaseType_t" "UBaseType_t";
+    ": write 'stream s[64];'": "StreamBufferHandle_t";
+    ": write 'message m[64];'": "MessageBufferHandle_t";
+    ": write 'queue q[8] of 0..9;'": "QueueHandle_t";
+    ": write 'mutex m;', 'binary b;' or 'counting c[8] first 0;'": "SemaphoreHandle_t";
+    ": leave it out": "TaskHandle_t";
+    ": write 'task t {', 'interrupt i {' or 'function f() {'": "void";
+    ": write 'shared n in 0..8;' here, or put it into a task": "var";
+    ": write 'interrupt i {'": "isr" "ISR";
+};
+
+/// Calls that no source has. A hint begins with the quote behind the call's name.
+pub(crate) static OF_CALLS: [(&str, &str); 8] = hints! {
+    "': leave it out": "portYIELD_FROM_ISR" "portEND_SWITCHING_ISR";
+    "': write configASSERT": "assert";
+    "': write any(..), as in 'n = any(0, 4);'":
+        "uxQueueMessagesWaiting" "uxQueueMessagesWaitingFromISR" "uxQueueSpacesAvailable" "uxSemaphoreGetCount"
+        "xTaskGetTickCount";
+};
+
+/// What to write in place of a word, if it is one of these.
+pub(crate) fn hint_for(pairs: &[(&'static str, &'static str)], word: &str) -> Option<&'static str> {
+    for (text, hint) in pairs {
+        if *text == word {
+            return Some(*hint);
         }
     }
     None
