@@ -7,103 +7,17 @@ ghost use Rattle.fr_source.specs.Steps.{ShowsNoLess};
 
 use crate::expand::Line;
 use crate::program::{Action, Program};
-use crate::visible::{Form, Heir, Kept, tidied_lines};
+use crate::visible::{Form, Heir, Kept, made_at, made_of, tidied_lines};
 use std::alloc::{AllocError, Global};
-
-/// A line that is kept so far, and the line that it was.
-#[derive(Clone, Copy)]
-struct Origin {
-    line: Line,
-    from: usize,
-    form: Form,
-}
 
 /// Lines that are being tidied.
 #[derive(Drop)]
 struct Tidying<'a> {
     program: &'a Program<'a>,
-    kept: Vec<Origin>,
-    /// For each line that there was, what goes on as it did.
+    plain: &'a [Line],
+    kept: Vec<Kept>,
+    /// For each plain line, what goes on as it did.
     heirs: Vec<Heir>,
-}
-
-/// The line that a way through this one comes to: the end of a goto, or the line itself.
-fn through(kept: &[Origin], number: usize) -> Option<usize> {
-    let Origin { line, .. } = kept.get(number)?;
-    if matches!(line.action, Action::Goto) {
-        line.to
-    } else {
-        Some(number)
-    }
-}
-
-/// The line with the least number among those that a way through gotos comes to from this one.
-fn least_after(kept: &[Origin], first: usize) -> usize {
-    let (mut target, mut least) = (first, first);
-    for _ in 0..kept.len() {
-        target = through(kept, target).unwrap_or(target);
-        least = least.min(target);
-    }
-    least
-}
-
-/// Where a jump to a line comes to in the end, through further gotos. Of gotos that go around for ever that is the one with the least number,
-/// whichever of them the way begins at.
-fn end_of_jumps(kept: &[Origin], first: usize) -> usize {
-    let mut target = first;
-    for _ in 0..kept.len() {
-        match through(kept, target) {
-            Some(next) if next != target => target = next,
-            _ => return target,
-        }
-    }
-    least_after(kept, target)
-}
-
-/// The line with its jump to the end of all jumps; a goto to a return returns.
-fn shortened(kept: &[Origin], origin: Origin, first: usize) -> Origin {
-    let target = end_of_jumps(kept, first);
-    let is_return = match kept.get(target) {
-        Some(end) => matches!(end.line.action, Action::Return),
-        None => false,
-    };
-    let Origin { line, form, .. } = origin;
-    if matches!(line.action, Action::Goto) && is_return {
-        let (action, to) = (Action::Return, None);
-        Origin {
-            line: Line { action, to, ..line },
-            form: Form::Returns,
-            ..origin
-        }
-    } else {
-        Origin {
-            line: Line {
-                to: Some(target),
-                ..line
-            },
-            form,
-            ..origin
-        }
-    }
-}
-
-/// Lets each jump go to its end at once, and makes a goto to a return the return. Answers whether a line changed.
-fn shorten_jumps(kept: &mut [Origin]) -> bool {
-    let mut has_changed = false;
-    for number in 0..kept.len() {
-        let Some(origin) = kept.get(number).copied() else {
-            break;
-        };
-        let Some(first) = origin.line.to else {
-            continue;
-        };
-        let shorter = shortened(kept, origin, first);
-        has_changed = has_changed || shorter.line.to != origin.line.to;
-        if let Some(slot) = kept.get_mut(number) {
-            *slot = shorter;
-        }
-    }
-    has_changed
 }
 
 /// Which lines a way leads to from the first one.
@@ -152,62 +66,121 @@ enum Change {
     Turn(usize),
 }
 
-/// Whether a jump comes to the line with this number.
-fn is_aimed(kept: &[Origin], number: usize) -> bool {
-    for Origin { line, .. } in kept {
-        if line.to == Some(number) {
-            return true;
+impl Tidying<'_> {
+    /// The line that a way through this one comes to: the end of a goto, or the line itself.
+    fn through(&self, number: usize) -> Option<usize> {
+        let line = made_at(self.plain, &self.kept, number)?;
+        if matches!(line.action, Action::Goto) {
+            line.to
+        } else {
+            Some(number)
         }
     }
-    false
-}
 
-/// What can be done at the line with this number.
-fn change_at(program: &Program<'_>, kept: &[Origin], number: usize) -> Change {
-    let next = number.saturating_add(1);
-    let (Some(origin), Some(after)) = (kept.get(number).copied(), kept.get(next).copied()) else {
-        return Change::Keep;
-    };
-    let (line, after) = (origin.line, after.line);
-    let Some(target) = line.to else {
-        return Change::Keep;
-    };
-    let leads_on = through(kept, next) == Some(target);
-    match line.action {
-        Action::Call { .. } if leads_on => Change::Forget,
-        Action::If { left, right, .. } => {
-            let can_turn = matches!(after.action, Action::Goto) && target == next.saturating_add(1);
-            match after.to {
-                Some(other) if can_turn && !is_aimed(kept, next) => Change::Turn(other),
-                _ if leads_on && !program.looks_at_shared(left, right) => Change::TakeOut,
-                _ => Change::Keep,
+    /// The line with the least number among those that a way through gotos comes to from this one.
+    fn least_after(&self, first: usize) -> usize {
+        let (mut target, mut least) = (first, first);
+        for _ in 0..self.kept.len() {
+            target = self.through(target).unwrap_or(target);
+            least = least.min(target);
+        }
+        least
+    }
+
+    /// Where a jump to a line comes to in the end, through further gotos. Of gotos that go around for ever that is the one
+    /// with the least number, whichever of them the way begins at.
+    fn end_of_jumps(&self, first: usize) -> usize {
+        let mut target = first;
+        for _ in 0..self.kept.len() {
+            match self.through(target) {
+                Some(next) if next != target => target = next,
+                _ => return target,
             }
         }
-        Action::Goto if target == next => Change::TakeOut,
-        _ => Change::Keep,
+        self.least_after(target)
     }
-}
 
-/// Makes an `if` ask for the opposite, and go to this line.
-fn turn(origin: &mut Origin, target: usize) {
-    origin.line.action = origin.line.action.turned();
-    origin.line.to = Some(target);
-    origin.form = match origin.form {
-        Form::Turned => Form::Same,
-        _ => Form::Turned,
-    };
-}
+    /// Whether the line is a goto, and the line at the end of all jumps a return.
+    fn leads_to_return(&self, line: Line, target: usize) -> bool {
+        match made_at(self.plain, &self.kept, target) {
+            Some(end) => matches!((line.action, end.action), (Action::Goto, Action::Return)),
+            None => false,
+        }
+    }
 
-impl Tidying<'_> {
+    /// Lets each jump go to its end at once, and makes a goto to a return the return. Answers whether a line changed.
+    fn shorten_jumps(&mut self) -> bool {
+        let mut has_changed = false;
+        for number in 0..self.kept.len() {
+            let Some(line) = made_at(self.plain, &self.kept, number) else {
+                break;
+            };
+            let Some(first) = line.to else {
+                continue;
+            };
+            let target = self.end_of_jumps(first);
+            let returns = self.leads_to_return(line, target);
+            has_changed = has_changed || returns || target != first;
+            if let Some(slot) = self.kept.get_mut(number) {
+                slot.to = if returns { None } else { Some(target) };
+                slot.form = if returns { Form::Returns } else { slot.form };
+            }
+        }
+        has_changed
+    }
+
+    /// Whether a jump comes to the line with this number.
+    fn is_aimed(&self, number: usize) -> bool {
+        for Kept { to, .. } in &self.kept {
+            if *to == Some(number) {
+                return true;
+            }
+        }
+        false
+    }
+
+    /// What can be done at the line with this number.
+    fn change_at(&self, number: usize) -> Change {
+        let next = number.saturating_add(1);
+        let Some(
+            Line {
+                action,
+                to: Some(target),
+                ..
+            },
+        ) = made_at(self.plain, &self.kept, number)
+        else {
+            return Change::Keep;
+        };
+        let Some(after) = made_at(self.plain, &self.kept, next) else {
+            return Change::Keep;
+        };
+        let leads_on = self.through(next) == Some(target);
+        match action {
+            Action::Call { .. } if leads_on => Change::Forget,
+            Action::If { left, right, .. } => {
+                let can_turn = matches!(after.action, Action::Goto)
+                    && target == next.saturating_add(1);
+                match after.to {
+                    Some(other) if can_turn && !self.is_aimed(next) => Change::Turn(other),
+                    _ if leads_on && !self.program.looks_at_shared(left, right) => Change::TakeOut,
+                    _ => Change::Keep,
+                }
+            }
+            Action::Goto if target == next => Change::TakeOut,
+            _ => Change::Keep,
+        }
+    }
+
     /// Takes out a line. Who came to it comes to the line after it; the lines that it goes on for are those of `heir` then.
     fn take_out(&mut self, number: usize, heir: Heir) {
         if number >= self.kept.len() {
             return;
         }
         let _ = self.kept.remove(number);
-        for origin in self.kept.iter_mut() {
-            if let Some(target) = origin.line.to {
-                origin.line.to = Some(moved_up(target, number));
+        for one in self.kept.iter_mut() {
+            if let Some(target) = one.to {
+                one.to = Some(moved_up(target, number));
             }
         }
         for slot in self.heirs.iter_mut() {
@@ -222,13 +195,13 @@ impl Tidying<'_> {
         }
     }
 
-    /// What goes on for a line that no way leads to any more: where its jump leads, if a way leads there. `lines` are those before any was
-    /// taken out.
+    /// What goes on for a line that no way leads to any more: where its jump leads, if a way leads there. `lines` are those
+    /// before any was taken out.
     fn heir_of_unreached(&self, lines: &[Line], seen: &[bool], number: usize) -> Heir {
         let (Some(line), Some(now)) = (lines.get(number), self.kept.get(number)) else {
             return Heir::Nowhere;
         };
-        match (line.action, line.to, now.line.to) {
+        match (line.action, line.to, now.to) {
             (Action::Return, _, _) => Heir::Returns,
             (Action::Goto, Some(was), Some(target)) if seen.get(was) == Some(&true) => {
                 Heir::Line(target)
@@ -239,10 +212,7 @@ impl Tidying<'_> {
 
     /// Takes out the lines that no way leads to.
     fn take_out_unreached(&mut self, alloc: Global) -> Result<bool, AllocError> {
-        let mut lines = Vec::new(alloc);
-        for origin in &self.kept {
-            lines.push(origin.line)?;
-        }
+        let lines = made_of(alloc, self.plain, &self.kept)?;
         let seen = reached(alloc, &lines)?;
         let mut has_changed = false;
         for number in (0..seen.len()).rev() {
@@ -259,12 +229,14 @@ impl Tidying<'_> {
     fn change_one(&mut self) -> bool {
         let mut has_changed = false;
         for number in 0..self.kept.len() {
-            match change_at(self.program, &self.kept, number) {
+            let change = self.change_at(number);
+            let Some(slot) = self.kept.get_mut(number) else {
+                break;
+            };
+            match change {
                 Change::Keep => {}
                 Change::Forget => {
-                    if let Some(slot) = self.kept.get_mut(number) {
-                        slot.line.to = None;
-                    }
+                    slot.to = None;
                     has_changed = true;
                 }
                 Change::TakeOut => {
@@ -272,9 +244,11 @@ impl Tidying<'_> {
                     return true;
                 }
                 Change::Turn(target) => {
-                    if let Some(slot) = self.kept.get_mut(number) {
-                        turn(slot, target);
-                    }
+                    slot.to = Some(target);
+                    slot.form = match slot.form {
+                        Form::Turned => Form::Same,
+                        _ => Form::Turned,
+                    };
                     self.take_out(number.saturating_add(1), Heir::Line(target));
                     return true;
                 }
@@ -286,7 +260,7 @@ impl Tidying<'_> {
     /// Makes all changes that can be made.
     fn tidy(&mut self, alloc: Global) -> Result<(), AllocError> {
         for _ in 0..=self.kept.len().saturating_mul(4) {
-            let is_shorter = shorten_jumps(&mut self.kept);
+            let is_shorter = self.shorten_jumps();
             let is_smaller = self.take_out_unreached(alloc)?;
             let is_changed = self.change_one();
             if !is_shorter && !is_smaller && !is_changed {
@@ -295,35 +269,26 @@ impl Tidying<'_> {
         }
         Ok(())
     }
-
-    /// The lines that are kept.
-    fn all_kept(&self, alloc: Global) -> Result<Vec<Kept>, AllocError> {
-        let mut kept = Vec::new(alloc);
-        for Origin { line, from, form } in &self.kept {
-            let (from, form, to) = (*from, *form, line.to);
-            kept.push(Kept { from, form, to })?;
-        }
-        Ok(kept)
-    }
 }
 
 /// All lines as they are.
 fn untouched<'a>(
     alloc: Global,
     program: &'a Program<'a>,
-    lines: &[Line],
+    plain: &'a [Line],
 ) -> Result<Tidying<'a>, AllocError> {
-    let mut tidying = Tidying {
-        program,
-        kept: Vec::new(alloc),
-        heirs: Vec::new(alloc),
-    };
-    for (from, line) in lines.iter().enumerate() {
-        let (line, form) = (*line, Form::Same);
-        tidying.kept.push(Origin { line, from, form })?;
-        tidying.heirs.push(Heir::Line(from))?;
+    let (mut kept, mut heirs) = (Vec::new(alloc), Vec::new(alloc));
+    for (from, line) in plain.iter().enumerate() {
+        let (form, to) = (Form::Same, line.to);
+        kept.push(Kept { from, form, to })?;
+        heirs.push(Heir::Line(from))?;
     }
-    Ok(tidying)
+    Ok(Tidying {
+        program,
+        plain,
+        kept,
+        heirs,
+    })
 }
 
 /// The lines without jumps that aren't needed, and without lines that no way leads to. Others see of them what they see of the
@@ -337,6 +302,5 @@ pub(crate) fn tidied(
 {
     let mut tidying = untouched(alloc, program, lines)?;
     tidying.tidy(alloc)?;
-    let kept = tidying.all_kept(alloc)?;
-    tidied_lines(alloc, program, lines, &kept, &tidying.heirs)
+    tidied_lines(alloc, program, lines, &tidying.kept, &tidying.heirs)
 }
