@@ -150,14 +150,11 @@ impl<'a> Expander<'a> {
         } = frame;
         match item {
             Item::Line { action, to, spot } => {
-                let action = self.own_action(program, action)?;
                 let to = match to {
                     Some(label) => Some(label.saturating_add(first_label)),
                     None => None,
                 };
-                let place = Place { spot, call };
-                self.lines.push(Line { action, to, place })?;
-                Ok(())
+                self.write_line(program, action, to, Place { spot, call })
             }
             Item::Label(label) => {
                 if let Some(slot) = self.labels.get_mut(label.saturating_add(first_label)) {
@@ -167,11 +164,34 @@ impl<'a> Expander<'a> {
             }
             Item::Expand { function, spot } => {
                 self.copy_variables(program, function)?;
-                let number = self.calls.len();
-                self.calls.push(Place { spot, call })?;
-                self.enter(program, function, Some(number))
+                self.enter_function(program, function, Place { spot, call })
             }
         }
+    }
+
+    /// Writes a line with the actor's own variables.
+    fn write_line(
+        &mut self,
+        program: &mut Program<'a>,
+        action: Action,
+        to: Option<usize>,
+        place: Place,
+    ) -> Result<(), Fault> {
+        let action = self.own_action(program, action)?;
+        self.lines.push(Line { action, to, place })?;
+        Ok(())
+    }
+
+    /// Notes a call of a function, and begins to write out its body.
+    fn enter_function(
+        &mut self,
+        program: &Program<'a>,
+        function: usize,
+        place: Place,
+    ) -> Result<(), Fault> {
+        let number = self.calls.len();
+        self.calls.push(place)?;
+        self.enter(program, function, Some(number))
     }
 
     /// Gives the actor its own variables of a function, unless it has them.
@@ -187,35 +207,41 @@ impl<'a> Expander<'a> {
         Ok(())
     }
 
-    /// Gives the actor its own variable for one of a function.
-    fn copy_variable(&mut self, program: &mut Program<'a>, declared: usize) -> Result<(), Fault> {
-        let variable = program.variable(declared);
+    /// Refuses a static variable of a second actor, and one more than there may be.
+    fn check_copy(&self, program: &Program<'a>, variable: Variable<'a>) -> Result<(), Fault> {
+        let (name, spot) = (variable.name, variable.spot);
         if let (true, Owner::Actor(first)) = (variable.is_static, variable.owner) {
             let form =
                 "'%' is static, and '%' and '%' call the function: in C they share it. Declare it outside, \
                  as 'shared % in ..;'";
+            let first = Word::Text(program.actor_name(first));
             let words = &[
-                Word::Text(variable.name),
-                Word::Text(program.actor_name(first)),
+                Word::Text(name),
+                first,
                 Word::Text(self.actor.name),
-                Word::Text(variable.name),
+                Word::Text(name),
             ];
-            return Err(wrong_with(self.alloc, variable.spot, form, words));
+            return Err(wrong_with(self.alloc, spot, form, words));
         }
         if program.written.len() >= MOST_VARIABLES {
             let text =
                 "there may be at most 64 variables, and each actor that calls this function has its own: this is one more";
-            return Err(wrong(self.alloc, variable.spot, text));
+            return Err(wrong(self.alloc, spot, text));
+        }
+        Ok(())
+    }
+
+    /// Gives the actor its own variable for one of a function.
+    fn copy_variable(&mut self, program: &mut Program<'a>, declared: usize) -> Result<(), Fault> {
+        let owner = Owner::Actor(self.number);
+        let variable = program.variable(declared);
+        self.check_copy(program, variable)?;
+        if let Some(slot) = program.variables.get_mut(declared) {
+            slot.owner = owner;
         }
         let copy = program.variables.len();
-        program.variables.push(Variable {
-            owner: Owner::Actor(self.number),
-            ..variable
-        })?;
+        program.variables.push(Variable { owner, ..variable })?;
         program.written.push(copy)?;
-        if let Some(slot) = program.variables.get_mut(declared) {
-            slot.owner = Owner::Actor(self.number);
-        }
         self.own.push(Own { declared, copy })?;
         Ok(())
     }

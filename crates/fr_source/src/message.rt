@@ -126,11 +126,14 @@ impl Message {
             10..=99 => 1,
             _ => 0,
         };
-        let number = filled(alloc, "%%", &[Word::Blanks(before), Word::Count(*line)])?;
-        let (numbered, marked) = (Word::Text(number.as_str()), Word::Blanks(number.len()));
-        Ok([
-            filled(alloc, "% | %", &[numbered, Word::Text(shown.as_str())])?,
-            filled(alloc, "% | %", &[marked, Word::Text(mark.as_str())])?,
-        ])
+        let words = &[
+            Word::Blanks(before),
+            Word::Count(*line),
+            Word::Text(shown.as_str()),
+        ];
+        let numbered = filled(alloc, "%% | %", words)?;
+        let width = numbered.len().saturating_sub(shown.len()).saturating_sub(3);
+        let words = &[Word::Blanks(width), Word::Text(mark.as_str())];
+        Ok([numbered, filled(alloc, "% | %", words)?])
     }
 }

@@ -28,33 +28,16 @@ fn count_of_variables(program: &Program<'_>, name: &str, actor: Option<usize>) -
     count
 }
 
-/// How many objects of the application have a name.
-fn count_of_objects(program: &Program<'_>, name: &str) -> usize {
-    let mut count = 0usize;
-    for object in &program.objects {
-        if object.name == name {
-            count = count.saturating_add(1);
-        }
-    }
-    count
-}
-
-/// How many actors of the application have a name.
-fn count_of_actors(program: &Program<'_>, name: &str) -> usize {
-    let mut count = 0usize;
-    for actor in &program.actors {
-        if actor.name == name {
-            count = count.saturating_add(1);
-        }
-    }
-    count
-}
-
 /// How many variables, objects and actors of the application have a name.
 fn count_of(program: &Program<'_>, name: &str) -> usize {
-    count_of_variables(program, name, None)
-        .saturating_add(count_of_objects(program, name))
-        .saturating_add(count_of_actors(program, name))
+    let mut count = count_of_variables(program, name, None);
+    for object in &program.objects {
+        count = count.saturating_add(usize::from(object.name == name));
+    }
+    for actor in &program.actors {
+        count = count.saturating_add(usize::from(actor.name == name));
+    }
+    count
 }
 
 /// The name of an actor's own variable: the actor's, and its own after it.

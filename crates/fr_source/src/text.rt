@@ -274,9 +274,13 @@ impl Writer {
         self.write("%:%", &[Word::Text(source.file), Word::Count(line)])?;
         self.callers(code, place)?;
         match last {
-            Some(last) if are_of_one_place(code, last, place) => return self.text.push_str("\n"),
-            _ => {}
+            Some(last) if are_of_one_place(code, last, place) => self.text.push_str("\n"),
+            _ => self.excerpt(source, line),
         }
+    }
+
+    /// Writes the text of a line of the source.
+    fn excerpt(&mut self, source: &Source<'_>, line: usize) -> Result<(), AllocError> {
         let shown = source.excerpt(self.alloc, line)?;
         match shown.as_str().get(..LONGEST_EXCERPT - 3) {
             Some(cut) if shown.len() > LONGEST_EXCERPT => {
