@@ -4,7 +4,7 @@ use crate::expression::{Term, Value};
 use crate::fault::{Fault, Spot, wrong, wrong_about};
 use crate::kernel::Answer;
 use crate::lines::Condition;
-use crate::program::{Action, Call, Comparison, Operand, Owner, Variable};
+use crate::program::{Call, Comparison, Operand, Owner, Variable};
 use crate::reader::Reader;
 use std::alloc::Global;
 
@@ -152,7 +152,7 @@ impl Reader<'_> {
     /// The condition that two operands compare so.
     fn compare_sides(
         &mut self,
-        before: Option<Action>,
+        before: Option<usize>,
         left: Term,
         comparison: Comparison,
         right: Term,

@@ -4,7 +4,7 @@
 use crate::fault::{Fault, Spot, wrong, wrong_about, wrong_with};
 use crate::kernel::value_of;
 use crate::lines::Condition;
-use crate::program::{Action, Arithmetic, Call, Comparison, Operand, Range};
+use crate::program::{Arithmetic, Call, Comparison, Operand, Range};
 use crate::reader::Reader;
 use crate::scope::Meaning;
 use crate::texts::Word;
@@ -24,10 +24,10 @@ pub(crate) enum Value {
     },
     Any(Range),
     Called(Call),
-    /// A variable that the action gives a value.
+    /// A variable that an action of the body gives a value: its place among such actions.
     Given {
         variable: usize,
-        action: Action,
+        action: usize,
     },
     Test(usize),
 }

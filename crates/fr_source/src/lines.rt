@@ -13,9 +13,9 @@ pub(crate) enum Condition {
     /// Whether a call works.
     Works(Call),
     Always(bool),
-    /// A comparison, after the line that gives its variable a value, if there is one.
+    /// A comparison, after the action that gives its variable a value, if there is one: its place among such actions.
     Compare {
-        before: Option<Action>,
+        before: Option<usize>,
         left: Operand,
         comparison: Comparison,
         right: Operand,
@@ -52,6 +52,10 @@ pub(crate) struct Lines {
     alloc: Global,
     pub(crate) body: Body,
     tests: Vec<Test>,
+    /// The actions in conditions, which give a variable a value.
+    givers: Vec<Action>,
+    /// What belongs behind what is read next.
+    aside: Vec<Item>,
 }
 
 impl Lines {
@@ -60,7 +64,44 @@ impl Lines {
             alloc,
             body: Body::new(alloc),
             tests: Vec::new(alloc),
+            givers: Vec::new(alloc),
+            aside: Vec::new(alloc),
         }
+    }
+
+    /// Puts what is written from this place on aside, and gives its place there.
+    pub(crate) fn put_aside(&mut self, first: usize) -> Result<usize, Fault> {
+        let place = self.aside.len();
+        let items = &mut self.body.items;
+        self.aside
+            .append(&mut items.split_off(first.min(items.len()))?)?;
+        Ok(place)
+    }
+
+    /// Takes back what was put aside from this place on.
+    pub(crate) fn take_back(&mut self, place: usize) -> Result<(), Fault> {
+        let aside = &mut self.aside;
+        self.body
+            .items
+            .append(&mut aside.split_off(place.min(aside.len()))?)?;
+        Ok(())
+    }
+
+    /// Takes the last line, if it gives a variable a number of an `any` or the bytes of a call: its action is written with a
+    /// condition, and named by its place.
+    pub(crate) fn take_giver(&mut self) -> Result<Option<usize>, Fault> {
+        let Some(
+            Item::Line {
+                action: action @ (Action::Pick { .. } | Action::Call { .. }),
+                ..
+            },
+        ) = self.body.items.pop()
+        else {
+            return Ok(None);
+        };
+        let place = self.givers.len();
+        self.givers.push(action)?;
+        Ok(Some(place))
     }
 
     /// A new label.
@@ -98,6 +139,22 @@ impl Lines {
             more: None,
         };
         self.line(action, None, spot)
+    }
+
+    /// Goes to a label if a variable has this number.
+    pub(crate) fn test_case(
+        &mut self,
+        variable: usize,
+        number: i64,
+        label: usize,
+        spot: Spot,
+    ) -> Result<(), Fault> {
+        let action = Action::If {
+            left: Operand::Variable(variable),
+            comparison: Comparison::Equal,
+            right: Operand::Number(number),
+        };
+        self.line(action, Some(label), spot)
     }
 
     /// Makes a call, and sets a variable to 1 if it works, else to 0.
@@ -154,9 +211,14 @@ impl Lines {
             no,
             after,
         }))?;
+        self.branch_all(&mut tasks)
+    }
+
+    /// Writes what is left of a condition.
+    fn branch_all(&mut self, tasks: &mut Vec<Task>) -> Result<(), Fault> {
         for _ in 0..=self.tests.len().saturating_mul(2) {
             match tasks.pop() {
-                Some(Task::Branch(branch)) => self.branch_once(&mut tasks, branch)?,
+                Some(Task::Branch(branch)) => self.branch_once(tasks, branch)?,
                 Some(Task::Label(label)) => self.place(label)?,
                 None => break,
             }
@@ -190,7 +252,9 @@ impl Lines {
                 comparison,
                 right,
             } => {
-                if let Some(action) = before {
+                if let Some(place) = before
+                    && let Some(action) = self.givers.get(place).copied()
+                {
                     self.line(action, None, spot)?;
                 }
                 self.branch_on_comparison(branch, left, comparison, right)

@@ -1,24 +1,15 @@
 // The constructs of a source whose end isn't read yet.
 
 use crate::fault::Spot;
-use crate::simple::Simple;
 
 /// Where the body of a construct begins, so that what is after a body without braces can't look as if it belonged to it.
 #[derive(Clone, Copy)]
 pub(crate) struct Margin {
     /// The word of the construct.
     pub(crate) word: &'static str,
-    pub(crate) head_line: usize,
-    pub(crate) first_line: usize,
     pub(crate) indent: usize,
-    pub(crate) has_braces: bool,
-}
-
-/// A simple statement after a body, as the step of a `for`.
-#[derive(Clone, Copy)]
-pub(crate) struct Step {
-    pub(crate) simple: Simple,
-    pub(crate) spot: Spot,
+    /// Whether the body has braces, or begins on the line of its head.
+    pub(crate) is_plain: bool,
 }
 
 /// A construct whose end isn't read yet, with the labels that are placed or named there.
@@ -34,12 +25,12 @@ pub(crate) enum Open {
         end: usize,
         margin: Margin,
     },
-    /// A `while` or a `for`.
+    /// A `while` or a `for`. `step` is where the lines of its step are among those that were put aside.
     Loop {
         top: usize,
         again: usize,
         end: usize,
-        step: Option<Step>,
+        step: usize,
         margin: Margin,
         spot: Spot,
     },

@@ -11,18 +11,6 @@ use crate::scope::Meaning;
 use crate::texts::Word;
 use crate::token::Token;
 
-/// A simple statement.
-#[derive(Clone, Copy)]
-pub(crate) enum Simple {
-    Line(Action),
-    /// The variable is set to 1 if the call works, else to 0.
-    Keep { variable: usize, call: Call },
-    /// The variable is set to 1 unless the condition is true.
-    Assert { variable: usize, test: usize },
-    /// The lines of the function of this body.
-    Expand(usize),
-}
-
 /// What `++` and `--` change a variable by.
 const ONE: Term = Term {
     value: Value::Number(1),
@@ -30,8 +18,8 @@ const ONE: Term = Term {
 };
 
 impl<'a> Reader<'a> {
-    /// Takes a simple statement.
-    pub(crate) fn simple(&mut self) -> Result<Simple, Fault> {
+    /// Takes a simple statement, and writes its lines.
+    pub(crate) fn simple(&mut self) -> Result<(), Fault> {
         let token = self.cursor.token();
         let Token { text, spot, .. } = token;
         if text != "any" && self.cursor.is_before("(") {
@@ -52,7 +40,7 @@ impl<'a> Reader<'a> {
     }
 
     /// Takes a variable, and what it is given or how it is changed.
-    fn assignment_here(&mut self, spot: Spot) -> Result<Simple, Fault> {
+    fn assignment_here(&mut self, spot: Spot) -> Result<(), Fault> {
         let variable = self.variable_named("a statement")?;
         let operator = self.cursor.token();
         if self.cursor.accepts("=") {
@@ -73,14 +61,14 @@ impl<'a> Reader<'a> {
         self.changed(variable, spot, operator, by)
     }
 
-    /// The statement that joins a variable with a term. `spot` is the place of the variable.
+    /// Joins a variable with a term. `spot` is the place of the statement.
     fn changed(
-        &self,
+        &mut self,
         variable: usize,
         spot: Spot,
         operator: Token<'a>,
         by: Term,
-    ) -> Result<Simple, Fault> {
+    ) -> Result<(), Fault> {
         let sign = match operator.text {
             "+=" | "++" => Arithmetic::Plus,
             "*=" => Arithmetic::Times,
@@ -95,20 +83,23 @@ impl<'a> Reader<'a> {
     }
 
     /// Takes what is after the name of what is called.
-    fn called(&mut self, token: Token<'a>) -> Result<Simple, Fault> {
+    fn called(&mut self, token: Token<'a>) -> Result<(), Fault> {
         self.cursor.advance();
         if token.text == "configASSERT" {
             let test = self.condition()?;
             let variable = self.assertion_variable(token.spot)?;
-            return Ok(Simple::Assert { variable, test });
+            return self.lines.assert(variable, test, token.spot);
         }
         if let Some(Meaning::Function(function)) = self.scope.meaning(token.text) {
             self.cursor.take("(", "")?;
             self.cursor.take(")", ": a function has no arguments")?;
-            return Ok(Simple::Expand(function));
+            let spot = token.spot;
+            self.lines.body.items.push(Item::Expand { function, spot })?;
+            return Ok(());
         }
         let call = self.kernel_call(token)?;
-        Ok(Simple::Line(Action::Call { answer: None, call }))
+        self.lines
+            .line(Action::Call { answer: None, call }, None, token.spot)
     }
 
     /// The variable that `configASSERT` sets where its condition is false: its range is 0 alone.
@@ -136,10 +127,10 @@ impl<'a> Reader<'a> {
         Ok(place)
     }
 
-    /// The statement that gives a variable this value.
-    fn assigned(&self, variable: usize, spot: Spot, term: Term) -> Result<Simple, Fault> {
+    /// Gives a variable this value.
+    fn assigned(&mut self, variable: usize, spot: Spot, term: Term) -> Result<(), Fault> {
         match term.value {
-            Value::Any(range) => self.picked(variable, range, term.spot),
+            Value::Any(range) => self.picked(variable, range, spot, term.spot),
             Value::Called(call) => self.answered(variable, call, spot, term.spot),
             Value::Sum { left, sign, right } => {
                 self.check_sum(left, sign, right, term.spot)?;
@@ -159,28 +150,31 @@ impl<'a> Reader<'a> {
         }
     }
 
-    /// The variable of `(x = ..)`, with the line that gives it a value.
-    pub(crate) fn given(&self, variable: usize, spot: Spot, term: Term) -> Result<Term, Fault> {
-        match self.assigned(variable, spot, term)? {
-            Simple::Line(action @ (Action::Pick { .. } | Action::Call { .. })) => {
-                Ok(Term {
-                    value: Value::Given { variable, action },
-                    spot,
-                })
-            }
-            _ => {
-                let text =
-                    "in a condition, only any(..) or the bytes of a call are given to a variable";
-                Err(wrong(self.alloc, spot, text))
-            }
-        }
+    /// The variable of `(x = ..)`, with the action that gives it a value.
+    pub(crate) fn given(&mut self, variable: usize, spot: Spot, term: Term) -> Result<Term, Fault> {
+        self.assigned(variable, spot, term)?;
+        let Some(action) = self.lines.take_giver()? else {
+            let text =
+                "in a condition, only any(..) or the bytes of a call are given to a variable";
+            return Err(wrong(self.alloc, spot, text));
+        };
+        let value = Value::Given { variable, action };
+        Ok(Term { value, spot })
     }
 
-    /// The statement that gives a variable a number of an `any`. Refuses numbers that the variable can't have.
-    fn picked(&self, variable: usize, range: Range, spot: Spot) -> Result<Simple, Fault> {
+    /// Gives a variable a number of an `any`. Refuses numbers that the variable can't have.
+    fn picked(
+        &mut self,
+        variable: usize,
+        range: Range,
+        spot: Spot,
+        any_spot: Spot,
+    ) -> Result<(), Fault> {
         let target = self.program.variable(variable);
         if target.range.includes(range) {
-            return Ok(Simple::Line(Action::Pick { variable, range }));
+            return self
+                .lines
+                .line(Action::Pick { variable, range }, None, spot);
         }
         let words = &[
             Word::Number(range.low),
@@ -190,17 +184,17 @@ impl<'a> Reader<'a> {
             Word::Number(target.range.high),
         ];
         let form = "% to % isn't in the range of '%', %..%";
-        Err(wrong_with(self.alloc, spot, form, words))
+        Err(wrong_with(self.alloc, any_spot, form, words))
     }
 
-    /// The statement that gives a variable the answer of a call. Refuses an answer that the variable can't have.
+    /// Gives a variable the answer of a call. Refuses an answer that the variable can't have.
     fn answered(
-        &self,
+        &mut self,
         variable: usize,
         call: Call,
         spot: Spot,
         call_spot: Spot,
-    ) -> Result<Simple, Fault> {
+    ) -> Result<(), Fault> {
         let target = self.program.variable(variable);
         let high = match (call.kernel.answer, self.program.arguments(call)) {
             (Answer::Nothing, _) => {
@@ -216,10 +210,10 @@ impl<'a> Reader<'a> {
             return Err(too_narrow(self.alloc, target, answers, form, call.kernel.name, spot));
         }
         if call.kernel.may_fail() {
-            return Ok(Simple::Keep { variable, call });
+            return self.lines.keep(variable, call, spot);
         }
         let answer = Some(variable);
-        Ok(Simple::Line(Action::Call { answer, call }))
+        self.lines.line(Action::Call { answer, call }, None, spot)
     }
 
     /// Refuses what a line can't work out.
@@ -248,14 +242,14 @@ impl<'a> Reader<'a> {
         Ok(())
     }
 
-    /// The line that sets a variable. Refuses one that has two shared variables.
+    /// Writes the line that sets a variable. Refuses one that has two shared variables.
     fn set_to(
-        &self,
+        &mut self,
         variable: usize,
         spot: Spot,
         left: Operand,
         more: Option<(Arithmetic, Operand)>,
-    ) -> Result<Simple, Fault> {
+    ) -> Result<(), Fault> {
         let first = self.program.shared_in(left);
         let second = match more {
             Some((_, right)) => self.program.shared_in(right),
@@ -279,23 +273,10 @@ impl<'a> Reader<'a> {
                     left,
                     more,
                 };
-                return Ok(Simple::Line(set));
+                return self.lines.line(set, None, spot);
             }
         };
         let (one, other) = (self.program.variable(one), self.program.variable(other));
         Err(wrong_about(self.alloc, spot, form, one.name, other.name))
-    }
-
-    /// Writes the lines of a simple statement.
-    pub(crate) fn write_simple(&mut self, simple: Simple, spot: Spot) -> Result<(), Fault> {
-        match simple {
-            Simple::Line(action) => self.lines.line(action, None, spot),
-            Simple::Keep { variable, call } => self.lines.keep(variable, call, spot),
-            Simple::Assert { variable, test } => self.lines.assert(variable, test, spot),
-            Simple::Expand(function) => {
-                self.lines.body.items.push(Item::Expand { function, spot })?;
-                Ok(())
-            }
-        }
     }
 }

@@ -2,7 +2,7 @@
 
 use crate::fault::{Fault, Spot, wrong, wrong_about};
 use crate::kernel::is_reserved;
-use crate::open::{Margin, Open, Step};
+use crate::open::{Margin, Open};
 use crate::program::{Home, MOST_ITEMS};
 use crate::reader::{NamedLabel, Reader};
 use crate::token::Token;
@@ -29,9 +29,9 @@ impl<'a> Reader<'a> {
 
     /// Reads a statement, or the head of a construct. Answers whether a statement ends here.
     fn statement(&mut self) -> Result<bool, Fault> {
-        let (holds_many, is_before_cases) = match self.open.last() {
+        let (holds_many, is_before_cases) = match self.open.last().copied() {
             Some(Open::Block) => (true, false),
-            Some(Open::Switch { first_case, .. }) => (true, self.cases.len() <= *first_case),
+            Some(Open::Switch { first_case, .. }) => (true, self.cases.len() <= first_case),
             _ => (false, false),
         };
         match self.cursor.token().text {
@@ -85,7 +85,8 @@ impl<'a> Reader<'a> {
         let top = self.lines.label();
         self.lines.place(top)?;
         let test = self.condition()?;
-        self.loop_head(Some(test), top, None, "while", spot)
+        let first = self.lines.body.items.len();
+        self.loop_head(Some(test), top, first, "while", spot)
     }
 
     fn do_head(&mut self) -> Result<bool, Fault> {
@@ -115,7 +116,7 @@ impl<'a> Reader<'a> {
     fn for_head(&mut self, spot: Spot) -> Result<bool, Fault> {
         self.cursor.take("(", "")?;
         if !self.cursor.sees(";") {
-            self.simple_here()?;
+            self.simple()?;
         }
         self.cursor.take(";", "")?;
         let top = self.lines.label();
@@ -126,33 +127,25 @@ impl<'a> Reader<'a> {
             Some(self.bare_condition()?)
         };
         self.cursor.take(";", "")?;
-        let step = if self.cursor.sees(")") {
-            None
-        } else {
-            let spot = self.cursor.spot();
-            let simple = self.simple()?;
-            Some(Step { simple, spot })
-        };
+        let first = self.lines.body.items.len();
+        if !self.cursor.sees(")") {
+            self.simple()?;
+        }
         self.cursor.take(")", "")?;
-        self.loop_head(test, top, step, "for", spot)
+        self.loop_head(test, top, first, "for", spot)
     }
 
-    /// Takes a simple statement, and writes its lines.
-    fn simple_here(&mut self) -> Result<(), Fault> {
-        let spot = self.cursor.spot();
-        let simple = self.simple()?;
-        self.write_simple(simple, spot)
-    }
-
-    /// Writes the test of a loop, and notes that its body comes.
+    /// Writes the test of a loop, and notes that its body comes. `first` is where the lines of its step begin: they are put
+    /// aside.
     fn loop_head(
         &mut self,
         test: Option<usize>,
         top: usize,
-        step: Option<Step>,
+        first: usize,
         word: &'static str,
         spot: Spot,
     ) -> Result<bool, Fault> {
+        let step = self.lines.put_aside(first)?;
         let body = self.lines.label();
         let again = self.lines.label();
         let end = self.lines.label();
@@ -181,10 +174,8 @@ impl<'a> Reader<'a> {
         }
         Ok(Margin {
             word,
-            head_line: head.spot.line,
-            first_line: first.spot.line,
             indent: first.indent,
-            has_braces: first.text == "{",
+            is_plain: first.text == "{" || first.spot.line <= head.spot.line,
         })
     }
 
@@ -199,8 +190,7 @@ impl<'a> Reader<'a> {
         };
         let last = self.cursor.previous();
         let after = self.cursor.token();
-        let is_apart = margin.has_braces
-            || margin.first_line <= margin.head_line
+        let is_apart = margin.is_plain
             || after.spot.line <= last.spot.line
             || after.indent < margin.indent
             || after.text == "else"
@@ -260,17 +250,10 @@ impl<'a> Reader<'a> {
     }
 
     /// Writes the end of a loop, by the labels of its step, of its test and of what is after it.
-    fn close_loop(
-        &mut self,
-        labels: [usize; 3],
-        step: Option<Step>,
-        spot: Spot,
-    ) -> Result<bool, Fault> {
+    fn close_loop(&mut self, labels: [usize; 3], step: usize, spot: Spot) -> Result<bool, Fault> {
         let [again, top, end] = labels;
         self.lines.place(again)?;
-        if let Some(Step { simple, spot }) = step {
-            self.write_simple(simple, spot)?;
-        }
+        self.lines.take_back(step)?;
         self.lines.goto(top, spot)?;
         self.ended_at(end)
     }
@@ -332,7 +315,7 @@ impl<'a> Reader<'a> {
                 Err(wrong(self.alloc, spot, why))
             }
             "else" => Err(wrong(self.alloc, spot, "'else' without an 'if' above it")),
-            _ => self.simple_here(),
+            _ => self.simple(),
         }
     }
 

@@ -2,11 +2,10 @@
 
 use crate::fault::{Fault, Spot, wrong, wrong_about, wrong_with};
 use crate::open::{Case, Open};
-use crate::program::{Action, Comparison, Item, Operand, Range};
+use crate::program::Range;
 use crate::reader::Reader;
 use crate::texts::Word;
 use crate::token::Token;
-use std::alloc::{AllocError, Global};
 
 /// The last number among the cases, if the cases have every number of the range: its test would always hold.
 fn last_of_all(cases: &[Case], range: Range) -> Option<i64> {
@@ -25,37 +24,10 @@ fn last_of_all(cases: &[Case], range: Range) -> Option<i64> {
     if count == width { last } else { None }
 }
 
-/// The tests of a switch, one for each number but the last one of all, and the line after them.
-fn tests_of(
-    alloc: Global,
-    variable: usize,
-    cases: &[Case],
-    last: Option<i64>,
-    rest: Item,
-) -> Result<Vec<Item>, AllocError> {
-    let mut tests = Vec::new(alloc);
-    for Case { value, label, spot } in cases {
-        if *value == last {
-            continue;
-        }
-        if let Some(number) = *value {
-            let action = Action::If {
-                left: Operand::Variable(variable),
-                comparison: Comparison::Equal,
-                right: Operand::Number(number),
-            };
-            let (to, spot) = (Some(*label), *spot);
-            tests.push(Item::Line { action, to, spot })?;
-        }
-    }
-    tests.push(rest)?;
-    Ok(tests)
-}
-
-/// The label to which a switch goes if no test holds: that of the last number of all, or else of `default`, if it is there.
-fn label_without_test(cases: &[Case], last: Option<i64>) -> Option<usize> {
+/// The label of the case with this number, or of `default`, if it is there.
+fn label_of_case(cases: &[Case], value: Option<i64>) -> Option<usize> {
     for case in cases {
-        if case.value == last {
+        if case.value == value {
             return Some(case.label);
         }
     }
@@ -103,19 +75,37 @@ impl<'a> Reader<'a> {
             None
         };
         self.cursor.take(":", "")?;
-        for case in self.cases.iter().skip(first_case) {
-            if case.value == value {
-                let form = "this case % is there already";
-                return Err(match value {
-                    Some(number) => wrong_with(self.alloc, spot, form, &[Word::Number(number)]),
-                    None => wrong(self.alloc, spot, "this default is there already"),
-                });
-            }
+        if let Some(cases) = self.cases.get(first_case..)
+            && label_of_case(cases, value).is_some()
+        {
+            let form = "this case % is there already";
+            return Err(match value {
+                Some(number) => wrong_with(self.alloc, spot, form, &[Word::Number(number)]),
+                None => wrong(self.alloc, spot, "this default is there already"),
+            });
         }
         let label = self.lines.label();
         self.lines.place(label)?;
         self.cases.push(Case { value, label, spot })?;
         Ok(false)
+    }
+
+    /// Writes the tests of a switch, one for each number but the last one of all.
+    fn write_tests(
+        &mut self,
+        variable: usize,
+        first_case: usize,
+        last: Option<i64>,
+    ) -> Result<(), Fault> {
+        for place in first_case..self.cases.len() {
+            if let Some(Case { value, label, spot }) = self.cases.get(place).copied()
+                && let Some(number) = value
+                && value != last
+            {
+                self.lines.test_case(variable, number, label, spot)?;
+            }
+        }
+        Ok(())
     }
 
     /// Closes a block or a switch: a statement ends there. The tests of a switch are put before its bodies.
@@ -136,16 +126,14 @@ impl<'a> Reader<'a> {
         let Some(cases) = self.cases.get(first_case..) else {
             return Ok(true);
         };
+        // A switch goes on where no test holds: at the last number of all, or else at `default`.
         let last = last_of_all(cases, range);
-        let action = Action::Goto;
-        let to = Some(label_without_test(cases, last).unwrap_or(end));
-        let rest = Item::Line { action, to, spot };
-        let mut tests = tests_of(self.alloc, variable, cases, last, rest)?;
+        let rest = label_of_case(cases, last).unwrap_or(end);
+        let bodies = self.lines.put_aside(first_item)?;
+        self.write_tests(variable, first_case, last)?;
+        self.lines.goto(rest, spot)?;
+        self.lines.take_back(bodies)?;
         self.cases.truncate(first_case);
-        let items = &mut self.lines.body.items;
-        let mut bodies = items.split_off(first_item.min(items.len()))?;
-        items.append(&mut tests)?;
-        items.append(&mut bodies)?;
         self.lines.place(end)?;
         Ok(true)
     }
