@@ -60,11 +60,11 @@ impl<'a> Reader<'a> {
         let Some(kernel) = kernel_named(token.text) else {
             return Err(self.unknown_call(token));
         };
-        if kernel.is_of_interrupts() && matches!(self.home, Home::Task) {
+        if kernel.is_of_interrupts() && matches!(self.here.home, Home::Task) {
             let form = "a task doesn't make the call %, which is for interrupts";
             return Err(wrong_about(self.alloc, token.spot, form, kernel.name, ""));
         }
-        self.call = Some(kernel);
+        self.here.call = Some(kernel);
         self.cursor.take("(", "")?;
         let mut arguments = [Argument::Absent; 3];
         for (place, what) in kernel.places.iter().enumerate() {
@@ -79,14 +79,14 @@ impl<'a> Reader<'a> {
         if !self.cursor.accepts(")") {
             return Err(self.expected_in("')'", kernel)?);
         }
-        self.call = None;
+        self.here.call = None;
         Ok(self.program.call(kernel, arguments)?)
     }
 
     /// The fault that a called name is neither a function's nor the kernel's.
     fn unknown_call(&self, token: Token<'a>) -> Fault {
         let Token { text, spot, .. } = token;
-        let (form, more) = if text == self.name {
+        let (form, more) = if text == self.here.name {
             (
                 "'%' can't call itself: a function is expanded where it is called",
                 "",

@@ -80,7 +80,7 @@ impl Reader<'_> {
                 return Err(wrong(self.alloc, spot, why));
             }
         };
-        self.lines.test(condition, spot)
+        self.here.lines.test(condition, spot)
     }
 
     /// The condition that two terms compare so.
@@ -141,11 +141,11 @@ impl Reader<'_> {
                 return Err(wrong_about(self.alloc, right.spot, form, call.kernel.name, ""));
             }
         };
-        let test = self.lines.test(Condition::Works(call), spot)?;
+        let test = self.here.lines.test(Condition::Works(call), spot)?;
         if is_works {
             Ok(test)
         } else {
-            self.lines.test(Condition::Not(test), spot)
+            self.here.lines.test(Condition::Not(test), spot)
         }
     }
 
@@ -173,7 +173,7 @@ impl Reader<'_> {
             (Operand::Variable(one), Operand::Variable(other)) => self.check_two(one, other, spot)?,
             _ => {}
         }
-        self.lines.test(condition, spot)
+        self.here.lines.test(condition, spot)
     }
 
     /// Refuses to compare a variable with itself, and two shared ones.

@@ -90,7 +90,7 @@ impl<'a> Reader<'a> {
 
     /// Reads a declaration.
     fn declaration(&mut self) -> Result<(), Fault> {
-        self.operators = 0;
+        self.here.operators = 0;
         let word = self.cursor.word("a declaration")?;
         if self.scope.outside.len() >= MOST_NAMES {
             return Err(wrong(self.alloc, word.spot, "more than 1024 names are declared"));
@@ -143,11 +143,11 @@ impl<'a> Reader<'a> {
         let range = self.range()?;
         let may_begin = is_static
             || matches!(owner, Owner::Everyone)
-            || matches!(self.home, Home::Task);
+            || matches!(self.here.home, Home::Task);
         let first = self.first_value(range, may_begin)?;
         self.cursor.take(";", " after the declaration")?;
         let function = match owner {
-            Owner::Function(_) => Some(self.name),
+            Owner::Function(_) => Some(self.here.name),
             _ => None,
         };
         let variable = Variable {
@@ -175,7 +175,7 @@ impl<'a> Reader<'a> {
             let form =
                 "a variable of this % keeps its value: write 'static var' for one that is set at the start alone, \
                 or assign it below";
-            return Err(wrong_about(self.alloc, spot, form, self.home.text(), ""));
+            return Err(wrong_about(self.alloc, spot, form, self.here.home.text(), ""));
         }
         if range.holds(first) {
             return Ok(first);
@@ -200,7 +200,7 @@ impl<'a> Reader<'a> {
     pub(crate) fn add_variable(&mut self, variable: Variable<'a>) -> Result<usize, Fault> {
         let is_of_function = matches!(variable.owner, Owner::Function(_));
         let count = if is_of_function {
-            self.lines.body.variables.len()
+            self.here.lines.body.variables.len()
         } else {
             self.program.written.len()
         };
@@ -214,7 +214,7 @@ impl<'a> Reader<'a> {
         let place = self.program.variables.len();
         self.program.variables.push(variable)?;
         if is_of_function {
-            self.lines.body.variables.push(place)?;
+            self.here.lines.body.variables.push(place)?;
         } else {
             self.program.written.push(place)?;
         }
@@ -344,27 +344,27 @@ impl<'a> Reader<'a> {
         owner: Owner,
         last: Option<Action>,
     ) -> Result<Spot, Fault> {
-        self.home = home;
-        self.name = name.text;
-        self.labels.clear();
+        self.here.home = home;
+        self.here.name = name.text;
+        self.here.labels.clear();
         self.cursor.take("{", "")?;
         for _ in 0..self.cursor.left() {
             let is_static = self.cursor.accepts("static");
             if !is_static && !self.cursor.sees("var") {
                 break;
             }
-            self.operators = 0;
+            self.here.operators = 0;
             self.cursor.take("var", "")?;
             self.variable_declaration(owner, is_static)?;
         }
         let end = self.statements()?;
         self.check_labels()?;
         self.scope.inside.clear();
-        self.lines.place(0)?;
+        self.here.lines.place(0)?;
         if let Some(action) = last {
-            self.lines.line(action, None, end)?;
+            self.here.lines.line(action, None, end)?;
         }
-        let Lines { body, .. } = mem::replace(&mut self.lines, Lines::new(self.alloc));
+        let Lines { body, .. } = mem::replace(&mut self.here.lines, Lines::new(self.alloc));
         self.program.bodies.push(body)?;
         Ok(end)
     }

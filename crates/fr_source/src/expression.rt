@@ -376,7 +376,7 @@ impl<'a> Reader<'a> {
         match waiting {
             Waiting::Not(spot) => {
                 let part = self.test_of(term)?;
-                let value = Value::Test(self.lines.test(Condition::Not(part), spot)?);
+                let value = Value::Test(self.here.lines.test(Condition::Not(part), spot)?);
                 Ok(Term { value, spot })
             }
             Waiting::Minus(spot) => {
@@ -451,8 +451,8 @@ impl<'a> Reader<'a> {
             return Ok(true);
         }
         self.cursor.advance();
-        self.operators = self.operators.saturating_add(1);
-        if self.operators > MOST_OPERATORS {
+        self.here.operators = self.here.operators.saturating_add(1);
+        if self.here.operators > MOST_OPERATORS {
             let text = "more than 256 operators in one statement";
             return Err(wrong(self.alloc, spot, text));
         }
@@ -510,7 +510,7 @@ impl<'a> Reader<'a> {
                     Operator::And => Condition::And(first, second),
                     _ => Condition::Or(first, second),
                 };
-                self.lines.test(condition, spot)?
+                self.here.lines.test(condition, spot)?
             }
         };
         Ok(Term {
@@ -534,7 +534,7 @@ impl<'a> Reader<'a> {
         match term.value {
             Value::Number(number) => Ok(number),
             _ => {
-                let text = if self.call.is_some() {
+                let text = if self.here.call.is_some() {
                     "expected a number or a constant: a time or a length is never a variable, so write a call for each value"
                 } else {
                     "expected a number or a constant"

@@ -27,19 +27,14 @@ pub(crate) struct NamedLabel<'a> {
     pub(crate) is_placed: bool,
 }
 
+/// The body that is read.
 #[derive(Drop)]
-pub(crate) struct Reader<'a> {
-    pub(crate) alloc: Global,
-    pub(crate) cursor: Cursor<'a>,
-    pub(crate) scope: Scope<'a>,
-    pub(crate) program: Program<'a>,
+pub(crate) struct Here<'a> {
     pub(crate) lines: Lines,
     pub(crate) labels: Vec<NamedLabel<'a>>,
     /// The constructs whose end isn't read yet, the innermost last, and the cases of the switches among them.
     pub(crate) open: Vec<Open>,
     pub(crate) cases: Vec<Case>,
-    /// The bodies with parameters.
-    pub(crate) templates: Vec<Template<'a>>,
     /// Whose body is read.
     pub(crate) home: Home,
     /// The name of the actor or function that is read.
@@ -50,6 +45,17 @@ pub(crate) struct Reader<'a> {
     pub(crate) assertion: Option<usize>,
     /// The call whose arguments are read.
     pub(crate) call: Option<&'static Kernel>,
+}
+
+#[derive(Drop)]
+pub(crate) struct Reader<'a> {
+    pub(crate) alloc: Global,
+    pub(crate) cursor: Cursor<'a>,
+    pub(crate) scope: Scope<'a>,
+    pub(crate) program: Program<'a>,
+    /// The bodies with parameters.
+    pub(crate) templates: Vec<Template<'a>>,
+    pub(crate) here: Here<'a>,
 }
 
 /// The fault that an argument isn't declared, where there are more than the call has.
@@ -81,22 +87,24 @@ impl<'a> Reader<'a> {
             cursor,
             scope: Scope::new(alloc),
             program: Program::new(alloc),
-            lines: Lines::new(alloc),
-            labels: Vec::new(alloc),
-            open: Vec::new(alloc),
-            cases: Vec::new(alloc),
             templates: Vec::new(alloc),
-            home: Home::Function,
-            name: "",
-            operators: 0,
-            assertion: None,
-            call: None,
+            here: Here {
+                lines: Lines::new(alloc),
+                labels: Vec::new(alloc),
+                open: Vec::new(alloc),
+                cases: Vec::new(alloc),
+                home: Home::Function,
+                name: "",
+                operators: 0,
+                assertion: None,
+                call: None,
+            },
         }
     }
 
     /// Refuses what is too deep: so many brackets in the constructs that are open.
     pub(crate) fn check_depth(&self, brackets: usize, spot: Spot) -> Result<(), Fault> {
-        if self.open.len().saturating_add(brackets) > DEEPEST {
+        if self.here.open.len().saturating_add(brackets) > DEEPEST {
             return Err(wrong(self.alloc, spot, "nested more than 40 deep"));
         }
         Ok(())
@@ -156,7 +164,7 @@ impl<'a> Reader<'a> {
                 "",
             )
         } else {
-            match (self.scope.near(text), self.call) {
+            match (self.scope.near(text), self.here.call) {
                 (Some(near), _) => ("'%' isn't declared. Did you mean '%'?", near),
                 (None, Some(kernel)) if self.cursor.is_at_surplus(kernel.places.len()) => {
                     return surplus(self.alloc, token, kernel);

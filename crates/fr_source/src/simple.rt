@@ -88,23 +88,28 @@ impl<'a> Reader<'a> {
         if token.text == "configASSERT" {
             let test = self.condition()?;
             let variable = self.assertion_variable(token.spot)?;
-            return self.lines.assert(variable, test, token.spot);
+            return self.here.lines.assert(variable, test, token.spot);
         }
         if let Some(Meaning::Function(function)) = self.scope.meaning(token.text) {
             self.cursor.take("(", "")?;
             self.cursor.take(")", ": a function has no arguments")?;
             let spot = token.spot;
-            self.lines.body.items.push(Item::Expand { function, spot })?;
+            self.here
+                .lines
+                .body
+                .items
+                .push(Item::Expand { function, spot })?;
             return Ok(());
         }
         let call = self.kernel_call(token)?;
-        self.lines
+        self.here
+            .lines
             .line(Action::Call { answer: None, call }, None, token.spot)
     }
 
     /// The variable that `configASSERT` sets where its condition is false: its range is 0 alone.
     fn assertion_variable(&mut self, spot: Spot) -> Result<usize, Fault> {
-        if let Some(variable) = self.assertion {
+        if let Some(variable) = self.here.assertion {
             return Ok(variable);
         }
         if self.scope.meaning("assertion").is_some() {
@@ -123,7 +128,7 @@ impl<'a> Reader<'a> {
         let place = self.add_variable(variable)?;
         self.scope
             .add_outside("assertion", Meaning::Variable(place))?;
-        self.assertion = Some(place);
+        self.here.assertion = Some(place);
         Ok(place)
     }
 
@@ -153,7 +158,7 @@ impl<'a> Reader<'a> {
     /// The variable of `(x = ..)`, with the action that gives it a value.
     pub(crate) fn given(&mut self, variable: usize, spot: Spot, term: Term) -> Result<Term, Fault> {
         self.assigned(variable, spot, term)?;
-        let Some(action) = self.lines.take_giver()? else {
+        let Some(action) = self.here.lines.take_giver()? else {
             let text =
                 "in a condition, only any(..) or the bytes of a call are given to a variable";
             return Err(wrong(self.alloc, spot, text));
@@ -173,6 +178,7 @@ impl<'a> Reader<'a> {
         let target = self.program.variable(variable);
         if target.range.includes(range) {
             return self
+                .here
                 .lines
                 .line(Action::Pick { variable, range }, None, spot);
         }
@@ -210,10 +216,12 @@ impl<'a> Reader<'a> {
             return Err(too_narrow(self.alloc, target, answers, form, call.kernel.name, spot));
         }
         if call.kernel.may_fail() {
-            return self.lines.keep(variable, call, spot);
+            return self.here.lines.keep(variable, call, spot);
         }
         let answer = Some(variable);
-        self.lines.line(Action::Call { answer, call }, None, spot)
+        self.here
+            .lines
+            .line(Action::Call { answer, call }, None, spot)
     }
 
     /// Refuses what a line can't work out.
@@ -273,7 +281,7 @@ impl<'a> Reader<'a> {
                     left,
                     more,
                 };
-                return self.lines.line(set, None, spot);
+                return self.here.lines.line(set, None, spot);
             }
         };
         let (one, other) = (self.program.variable(one), self.program.variable(other));

@@ -12,16 +12,22 @@ impl<'a> Reader<'a> {
     pub(crate) fn statements(&mut self) -> Result<Spot, Fault> {
         for _ in 0..=self.cursor.left() {
             let spot = self.cursor.spot();
-            if self.open.is_empty() && self.cursor.accepts("}") {
+            if self.here.open.is_empty() && self.cursor.accepts("}") {
                 return Ok(spot);
             }
-            self.operators = 0;
+            self.here.operators = 0;
             if self.statement()? {
                 self.close_all()?;
             }
-            if self.lines.body.items.len() > MOST_ITEMS {
+            if self.here.lines.body.items.len() > MOST_ITEMS {
                 let form = "% '%' grows to more than 4096 lines and labels: this passed the limit";
-                return Err(wrong_about(self.alloc, spot, form, self.home.text(), self.name));
+                return Err(wrong_about(
+                    self.alloc,
+                    spot,
+                    form,
+                    self.here.home.text(),
+                    self.here.name,
+                ));
             }
         }
         Err(self.cursor.expected("'}'"))
@@ -29,9 +35,9 @@ impl<'a> Reader<'a> {
 
     /// Reads a statement, or the head of a construct. Answers whether a statement ends here.
     fn statement(&mut self) -> Result<bool, Fault> {
-        let (holds_many, is_before_cases) = match self.open.last().copied() {
+        let (holds_many, is_before_cases) = match self.here.open.last().copied() {
             Some(Open::Block) => (true, false),
-            Some(Open::Switch { first_case, .. }) => (true, self.cases.len() <= first_case),
+            Some(Open::Switch { first_case, .. }) => (true, self.here.cases.len() <= first_case),
             _ => (false, false),
         };
         match self.cursor.token().text {
@@ -63,7 +69,7 @@ impl<'a> Reader<'a> {
 
     /// Notes that a construct is open: no statement ends here.
     fn enter(&mut self, open: Open) -> Result<bool, Fault> {
-        self.open.push(open)?;
+        self.here.open.push(open)?;
         self.check_depth(0, self.cursor.spot())?;
         Ok(false)
     }
@@ -82,18 +88,18 @@ impl<'a> Reader<'a> {
     }
 
     fn while_head(&mut self, spot: Spot) -> Result<bool, Fault> {
-        let top = self.lines.label();
-        self.lines.place(top)?;
+        let top = self.here.lines.label();
+        self.here.lines.place(top)?;
         let test = self.condition()?;
-        let first = self.lines.body.items.len();
+        let first = self.here.lines.body.items.len();
         self.loop_head(Some(test), top, first, "while", spot)
     }
 
     fn do_head(&mut self) -> Result<bool, Fault> {
-        let top = self.lines.label();
-        let again = self.lines.label();
-        let end = self.lines.label();
-        self.lines.place(top)?;
+        let top = self.here.lines.label();
+        let again = self.here.lines.label();
+        let end = self.here.lines.label();
+        self.here.lines.place(top)?;
         let margin = self.margin("do")?;
         self.enter(Open::Do {
             top,
@@ -105,10 +111,10 @@ impl<'a> Reader<'a> {
 
     fn if_head(&mut self, spot: Spot) -> Result<bool, Fault> {
         let test = self.condition()?;
-        let yes = self.lines.label();
-        let no = self.lines.label();
-        self.lines.branch(test, spot, yes, no, yes)?;
-        self.lines.place(yes)?;
+        let yes = self.here.lines.label();
+        let no = self.here.lines.label();
+        self.here.lines.branch(test, spot, yes, no, yes)?;
+        self.here.lines.place(yes)?;
         let margin = self.margin("if")?;
         self.enter(Open::If { no, margin, spot })
     }
@@ -119,15 +125,15 @@ impl<'a> Reader<'a> {
             self.simple()?;
         }
         self.cursor.take(";", "")?;
-        let top = self.lines.label();
-        self.lines.place(top)?;
+        let top = self.here.lines.label();
+        self.here.lines.place(top)?;
         let test = if self.cursor.sees(";") {
             None
         } else {
             Some(self.bare_condition()?)
         };
         self.cursor.take(";", "")?;
-        let first = self.lines.body.items.len();
+        let first = self.here.lines.body.items.len();
         if !self.cursor.sees(")") {
             self.simple()?;
         }
@@ -145,14 +151,14 @@ impl<'a> Reader<'a> {
         word: &'static str,
         spot: Spot,
     ) -> Result<bool, Fault> {
-        let step = self.lines.put_aside(first)?;
-        let body = self.lines.label();
-        let again = self.lines.label();
-        let end = self.lines.label();
+        let step = self.here.lines.put_aside(first)?;
+        let body = self.here.lines.label();
+        let again = self.here.lines.label();
+        let end = self.here.lines.label();
         if let Some(test) = test {
-            self.lines.branch(test, spot, body, end, body)?;
+            self.here.lines.branch(test, spot, body, end, body)?;
         }
-        self.lines.place(body)?;
+        self.here.lines.place(body)?;
         let margin = self.margin(word)?;
         self.enter(Open::Loop {
             top,
@@ -206,12 +212,12 @@ impl<'a> Reader<'a> {
 
     /// Closes the constructs that the end of a statement ends.
     fn close_all(&mut self) -> Result<(), Fault> {
-        for _ in 0..=self.open.len() {
-            let open = match self.open.last() {
+        for _ in 0..=self.here.open.len() {
+            let open = match self.here.open.last() {
                 None | Some(Open::Block | Open::Switch { .. }) => break,
                 Some(open) => *open,
             };
-            let _ = self.open.pop();
+            let _ = self.here.open.pop();
             self.check_margin(open)?;
             if !self.close_one(open)? {
                 break;
@@ -245,16 +251,16 @@ impl<'a> Reader<'a> {
 
     /// Places the label after a construct, which ends here.
     fn ended_at(&mut self, end: usize) -> Result<bool, Fault> {
-        self.lines.place(end)?;
+        self.here.lines.place(end)?;
         Ok(true)
     }
 
     /// Writes the end of a loop, by the labels of its step, of its test and of what is after it.
     fn close_loop(&mut self, labels: [usize; 3], step: usize, spot: Spot) -> Result<bool, Fault> {
         let [again, top, end] = labels;
-        self.lines.place(again)?;
-        self.lines.take_back(step)?;
-        self.lines.goto(top, spot)?;
+        self.here.lines.place(again)?;
+        self.here.lines.take_back(step)?;
+        self.here.lines.goto(top, spot)?;
         self.ended_at(end)
     }
 
@@ -262,9 +268,9 @@ impl<'a> Reader<'a> {
         if !self.cursor.accepts("else") {
             return self.ended_at(no);
         }
-        let end = self.lines.label();
-        self.lines.goto(end, spot)?;
-        self.lines.place(no)?;
+        let end = self.here.lines.label();
+        self.here.lines.goto(end, spot)?;
+        self.here.lines.place(no)?;
         let margin = self.margin("else")?;
         self.enter(Open::Else { end, margin })
     }
@@ -276,13 +282,13 @@ impl<'a> Reader<'a> {
                     .expected("'while' and the condition of the 'do' loop"),
             );
         }
-        self.operators = 0;
+        self.here.operators = 0;
         let spot = self.cursor.spot();
         let test = self.condition()?;
         self.cursor.take(";", " after the 'do' loop")?;
-        let spot = self.lines.test_spot(test, spot);
-        self.lines.place(again)?;
-        self.lines.branch(test, spot, top, end, end)?;
+        let spot = self.here.lines.test_spot(test, spot);
+        self.here.lines.place(again)?;
+        self.here.lines.branch(test, spot, top, end, end)?;
         self.ended_at(end)
     }
 
@@ -292,23 +298,23 @@ impl<'a> Reader<'a> {
         match text {
             "break" => self.leave_loop(true, spot),
             "continue" => self.leave_loop(false, spot),
-            "return" if matches!(self.home, Home::Task) => {
+            "return" if matches!(self.here.home, Home::Task) => {
                 let text = "a task doesn't return (rule 11): end it with vTaskDelete(NULL)";
                 Err(wrong(self.alloc, spot, text))
             }
             "return" => {
                 self.cursor.advance();
-                self.lines.goto(0, spot)
+                self.here.lines.goto(0, spot)
             }
             "goto" => {
                 self.cursor.advance();
                 let name = self.cursor.word("a label")?;
                 let label = self.label_named(name, false)?;
-                self.lines.goto(label, spot)
+                self.here.lines.goto(label, spot)
             }
             "var" | "static" => {
                 let form = "variables are declared at the beginning of the %";
-                Err(wrong_about(self.alloc, spot, form, self.home.text(), ""))
+                Err(wrong_about(self.alloc, spot, form, self.here.home.text(), ""))
             }
             "const" => {
                 let why = "constants are declared outside tasks, interrupts and functions";
@@ -322,7 +328,7 @@ impl<'a> Reader<'a> {
     /// Takes a `break`, or else a `continue`.
     fn leave_loop(&mut self, is_break: bool, spot: Spot) -> Result<(), Fault> {
         let mut label = None;
-        for open in &self.open {
+        for open in &self.here.open {
             match *open {
                 Open::Loop { again, end, .. } | Open::Do { again, end, .. } => {
                     label = Some(if is_break { end } else { again });
@@ -340,7 +346,7 @@ impl<'a> Reader<'a> {
             return Err(wrong(self.alloc, spot, text));
         };
         self.cursor.advance();
-        self.lines.goto(label, spot)
+        self.here.lines.goto(label, spot)
     }
 
     /// Takes a label that the source names: no statement ends here.
@@ -353,14 +359,14 @@ impl<'a> Reader<'a> {
             return Err(wrong_about(self.alloc, name.spot, form, name.text, ""));
         }
         let label = self.label_named(name, true)?;
-        self.lines.place(label)?;
+        self.here.lines.place(label)?;
         Ok(false)
     }
 
     /// The label with this name, which is placed here or only named.
     fn label_named(&mut self, name: Token<'a>, is_placed: bool) -> Result<usize, Fault> {
         let Token { text, spot, .. } = name;
-        for one in &mut self.labels {
+        for one in &mut self.here.labels {
             if one.text != text {
                 continue;
             }
@@ -371,8 +377,8 @@ impl<'a> Reader<'a> {
             one.is_placed = one.is_placed || is_placed;
             return Ok(one.label);
         }
-        let label = self.lines.label();
-        self.labels.push(NamedLabel {
+        let label = self.here.lines.label();
+        self.here.labels.push(NamedLabel {
             text,
             label,
             spot,
@@ -383,9 +389,9 @@ impl<'a> Reader<'a> {
 
     /// Refuses a `goto` whose label isn't there.
     pub(crate) fn check_labels(&self) -> Result<(), Fault> {
-        for one in &self.labels {
+        for one in &self.here.labels {
             if !one.is_placed {
-                let (name, kind) = (one.text, self.home.text());
+                let (name, kind) = (one.text, self.here.home.text());
                 return Err(wrong_about(self.alloc, one.spot, "no label '%' in this %", name, kind));
             }
         }

@@ -48,10 +48,10 @@ impl<'a> Reader<'a> {
         }
         self.cursor.take(")", "")?;
         self.cursor.take("{", "")?;
-        let end = self.lines.label();
-        let first_item = self.lines.body.items.len();
-        let first_case = self.cases.len();
-        self.open.push(Open::Switch {
+        let end = self.here.lines.label();
+        let first_item = self.here.lines.body.items.len();
+        let first_case = self.here.cases.len();
+        self.here.open.push(Open::Switch {
             variable,
             end,
             first_item,
@@ -65,7 +65,7 @@ impl<'a> Reader<'a> {
     /// Takes a `case` or a `default` with its colon.
     pub(crate) fn case(&mut self) -> Result<bool, Fault> {
         let Token { text, spot, .. } = self.cursor.token();
-        let Some(Open::Switch { first_case, .. }) = self.open.last().copied() else {
+        let Some(Open::Switch { first_case, .. }) = self.here.open.last().copied() else {
             return Err(self.cursor.expected("a statement"));
         };
         self.cursor.advance();
@@ -75,7 +75,7 @@ impl<'a> Reader<'a> {
             None
         };
         self.cursor.take(":", "")?;
-        if let Some(cases) = self.cases.get(first_case..)
+        if let Some(cases) = self.here.cases.get(first_case..)
             && label_of_case(cases, value).is_some()
         {
             let form = "this case % is there already";
@@ -84,9 +84,9 @@ impl<'a> Reader<'a> {
                 None => wrong(self.alloc, spot, "this default is there already"),
             });
         }
-        let label = self.lines.label();
-        self.lines.place(label)?;
-        self.cases.push(Case { value, label, spot })?;
+        let label = self.here.lines.label();
+        self.here.lines.place(label)?;
+        self.here.cases.push(Case { value, label, spot })?;
         Ok(false)
     }
 
@@ -97,12 +97,12 @@ impl<'a> Reader<'a> {
         first_case: usize,
         last: Option<i64>,
     ) -> Result<(), Fault> {
-        for place in first_case..self.cases.len() {
-            if let Some(Case { value, label, spot }) = self.cases.get(place).copied()
+        for place in first_case..self.here.cases.len() {
+            if let Some(Case { value, label, spot }) = self.here.cases.get(place).copied()
                 && let Some(number) = value
                 && value != last
             {
-                self.lines.test_case(variable, number, label, spot)?;
+                self.here.lines.test_case(variable, number, label, spot)?;
             }
         }
         Ok(())
@@ -118,23 +118,23 @@ impl<'a> Reader<'a> {
                 first_case,
                 spot,
             },
-        ) = self.open.pop()
+        ) = self.here.open.pop()
         else {
             return Ok(true);
         };
         let range = self.program.variable(variable).range;
-        let Some(cases) = self.cases.get(first_case..) else {
+        let Some(cases) = self.here.cases.get(first_case..) else {
             return Ok(true);
         };
         // A switch goes on where no test holds: at the last number of all, or else at `default`.
         let last = last_of_all(cases, range);
         let rest = label_of_case(cases, last).unwrap_or(end);
-        let bodies = self.lines.put_aside(first_item)?;
+        let bodies = self.here.lines.put_aside(first_item)?;
         self.write_tests(variable, first_case, last)?;
-        self.lines.goto(rest, spot)?;
-        self.lines.take_back(bodies)?;
-        self.cases.truncate(first_case);
-        self.lines.place(end)?;
+        self.here.lines.goto(rest, spot)?;
+        self.here.lines.take_back(bodies)?;
+        self.here.cases.truncate(first_case);
+        self.here.lines.place(end)?;
         Ok(true)
     }
 }
