@@ -98,11 +98,11 @@ pub(crate) fn push_note(out: &mut Lines, app: &App, note: &Value) {
 }
 
 /// Appends the kind of the object that a value names, where it is none of these two, and returns whether it did.
-fn push_kind(out: &mut Lines, app: &App, named: Option<&Value>, wanted: [&str; 2]) -> bool {
+fn push_kind(out: &mut Lines, app: &App, named: Option<&Value>, one: &str, other: &str) -> bool {
     if let Some(name) = named.and_then(Value::as_str)
         && let Some(kind) = kind_named(app, name)
     {
-        let (kind, [one, other]) = (kind_text(kind), wanted);
+        let kind = kind_text(kind);
         if kind != one && kind != other {
             out.say(format_args!("{name} has the kind {kind}; wanted: {one} or {other}"));
             return true;
@@ -116,8 +116,8 @@ pub(crate) fn push_end(out: &mut Lines, app: &App, end: &Value) {
     let guard = end.get("guard");
     let mutex = guard.and_then(|guard| guard.get("mutex"));
     let values = guard.and_then(|guard| guard.get("values"));
-    if !push_kind(out, app, end.get("buffer"), ["stream", "message"])
-        && !push_kind(out, app, mutex, ["mutex", "recursive"])
+    if !push_kind(out, app, end.get("buffer"), "stream", "message")
+        && !push_kind(out, app, mutex, "mutex", "recursive")
         && values.is_some()
     {
         out.say("two actors have one value");
