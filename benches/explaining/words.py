@@ -48,11 +48,13 @@ def content_text(app, name, content):
     if isinstance(content, Held):
         return f"live, held by {app.actors[content.holder]}" + (f" {content.count} times" if content.count > 1 else "")
     if kind in ("binary", "counting", "stream"):
-        return f"live, with {content} bytes" if kind == "stream" else f"live, at {content}"
+        return f"live, with {content} {'byte' if content == 1 else 'bytes'}" if kind == "stream" else f"live, at {content}"
     values = " ".join(map(str, content))
     if not content:
         return "live, empty"
-    return f"live, with messages of {values} bytes" if kind == "message" else f"live, with {values}"
+    if kind == "message":
+        return f"live, with messages of {values} bytes"
+    return f"live, with the {'value' if len(content) == 1 else 'values'} {values}"
 
 
 def content_of(app, name, text):

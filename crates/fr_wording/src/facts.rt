@@ -121,7 +121,8 @@ fn put_each<T: fmt::Display>(
 fn put_values(text: &mut String, values: &VecDeque<i64>) -> Result<(), AllocError> {
     match values.len() {
         0 => text.push_str("live, empty"),
-        1..=MOST_VALUES => put_each(text, "live, with", values),
+        1 => put_each(text, "live, with the value", values),
+        2..=MOST_VALUES => put_each(text, "live, with the values", values),
         count => write!(text, "live, with {count} values"),
     }
 }
