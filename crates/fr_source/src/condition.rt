@@ -1,64 +1,64 @@
 // Conditions: what an expression says, where a statement asks whether it is true.
 
 use crate::expression::{Term, Value};
-use crate::fault::{Fault, Spot, wrong, wrong_about};
+use crate::fault::Spot;
 use crate::kernel::Answer;
 use crate::lines::Condition;
 use crate::program::{Call, Comparison, Operand, Owner, Variable};
 use crate::reader::Reader;
-use std::alloc::Global;
-
-/// Refuses a call that doesn't answer whether it worked.
-fn check_fails(alloc: Global, call: Call, spot: Spot) -> Result<(), Fault> {
-    if call.kernel.may_fail() {
-        return Ok(());
-    }
-    let form = match call.kernel.answer {
-        Answer::Bytes =>
-            "% doesn't answer whether it worked: write (n = ..) > 0, where n is a variable",
-        _ => "% doesn't answer whether it worked",
-    };
-    Err(wrong_about(alloc, spot, form, call.kernel.name, ""))
-}
-
-/// The operand that is a side of a comparison.
-fn side(alloc: Global, term: Term) -> Result<Operand, Fault> {
-    if let Value::Called(call) = term.value {
-        check_fails(alloc, call, term.spot)?;
-    }
-    match term.operand() {
-        Some(operand) => Ok(operand),
-        None => {
-            let text = "a side of a comparison is a number or a variable";
-            Err(wrong(alloc, term.spot, text))
-        }
-    }
-}
 
 impl Reader<'_> {
-    /// Reads a condition in brackets.
-    pub(crate) fn condition(&mut self) -> Result<usize, Fault> {
-        self.cursor.take("(", "")?;
-        let test = self.bare_condition()?;
-        if self.cursor.sees("=") {
-            let text = "'=' in a condition: write '=='";
-            return Err(wrong(self.alloc, self.cursor.spot(), text));
+    /// Refuses a call that doesn't answer whether it worked.
+    fn check_fails(&mut self, call: Call, spot: Spot) {
+        if call.kernel.may_fail() {
+            return;
         }
-        self.cursor.take(")", "")?;
-        Ok(test)
+        let form = match call.kernel.answer {
+            Answer::Bytes =>
+                "% doesn't answer whether it worked: write (n = ..) > 0, where n is a variable",
+            _ => "% doesn't answer whether it worked",
+        };
+        self.cursor.refuse_about(spot, form, call.kernel.name, "");
+    }
+
+    /// The operand that is a side of a comparison.
+    fn side(&mut self, term: Term) -> Operand {
+        if let Value::Called(call) = term.value {
+            self.check_fails(call, term.spot);
+        }
+        match term.operand() {
+            Some(operand) => operand,
+            None => {
+                let text = "a side of a comparison is a number or a variable";
+                self.cursor.refuse(term.spot, text);
+                Operand::Number(0)
+            }
+        }
+    }
+
+    /// Reads a condition in brackets.
+    pub(crate) fn condition(&mut self) -> usize {
+        self.cursor.take("(", "");
+        let test = self.bare_condition();
+        let spot = self.cursor.spot();
+        if self.cursor.sees("=") {
+            self.cursor.refuse(spot, "'=' in a condition: write '=='");
+        }
+        self.cursor.take(")", "");
+        test
     }
 
     /// Reads a condition, and gives its place among those of the body.
-    pub(crate) fn bare_condition(&mut self) -> Result<usize, Fault> {
-        let term = self.expression()?;
+    pub(crate) fn bare_condition(&mut self) -> usize {
+        let term = self.expression();
         self.test_of(term)
     }
 
     /// The place of the condition that a term is.
-    pub(crate) fn test_of(&mut self, term: Term) -> Result<usize, Fault> {
+    pub(crate) fn test_of(&mut self, term: Term) -> usize {
         let Term { value, spot } = term;
         let condition = match value {
-            Value::Test(test) => return Ok(test),
+            Value::Test(test) => return test,
             Value::Number(number) => Condition::Always(number != 0),
             Value::Variable(variable) => Condition::Compare {
                 before: None,
@@ -67,7 +67,7 @@ impl Reader<'_> {
                 right: Operand::Number(0),
             },
             Value::Called(call) => {
-                check_fails(self.alloc, call, spot)?;
+                self.check_fails(call, spot);
                 Condition::Works(call)
             }
             Value::Given { .. } | Value::Any(_) | Value::Null | Value::Sum { .. } => {
@@ -77,7 +77,8 @@ impl Reader<'_> {
                     Value::Any(_) => "expected a condition: give any(..) to a variable first",
                     _ => "expected a condition",
                 };
-                return Err(wrong(self.alloc, spot, why));
+                self.cursor.refuse(spot, why);
+                return 0;
             }
         };
         self.here.lines.test(condition, spot)
@@ -90,7 +91,7 @@ impl Reader<'_> {
         comparison: Comparison,
         right: Term,
         spot: Spot,
-    ) -> Result<usize, Fault> {
+    ) -> usize {
         let is_turned = matches!(right.value, Value::Called(_) | Value::Given { .. })
             && !matches!(left.value, Value::Called(_) | Value::Given { .. });
         let (left, comparison, right) = if is_turned {
@@ -104,7 +105,7 @@ impl Reader<'_> {
                 let Variable { name, owner, .. } = self.program.variable(variable);
                 if matches!(owner, Owner::Everyone) {
                     let form = "'%' is shared: give this to a 'var'";
-                    return Err(wrong_about(self.alloc, left.spot, form, name, ""));
+                    self.cursor.refuse_about(left.spot, form, name, "");
                 }
                 let value = Value::Variable(variable);
                 let left = Term { value, ..left };
@@ -121,8 +122,8 @@ impl Reader<'_> {
         comparison: Comparison,
         right: Term,
         spot: Spot,
-    ) -> Result<usize, Fault> {
-        check_fails(self.alloc, call, spot)?;
+    ) -> usize {
+        self.check_fails(call, spot);
         let is_handle = matches!(call.kernel.answer, Answer::Handle);
         let worked = match (right.value, is_handle) {
             (Value::Null, true) | (Value::Number(0), false) => Some(false),
@@ -138,12 +139,14 @@ impl Reader<'_> {
                 } else {
                     "the answer of % is compared by '==' or '!=' with pdTRUE, pdPASS, pdFALSE or pdFAIL"
                 };
-                return Err(wrong_about(self.alloc, right.spot, form, call.kernel.name, ""));
+                self.cursor
+                    .refuse_about(right.spot, form, call.kernel.name, "");
+                true
             }
         };
-        let test = self.here.lines.test(Condition::Works(call), spot)?;
+        let test = self.here.lines.test(Condition::Works(call), spot);
         if is_works {
-            Ok(test)
+            test
         } else {
             self.here.lines.test(Condition::Not(test), spot)
         }
@@ -157,9 +160,9 @@ impl Reader<'_> {
         comparison: Comparison,
         right: Term,
         spot: Spot,
-    ) -> Result<usize, Fault> {
-        let left = side(self.alloc, left)?;
-        let right = side(self.alloc, right)?;
+    ) -> usize {
+        let left = self.side(left);
+        let right = self.side(right);
         let mut condition = Condition::Compare {
             before,
             left,
@@ -170,14 +173,14 @@ impl Reader<'_> {
             (Operand::Number(one), Operand::Number(other)) => {
                 condition = Condition::Always(comparison.holds(one, other));
             }
-            (Operand::Variable(one), Operand::Variable(other)) => self.check_two(one, other, spot)?,
+            (Operand::Variable(one), Operand::Variable(other)) => self.check_two(one, other, spot),
             _ => {}
         }
         self.here.lines.test(condition, spot)
     }
 
     /// Refuses to compare a variable with itself, and two shared ones.
-    fn check_two(&self, one: usize, other: usize, spot: Spot) -> Result<(), Fault> {
+    fn check_two(&mut self, one: usize, other: usize, spot: Spot) {
         let first = self.program.variable(one);
         let second = self.program.variable(other);
         let form = if one == other {
@@ -185,8 +188,9 @@ impl Reader<'_> {
         } else if self.program.is_shared(one) && self.program.is_shared(other) {
             "this reads '%' and '%', which are shared, in one step: copy one to a 'var' first"
         } else {
-            return Ok(());
+            return;
         };
-        Err(wrong_about(self.alloc, spot, form, first.name, second.name))
+        self.cursor
+            .refuse_about(spot, form, first.name, second.name);
     }
 }

@@ -1,4 +1,5 @@
-// Where a reader is among the tokens of a source.
+// Where a reader is among the tokens of a source, and the first fault in them. Once a fault is noted, only the end of the
+// source is seen: so what reads goes on, with values of no meaning, and soon ends.
 
 use crate::fault::{Fault, Spot, clipped, wrong_with};
 use crate::texts::Word;
@@ -13,6 +14,7 @@ pub(crate) struct Cursor<'a> {
     end: Token<'a>,
     /// The place of the next token among all tokens.
     pub(crate) next: usize,
+    pub(crate) fault: Option<Fault>,
 }
 
 impl<'a> Cursor<'a> {
@@ -22,7 +24,32 @@ impl<'a> Cursor<'a> {
             tokens,
             end,
             next: 0,
+            fault: None,
         }
+    }
+
+    /// Notes a fault, in place of one that is noted already.
+    pub(crate) fn note(&mut self, fault: Fault) {
+        self.fault = Some(fault);
+        self.next = self.tokens.len();
+    }
+
+    /// Notes the fault that a form says is at a place, with its words, unless one is noted already.
+    pub(crate) fn refuse_with(&mut self, spot: Spot, form: &str, words: &[Word<'_>]) {
+        if self.fault.is_none() {
+            self.note(wrong_with(self.alloc, spot, form, words));
+        }
+    }
+
+    /// The same with one or two texts as its words: the first one is cut where it is too long.
+    pub(crate) fn refuse_about(&mut self, spot: Spot, form: &str, first: &str, second: &str) {
+        let words = &[Word::Text(clipped(first)), Word::Text(second)];
+        self.refuse_with(spot, form, words);
+    }
+
+    /// The same with a fixed text.
+    pub(crate) fn refuse(&mut self, spot: Spot, text: &str) {
+        self.refuse_with(spot, text, &[]);
     }
 
     /// The number of tokens that are left.
@@ -102,16 +129,15 @@ impl<'a> Cursor<'a> {
     }
 
     /// Takes this word or sign. `why` continues the message, where another token is there.
-    pub(crate) fn take(&mut self, text: &str, why: &str) -> Result<(), Fault> {
-        if self.accepts(text) {
-            return Ok(());
+    pub(crate) fn take(&mut self, text: &str, why: &str) {
+        if !self.accepts(text) {
+            self.refuse_for("'", text, "'", why);
         }
-        Err(self.missing("'", text, why))
     }
 
     /// Passes a body by, up to its closing brace.
-    pub(crate) fn pass_body(&mut self) -> Result<(), Fault> {
-        self.take("{", "")?;
+    pub(crate) fn pass_body(&mut self) {
+        self.take("{", "");
         let mut depth = 1usize;
         for _ in 0..self.left() {
             match self.token().text {
@@ -121,27 +147,25 @@ impl<'a> Cursor<'a> {
             }
             self.advance();
             if depth == 0 {
-                return Ok(());
+                return;
             }
         }
-        Err(self.expected("'}'"))
+        self.refuse_next("'}'");
     }
 
     /// Takes a word.
-    pub(crate) fn word(&mut self, what: &str) -> Result<Token<'a>, Fault> {
+    pub(crate) fn word(&mut self, what: &str) -> Token<'a> {
         let token = self.token();
         match token.kind {
-            Kind::Word => {
-                self.advance();
-                Ok(token)
-            }
-            _ => Err(self.expected(what)),
+            Kind::Word => self.advance(),
+            _ => self.refuse_next(what),
         }
+        token
     }
 
-    /// The fault that something else was expected in place of the next token: a sign in quotes, and more behind it. Where
-    /// a semicolon is missing, the mark is after the token before it.
-    fn missing(&self, quote: &str, sign: &str, more: &str) -> Fault {
+    /// Refuses the next token, in whose place something else was expected, which four texts say. Where a semicolon is
+    /// missing, the mark is after the token before it.
+    pub(crate) fn refuse_for(&mut self, first: &str, sign: &str, third: &str, last: &str) {
         let found = self.token();
         let mut spot = found.spot;
         if sign == ";" {
@@ -155,17 +179,17 @@ impl<'a> Cursor<'a> {
             _ => "expected %%%%, found '%'",
         };
         let words = &[
-            Word::Text(quote),
+            Word::Text(first),
             Word::Text(sign),
-            Word::Text(quote),
-            Word::Text(more),
+            Word::Text(third),
+            Word::Text(last),
             Word::Text(clipped(found.text)),
         ];
-        wrong_with(self.alloc, spot, form, words)
+        self.refuse_with(spot, form, words);
     }
 
-    /// The fault that something else was expected in place of the next token.
-    pub(crate) fn expected(&self, what: &str) -> Fault {
-        self.missing("", "", what)
+    /// Refuses the next token, in whose place something else was expected.
+    pub(crate) fn refuse_next(&mut self, what: &str) {
+        self.refuse_for(what, "", "", "");
     }
 }

@@ -1,7 +1,7 @@
 // Declarations: constants, variables, objects, functions, tasks and interrupts.
 
 use crate::cursor::Cursor;
-use crate::fault::{Fault, Spot, clipped, wrong, wrong_about, wrong_with};
+use crate::fault::{Fault, Spot, clipped};
 use crate::kernel::DECLARATIONS;
 use crate::lines::Lines;
 use crate::near::{OF_C, hint_for, near_among};
@@ -37,63 +37,62 @@ pub(crate) fn program_in<'a>(
     end: Token<'a>,
 ) -> Result<Program<'a>, Fault> {
     let mut reader = Reader::new(alloc, Cursor::new(alloc, tokens, end));
-    reader.declarations()
-}
-
-/// The fault that a word begins no declaration.
-fn no_declaration(alloc: Global, word: Token<'_>) -> Fault {
-    let (shown, spot) = (clipped(word.text), word.spot);
-    let what =
-        "expected a declaration, which begins with one of const, shared, task, interrupt, function, queue, \
-        binary, counting, mutex, recursive, stream, message; found '";
-    let (form, more) = match near_among(&DECLARATIONS, word.text) {
-        Some(near) => ("%%'. Did you mean '%'?", near),
-        None => ("%%'%", hint_for(&OF_C, word.text).unwrap_or("")),
-    };
-    let words = &[Word::Text(what), Word::Text(shown), Word::Text(more)];
-    wrong_with(alloc, spot, form, words)
-}
-
-/// Refuses one more of what there may be at most so many.
-pub(crate) fn check_count(
-    alloc: Global,
-    what: &str,
-    count: usize,
-    most: usize,
-    spot: Spot,
-) -> Result<(), Fault> {
-    if count < most {
-        return Ok(());
+    reader.declarations();
+    if reader.scope.is_short {
+        return Err(Fault::Memory);
     }
-    let form = "there may be at most % %, and this is one more";
-    Err(wrong_with(alloc, spot, form, &[Word::Count(most), Word::Text(what)]))
+    match reader.cursor.fault.take() {
+        Some(fault) => Err(fault),
+        None => Ok(mem::replace(&mut reader.program, Program::new(alloc))),
+    }
 }
 
 impl<'a> Reader<'a> {
-    /// Reads all declarations, and gives what they say.
-    fn declarations(&mut self) -> Result<Program<'a>, Fault> {
+    /// Refuses a word that begins no declaration.
+    fn refuse_declaration(&mut self, word: Token<'a>) {
+        let (shown, spot) = (clipped(word.text), word.spot);
+        let what =
+            "expected a declaration, which begins with one of const, shared, task, interrupt, function, queue, \
+            binary, counting, mutex, recursive, stream, message; found '";
+        let (form, more) = match near_among(&DECLARATIONS, word.text) {
+            Some(near) => ("%%'. Did you mean '%'?", near),
+            None => ("%%'%", hint_for(&OF_C, word.text).unwrap_or("")),
+        };
+        let words = &[Word::Text(what), Word::Text(shown), Word::Text(more)];
+        self.cursor.refuse_with(spot, form, words);
+    }
+
+    /// Refuses one more of what there may be at most so many.
+    pub(crate) fn check_count(&mut self, what: &str, count: usize, most: usize, spot: Spot) {
+        if count >= most {
+            let form = "there may be at most % %, and this is one more";
+            let words = &[Word::Count(most), Word::Text(what)];
+            self.cursor.refuse_with(spot, form, words);
+        }
+    }
+
+    /// Reads all declarations.
+    fn declarations(&mut self) {
         for _ in 0..=self.cursor.left() {
             if matches!(self.cursor.token().kind, Kind::End) {
                 break;
             }
-            self.declaration()?;
+            self.declaration();
         }
-        self.check_templates()?;
+        self.check_templates();
         if self.program.actors.is_empty() {
-            return Err(
-                self.cursor
-                    .expected("a task or an interrupt: there is none"),
-            );
+            self.cursor
+                .refuse_next("a task or an interrupt: there is none");
         }
-        Ok(mem::replace(&mut self.program, Program::new(self.alloc)))
     }
 
     /// Reads a declaration.
-    fn declaration(&mut self) -> Result<(), Fault> {
+    fn declaration(&mut self) {
         self.here.operators = 0;
-        let word = self.cursor.word("a declaration")?;
+        let word = self.cursor.word("a declaration");
         if self.scope.outside.len() >= MOST_NAMES {
-            return Err(wrong(self.alloc, word.spot, "more than 1024 names are declared"));
+            self.cursor
+                .refuse(word.spot, "more than 1024 names are declared");
         }
         match word.text {
             "const" => self.constant_declaration(),
@@ -103,49 +102,48 @@ impl<'a> Reader<'a> {
             "function" => self.function(),
             text => match ObjectKind::of(text) {
                 Some(kind) => self.object(kind),
-                None => Err(no_declaration(self.alloc, word)),
+                None => self.refuse_declaration(word),
             },
         }
     }
 
-    fn constant_declaration(&mut self) -> Result<(), Fault> {
-        let name = self.new_name("the name of a constant")?;
-        self.cursor.take("=", "")?;
-        let number = self.constant()?;
-        self.scope
-            .add_outside(name.text, Meaning::Constant(number))?;
-        self.cursor.take(";", " after the declaration")
+    fn constant_declaration(&mut self) {
+        let name = self.new_name("the name of a constant");
+        self.cursor.take("=", "");
+        let number = self.constant();
+        self.scope.add_outside(name.text, Meaning::Constant(number));
+        self.cursor.take(";", " after the declaration");
     }
 
     /// Reads the least and the greatest number of a range, with `..` between them.
-    fn range(&mut self) -> Result<Range, Fault> {
+    fn range(&mut self) -> Range {
         self.numbers("..", " and the greatest value", "the range %..% is empty")
     }
 
     /// Reads two numbers with a sign between them. `why` continues the message where it is missing, and `form` says that
     /// the first number is greater.
-    pub(crate) fn numbers(&mut self, sign: &str, why: &str, form: &str) -> Result<Range, Fault> {
-        let low = self.constant()?;
-        self.cursor.take(sign, why)?;
+    pub(crate) fn numbers(&mut self, sign: &str, why: &str, form: &str) -> Range {
+        let low = self.constant();
+        self.cursor.take(sign, why);
         let spot = self.cursor.spot();
-        let high = self.constant()?;
+        let high = self.constant();
         if low > high {
             let words = &[Word::Number(low), Word::Number(high)];
-            return Err(wrong_with(self.alloc, spot, form, words));
+            self.cursor.refuse_with(spot, form, words);
         }
-        Ok(Range { low, high })
+        Range { low, high }
     }
 
     /// Reads a variable, without the words before its name.
-    fn variable_declaration(&mut self, owner: Owner, is_static: bool) -> Result<(), Fault> {
-        let name = self.new_name("the name of a variable")?;
-        self.cursor.take("in", " and a range, as in 'in 0..8'")?;
-        let range = self.range()?;
+    fn variable_declaration(&mut self, owner: Owner, is_static: bool) {
+        let name = self.new_name("the name of a variable");
+        self.cursor.take("in", " and a range, as in 'in 0..8'");
+        let range = self.range();
         let may_begin = is_static
             || matches!(owner, Owner::Everyone)
             || matches!(self.here.home, Home::Task);
-        let first = self.first_value(range, may_begin)?;
-        self.cursor.take(";", " after the declaration")?;
+        let first = self.first_value(range, may_begin);
+        self.cursor.take(";", " after the declaration");
         let function = match owner {
             Owner::Function(_) => Some(self.here.name),
             _ => None,
@@ -159,7 +157,7 @@ impl<'a> Reader<'a> {
             is_static,
             function,
         };
-        let place = self.add_variable(variable)?;
+        let place = self.add_variable(variable);
         match owner {
             Owner::Everyone => self.scope.add_outside(name.text, Meaning::Variable(place)),
             _ => self.scope.add_inside(name.text, Meaning::Variable(place)),
@@ -167,18 +165,19 @@ impl<'a> Reader<'a> {
     }
 
     /// Takes the first value of a variable, if there is one.
-    fn first_value(&mut self, range: Range, may_begin: bool) -> Result<i64, Fault> {
+    fn first_value(&mut self, range: Range, may_begin: bool) -> i64 {
         let spot = self.cursor.spot();
         let is_given = self.cursor.accepts("=");
-        let first = if is_given { self.constant()? } else { 0 };
+        let first = if is_given { self.constant() } else { 0 };
         if is_given && !may_begin {
             let form =
                 "a variable of this % keeps its value: write 'static var' for one that is set at the start alone, \
                 or assign it below";
-            return Err(wrong_about(self.alloc, spot, form, self.here.home.text(), ""));
+            self.cursor
+                .refuse_about(spot, form, self.here.home.text(), "");
         }
         if range.holds(first) {
-            return Ok(first);
+            return first;
         }
         let form = if is_given {
             "% isn't in %..%"
@@ -193,44 +192,36 @@ impl<'a> Reader<'a> {
             Word::Number(range.low),
             Word::Number(range.high),
         ];
-        Err(wrong_with(self.alloc, spot, form, words))
+        self.cursor.refuse_with(spot, form, words);
+        first
     }
 
     /// Adds a variable of the application, or one of a function: each actor that calls it gets its own.
-    pub(crate) fn add_variable(&mut self, variable: Variable<'a>) -> Result<usize, Fault> {
+    pub(crate) fn add_variable(&mut self, variable: Variable<'a>) -> usize {
         let is_of_function = matches!(variable.owner, Owner::Function(_));
         let count = if is_of_function {
             self.here.lines.body.variables.len()
         } else {
             self.program.written.len()
         };
-        check_count(
-            self.alloc,
-            "variables",
-            count,
-            MOST_VARIABLES,
-            variable.spot,
-        )?;
+        self.check_count("variables", count, MOST_VARIABLES, variable.spot);
         let place = self.program.variables.len();
-        self.program.variables.push(variable)?;
-        if is_of_function {
-            self.here.lines.body.variables.push(place)?;
+        let is_noted = if is_of_function {
+            self.here.lines.body.variables.push(place).is_ok()
         } else {
-            self.program.written.push(place)?;
+            self.program.written.push(place).is_ok()
+        };
+        if !is_noted || self.program.variables.push(variable).is_err() {
+            self.cursor.note(Fault::Memory);
         }
-        Ok(place)
+        place
     }
 
     /// Reads an object, without the word of its kind.
-    fn object(&mut self, kind: ObjectKind) -> Result<(), Fault> {
-        let name = self.new_name("the name of an object")?;
-        check_count(
-            self.alloc,
-            "objects",
-            self.program.objects.len(),
-            MOST_OBJECTS,
-            name.spot,
-        )?;
+    fn object(&mut self, kind: ObjectKind) {
+        let name = self.new_name("the name of an object");
+        let place = self.program.objects.len();
+        self.check_count("objects", place, MOST_OBJECTS, name.spot);
         let mut object = Object {
             name: name.text,
             kind,
@@ -239,69 +230,69 @@ impl<'a> Reader<'a> {
             first: None,
             is_live: true,
         };
-        self.sizes(&mut object)?;
+        self.sizes(&mut object);
         if self.cursor.accepts("=") {
             object.is_live = false;
             self.cursor
-                .take("NULL", ": an object that isn't there at the start")?;
+                .take("NULL", ": an object that isn't there at the start");
         }
-        self.cursor.take(";", " after the declaration")?;
-        let place = self.program.objects.len();
-        self.program.objects.push(object)?;
-        self.scope.add_outside(name.text, Meaning::Object(place))
+        self.cursor.take(";", " after the declaration");
+        if self.program.objects.push(object).is_err() {
+            self.cursor.note(Fault::Memory);
+        }
+        self.scope.add_outside(name.text, Meaning::Object(place));
     }
 
     /// Takes the size of an object, the range of its items and its first count, where its kind has them.
-    fn sizes(&mut self, object: &mut Object<'a>) -> Result<(), Fault> {
+    fn sizes(&mut self, object: &mut Object<'a>) {
         if matches!(
             object.kind,
             ObjectKind::Binary | ObjectKind::Mutex | ObjectKind::Recursive
         ) {
-            return Ok(());
+            return;
         }
-        self.cursor.take("[", " and the size")?;
-        let high = self.number("the size", SIZES)?;
-        self.cursor.take("]", "")?;
+        self.cursor.take("[", " and the size");
+        let high = self.number("the size", SIZES);
+        self.cursor.take("]", "");
         object.size = Some(high);
         if matches!(object.kind, ObjectKind::Queue) {
-            self.cursor.take("of", " and a range, as in 'of 0..9'")?;
-            object.items = Some(self.range()?);
+            self.cursor.take("of", " and a range, as in 'of 0..9'");
+            object.items = Some(self.range());
         } else if matches!(object.kind, ObjectKind::Counting) {
             self.cursor
-                .take("first", " and the first count, as in 'first 0'")?;
-            object.first = Some(self.number("the first count", Range { low: 0, high })?);
+                .take("first", " and the first count, as in 'first 0'");
+            object.first = Some(self.number("the first count", Range { low: 0, high }));
         }
-        Ok(())
     }
 
     /// Reads a function: its name means something only after it.
-    fn function(&mut self) -> Result<(), Fault> {
-        let name = self.new_name("the name of a function")?;
+    fn function(&mut self) {
+        let name = self.new_name("the name of a function");
         self.cursor
-            .take("(", " and ')' after the name of a function")?;
-        self.cursor.take(")", ": a function has no arguments")?;
+            .take("(", " and ')' after the name of a function");
+        self.cursor.take(")", ": a function has no arguments");
         let place = self.program.bodies.len();
-        self.body(Home::Function, name, Owner::Function(place), None)?;
-        self.scope.add_outside(name.text, Meaning::Function(place))
+        self.body(Home::Function, name, Owner::Function(place), None);
+        self.scope.add_outside(name.text, Meaning::Function(place));
     }
 
     /// Reads a task or an interrupt, with a body of its own or made of a body with parameters. Or notes such a body.
-    fn actor(&mut self, kind: Home) -> Result<(), Fault> {
+    fn actor(&mut self, kind: Home) {
         let what = match kind {
             Home::Task => "the name of a task",
             _ => "the name of an interrupt",
         };
-        let name = self.new_name(what)?;
+        let name = self.new_name(what);
         let parameter = self.cursor.following();
         if self.cursor.sees("(") && parameter.text != ")" {
             if parameter.text == "void" {
                 let text = "leave out '(void *p)': there are no types";
-                return Err(wrong(self.alloc, parameter.spot, text));
+                self.cursor.refuse(parameter.spot, text);
             }
             return self.template(kind, name);
         }
         let count = self.program.actors.len();
-        check_count(self.alloc, "actors", count, MOST_ACTORS, name.spot)?;
+        self.check_count("actors", count, MOST_ACTORS, name.spot);
         if self.cursor.accepts("=") {
             self.made_actor(kind, name)
         } else {
@@ -310,62 +301,58 @@ impl<'a> Reader<'a> {
     }
 
     /// Reads an actor whose parameters, if it has any, and body are next.
-    pub(crate) fn actor_here(
-        &mut self,
-        kind: Home,
-        name: Token<'a>,
-        values: &[Meaning],
-    ) -> Result<(), Fault> {
+    pub(crate) fn actor_here(&mut self, kind: Home, name: Token<'a>, values: &[Meaning]) {
         let (meaning, last) = match kind {
             Home::Task => (Meaning::Task, Action::End),
             _ => (Meaning::Interrupt, Action::Return),
         };
         let number = self.program.actors.len();
-        self.scope.add_outside(name.text, meaning)?;
+        self.scope.add_outside(name.text, meaning);
         if !values.is_empty() {
-            self.give(values)?;
+            self.give(values);
         }
         let body = self.program.bodies.len();
-        let end = self.body(kind, name, Owner::Actor(number), Some(last))?;
-        self.program.actors.push(Actor {
+        let end = self.body(kind, name, Owner::Actor(number), Some(last));
+        let actor = Actor {
             name: name.text,
             kind,
             body,
             end,
-        })?;
-        Ok(())
+        };
+        if self.program.actors.push(actor).is_err() {
+            self.cursor.note(Fault::Memory);
+        }
     }
 
     /// Reads a body, keeps it with a last line after it, and gives the place of its closing brace.
-    fn body(
-        &mut self,
-        home: Home,
-        name: Token<'a>,
-        owner: Owner,
-        last: Option<Action>,
-    ) -> Result<Spot, Fault> {
+    fn body(&mut self, home: Home, name: Token<'a>, owner: Owner, last: Option<Action>) -> Spot {
         self.here.home = home;
         self.here.name = name.text;
         self.here.labels.clear();
-        self.cursor.take("{", "")?;
+        self.cursor.take("{", "");
         for _ in 0..self.cursor.left() {
             let is_static = self.cursor.accepts("static");
             if !is_static && !self.cursor.sees("var") {
                 break;
             }
             self.here.operators = 0;
-            self.cursor.take("var", "")?;
-            self.variable_declaration(owner, is_static)?;
+            self.cursor.take("var", "");
+            self.variable_declaration(owner, is_static);
         }
-        let end = self.statements()?;
-        self.check_labels()?;
+        let end = self.statements();
+        self.check_labels();
         self.scope.inside.clear();
-        self.here.lines.place(0)?;
+        self.here.lines.place(0);
         if let Some(action) = last {
-            self.here.lines.line(action, None, end)?;
+            self.here.lines.line(action, None, end);
         }
-        let Lines { body, .. } = mem::replace(&mut self.here.lines, Lines::new(self.alloc));
-        self.program.bodies.push(body)?;
-        Ok(end)
+        let Lines { body, is_short, .. } = mem::replace(
+            &mut self.here.lines,
+            Lines::new(self.alloc),
+        );
+        if is_short || self.program.bodies.push(body).is_err() {
+            self.cursor.note(Fault::Memory);
+        }
+        end
     }
 }

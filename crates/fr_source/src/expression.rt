@@ -1,7 +1,7 @@
 // Expressions, read with the precedence of C. What is waiting for its right side is on a list, and no call goes into
 // itself: so the depth of brackets costs no stack.
 
-use crate::fault::{Fault, Spot, wrong, wrong_about, wrong_with};
+use crate::fault::{Fault, Spot};
 use crate::kernel::value_of;
 use crate::lines::Condition;
 use crate::program::{Arithmetic, Call, Comparison, Operand, Range};
@@ -109,6 +109,8 @@ struct Yard {
     waiting: Vec<Waiting>,
     /// The number of open brackets and of operators before a term.
     depth: usize,
+    /// Whether an allocation was refused, so that something is missing here.
+    is_short: bool,
 }
 
 impl Yard {
@@ -118,6 +120,19 @@ impl Yard {
             terms: Vec::new(alloc),
             waiting: Vec::new(alloc),
             depth: 0,
+            is_short: false,
+        }
+    }
+
+    fn add(&mut self, term: Term) {
+        if self.terms.push(term).is_err() {
+            self.is_short = true;
+        }
+    }
+
+    fn wait(&mut self, waiting: Waiting) {
+        if self.waiting.push(waiting).is_err() {
+            self.is_short = true;
         }
     }
 }
@@ -138,117 +153,102 @@ fn number_in(text: &str) -> Option<i64> {
     }
 }
 
-/// Two terms, joined by an operator on numbers: worked out, where both are numbers.
-pub(crate) fn binary(
-    alloc: Global,
-    left: Term,
-    sign: Arithmetic,
-    right: Term,
-    spot: Spot,
-) -> Result<Term, Fault> {
-    let (Some(first), Some(second)) = (left.operand(), right.operand()) else {
-        let spot = if left.operand().is_some() {
-            right.spot
-        } else {
-            left.spot
-        };
-        let text = "one line has one operator at most: give a part of this to a variable first";
-        return Err(wrong(alloc, spot, text));
-    };
-    match (first, second) {
-        (Operand::Number(one), Operand::Number(other)) => {
-            worked_out(alloc, one, sign, other, (left.spot, spot))
-        }
-        _ => Ok(Term {
-            value: Value::Sum {
-                left: first,
-                sign,
-                right: second,
-            },
-            spot,
-        }),
-    }
-}
-
-/// The number that the operator makes of two. The places are those of the first number and of the operator.
-fn worked_out(
-    alloc: Global,
-    one: i64,
-    sign: Arithmetic,
-    other: i64,
-    spots: (Spot, Spot),
-) -> Result<Term, Fault> {
-    let (first, spot) = spots;
-    let number = match sign {
-        Arithmetic::Plus => one.checked_add(other),
-        Arithmetic::Minus => one.checked_sub(other),
-        Arithmetic::Times => one.checked_mul(other),
-        Arithmetic::Divide | Arithmetic::Remainder if other == 0 => {
-            return Err(wrong(alloc, spot, "division by zero"));
-        }
-        Arithmetic::Divide => one.checked_div(other),
-        Arithmetic::Remainder => one.checked_rem(other),
-    };
-    match number {
-        Some(number) => Ok(Term {
-            value: Value::Number(number),
-            spot: first,
-        }),
-        None => Err(wrong(alloc, spot, "this doesn't fit in 64 bits")),
-    }
-}
-
 impl<'a> Reader<'a> {
-    /// Reads an expression.
-    pub(crate) fn expression(&mut self) -> Result<Term, Fault> {
-        let mut yard = Yard::new(self.alloc, true);
-        self.read_expression(&mut yard)
+    /// Two terms, joined by an operator on numbers: worked out, where both are numbers.
+    pub(crate) fn binary(&mut self, left: Term, sign: Arithmetic, right: Term, spot: Spot) -> Term {
+        let value = match (left.operand(), right.operand()) {
+            (Some(Operand::Number(one)), Some(Operand::Number(other))) => {
+                let number = self.worked_out(one, sign, other, spot);
+                return Term {
+                    value: Value::Number(number),
+                    spot: left.spot,
+                };
+            }
+            (Some(left), Some(right)) => Value::Sum { left, sign, right },
+            (first, _) => {
+                let spot = if first.is_some() {
+                    right.spot
+                } else {
+                    left.spot
+                };
+                let text =
+                    "one line has one operator at most: give a part of this to a variable first";
+                self.cursor.refuse(spot, text);
+                Value::Null
+            }
+        };
+        Term { value, spot }
     }
 
-    fn read_expression(&mut self, yard: &mut Yard) -> Result<Term, Fault> {
+    /// The number that the operator makes of two.
+    fn worked_out(&mut self, one: i64, sign: Arithmetic, other: i64, spot: Spot) -> i64 {
+        let number = match sign {
+            Arithmetic::Plus => one.checked_add(other),
+            Arithmetic::Minus => one.checked_sub(other),
+            Arithmetic::Times => one.checked_mul(other),
+            Arithmetic::Divide => one.checked_div(other),
+            Arithmetic::Remainder => one.checked_rem(other),
+        };
+        match number {
+            Some(number) => number,
+            None => {
+                let text = match other {
+                    0 => "division by zero",
+                    _ => "this doesn't fit in 64 bits",
+                };
+                self.cursor.refuse(spot, text);
+                0
+            }
+        }
+    }
+
+    /// Reads an expression.
+    pub(crate) fn expression(&mut self) -> Term {
+        let mut yard = Yard::new(self.alloc, true);
+        self.read_expression(&mut yard);
+        self.finished(&mut yard)
+    }
+
+    fn read_expression(&mut self, yard: &mut Yard) {
         for _ in 0..=self.cursor.left() {
-            if self.prefix(yard)? {
+            if self.prefix(yard) {
                 continue;
             }
-            let term = self.operand()?;
-            if self.ends_after(yard, term)? {
+            let term = self.operand();
+            if self.ends_after(yard, term) {
                 break;
             }
         }
-        self.finished(yard)
     }
 
     /// Reads an expression of numbers, and of a variable.
-    fn arithmetic(&mut self) -> Result<Term, Fault> {
+    fn arithmetic(&mut self) -> Term {
         let mut yard = Yard::new(self.alloc, false);
-        self.read_arithmetic(&mut yard)
+        self.read_arithmetic(&mut yard);
+        self.finished(&mut yard)
     }
 
-    fn read_arithmetic(&mut self, yard: &mut Yard) -> Result<Term, Fault> {
+    fn read_arithmetic(&mut self, yard: &mut Yard) {
         for _ in 0..=self.cursor.left() {
-            if self.prefix(yard)? {
+            if self.prefix(yard) {
                 continue;
             }
-            let term = self.plain_operand()?;
-            if self.ends_after(yard, term)? {
+            let term = self.plain_operand();
+            if self.ends_after(yard, term) {
                 break;
             }
         }
-        self.finished(yard)
     }
 
     /// Keeps a term, with what is after it. Answers whether the expression ends there.
-    fn ends_after(&mut self, yard: &mut Yard, term: Term) -> Result<bool, Fault> {
-        yard.terms.push(term)?;
-        self.settle(yard)?;
-        if self.assignment(yard)? {
-            return Ok(false);
-        }
-        self.infix(yard)
+    fn ends_after(&mut self, yard: &mut Yard, term: Term) -> bool {
+        yard.add(term);
+        self.settle(yard);
+        !self.assignment(yard) && self.infix(yard)
     }
 
     /// Takes an operator before a term, or an opening bracket, if it is next.
-    fn prefix(&mut self, yard: &mut Yard) -> Result<bool, Fault> {
+    fn prefix(&mut self, yard: &mut Yard) -> bool {
         let Token { text, spot, .. } = self.cursor.token();
         let waiting = if text == "!" && yard.is_of_tests {
             Waiting::Not(spot)
@@ -259,20 +259,20 @@ impl<'a> Reader<'a> {
         } else if text == "pdMS_TO_TICKS" {
             Waiting::Ticks
         } else {
-            return Ok(false);
+            return false;
         };
         self.cursor.advance();
         if matches!(waiting, Waiting::Ticks) {
-            self.cursor.take("(", "")?;
+            self.cursor.take("(", "");
         }
-        yard.waiting.push(waiting)?;
+        yard.wait(waiting);
         yard.depth = yard.depth.saturating_add(1);
-        self.check_depth(yard.depth, spot)?;
-        Ok(true)
+        self.check_depth(yard.depth, spot);
+        true
     }
 
     /// Takes an operand: a call, `any(..)`, `NULL` or a plain one.
-    fn operand(&mut self) -> Result<Term, Fault> {
+    fn operand(&mut self) -> Term {
         let token = self.cursor.token();
         let Token { text, spot, .. } = token;
         if text != "any" && text != "NULL" && !self.cursor.is_before("(") {
@@ -280,28 +280,31 @@ impl<'a> Reader<'a> {
         }
         self.cursor.advance();
         let value = match (text, self.scope.meaning(text)) {
-            ("any", _) => Value::Any(self.any()?),
+            ("any", _) => Value::Any(self.any()),
             ("NULL", _) => Value::Null,
             (_, Some(Meaning::Function(_))) => {
                 let form = "'%' is a function and answers nothing: let it set a variable";
-                return Err(wrong_about(self.alloc, spot, form, text, ""));
+                self.cursor.refuse_about(spot, form, text, "");
+                Value::Null
             }
-            _ => Value::Called(self.kernel_call(token)?),
+            _ => match self.kernel_call(token) {
+                Some(call) => Value::Called(call),
+                None => Value::Null,
+            },
         };
-        Ok(Term { value, spot })
+        Term { value, spot }
     }
 
     /// Takes the two numbers of an `any`.
-    fn any(&mut self) -> Result<Range, Fault> {
-        self.cursor
-            .take("(", " and two numbers, as in 'any(0, 1)'")?;
-        let range = self.numbers(",", "", "there is no number from % to %")?;
-        self.cursor.take(")", "")?;
-        Ok(range)
+    fn any(&mut self) -> Range {
+        self.cursor.take("(", " and two numbers, as in 'any(0, 1)'");
+        let range = self.numbers(",", "", "there is no number from % to %");
+        self.cursor.take(")", "");
+        range
     }
 
     /// Takes a number, a constant or a variable.
-    fn plain_operand(&mut self) -> Result<Term, Fault> {
+    fn plain_operand(&mut self) -> Term {
         let token = self.cursor.token();
         let Token {
             kind,
@@ -314,42 +317,47 @@ impl<'a> Reader<'a> {
                 Some(number) => Value::Number(number),
                 None => {
                     let form = "% doesn't fit in 64 bits";
-                    return Err(wrong_about(self.alloc, spot, form, text, ""));
+                    self.cursor.refuse_about(spot, form, text, "");
+                    Value::Null
                 }
             },
-            Kind::Word => self.named_operand(token)?,
+            Kind::Word => self.named_operand(token),
             _ if text == "-" => {
                 self.cursor.advance();
                 Value::Number(i64::MIN)
             }
-            _ => return Err(self.cursor.expected("a variable, a number or a call")),
+            _ => {
+                self.cursor.refuse_next("a variable, a number or a call");
+                Value::Null
+            }
         };
         self.cursor.advance();
-        Ok(Term { value, spot })
+        Term { value, spot }
     }
 
     /// What the name of a constant or a variable is.
-    fn named_operand(&self, token: Token<'a>) -> Result<Value, Fault> {
+    fn named_operand(&mut self, token: Token<'a>) -> Value {
         let Token { text, spot, .. } = token;
         if let Some(number) = value_of(text) {
-            return Ok(Value::Number(number));
-        }
-        if text == "NULL" || text == "portMAX_DELAY" {
-            return Err(self.cursor.expected("a variable or a number"));
+            return Value::Number(number);
         }
         match self.scope.meaning(text) {
-            None => Err(self.undeclared(token)),
-            Some(Meaning::Constant(number)) => Ok(Value::Number(number)),
-            Some(Meaning::Variable(variable)) => Ok(Value::Variable(variable)),
+            Some(Meaning::Constant(number)) => return Value::Number(number),
+            Some(Meaning::Variable(variable)) => return Value::Variable(variable),
             Some(meaning) => {
                 let form = "'%' is the name of %, and a variable or a number is expected";
-                Err(wrong_about(self.alloc, spot, form, text, meaning.text()))
+                self.cursor.refuse_about(spot, form, text, meaning.text());
             }
+            None if text == "NULL" || text == "portMAX_DELAY" => {
+                self.cursor.refuse_next("a variable or a number");
+            }
+            None => self.refuse_undeclared(token),
         }
+        Value::Null
     }
 
     /// Joins what the last term completes: the operators before it, and the brackets that close after it.
-    fn settle(&mut self, yard: &mut Yard) -> Result<(), Fault> {
+    fn settle(&mut self, yard: &mut Yard) {
         for _ in 0..=yard.waiting.len() {
             if !matches!(
                 yard.waiting.last(),
@@ -359,71 +367,62 @@ impl<'a> Reader<'a> {
                 if yard.depth == 0 || !self.cursor.sees(")") {
                     break;
                 }
-                self.join(yard, 0)?;
+                self.join(yard, 0);
                 self.cursor.advance();
             }
             yard.depth = yard.depth.saturating_sub(1);
             let (Some(waiting), Some(term)) = (yard.waiting.pop(), yard.terms.pop()) else {
                 break;
             };
-            yard.terms.push(self.completed(waiting, term)?)?;
+            let term = self.completed(waiting, term);
+            yard.add(term);
         }
-        Ok(())
     }
 
     /// What an operator before a term makes of it, or the bracket around it.
-    fn completed(&mut self, waiting: Waiting, term: Term) -> Result<Term, Fault> {
+    fn completed(&mut self, waiting: Waiting, term: Term) -> Term {
         match waiting {
             Waiting::Not(spot) => {
-                let part = self.test_of(term)?;
-                let value = Value::Test(self.here.lines.test(Condition::Not(part), spot)?);
-                Ok(Term { value, spot })
+                let part = self.test_of(term);
+                let value = Value::Test(self.here.lines.test(Condition::Not(part), spot));
+                Term { value, spot }
             }
             Waiting::Minus(spot) => {
                 let value = Value::Number(0);
-                binary(
-                    self.alloc,
-                    Term { value, spot },
-                    Arithmetic::Minus,
-                    term,
-                    spot,
-                )
+                self.binary(Term { value, spot }, Arithmetic::Minus, term, spot)
             }
             Waiting::Ticks => self.ticks(term),
             Waiting::Given { variable, spot } => self.given(variable, spot, term),
-            Waiting::Bracket | Waiting::Infix(..) => Ok(term),
+            Waiting::Bracket | Waiting::Infix(..) => term,
         }
     }
 
     /// The ticks of so many milliseconds.
-    fn ticks(&self, term: Term) -> Result<Term, Fault> {
+    fn ticks(&mut self, term: Term) -> Term {
         let Term { value, spot } = term;
-        let Some(Meaning::Constant(rate)) = self.scope.meaning("configTICK_RATE_HZ") else {
-            return Err(wrong(
-                self.alloc,
-                spot,
-                "pdMS_TO_TICKS needs 'const configTICK_RATE_HZ = ..;' above",
-            ));
+        let rate = self.scope.meaning("configTICK_RATE_HZ");
+        let text = match (rate, value) {
+            (Some(Meaning::Constant(rate)), Value::Number(time)) => match time.checked_mul(rate) {
+                Some(product) => {
+                    let value = Value::Number(product.div_euclid(1000));
+                    return Term { value, spot };
+                }
+                None => "this doesn't fit in 64 bits",
+            },
+            (Some(Meaning::Constant(_)), _) => "expected a number or a constant",
+            _ => "pdMS_TO_TICKS needs 'const configTICK_RATE_HZ = ..;' above",
         };
-        let Value::Number(time) = value else {
-            return Err(wrong(self.alloc, spot, "expected a number or a constant"));
-        };
-        match time.checked_mul(rate) {
-            Some(product) => Ok(Term {
-                value: Value::Number(product.div_euclid(1000)),
-                spot,
-            }),
-            None => Err(wrong(self.alloc, spot, "this doesn't fit in 64 bits")),
-        }
+        self.cursor.refuse(spot, text);
+        term
     }
 
     /// Takes the `=` of `(x = ..)`, if it is next and only `(x` is before it.
-    fn assignment(&mut self, yard: &mut Yard) -> Result<bool, Fault> {
+    fn assignment(&mut self, yard: &mut Yard) -> bool {
         if !yard.is_of_tests
             || !self.cursor.sees("=")
             || !matches!(yard.waiting.last(), Some(Waiting::Bracket))
         {
-            return Ok(false);
+            return false;
         }
         let Some(
             Term {
@@ -432,33 +431,33 @@ impl<'a> Reader<'a> {
             },
         ) = yard.terms.last().copied()
         else {
-            return Ok(false);
+            return false;
         };
         self.cursor.advance();
         let _ = yard.terms.pop();
         let _ = yard.waiting.pop();
-        yard.waiting.push(Waiting::Given { variable, spot })?;
-        Ok(true)
+        yard.wait(Waiting::Given { variable, spot });
+        true
     }
 
     /// Takes an operator between two terms, if it is next. Answers whether none is.
-    fn infix(&mut self, yard: &mut Yard) -> Result<bool, Fault> {
+    fn infix(&mut self, yard: &mut Yard) -> bool {
         let Token { text, spot, .. } = self.cursor.token();
         let Some((operator, level)) = Operator::of(text) else {
-            return Ok(true);
+            return true;
         };
         if level < 4 && !yard.is_of_tests {
-            return Ok(true);
+            return true;
         }
         self.cursor.advance();
         self.here.operators = self.here.operators.saturating_add(1);
         if self.here.operators > MOST_OPERATORS {
             let text = "more than 256 operators in one statement";
-            return Err(wrong(self.alloc, spot, text));
+            self.cursor.refuse(spot, text);
         }
         // No comparison is joined by another one.
         let is_comparison = matches!(operator, Operator::Compare(_));
-        self.join(yard, level.saturating_add(u8::from(is_comparison)))?;
+        self.join(yard, level.saturating_add(u8::from(is_comparison)));
         if is_comparison
             && matches!(
                 yard.waiting.last(),
@@ -466,14 +465,14 @@ impl<'a> Reader<'a> {
             )
         {
             let text = "a comparison of a comparison: join two with '&&'";
-            return Err(wrong(self.alloc, spot, text));
+            self.cursor.refuse(spot, text);
         }
-        yard.waiting.push(Waiting::Infix(operator, level, spot))?;
-        Ok(false)
+        yard.wait(Waiting::Infix(operator, level, spot));
+        false
     }
 
     /// Joins terms by the operators of this level and above, up to the innermost open bracket.
-    fn join(&mut self, yard: &mut Yard, level: u8) -> Result<(), Fault> {
+    fn join(&mut self, yard: &mut Yard, level: u8) {
         for _ in 0..yard.waiting.len() {
             let Some(Waiting::Infix(operator, own_level, spot)) = yard.waiting.last().copied()
             else {
@@ -486,87 +485,93 @@ impl<'a> Reader<'a> {
             let (Some(right), Some(left)) = (yard.terms.pop(), yard.terms.pop()) else {
                 break;
             };
-            let term = self.joined(left, operator, right, spot)?;
-            yard.terms.push(term)?;
+            let term = self.joined(left, operator, right, spot);
+            yard.add(term);
         }
-        Ok(())
     }
 
     /// Two terms, joined by an operator.
-    fn joined(
-        &mut self,
-        left: Term,
-        operator: Operator,
-        right: Term,
-        spot: Spot,
-    ) -> Result<Term, Fault> {
+    fn joined(&mut self, left: Term, operator: Operator, right: Term, spot: Spot) -> Term {
         let test = match operator {
-            Operator::Arithmetic(sign) => return binary(self.alloc, left, sign, right, spot),
-            Operator::Compare(comparison) => self.compare(left, comparison, right, spot)?,
+            Operator::Arithmetic(sign) => return self.binary(left, sign, right, spot),
+            Operator::Compare(comparison) => self.compare(left, comparison, right, spot),
             Operator::And | Operator::Or => {
-                let first = self.test_of(left)?;
-                let second = self.test_of(right)?;
+                let first = self.test_of(left);
+                let second = self.test_of(right);
                 let condition = match operator {
                     Operator::And => Condition::And(first, second),
                     _ => Condition::Or(first, second),
                 };
-                self.here.lines.test(condition, spot)?
+                self.here.lines.test(condition, spot)
             }
         };
-        Ok(Term {
-            value: Value::Test(test),
-            spot,
-        })
+        let value = Value::Test(test);
+        Term { value, spot }
     }
 
     /// The one term that all is joined to.
-    fn finished(&mut self, yard: &mut Yard) -> Result<Term, Fault> {
-        self.join(yard, 0)?;
+    fn finished(&mut self, yard: &mut Yard) -> Term {
+        self.join(yard, 0);
+        if yard.is_short {
+            self.cursor.note(Fault::Memory);
+        }
         match (yard.waiting.is_empty(), yard.terms.pop()) {
-            (true, Some(term)) => Ok(term),
-            _ => Err(self.cursor.expected("')'")),
+            (true, Some(term)) => term,
+            _ => {
+                self.cursor.refuse_next("')'");
+                Term {
+                    value: Value::Null,
+                    spot: self.cursor.spot(),
+                }
+            }
         }
     }
 
     /// Reads a number, or an expression that is one.
-    pub(crate) fn constant(&mut self) -> Result<i64, Fault> {
-        let term = self.arithmetic()?;
+    pub(crate) fn constant(&mut self) -> i64 {
+        let term = self.arithmetic();
         match term.value {
-            Value::Number(number) => Ok(number),
+            Value::Number(number) => number,
             _ => {
                 let text = if self.here.call.is_some() {
                     "expected a number or a constant: a time or a length is never a variable, so write a call for each value"
                 } else {
                     "expected a number or a constant"
                 };
-                Err(wrong(self.alloc, term.spot, text))
+                self.cursor.refuse(term.spot, text);
+                0
             }
         }
     }
 
     /// Reads a number from `low` to `high`.
-    pub(crate) fn number(&mut self, what: &str, range: Range) -> Result<i64, Fault> {
+    pub(crate) fn number(&mut self, what: &str, range: Range) -> i64 {
         let spot = self.cursor.spot();
-        let number = self.constant()?;
+        let number = self.constant();
         let Range { low, high } = range;
-        if range.holds(number) {
-            return Ok(number);
+        if !range.holds(number) {
+            let words = &[
+                Word::Text(what),
+                Word::Number(low),
+                Word::Number(high),
+                Word::Number(number),
+            ];
+            self.cursor
+                .refuse_with(spot, "% is from % to %, and this is %", words);
         }
-        let words = &[
-            Word::Text(what),
-            Word::Number(low),
-            Word::Number(high),
-            Word::Number(number),
-        ];
-        Err(wrong_with(self.alloc, spot, "% is from % to %, and this is %", words))
+        number
     }
 
     /// Reads a number or a variable.
-    pub(crate) fn number_or_variable(&mut self) -> Result<Operand, Fault> {
-        let term = self.arithmetic()?;
+    pub(crate) fn number_or_variable(&mut self) -> Operand {
+        let term = self.arithmetic();
         match term.operand() {
-            Some(operand) => Ok(operand),
-            None => Err(wrong(self.alloc, term.spot, "expected a number or a variable")),
+            Some(operand) => operand,
+            None => {
+                self.cursor
+                    .refuse(term.spot, "expected a number or a variable");
+                Operand::Number(0)
+            }
         }
     }
 }

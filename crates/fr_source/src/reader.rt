@@ -1,7 +1,8 @@
-// What reads a source: its tokens, the names so far, and the body that is being read.
+// What reads a source: its tokens, the names so far, and the body that is being read. The first fault is noted at the cursor,
+// and what is read after it means nothing.
 
 use crate::cursor::Cursor;
-use crate::fault::{Fault, Spot, wrong, wrong_about, wrong_with};
+use crate::fault::{Fault, Spot};
 use crate::kernel::{Kernel, TYPES, is_among, is_reserved, kernel_named};
 use crate::lines::Lines;
 use crate::open::{Case, Open};
@@ -58,28 +59,6 @@ pub(crate) struct Reader<'a> {
     pub(crate) here: Here<'a>,
 }
 
-/// The fault that an argument isn't declared, where there are more than the call has.
-fn surplus(alloc: Global, token: Token<'_>, kernel: &Kernel) -> Fault {
-    let form = "'%' isn't declared: data pointers are left out, as in %";
-    match kernel.shape(alloc) {
-        Ok(shape) => wrong_about(alloc, token.spot, form, token.text, shape.as_str()),
-        Err(_) => Fault::Memory,
-    }
-}
-
-/// The fault that a name means something else than what is expected.
-pub(crate) fn other_meaning(
-    alloc: Global,
-    token: Token<'_>,
-    what: &str,
-    meaning: Meaning,
-) -> Fault {
-    let (shown, kind) = (token.text, meaning.text());
-    let form = "expected the name of %, and '%' is the name of %";
-    let words = &[Word::Text(what), Word::Text(shown), Word::Text(kind)];
-    wrong_with(alloc, token.spot, form, words)
-}
-
 impl<'a> Reader<'a> {
     pub(crate) fn new(alloc: Global, cursor: Cursor<'a>) -> Reader<'a> {
         Reader {
@@ -103,45 +82,65 @@ impl<'a> Reader<'a> {
     }
 
     /// Refuses what is too deep: so many brackets in the constructs that are open.
-    pub(crate) fn check_depth(&self, brackets: usize, spot: Spot) -> Result<(), Fault> {
+    pub(crate) fn check_depth(&mut self, brackets: usize, spot: Spot) {
         if self.here.open.len().saturating_add(brackets) > DEEPEST {
-            return Err(wrong(self.alloc, spot, "nested more than 40 deep"));
+            self.cursor.refuse(spot, "nested more than 40 deep");
         }
-        Ok(())
     }
 
     /// Takes the name of something new. `what` is what is expected.
-    pub(crate) fn new_name(&mut self, what: &str) -> Result<Token<'a>, Fault> {
-        let token = self.cursor.word(what)?;
+    pub(crate) fn new_name(&mut self, what: &str) -> Token<'a> {
+        let token = self.cursor.word(what);
         let Token { text, spot, .. } = token;
         if is_reserved(text) || kernel_named(text).is_some() {
             let form = "'%' is a word of this notation or of the kernel: choose another name";
-            return Err(wrong_about(self.alloc, spot, form, text, ""));
+            self.cursor.refuse_about(spot, form, text, "");
         }
         if text.len() > LONGEST_NAME {
             let form = "a name has at most 32 characters, this one %";
-            return Err(wrong_with(self.alloc, spot, form, &[Word::Count(text.len())]));
+            self.cursor
+                .refuse_with(spot, form, &[Word::Count(text.len())]);
         }
-        match self.scope.meaning(text) {
-            Some(meaning) => {
-                let form = "'%' is already the name of %";
-                Err(wrong_about(self.alloc, spot, form, text, meaning.text()))
-            }
-            None => Ok(token),
+        if let Some(meaning) = self.scope.meaning(text) {
+            let form = "'%' is already the name of %";
+            self.cursor.refuse_about(spot, form, text, meaning.text());
         }
+        token
     }
 
-    /// Takes a name, and gives it with what it means here. `what` is what is expected.
-    pub(crate) fn named(&mut self, what: &str) -> Result<(Token<'a>, Meaning), Fault> {
-        let token = self.cursor.word(what)?;
+    /// Takes a name, and gives what it means here. `what` is what is expected.
+    pub(crate) fn named(&mut self, what: &str) -> Meaning {
+        let token = self.cursor.word(what);
         match self.scope.meaning(token.text) {
-            Some(meaning) => Ok((token, meaning)),
-            None => Err(self.undeclared(token)),
+            Some(meaning) => meaning,
+            None => {
+                self.refuse_undeclared(token);
+                Meaning::Parameter
+            }
         }
     }
 
-    /// The fault that a name isn't declared.
-    pub(crate) fn undeclared(&self, token: Token<'a>) -> Fault {
+    /// Refuses a name that means something else than what is expected.
+    pub(crate) fn refuse_meaning(&mut self, token: Token<'a>, what: &str, meaning: Meaning) {
+        let (shown, kind) = (token.text, meaning.text());
+        let form = "expected the name of %, and '%' is the name of %";
+        let words = &[Word::Text(what), Word::Text(shown), Word::Text(kind)];
+        self.cursor.refuse_with(token.spot, form, words);
+    }
+
+    /// Refuses an argument that isn't declared, where there are more than the call has.
+    fn refuse_surplus(&mut self, token: Token<'a>, kernel: &Kernel) {
+        let form = "'%' isn't declared: data pointers are left out, as in %";
+        match kernel.shape(self.alloc) {
+            Ok(shape) => self
+                .cursor
+                .refuse_about(token.spot, form, token.text, shape.as_str()),
+            Err(_) => self.cursor.note(Fault::Memory),
+        }
+    }
+
+    /// Refuses a name that isn't declared.
+    pub(crate) fn refuse_undeclared(&mut self, token: Token<'a>) {
         let Token { text, spot, .. } = token;
         let (form, more) = if kernel_named(text).is_some() {
             (
@@ -167,19 +166,23 @@ impl<'a> Reader<'a> {
             match (self.scope.near(text), self.here.call) {
                 (Some(near), _) => ("'%' isn't declared. Did you mean '%'?", near),
                 (None, Some(kernel)) if self.cursor.is_at_surplus(kernel.places.len()) => {
-                    return surplus(self.alloc, token, kernel);
+                    return self.refuse_surplus(token, kernel);
                 }
                 _ => ("'%' isn't declared", ""),
             }
         };
-        wrong_about(self.alloc, spot, form, text, more)
+        self.cursor.refuse_about(spot, form, text, more);
     }
 
     /// Takes the name of a variable.
-    pub(crate) fn variable_named(&mut self, what: &str) -> Result<usize, Fault> {
-        match self.named(what)? {
-            (_, Meaning::Variable(variable)) => Ok(variable),
-            (token, meaning) => Err(other_meaning(self.alloc, token, "a variable", meaning)),
+    pub(crate) fn variable_named(&mut self, what: &str) -> usize {
+        let token = self.cursor.token();
+        match self.named(what) {
+            Meaning::Variable(variable) => variable,
+            meaning => {
+                self.refuse_meaning(token, "a variable", meaning);
+                0
+            }
         }
     }
 }

@@ -1,6 +1,5 @@
 // The names that a source declares.
 
-use crate::fault::Fault;
 use crate::kernel::kernel_near;
 use crate::near::is_near;
 use std::alloc::Global;
@@ -68,6 +67,8 @@ fn near_among<'a>(names: &[Name<'a>], word: &str) -> Option<&'a str> {
 pub(crate) struct Scope<'a> {
     pub(crate) outside: Vec<Name<'a>>,
     pub(crate) inside: Vec<Name<'a>>,
+    /// Whether an allocation was refused, so that a name is missing.
+    pub(crate) is_short: bool,
 }
 
 impl<'a> Scope<'a> {
@@ -75,6 +76,7 @@ impl<'a> Scope<'a> {
         Scope {
             outside: Vec::new(alloc),
             inside: Vec::new(alloc),
+            is_short: false,
         }
     }
 
@@ -97,13 +99,15 @@ impl<'a> Scope<'a> {
         }
     }
 
-    pub(crate) fn add_outside(&mut self, text: &'a str, meaning: Meaning) -> Result<(), Fault> {
-        self.outside.push(Name { text, meaning })?;
-        Ok(())
+    pub(crate) fn add_outside(&mut self, text: &'a str, meaning: Meaning) {
+        if self.outside.push(Name { text, meaning }).is_err() {
+            self.is_short = true;
+        }
     }
 
-    pub(crate) fn add_inside(&mut self, text: &'a str, meaning: Meaning) -> Result<(), Fault> {
-        self.inside.push(Name { text, meaning })?;
-        Ok(())
+    pub(crate) fn add_inside(&mut self, text: &'a str, meaning: Meaning) {
+        if self.inside.push(Name { text, meaning }).is_err() {
+            self.is_short = true;
+        }
     }
 }

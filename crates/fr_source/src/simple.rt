@@ -1,9 +1,8 @@
 // Simple statements: assignments and calls. Each is one line, but for a call whose answer is kept, a call of a function
 // and `configASSERT`.
 
-use crate::call::too_narrow;
-use crate::expression::{Term, Value, binary};
-use crate::fault::{Fault, Spot, wrong, wrong_about, wrong_with};
+use crate::expression::{Term, Value};
+use crate::fault::Spot;
 use crate::kernel::Answer;
 use crate::program::{Action, Argument, Arithmetic, Call, Item, Operand, Owner, Range, Variable};
 use crate::reader::Reader;
@@ -19,7 +18,7 @@ const ONE: Term = Term {
 
 impl<'a> Reader<'a> {
     /// Takes a simple statement, and writes its lines.
-    pub(crate) fn simple(&mut self) -> Result<(), Fault> {
+    pub(crate) fn simple(&mut self) {
         let token = self.cursor.token();
         let Token { text, spot, .. } = token;
         if text != "any" && self.cursor.is_before("(") {
@@ -28,23 +27,23 @@ impl<'a> Reader<'a> {
         match text {
             "++" | "--" => {
                 self.cursor.advance();
-                let variable = self.variable_named("a variable")?;
-                self.changed(variable, spot, token, ONE)
+                let variable = self.variable_named("a variable");
+                self.changed(variable, spot, token, ONE);
             }
             "(" => {
                 let text = "a statement doesn't begin with '(': leave out a cast like '(void)'";
-                Err(wrong(self.alloc, spot, text))
+                self.cursor.refuse(spot, text);
             }
             _ => self.assignment_here(spot),
         }
     }
 
     /// Takes a variable, and what it is given or how it is changed.
-    fn assignment_here(&mut self, spot: Spot) -> Result<(), Fault> {
-        let variable = self.variable_named("a statement")?;
+    fn assignment_here(&mut self, spot: Spot) {
+        let variable = self.variable_named("a statement");
         let operator = self.cursor.token();
         if self.cursor.accepts("=") {
-            let term = self.expression()?;
+            let term = self.expression();
             return self.assigned(variable, spot, term);
         }
         let by = match operator.text {
@@ -54,21 +53,17 @@ impl<'a> Reader<'a> {
             }
             "+=" | "-=" | "*=" => {
                 self.cursor.advance();
-                self.expression()?
+                self.expression()
             }
-            _ => return Err(self.cursor.expected("'=', '+=', '-=', '*=', '++' or '--'")),
+            _ => return self
+                .cursor
+                .refuse_next("'=', '+=', '-=', '*=', '++' or '--'"),
         };
-        self.changed(variable, spot, operator, by)
+        self.changed(variable, spot, operator, by);
     }
 
     /// Joins a variable with a term. `spot` is the place of the statement.
-    fn changed(
-        &mut self,
-        variable: usize,
-        spot: Spot,
-        operator: Token<'a>,
-        by: Term,
-    ) -> Result<(), Fault> {
+    fn changed(&mut self, variable: usize, spot: Spot, operator: Token<'a>, by: Term) {
         let sign = match operator.text {
             "+=" | "++" => Arithmetic::Plus,
             "*=" => Arithmetic::Times,
@@ -78,43 +73,36 @@ impl<'a> Reader<'a> {
             value: Value::Variable(variable),
             spot,
         };
-        let term = binary(self.alloc, whole, sign, by, operator.spot)?;
-        self.assigned(variable, spot, term)
+        let term = self.binary(whole, sign, by, operator.spot);
+        self.assigned(variable, spot, term);
     }
 
     /// Takes what is after the name of what is called.
-    fn called(&mut self, token: Token<'a>) -> Result<(), Fault> {
+    fn called(&mut self, token: Token<'a>) {
+        let Token { text, spot, .. } = token;
         self.cursor.advance();
-        if token.text == "configASSERT" {
-            let test = self.condition()?;
-            let variable = self.assertion_variable(token.spot)?;
-            return self.here.lines.assert(variable, test, token.spot);
+        if text == "configASSERT" {
+            let test = self.condition();
+            let variable = self.assertion_variable(spot);
+            self.here.lines.assert(variable, test, spot);
+        } else if let Some(Meaning::Function(function)) = self.scope.meaning(text) {
+            self.cursor.take("(", "");
+            self.cursor.take(")", ": a function has no arguments");
+            self.here.lines.add(Item::Expand { function, spot });
+        } else if let Some(call) = self.kernel_call(token) {
+            let action = Action::Call { answer: None, call };
+            self.here.lines.line(action, None, spot);
         }
-        if let Some(Meaning::Function(function)) = self.scope.meaning(token.text) {
-            self.cursor.take("(", "")?;
-            self.cursor.take(")", ": a function has no arguments")?;
-            let spot = token.spot;
-            self.here
-                .lines
-                .body
-                .items
-                .push(Item::Expand { function, spot })?;
-            return Ok(());
-        }
-        let call = self.kernel_call(token)?;
-        self.here
-            .lines
-            .line(Action::Call { answer: None, call }, None, token.spot)
     }
 
     /// The variable that `configASSERT` sets where its condition is false: its range is 0 alone.
-    fn assertion_variable(&mut self, spot: Spot) -> Result<usize, Fault> {
+    fn assertion_variable(&mut self, spot: Spot) -> usize {
         if let Some(variable) = self.here.assertion {
-            return Ok(variable);
+            return variable;
         }
         if self.scope.meaning("assertion").is_some() {
             let text = "configASSERT makes the variable 'assertion', and that name is used";
-            return Err(wrong(self.alloc, spot, text));
+            self.cursor.refuse(spot, text);
         }
         let variable = Variable {
             name: "assertion",
@@ -125,21 +113,21 @@ impl<'a> Reader<'a> {
             is_static: false,
             function: None,
         };
-        let place = self.add_variable(variable)?;
+        let place = self.add_variable(variable);
         self.scope
-            .add_outside("assertion", Meaning::Variable(place))?;
+            .add_outside("assertion", Meaning::Variable(place));
         self.here.assertion = Some(place);
-        Ok(place)
+        place
     }
 
     /// Gives a variable this value.
-    fn assigned(&mut self, variable: usize, spot: Spot, term: Term) -> Result<(), Fault> {
+    fn assigned(&mut self, variable: usize, spot: Spot, term: Term) {
         match term.value {
             Value::Any(range) => self.picked(variable, range, spot, term.spot),
             Value::Called(call) => self.answered(variable, call, spot, term.spot),
             Value::Sum { left, sign, right } => {
-                self.check_sum(left, sign, right, term.spot)?;
-                self.set_to(variable, spot, left, Some((sign, right)))
+                self.check_sum(left, sign, right, term.spot);
+                self.set_to(variable, spot, left, Some((sign, right)));
             }
             Value::Number(number) => self.set_to(variable, spot, Operand::Number(number), None),
             Value::Variable(other) => self.set_to(variable, spot, Operand::Variable(other), None),
@@ -150,104 +138,81 @@ impl<'a> Reader<'a> {
                     _ =>
                         "one line has one operator at most: give a part of this to a variable first",
                 };
-                Err(wrong(self.alloc, term.spot, why))
+                self.cursor.refuse(term.spot, why);
             }
         }
     }
 
     /// The variable of `(x = ..)`, with the action that gives it a value.
-    pub(crate) fn given(&mut self, variable: usize, spot: Spot, term: Term) -> Result<Term, Fault> {
-        self.assigned(variable, spot, term)?;
-        let Some(action) = self.here.lines.take_giver()? else {
+    pub(crate) fn given(&mut self, variable: usize, spot: Spot, term: Term) -> Term {
+        self.assigned(variable, spot, term);
+        let Some(action) = self.here.lines.take_giver() else {
             let text =
                 "in a condition, only any(..) or the bytes of a call are given to a variable";
-            return Err(wrong(self.alloc, spot, text));
+            self.cursor.refuse(spot, text);
+            return term;
         };
         let value = Value::Given { variable, action };
-        Ok(Term { value, spot })
+        Term { value, spot }
     }
 
     /// Gives a variable a number of an `any`. Refuses numbers that the variable can't have.
-    fn picked(
-        &mut self,
-        variable: usize,
-        range: Range,
-        spot: Spot,
-        any_spot: Spot,
-    ) -> Result<(), Fault> {
+    fn picked(&mut self, variable: usize, range: Range, spot: Spot, any_spot: Spot) {
         let target = self.program.variable(variable);
-        if target.range.includes(range) {
-            return self
-                .here
-                .lines
-                .line(Action::Pick { variable, range }, None, spot);
+        if !target.range.includes(range) {
+            let words = &[
+                Word::Number(range.low),
+                Word::Number(range.high),
+                Word::Text(target.name),
+                Word::Number(target.range.low),
+                Word::Number(target.range.high),
+            ];
+            let form = "% to % isn't in the range of '%', %..%";
+            self.cursor.refuse_with(any_spot, form, words);
         }
-        let words = &[
-            Word::Number(range.low),
-            Word::Number(range.high),
-            Word::Text(target.name),
-            Word::Number(target.range.low),
-            Word::Number(target.range.high),
-        ];
-        let form = "% to % isn't in the range of '%', %..%";
-        Err(wrong_with(self.alloc, any_spot, form, words))
+        let action = Action::Pick { variable, range };
+        self.here.lines.line(action, None, spot);
     }
 
     /// Gives a variable the answer of a call. Refuses an answer that the variable can't have.
-    fn answered(
-        &mut self,
-        variable: usize,
-        call: Call,
-        spot: Spot,
-        call_spot: Spot,
-    ) -> Result<(), Fault> {
-        let target = self.program.variable(variable);
+    fn answered(&mut self, variable: usize, call: Call, spot: Spot, call_spot: Spot) {
+        let name = call.kernel.name;
         let high = match (call.kernel.answer, self.program.arguments(call)) {
             (Answer::Nothing, _) => {
                 let form = "% answers nothing";
-                return Err(wrong_about(self.alloc, call_spot, form, call.kernel.name, ""));
+                return self.cursor.refuse_about(call_spot, form, name, "");
             }
             (Answer::Bytes, [_, Argument::Operand(Operand::Number(length)), _]) => length,
             _ => 1,
         };
-        let answers = Range { low: 0, high };
-        if !target.range.includes(answers) {
-            let form = "the range of '%', %..%, has to include %..%, which % can answer";
-            return Err(too_narrow(self.alloc, target, answers, form, call.kernel.name, spot));
-        }
+        let form = "the range of '%', %..%, has to include %..%, which % can answer";
+        self.check_range(variable, Range { low: 0, high }, form, name, spot);
         if call.kernel.may_fail() {
             return self.here.lines.keep(variable, call, spot);
         }
         let answer = Some(variable);
-        self.here
-            .lines
-            .line(Action::Call { answer, call }, None, spot)
+        let action = Action::Call { answer, call };
+        self.here.lines.line(action, None, spot);
     }
 
     /// Refuses what a line can't work out.
-    fn check_sum(
-        &self,
-        left: Operand,
-        sign: Arithmetic,
-        right: Operand,
-        spot: Spot,
-    ) -> Result<(), Fault> {
+    fn check_sum(&mut self, left: Operand, sign: Arithmetic, right: Operand, spot: Spot) {
         if matches!(sign, Arithmetic::Divide | Arithmetic::Remainder) {
             let form = "'%' is for constants alone";
-            return Err(wrong_about(self.alloc, spot, form, sign.text(), ""));
+            self.cursor.refuse_about(spot, form, sign.text(), "");
         }
         let (Operand::Variable(one), Operand::Variable(other)) = (left, right) else {
-            return Ok(());
+            return;
         };
         if one == other {
             let form = "'%' can't be both operands: copy it to another variable";
             let name = self.program.variable(one).name;
-            return Err(wrong_about(self.alloc, spot, form, name, ""));
+            self.cursor.refuse_about(spot, form, name, "");
         }
         if matches!(sign, Arithmetic::Times) {
-            return Err(wrong(self.alloc, spot, "at least one operand of '*' is a number"));
+            self.cursor
+                .refuse(spot, "at least one operand of '*' is a number");
         }
-        Ok(())
     }
 
     /// Writes the line that sets a variable. Refuses one that has two shared variables.
@@ -257,7 +222,7 @@ impl<'a> Reader<'a> {
         spot: Spot,
         left: Operand,
         more: Option<(Arithmetic, Operand)>,
-    ) -> Result<(), Fault> {
+    ) {
         let first = self.program.shared_in(left);
         let second = match more {
             Some((_, right)) => self.program.shared_in(right),
@@ -285,6 +250,6 @@ impl<'a> Reader<'a> {
             }
         };
         let (one, other) = (self.program.variable(one), self.program.variable(other));
-        Err(wrong_about(self.alloc, spot, form, one.name, other.name))
+        self.cursor.refuse_about(spot, form, one.name, other.name);
     }
 }

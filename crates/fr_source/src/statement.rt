@@ -1,81 +1,86 @@
 // Statements. The constructs whose end isn't read yet are on a list, and no call goes into itself.
 
-use crate::fault::{Fault, Spot, wrong, wrong_about};
+use crate::fault::{Fault, Spot};
 use crate::kernel::is_reserved;
 use crate::open::{Margin, Open};
 use crate::program::{Home, MOST_ITEMS};
 use crate::reader::{NamedLabel, Reader};
-use crate::token::Token;
+use crate::token::{Kind, Token};
 
 impl<'a> Reader<'a> {
     /// Reads statements up to the closing brace of the body, and gives its place.
-    pub(crate) fn statements(&mut self) -> Result<Spot, Fault> {
+    pub(crate) fn statements(&mut self) -> Spot {
         for _ in 0..=self.cursor.left() {
-            let spot = self.cursor.spot();
+            let Token { kind, spot, .. } = self.cursor.token();
+            if matches!(kind, Kind::End) {
+                break;
+            }
             if self.here.open.is_empty() && self.cursor.accepts("}") {
-                return Ok(spot);
+                return spot;
             }
             self.here.operators = 0;
-            if self.statement()? {
-                self.close_all()?;
+            if self.statement() {
+                self.close_all();
             }
             if self.here.lines.body.items.len() > MOST_ITEMS {
                 let form = "% '%' grows to more than 4096 lines and labels: this passed the limit";
-                return Err(wrong_about(
-                    self.alloc,
-                    spot,
-                    form,
-                    self.here.home.text(),
-                    self.here.name,
-                ));
+                let (home, name) = (self.here.home.text(), self.here.name);
+                self.cursor.refuse_about(spot, form, home, name);
             }
         }
-        Err(self.cursor.expected("'}'"))
+        self.cursor.refuse_next("'}'");
+        self.cursor.spot()
     }
 
     /// Reads a statement, or the head of a construct. Answers whether a statement ends here.
-    fn statement(&mut self) -> Result<bool, Fault> {
+    fn statement(&mut self) -> bool {
         let (holds_many, is_before_cases) = match self.here.open.last().copied() {
             Some(Open::Block) => (true, false),
             Some(Open::Switch { first_case, .. }) => (true, self.here.cases.len() <= first_case),
             _ => (false, false),
         };
         match self.cursor.token().text {
-            "" => Err(self.cursor.expected("'}'")),
             "case" | "default" => self.case(),
             "}" if holds_many => {
                 self.cursor.advance();
-                self.close_many()
+                self.close_many();
+                return true;
             }
-            _ if is_before_cases => Err(self.cursor.expected("'case' or 'default'")),
+            _ if is_before_cases => self.cursor.refuse_next("'case' or 'default'"),
             "{" => {
                 self.cursor.advance();
-                self.enter(Open::Block)
+                self.enter(Open::Block);
             }
             ";" => {
                 self.cursor.advance();
-                Ok(true)
+                return true;
             }
             "if" | "while" | "do" | "for" | "switch" => self.construct(),
             // A label belongs to the statement after it.
             _ if self.cursor.is_before(":") => self.named_label(),
             _ => {
-                self.jump()?;
-                self.cursor.take(";", " after the statement")?;
-                Ok(true)
+                self.jump();
+                self.cursor.take(";", " after the statement");
+                return true;
             }
         }
+        false
     }
 
-    /// Notes that a construct is open: no statement ends here.
-    fn enter(&mut self, open: Open) -> Result<bool, Fault> {
-        self.here.open.push(open)?;
-        self.check_depth(0, self.cursor.spot())?;
-        Ok(false)
+    /// Notes that a construct is open.
+    pub(crate) fn enter(&mut self, open: Open) {
+        let spot = match open {
+            Open::Switch { spot, .. } => spot,
+            _ => self.cursor.spot(),
+        };
+        if self.here.open.push(open).is_err() {
+            self.cursor.note(Fault::Memory);
+        }
+        self.check_depth(0, spot);
     }
 
     /// Reads the head of a construct.
-    fn construct(&mut self) -> Result<bool, Fault> {
+    fn construct(&mut self) {
         let Token { text, spot, .. } = self.cursor.token();
         self.cursor.advance();
         match text {
@@ -87,58 +92,57 @@ impl<'a> Reader<'a> {
         }
     }
 
-    fn while_head(&mut self, spot: Spot) -> Result<bool, Fault> {
+    fn while_head(&mut self, spot: Spot) {
         let top = self.here.lines.label();
-        self.here.lines.place(top)?;
-        let test = self.condition()?;
+        self.here.lines.place(top);
+        let test = self.condition();
         let first = self.here.lines.body.items.len();
-        self.loop_head(Some(test), top, first, "while", spot)
+        self.loop_head(Some(test), top, first, "while", spot);
     }
 
-    fn do_head(&mut self) -> Result<bool, Fault> {
+    fn do_head(&mut self) {
         let top = self.here.lines.label();
         let again = self.here.lines.label();
         let end = self.here.lines.label();
-        self.here.lines.place(top)?;
-        let margin = self.margin("do")?;
+        self.here.lines.place(top);
+        let margin = self.margin("do");
         self.enter(Open::Do {
             top,
             again,
             end,
             margin,
-        })
+        });
     }
 
-    fn if_head(&mut self, spot: Spot) -> Result<bool, Fault> {
-        let test = self.condition()?;
+    fn if_head(&mut self, spot: Spot) {
+        let test = self.condition();
         let yes = self.here.lines.label();
         let no = self.here.lines.label();
-        self.here.lines.branch(test, spot, yes, no, yes)?;
-        self.here.lines.place(yes)?;
-        let margin = self.margin("if")?;
-        self.enter(Open::If { no, margin, spot })
+        self.here.lines.branch(test, spot, yes, no, yes);
+        self.here.lines.place(yes);
+        let margin = self.branch_margin("if");
+        self.enter(Open::If { no, margin, spot });
     }
 
-    fn for_head(&mut self, spot: Spot) -> Result<bool, Fault> {
-        self.cursor.take("(", "")?;
+    fn for_head(&mut self, spot: Spot) {
+        self.cursor.take("(", "");
         if !self.cursor.sees(";") {
-            self.simple()?;
+            self.simple();
         }
-        self.cursor.take(";", "")?;
+        self.cursor.take(";", "");
         let top = self.here.lines.label();
-        self.here.lines.place(top)?;
-        let test = if self.cursor.sees(";") {
-            None
-        } else {
-            Some(self.bare_condition()?)
-        };
-        self.cursor.take(";", "")?;
+        self.here.lines.place(top);
+        let mut test = None;
+        if !self.cursor.sees(";") {
+            test = Some(self.bare_condition());
+        }
+        self.cursor.take(";", "");
         let first = self.here.lines.body.items.len();
         if !self.cursor.sees(")") {
-            self.simple()?;
+            self.simple();
         }
-        self.cursor.take(")", "")?;
-        self.loop_head(test, top, first, "for", spot)
+        self.cursor.take(")", "");
+        self.loop_head(test, top, first, "for", spot);
     }
 
     /// Writes the test of a loop, and notes that its body comes. `first` is where the lines of its step begin: they are put
@@ -150,16 +154,16 @@ impl<'a> Reader<'a> {
         first: usize,
         word: &'static str,
         spot: Spot,
-    ) -> Result<bool, Fault> {
-        let step = self.here.lines.put_aside(first)?;
+    ) {
+        let step = self.here.lines.put_aside(first);
         let body = self.here.lines.label();
         let again = self.here.lines.label();
         let end = self.here.lines.label();
         if let Some(test) = test {
-            self.here.lines.branch(test, spot, body, end, body)?;
+            self.here.lines.branch(test, spot, body, end, body);
         }
-        self.here.lines.place(body)?;
-        let margin = self.margin(word)?;
+        self.here.lines.place(body);
+        let margin = self.margin(word);
         self.enter(Open::Loop {
             top,
             again,
@@ -167,32 +171,38 @@ impl<'a> Reader<'a> {
             step,
             margin,
             spot,
-        })
+        });
     }
 
     /// Where the body of a construct begins.
-    fn margin(&self, word: &'static str) -> Result<Margin, Fault> {
+    fn margin(&self, word: &'static str) -> Margin {
         let head = self.cursor.previous();
         let first = self.cursor.token();
-        if (word == "if" || word == "else") && first.text == ";" {
-            let form = "an '%' with nothing but ';': write '{ }' if this is meant";
-            return Err(wrong_about(self.alloc, first.spot, form, word, ""));
-        }
-        Ok(Margin {
+        Margin {
             word,
             indent: first.indent,
             is_plain: first.text == "{" || first.spot.line <= head.spot.line,
-        })
+        }
+    }
+
+    /// Where the body of an `if` or an `else` begins.
+    fn branch_margin(&mut self, word: &'static str) -> Margin {
+        if self.cursor.sees(";") {
+            let spot = self.cursor.spot();
+            let form = "an '%' with nothing but ';': write '{ }' if this is meant";
+            self.cursor.refuse_about(spot, form, word, "");
+        }
+        self.margin(word)
     }
 
     /// Refuses what is after a body without braces and looks as if it belonged to it.
-    fn check_margin(&self, open: Open) -> Result<(), Fault> {
+    fn check_margin(&mut self, open: Open) {
         let (Open::If { margin, .. }
         | Open::Else { margin, .. }
         | Open::Loop { margin, .. }
         | Open::Do { margin, .. }) = open
         else {
-            return Ok(());
+            return;
         };
         let last = self.cursor.previous();
         let after = self.cursor.token();
@@ -201,36 +211,34 @@ impl<'a> Reader<'a> {
             || after.indent < margin.indent
             || after.text == "else"
             || after.text == "}";
-        if is_apart {
-            return Ok(());
+        if !is_apart {
+            let form =
+                "this looks as if it were in the '%' above, and isn't: put braces around its body, \
+                or move this to the left";
+            self.cursor.refuse_about(after.spot, form, margin.word, "");
         }
-        let form =
-            "this looks as if it were in the '%' above, and isn't: put braces around its body, \
-            or move this to the left";
-        Err(wrong_about(self.alloc, after.spot, form, margin.word, ""))
     }
 
     /// Closes the constructs that the end of a statement ends.
-    fn close_all(&mut self) -> Result<(), Fault> {
+    fn close_all(&mut self) {
         for _ in 0..=self.here.open.len() {
             let open = match self.here.open.last() {
                 None | Some(Open::Block | Open::Switch { .. }) => break,
                 Some(open) => *open,
             };
             let _ = self.here.open.pop();
-            self.check_margin(open)?;
-            if !self.close_one(open)? {
+            self.check_margin(open);
+            if !self.close_one(open) {
                 break;
             }
         }
-        Ok(())
     }
 
     /// Writes the end of a construct. Answers whether it ends here, and has no `else`.
-    fn close_one(&mut self, open: Open) -> Result<bool, Fault> {
+    fn close_one(&mut self, open: Open) -> bool {
         match open {
-            Open::If { no, spot, .. } => self.close_if(no, spot),
-            Open::Else { end, .. } => self.ended_at(end),
+            Open::If { no, spot, .. } => return self.close_if(no, spot),
+            Open::Else { end, .. } => self.here.lines.place(end),
             Open::Loop {
                 top,
                 again,
@@ -245,88 +253,85 @@ impl<'a> Reader<'a> {
                 end,
                 ..
             } => self.close_do(top, again, end),
-            Open::Block | Open::Switch { .. } => Ok(true),
+            Open::Block | Open::Switch { .. } => {}
         }
-    }
-
-    /// Places the label after a construct, which ends here.
-    fn ended_at(&mut self, end: usize) -> Result<bool, Fault> {
-        self.here.lines.place(end)?;
-        Ok(true)
+        true
     }
 
     /// Writes the end of a loop, by the labels of its step, of its test and of what is after it.
-    fn close_loop(&mut self, labels: [usize; 3], step: usize, spot: Spot) -> Result<bool, Fault> {
+    fn close_loop(&mut self, labels: [usize; 3], step: usize, spot: Spot) {
         let [again, top, end] = labels;
-        self.here.lines.place(again)?;
-        self.here.lines.take_back(step)?;
-        self.here.lines.goto(top, spot)?;
-        self.ended_at(end)
+        self.here.lines.place(again);
+        self.here.lines.take_back(step);
+        self.here.lines.goto(top, spot);
+        self.here.lines.place(end);
     }
 
-    fn close_if(&mut self, no: usize, spot: Spot) -> Result<bool, Fault> {
+    /// Writes the end of an `if`. Answers whether it has no `else`.
+    fn close_if(&mut self, no: usize, spot: Spot) -> bool {
         if !self.cursor.accepts("else") {
-            return self.ended_at(no);
+            self.here.lines.place(no);
+            return true;
         }
         let end = self.here.lines.label();
-        self.here.lines.goto(end, spot)?;
-        self.here.lines.place(no)?;
-        let margin = self.margin("else")?;
-        self.enter(Open::Else { end, margin })
+        self.here.lines.goto(end, spot);
+        self.here.lines.place(no);
+        let margin = self.branch_margin("else");
+        self.enter(Open::Else { end, margin });
+        false
     }
 
-    fn close_do(&mut self, top: usize, again: usize, end: usize) -> Result<bool, Fault> {
+    fn close_do(&mut self, top: usize, again: usize, end: usize) {
         if !self.cursor.accepts("while") {
-            return Err(
-                self.cursor
-                    .expected("'while' and the condition of the 'do' loop"),
-            );
+            self.cursor
+                .refuse_next("'while' and the condition of the 'do' loop");
         }
         self.here.operators = 0;
         let spot = self.cursor.spot();
-        let test = self.condition()?;
-        self.cursor.take(";", " after the 'do' loop")?;
+        let test = self.condition();
+        self.cursor.take(";", " after the 'do' loop");
         let spot = self.here.lines.test_spot(test, spot);
-        self.here.lines.place(again)?;
-        self.here.lines.branch(test, spot, top, end, end)?;
-        self.ended_at(end)
+        self.here.lines.place(again);
+        self.here.lines.branch(test, spot, top, end, end);
+        self.here.lines.place(end);
     }
 
     /// Reads a jump, or else a simple statement.
-    fn jump(&mut self) -> Result<(), Fault> {
+    fn jump(&mut self) {
         let Token { text, spot, .. } = self.cursor.token();
         match text {
             "break" => self.leave_loop(true, spot),
             "continue" => self.leave_loop(false, spot),
             "return" if matches!(self.here.home, Home::Task) => {
                 let text = "a task doesn't return (rule 11): end it with vTaskDelete(NULL)";
-                Err(wrong(self.alloc, spot, text))
+                self.cursor.refuse(spot, text);
             }
             "return" => {
                 self.cursor.advance();
-                self.here.lines.goto(0, spot)
+                self.here.lines.goto(0, spot);
             }
             "goto" => {
                 self.cursor.advance();
-                let name = self.cursor.word("a label")?;
-                let label = self.label_named(name, false)?;
-                self.here.lines.goto(label, spot)
+                let name = self.cursor.word("a label");
+                let label = self.label_named(name, false);
+                self.here.lines.goto(label, spot);
             }
             "var" | "static" => {
                 let form = "variables are declared at the beginning of the %";
-                Err(wrong_about(self.alloc, spot, form, self.here.home.text(), ""))
+                self.cursor
+                    .refuse_about(spot, form, self.here.home.text(), "");
             }
             "const" => {
                 let why = "constants are declared outside tasks, interrupts and functions";
-                Err(wrong(self.alloc, spot, why))
+                self.cursor.refuse(spot, why);
             }
-            "else" => Err(wrong(self.alloc, spot, "'else' without an 'if' above it")),
+            "else" => self.cursor.refuse(spot, "'else' without an 'if' above it"),
             _ => self.simple(),
         }
     }
 
     /// Takes a `break`, or else a `continue`.
-    fn leave_loop(&mut self, is_break: bool, spot: Spot) -> Result<(), Fault> {
+    fn leave_loop(&mut self, is_break: bool, spot: Spot) {
         let mut label = None;
         for open in &self.here.open {
             match *open {
@@ -343,28 +348,27 @@ impl<'a> Reader<'a> {
             } else {
                 "'continue' outside a loop"
             };
-            return Err(wrong(self.alloc, spot, text));
+            return self.cursor.refuse(spot, text);
         };
         self.cursor.advance();
-        self.here.lines.goto(label, spot)
+        self.here.lines.goto(label, spot);
     }
 
-    /// Takes a label that the source names: no statement ends here.
-    fn named_label(&mut self) -> Result<bool, Fault> {
+    /// Takes a label that the source names.
+    fn named_label(&mut self) {
         let name = self.cursor.token();
         self.cursor.advance();
         self.cursor.advance();
         if is_reserved(name.text) {
             let form = "'%' is a word of this notation: choose another label";
-            return Err(wrong_about(self.alloc, name.spot, form, name.text, ""));
+            self.cursor.refuse_about(name.spot, form, name.text, "");
         }
-        let label = self.label_named(name, true)?;
-        self.here.lines.place(label)?;
-        Ok(false)
+        let label = self.label_named(name, true);
+        self.here.lines.place(label);
     }
 
     /// The label with this name, which is placed here or only named.
-    fn label_named(&mut self, name: Token<'a>, is_placed: bool) -> Result<usize, Fault> {
+    fn label_named(&mut self, name: Token<'a>, is_placed: bool) -> usize {
         let Token { text, spot, .. } = name;
         for one in &mut self.here.labels {
             if one.text != text {
@@ -372,29 +376,33 @@ impl<'a> Reader<'a> {
             }
             if one.is_placed && is_placed {
                 let form = "the label '%' is there already";
-                return Err(wrong_about(self.alloc, spot, form, text, ""));
+                self.cursor.refuse_about(spot, form, text, "");
             }
             one.is_placed = one.is_placed || is_placed;
-            return Ok(one.label);
+            return one.label;
         }
         let label = self.here.lines.label();
-        self.here.labels.push(NamedLabel {
+        let new = NamedLabel {
             text,
             label,
             spot,
             is_placed,
-        })?;
-        Ok(label)
+        };
+        if self.here.labels.push(new).is_err() {
+            self.cursor.note(Fault::Memory);
+        }
+        label
     }
 
     /// Refuses a `goto` whose label isn't there.
-    pub(crate) fn check_labels(&self) -> Result<(), Fault> {
+    pub(crate) fn check_labels(&mut self) {
+        let kind = self.here.home.text();
         for one in &self.here.labels {
             if !one.is_placed {
-                let (name, kind) = (one.text, self.here.home.text());
-                return Err(wrong_about(self.alloc, one.spot, "no label '%' in this %", name, kind));
+                let (spot, name) = (one.spot, one.text);
+                self.cursor
+                    .refuse_about(spot, "no label '%' in this %", name, kind);
             }
         }
-        Ok(())
     }
 }

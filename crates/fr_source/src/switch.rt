@@ -1,6 +1,6 @@
 // Switches: their tests are written once all cases are read, and put before the bodies.
 
-use crate::fault::{Fault, Spot, wrong, wrong_about, wrong_with};
+use crate::fault::{Fault, Spot};
 use crate::open::{Case, Open};
 use crate::program::Range;
 use crate::reader::Reader;
@@ -36,80 +36,74 @@ fn label_of_case(cases: &[Case], value: Option<i64>) -> Option<usize> {
 
 impl<'a> Reader<'a> {
     /// Reads the head of a switch.
-    pub(crate) fn switch_head(&mut self, spot: Spot) -> Result<bool, Fault> {
-        self.cursor.take("(", "")?;
+    pub(crate) fn switch_head(&mut self, spot: Spot) {
+        self.cursor.take("(", "");
         let variable_spot = self.cursor.spot();
-        let variable = self.variable_named("a variable")?;
+        let variable = self.variable_named("a variable");
         if self.program.is_shared(variable) {
             let form =
                 "'%' is shared, and each 'case' would read it again: copy it to a 'var' and switch on that";
             let name = self.program.variable(variable).name;
-            return Err(wrong_about(self.alloc, variable_spot, form, name, ""));
+            self.cursor.refuse_about(variable_spot, form, name, "");
         }
-        self.cursor.take(")", "")?;
-        self.cursor.take("{", "")?;
+        self.cursor.take(")", "");
+        self.cursor.take("{", "");
         let end = self.here.lines.label();
         let first_item = self.here.lines.body.items.len();
         let first_case = self.here.cases.len();
-        self.here.open.push(Open::Switch {
+        self.enter(Open::Switch {
             variable,
             end,
             first_item,
             first_case,
             spot,
-        })?;
-        self.check_depth(0, spot)?;
-        Ok(false)
+        });
     }
 
     /// Takes a `case` or a `default` with its colon.
-    pub(crate) fn case(&mut self) -> Result<bool, Fault> {
+    pub(crate) fn case(&mut self) {
         let Token { text, spot, .. } = self.cursor.token();
         let Some(Open::Switch { first_case, .. }) = self.here.open.last().copied() else {
-            return Err(self.cursor.expected("a statement"));
+            return self.cursor.refuse_next("a statement");
         };
         self.cursor.advance();
-        let value = if text == "case" {
-            Some(self.constant()?)
-        } else {
-            None
-        };
-        self.cursor.take(":", "")?;
+        let mut value = None;
+        if text == "case" {
+            value = Some(self.constant());
+        }
+        self.cursor.take(":", "");
         if let Some(cases) = self.here.cases.get(first_case..)
             && label_of_case(cases, value).is_some()
         {
-            let form = "this case % is there already";
-            return Err(match value {
-                Some(number) => wrong_with(self.alloc, spot, form, &[Word::Number(number)]),
-                None => wrong(self.alloc, spot, "this default is there already"),
-            });
+            match value {
+                Some(number) => {
+                    let form = "this case % is there already";
+                    self.cursor.refuse_with(spot, form, &[Word::Number(number)]);
+                }
+                None => self.cursor.refuse(spot, "this default is there already"),
+            }
         }
         let label = self.here.lines.label();
-        self.here.lines.place(label)?;
-        self.here.cases.push(Case { value, label, spot })?;
-        Ok(false)
+        self.here.lines.place(label);
+        if self.here.cases.push(Case { value, label, spot }).is_err() {
+            self.cursor.note(Fault::Memory);
+        }
     }
 
     /// Writes the tests of a switch, one for each number but the last one of all.
-    fn write_tests(
-        &mut self,
-        variable: usize,
-        first_case: usize,
-        last: Option<i64>,
-    ) -> Result<(), Fault> {
+    fn write_tests(&mut self, variable: usize, first_case: usize, last: Option<i64>) {
         for place in first_case..self.here.cases.len() {
             if let Some(Case { value, label, spot }) = self.here.cases.get(place).copied()
                 && let Some(number) = value
                 && value != last
             {
-                self.here.lines.test_case(variable, number, label, spot)?;
+                self.here.lines.test_case(variable, number, label, spot);
             }
         }
-        Ok(())
     }
 
-    /// Closes a block or a switch: a statement ends there. The tests of a switch are put before its bodies.
-    pub(crate) fn close_many(&mut self) -> Result<bool, Fault> {
+    /// Closes a block or a switch. The tests of a switch are put before its bodies.
+    pub(crate) fn close_many(&mut self) {
         let Some(
             Open::Switch {
                 variable,
@@ -120,21 +114,20 @@ impl<'a> Reader<'a> {
             },
         ) = self.here.open.pop()
         else {
-            return Ok(true);
+            return;
         };
         let range = self.program.variable(variable).range;
         let Some(cases) = self.here.cases.get(first_case..) else {
-            return Ok(true);
+            return;
         };
         // A switch goes on where no test holds: at the last number of all, or else at `default`.
         let last = last_of_all(cases, range);
         let rest = label_of_case(cases, last).unwrap_or(end);
-        let bodies = self.here.lines.put_aside(first_item)?;
-        self.write_tests(variable, first_case, last)?;
-        self.here.lines.goto(rest, spot)?;
-        self.here.lines.take_back(bodies)?;
+        let bodies = self.here.lines.put_aside(first_item);
+        self.write_tests(variable, first_case, last);
+        self.here.lines.goto(rest, spot);
+        self.here.lines.take_back(bodies);
         self.here.cases.truncate(first_case);
-        self.here.lines.place(end)?;
-        Ok(true)
+        self.here.lines.place(end);
     }
 }
