@@ -38,13 +38,7 @@ pub(crate) fn program_in<'a>(
 ) -> Result<Program<'a>, Fault> {
     let mut reader = Reader::new(alloc, Cursor::new(alloc, tokens, end));
     reader.declarations();
-    if reader.scope.is_short {
-        return Err(Fault::Memory);
-    }
-    match reader.cursor.fault.take() {
-        Some(fault) => Err(fault),
-        None => Ok(mem::replace(&mut reader.program, Program::new(alloc))),
-    }
+    reader.outcome()
 }
 
 impl<'a> Reader<'a> {
@@ -83,6 +77,17 @@ impl<'a> Reader<'a> {
         if self.program.actors.is_empty() {
             self.cursor
                 .refuse_next("a task or an interrupt: there is none");
+        }
+    }
+
+    /// What is read, or the first fault.
+    fn outcome(&mut self) -> Result<Program<'a>, Fault> {
+        if self.scope.is_short {
+            return Err(Fault::Memory);
+        }
+        match self.cursor.fault.take() {
+            Some(fault) => Err(fault),
+            None => Ok(mem::replace(&mut self.program, Program::new(self.alloc))),
         }
     }
 

@@ -75,13 +75,11 @@ impl<'a> Reader<'a> {
         if let Some(cases) = self.here.cases.get(first_case..)
             && label_of_case(cases, value).is_some()
         {
-            match value {
-                Some(number) => {
-                    let form = "this case % is there already";
-                    self.cursor.refuse_with(spot, form, &[Word::Number(number)]);
-                }
-                None => self.cursor.refuse(spot, "this default is there already"),
-            }
+            let (form, number) = match value {
+                Some(number) => ("this case % is there already", number),
+                None => ("this default is there already", 0),
+            };
+            self.cursor.refuse_with(spot, form, &[Word::Number(number)]);
         }
         let label = self.here.lines.label();
         self.here.lines.place(label);
