@@ -6,13 +6,20 @@ use fr_escape::{Place, place_of_texts};
 use fr_files::{FileFault, OutputFault};
 use fr_outcome::{CheckFault, Refusal};
 use fr_place::{place_of_app, place_of_certificate, place_of_swapped, recipe_at, seem_swapped};
-use fr_reader::read_app;
-use fr_source::{Message, Refused};
+use fr_reader::{ReadFault, read_app};
+use fr_source::{Message, Refused, seems_a_source};
 use std::alloc::{AllocError, Global};
 use std::slice;
 
+/// What is said of a source in a file that has the name of an application.
+fn place_of_source(alloc: Global) -> Result<Place, AllocError> {
+    let line = "this looks like a source: give its file a name that ends in .frc";
+    let text = String::from_str(alloc, line)?;
+    place_of_texts(alloc, slice::from_ref(&text))
+}
+
 /// Where the texts are at fault: line and column, table and key, the line of code with a mark, the path to a note, the nearest name
-/// that is known; or that the two seem to be swapped. None where neither is at fault.
+/// that is known; or that the two seem to be swapped, or the application to be a source. None where neither is at fault.
 fn place_in(
     alloc: Global,
     app: &[u8],
@@ -22,6 +29,7 @@ fn place_in(
     let place = match (fault, certificate) {
         (CheckFault::App(_) | CheckFault::Cert(_), Some(certificate))
             if seem_swapped(app, certificate) => { place_of_swapped(alloc)? }
+        (CheckFault::App(ReadFault::Toml), _) if seems_a_source(app) => place_of_source(alloc)?,
         (CheckFault::App(fault), _) => place_of_app(alloc, app, fault)?,
         (CheckFault::Cert(fault), Some(certificate)) => match read_app(alloc, app) {
             Ok(read) => place_of_certificate(alloc, &read, certificate, fault)?,

@@ -20,6 +20,7 @@ mod program;
 mod reader;
 mod renamed;
 mod scope;
+mod seeming;
 mod simple;
 mod source;
 mod statement;
@@ -33,4 +34,5 @@ mod translation;
 mod visible;
 
 pub use message::{Message, Refused};
+pub use seeming::seems_a_source;
 pub use translation::{MOST_APPLICATION_BYTES, MOST_SOURCE_BYTES, Translation, translated};
