@@ -37,14 +37,38 @@ fn is_point_alike(
         && spoiler(app, notes, number) == spoiler_by(app, notes, index, number)
 }
 
+/// Whether this text is written for the certificate.
+fn is_written(alloc: Global, app: &App, certificate: &Certificate, text: &str) -> Option<bool>
+    requires fits { CertificateFits app.now certificate.now }
+{
+    let written = write_cert(alloc, app, certificate).ok()?;
+    Some(written.as_str() == text)
+}
+
 /// Whether what is written for the certificate is read as a certificate for which the same is written.
 pub fn is_read_again(alloc: Global, app: &App, certificate: &Certificate) -> Option<bool>
     requires fits { CertificateFits app.now certificate.now }
 {
     let text = write_cert(alloc, app, certificate).ok()?;
-    let again = read_cert(alloc, app, text.as_bytes()).ok()?;
-    let same = write_cert(alloc, app, &again).ok()?;
-    Some(same.as_str() == text.as_str())
+    match &read_cert(alloc, app, text.as_bytes()) {
+        Ok(again) => is_written(alloc, app, again, text.as_str()),
+        Err(_) => None,
+    }
+}
+
+/// Whether each point, and the whole, are judged alike in each way.
+fn are_points_alike(app: &App, certificate: &Certificate, index: &Index, judging: &Judging) -> bool
+    requires fits { CertificateFits app.now certificate.now }
+    requires index { IsIndexOf app.now index.now }
+    requires app { judging.now.app ≡ app.now }
+{
+    for number in 0..app.points() {
+        if !is_point_alike(app, certificate, index, judging, number) {
+            return false;
+        }
+    }
+    let verdict = judge(app, certificate);
+    verdict == judge_by(app, certificate, index) && verdict == judging.verdict()
 }
 
 /// Whether each point, and the whole, are judged alike in each way, and the certificate is read again. None where there is no
@@ -59,24 +83,27 @@ pub fn is_alike(alloc: Global, app: &App, certificate: &Certificate) -> Option<b
         return None;
     };
     let judging = Judging::with(app, certificate, &lists);
-    for number in 0..app.points() {
-        if !is_point_alike(app, certificate, &index, &judging, number) {
-            return Some(false);
-        }
+    if are_points_alike(app, certificate, &index, &judging) {
+        is_read_again(alloc, app, certificate)
+    } else {
+        Some(false)
     }
-    let verdict = judge(app, certificate);
-    Some(
-        verdict == judge_by(app, certificate, &index)
-            && verdict == judging.verdict()
-            && is_read_again(alloc, app, certificate)?,
-    )
+}
+
+/// The same of the certificate in this text. None where it is refused.
+fn is_alike_by(alloc: Global, app: &App, notes: &[u8]) -> Option<bool> {
+    match &read_cert(alloc, app, notes) {
+        Ok(certificate) => is_alike(alloc, app, certificate),
+        Err(_) => None,
+    }
 }
 
 /// The same of these texts. None where one of them is refused.
 fn are_alike(alloc: Global, app: &[u8], notes: &[u8]) -> Option<bool> {
-    let app = read_app(alloc, app).ok()?;
-    let certificate = read_cert(alloc, &app, notes).ok()?;
-    is_alike(alloc, &app, &certificate)
+    match &read_app(alloc, app) {
+        Ok(app) => is_alike_by(alloc, app, notes),
+        Err(_) => None,
+    }
 }
 
 #[test]

@@ -1,4 +1,6 @@
 // Asks the cases of the tables.
+ghost use Rattle.fr_ends.specs.Fits.{CertificateFits};
+
 use crate::alike::is_alike;
 use crate::points::point_answer;
 use crate::steps::step_answer;
@@ -6,13 +8,13 @@ use crate::table::{Asked, Table};
 use crate::tables::{certificates, deletes, guards, implied, lists, meeting, own, spoilers, steps};
 use crate::texts::{list_text, written};
 use fr_cert::read_cert;
+use fr_ends::Certificate;
 use fr_program::App;
 use fr_reader::read_app;
 use std::alloc::Global;
 
-/// The file with a text put into each of its gaps, from the text with this number on, and the number of the next text.
-fn filled(alloc: Global, file: &str, texts: &[&str], first: usize) -> Option<(String, usize)> {
-    let mut whole = String::new(alloc);
+/// Appends a file with a text put into each of its gaps, from the text with this number on. Gives the number of the next text.
+fn fill(whole: &mut String, file: &str, texts: &[&str], first: usize) -> Option<usize> {
     let mut next = first;
     for (number, piece) in file.split('?').enumerate() {
         if number > 0 {
@@ -21,21 +23,48 @@ fn filled(alloc: Global, file: &str, texts: &[&str], first: usize) -> Option<(St
         }
         whole.push_str(piece).ok()?;
     }
-    Some((whole, next))
+    Some(next)
 }
 
-/// The application and the text of the certificate with these texts put into them; None where there are more or fewer texts
-/// than gaps, or the application is refused.
-fn files(alloc: Global, table: &Table, texts: &[&str]) -> Option<(App, String)> {
-    let (app, next) = filled(alloc, table.app, texts, 0)?;
-    let (certificate, next) = filled(alloc, table.certificate, texts, next)?;
-    if next != texts.len() {
-        return None;
-    }
-    Some((read_app(alloc, app.as_bytes()).ok()?, certificate))
+/// The texts of an application and a certificate.
+#[derive(Drop)]
+struct Files {
+    app: String,
+    certificate: String,
+}
+
+/// Appends the table's files with these texts put into them. None where there are more or fewer texts than gaps.
+fn fill_both(files: &mut Files, table: &Table, texts: &[&str]) -> Option<()> {
+    let next = fill(&mut files.app, table.app, texts, 0)?;
+    let last = fill(&mut files.certificate, table.certificate, texts, next)?;
+    if last == texts.len() { Some(()) } else { None }
+}
+
+/// The table's files with these texts put into them; None where there are more or fewer texts than gaps.
+fn filled(alloc: Global, table: &Table, texts: &[&str]) -> Option<Files> {
+    let (app, certificate) = (String::new(alloc), String::new(alloc));
+    let mut files = Files { app, certificate };
+    fill_both(&mut files, table, texts)?;
+    Some(files)
 }
 
 /// The answer about the points with these numbers, where they and all others are judged alike in each way.
+fn judged_by(
+    alloc: Global,
+    asked: Asked,
+    app: &App,
+    certificate: &Certificate,
+    numbers: &str,
+) -> Option<String>
+    requires { CertificateFits app.now certificate.now }
+{
+    if !is_alike(alloc, app, certificate)? {
+        return None;
+    }
+    point_answer(alloc, asked, app, certificate, numbers)
+}
+
+/// The same by the certificate in this text. None where it is refused.
 fn judged(
     alloc: Global,
     asked: Asked,
@@ -43,16 +72,78 @@ fn judged(
     certificate: &str,
     numbers: &str,
 ) -> Option<String> {
-    let Ok(certificate) = read_cert(alloc, app, certificate.as_bytes()) else {
-        return None;
-    };
-    if !is_alike(alloc, app, &certificate)? {
-        return None;
+    match &read_cert(alloc, app, certificate.as_bytes()) {
+        Ok(certificate) => judged_by(alloc, asked, app, certificate, numbers),
+        Err(_) => None,
     }
-    point_answer(alloc, asked, app, &certificate, numbers)
+}
+
+/// What is asked about an application, beside its file and that of its certificate: the points or the list; for a step the
+/// state, the step, and the answer by the table.
+#[derive(Clone, Copy)]
+struct Question<'a> {
+    asked: Asked,
+    subject: &'a str,
+    step: &'a str,
+    expected: &'a str,
+}
+
+/// The answer about an application and the text of a certificate.
+fn answer_of(
+    alloc: Global,
+    app: &App,
+    certificate: &str,
+    question: &Question<'_>,
+) -> Option<String> {
+    let subject = question.subject;
+    match question.asked {
+        Asked::Certificate => written(alloc, app, certificate),
+        Asked::Step => step_answer(alloc, app, subject, question.step, question.expected),
+        Asked::List => list_text(alloc, app, subject),
+        asked => judged(alloc, asked, app, certificate, subject),
+    }
+}
+
+/// The answer about the table's files with these texts put into them. None where the application is refused.
+fn answer_with(
+    alloc: Global,
+    table: &Table,
+    texts: &[&str],
+    question: &Question<'_>,
+) -> Option<String> {
+    let files = filled(alloc, table, texts)?;
+    match &read_app(alloc, files.app.as_bytes()) {
+        Ok(app) => answer_of(alloc, app, files.certificate.as_str(), question),
+        Err(_) => None,
+    }
 }
 
 /// The answer to a question that has this answer by its table; None where the question has a wrong form.
+fn answer_to(
+    alloc: Global,
+    asked: Asked,
+    table: &Table,
+    parts: &[&str],
+    expected: &str,
+) -> Option<String> {
+    let (texts, subject, step) = match (asked, parts) {
+        (Asked::Certificate, texts) => (texts, "", ""),
+        (Asked::Step, [_, state, step]) => (parts.get(..1)?, *state, *step),
+        (Asked::Step, _) => return None,
+        (Asked::List, [_, _, ..]) => return None,
+        (_, [subject, texts @ ..]) => (texts, *subject, ""),
+        _ => return None,
+    };
+    let question = Question {
+        asked,
+        subject,
+        step,
+        expected,
+    };
+    answer_with(alloc, table, texts, &question)
+}
+
+/// The same of a question whose parts have ` | ` between them.
 fn answer(
     alloc: Global,
     asked: Asked,
@@ -60,26 +151,8 @@ fn answer(
     question: &str,
     expected: &str,
 ) -> Option<String> {
-    let texts: Vec<&str> = question.split(" | ").collect(alloc).ok()?;
-    match (asked, texts.as_slice()) {
-        (Asked::Certificate, texts) => {
-            let (app, certificate) = files(alloc, table, texts)?;
-            written(alloc, &app, &certificate)
-        }
-        (Asked::Step, [line, state, step]) => {
-            let (app, _) = files(alloc, table, &[*line])?;
-            step_answer(alloc, &app, state, step, expected)
-        }
-        (Asked::List, [list]) => {
-            let (app, _) = files(alloc, table, &[])?;
-            list_text(alloc, &app, list)
-        }
-        (_, [numbers, texts @ ..]) => {
-            let (app, certificate) = files(alloc, table, texts)?;
-            judged(alloc, asked, &app, &certificate, numbers)
-        }
-        _ => None,
-    }
+    let parts: Vec<&str> = question.split(" | ").collect(alloc).ok()?;
+    answer_to(alloc, asked, table, parts.as_slice(), expected)
 }
 
 /// Whether the case is answered as its line says; prints it with what came out where not.

@@ -49,6 +49,53 @@ fn fault(alloc: Global, parts: Parts) -> Option<BuildFault> {
     }
 }
 
+/// No parts yet.
+fn no_parts(alloc: Global) -> Parts {
+    Parts {
+        variables: Vec::new(alloc),
+        objects: Vec::new(alloc),
+        actors: Vec::new(alloc),
+    }
+}
+
+fn add_variable(
+    alloc: Global,
+    parts: &mut Parts,
+    name: &str,
+    owner: Option<ActorId>,
+) -> Result<(), AllocError> {
+    let variable = variable(alloc, name, owner)?;
+    Ok(parts.variables.push(variable)?)
+}
+
+fn add_object(alloc: Global, parts: &mut Parts, name: &str, kind: Kind) -> Result<(), AllocError> {
+    let object = object(alloc, name, kind)?;
+    Ok(parts.objects.push(object)?)
+}
+
+fn add_task(
+    alloc: Global,
+    parts: &mut Parts,
+    name: &str,
+    code: &[Instr],
+) -> Result<(), AllocError> {
+    let task = task(alloc, name, code)?;
+    Ok(parts.actors.push(task)?)
+}
+
+/// Adds a task t with this instruction, a stream buffer sb, and a variable of this name and owner.
+fn add_each(
+    alloc: Global,
+    parts: &mut Parts,
+    instr: Instr,
+    name: &str,
+    owner: Option<ActorId>,
+) -> Result<(), AllocError> {
+    add_variable(alloc, parts, name, owner)?;
+    add_object(alloc, parts, "sb", Kind::Stream { size: 64 })?;
+    add_task(alloc, parts, "t", &[instr, BACK])
+}
+
 /// The fault of a task t with this instruction, a stream buffer sb, and a variable of this name and owner.
 fn fault_of(
     alloc: Global,
@@ -56,15 +103,8 @@ fn fault_of(
     name: &str,
     owner: Option<ActorId>,
 ) -> Result<Option<BuildFault>, AllocError> {
-    let mut parts = Parts {
-        variables: Vec::new(alloc),
-        objects: Vec::new(alloc),
-        actors: Vec::new(alloc),
-    };
-    parts.variables.push(variable(alloc, name, owner)?)?;
-    let kind = Kind::Stream { size: 64 };
-    parts.objects.push(object(alloc, "sb", kind)?)?;
-    parts.actors.push(task(alloc, "t", &[instr, BACK])?)?;
+    let mut parts = no_parts(alloc);
+    add_each(alloc, &mut parts, instr, name, owner)?;
     Ok(fault(alloc, parts))
 }
 
@@ -127,34 +167,51 @@ fn names_and_owners(rt: HostRuntime) -> Result<(), Fail> {
     Ok(())
 }
 
-/// The fault of so many variables, objects and tasks, each task with so many instructions.
-fn fault_of_sizes(
-    alloc: Global,
+/// So many variables, objects and tasks, and so many instructions in each task.
+#[derive(Clone, Copy)]
+struct Sizes {
     variables: usize,
     objects: usize,
     tasks: usize,
     instrs: usize,
-) -> Result<Option<BuildFault>, AllocError> {
-    let mut parts = Parts {
-        variables: Vec::new(alloc),
-        objects: Vec::new(alloc),
-        actors: Vec::new(alloc),
-    };
-    let code = vec![in alloc; BACK; instrs]?;
-    for k in 0..65 {
-        if k < variables {
-            let name = format!(in alloc; "v{k}")?;
-            parts.variables.push(variable(alloc, &name, None)?)?;
-        }
-        if k < objects {
-            let name = format!(in alloc; "o{k}")?;
-            parts.objects.push(object(alloc, &name, Kind::Mutex)?)?;
-        }
-        if k < tasks {
-            let name = format!(in alloc; "t{k}")?;
-            parts.actors.push(task(alloc, &name, &code)?)?;
-        }
+}
+
+/// Adds a variable, an object and a task with this number, where there are so many.
+fn add_numbered(
+    alloc: Global,
+    parts: &mut Parts,
+    sizes: Sizes,
+    code: &[Instr],
+    number: usize,
+) -> Result<(), AllocError> {
+    if number < sizes.variables {
+        let name = format!(in alloc; "v{number}")?;
+        add_variable(alloc, parts, &name, None)?;
     }
+    if number < sizes.objects {
+        let name = format!(in alloc; "o{number}")?;
+        add_object(alloc, parts, &name, Kind::Mutex)?;
+    }
+    if number < sizes.tasks {
+        let name = format!(in alloc; "t{number}")?;
+        add_task(alloc, parts, &name, code)?;
+    }
+    Ok(())
+}
+
+/// Adds all of them.
+fn add_sizes(alloc: Global, parts: &mut Parts, sizes: Sizes) -> Result<(), AllocError> {
+    let code = vec![in alloc; BACK; sizes.instrs]?;
+    for number in 0..65 {
+        add_numbered(alloc, parts, sizes, &code, number)?;
+    }
+    Ok(())
+}
+
+/// The fault of an application of these sizes.
+fn fault_of_sizes(alloc: Global, sizes: Sizes) -> Result<Option<BuildFault>, AllocError> {
+    let mut parts = no_parts(alloc);
+    add_sizes(alloc, &mut parts, sizes)?;
     Ok(fault(alloc, parts))
 }
 
@@ -168,8 +225,13 @@ fn greatest_sizes(rt: HostRuntime) -> Result<(), Fail> {
         (0, 0, 33, 1, too_many),
         (0, 0, 1, 513, too_many),
     ] {
-        let got = fault_of_sizes(rt.alloc(), variables, objects, tasks, instrs)?;
-        assert_eq!(rt; got, wanted);
+        let sizes = Sizes {
+            variables,
+            objects,
+            tasks,
+            instrs,
+        };
+        assert_eq!(rt; fault_of_sizes(rt.alloc(), sizes)?, wanted);
     }
     Ok(())
 }

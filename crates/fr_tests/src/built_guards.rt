@@ -1,6 +1,6 @@
 // Guards that are built from their parts, and those that are refused, which come back.
 use fr_ends::{EndGuard, EndName, Ends, EndsFault, Guard};
-use fr_program::{ActorId, End, ObjId, VarId};
+use fr_program::{ActorId, App, End, ObjId, VarId};
 use fr_reader::read_app;
 use std::alloc::{AllocError, Global};
 use std::collections::BTreeMap;
@@ -31,23 +31,35 @@ fn turn(alloc: Global, one: i64, other: i64) -> Result<Guard, AllocError> {
     Ok(Guard::Turn(VarId(0), values))
 }
 
-/// What comes of one guard, or of two: how many are listed, or the fault and how many come back. None where the application is
-/// refused or there is no memory.
-fn build(
-    alloc: Global,
-    first: EndGuard,
-    second: Option<EndGuard>,
-) -> Option<Result<usize, (EndsFault, usize)>> {
-    let app = read_app(alloc, BUFFER).ok()?;
+/// One guard, or two.
+fn listed(alloc: Global, first: EndGuard, second: Option<EndGuard>) -> Option<Vec<EndGuard>> {
     let mut guards = Vec::new(alloc);
     guards.push(first).ok()?;
     if let Some(second) = second {
         guards.push(second).ok()?;
     }
-    Some(match Ends::build(alloc, &app, guards) {
+    Some(guards)
+}
+
+/// What comes of guards: how many are listed, or the fault and how many come back.
+fn built(alloc: Global, app: &App, guards: Vec<EndGuard>) -> Result<usize, (EndsFault, usize)> {
+    match Ends::build(alloc, app, guards) {
         Ok(ends) => Ok(ends.len()),
         Err((fault, guards)) => Err((fault, guards.len())),
-    })
+    }
+}
+
+/// What comes of one guard, or of two. None where the application is refused or there is no memory.
+fn build(
+    alloc: Global,
+    first: EndGuard,
+    second: Option<EndGuard>,
+) -> Option<Result<usize, (EndsFault, usize)>> {
+    let guards = listed(alloc, first, second)?;
+    match &read_app(alloc, BUFFER) {
+        Ok(app) => Some(built(alloc, app, guards)),
+        Err(_) => None,
+    }
 }
 
 #[test]

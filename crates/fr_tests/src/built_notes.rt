@@ -1,6 +1,6 @@
 // Notes that are built from parts, and parts and lists that are refused.
 use fr_notes::{Note, NoteFault, NoteParts, Notes, NotesFault};
-use fr_program::{ObjId, Range, VarId};
+use fr_program::{App, ObjId, Range, VarId};
 use fr_reader::read_app;
 use std::alloc::Global;
 
@@ -26,8 +26,8 @@ const NOTHING: Said = Said {
     dead: None,
 };
 
-fn parts(alloc: Global, said: Said) -> Option<NoteParts> {
-    let mut parts = NoteParts::none(alloc);
+/// Adds what a note says to its parts.
+fn add(parts: &mut NoteParts, said: Said) -> Option<()> {
     if let Some((variable, lo, hi)) = said.range {
         parts
             .range
@@ -43,13 +43,23 @@ fn parts(alloc: Global, said: Said) -> Option<NoteParts> {
     if let Some(object) = said.dead {
         parts.dead.push(ObjId(object)).ok()?;
     }
+    Some(())
+}
+
+/// The parts of what a note says.
+fn parts(alloc: Global, said: Said) -> Option<NoteParts> {
+    let mut parts = NoteParts::none(alloc);
+    add(&mut parts, said)?;
     Some(parts)
 }
 
 /// The fault of the note, `Some(None)` where it is built; None where something else is refused.
 fn fault(alloc: Global, said: Said) -> Option<Option<NoteFault>> {
-    let app = read_app(alloc, APP).ok()?;
-    Some(Note::build(alloc, &app, parts(alloc, said)?).err())
+    let parts = parts(alloc, said)?;
+    match &read_app(alloc, APP) {
+        Ok(app) => Some(Note::build(alloc, app, parts).err()),
+        Err(_) => None,
+    }
 }
 
 #[test]
@@ -121,19 +131,32 @@ fn live_and_dead(rt: HostRuntime) {
     }
 }
 
-/// What comes of so many notes that say nothing: whether they fit and there is none past them, or the fault and how many
-/// come back.
-fn taken(alloc: Global, count: usize) -> Option<Result<bool, (NotesFault, usize)>> {
-    let app = read_app(alloc, APP).ok()?;
-    let mut notes = Vec::new(alloc);
+/// Adds so many notes that say nothing.
+fn add_plain(alloc: Global, app: &App, notes: &mut Vec<Note>, count: usize) -> Option<()> {
     for _ in 0..count {
-        let note = Note::build(alloc, &app, NoteParts::none(alloc)).ok()?;
+        let note = Note::build(alloc, app, NoteParts::none(alloc)).ok()?;
         notes.push(note).ok()?;
     }
-    Some(match Notes::build(alloc, &app, notes) {
-        Ok(notes) => Ok(notes.fits(&app) && notes.get(count).is_none()),
+    Some(())
+}
+
+/// What comes of so many notes that say nothing: whether they fit and there is none past them, or the fault and how many
+/// come back.
+fn taken_by(alloc: Global, app: &App, count: usize) -> Option<Result<bool, (NotesFault, usize)>> {
+    let mut notes = Vec::new(alloc);
+    add_plain(alloc, app, &mut notes, count)?;
+    Some(match Notes::build(alloc, app, notes) {
+        Ok(notes) => Ok(notes.fits(app) && notes.get(count).is_none()),
         Err((fault, notes)) => Err((fault, notes.len())),
     })
+}
+
+/// The same of the application above.
+fn taken(alloc: Global, count: usize) -> Option<Result<bool, (NotesFault, usize)>> {
+    match &read_app(alloc, APP) {
+        Ok(app) => taken_by(alloc, app, count),
+        Err(_) => None,
+    }
 }
 
 #[test]

@@ -39,22 +39,42 @@ fn gives(alloc: Global, machine: &mut Machine, wanted: Entry) -> Option<bool> {
     }
 }
 
-/// Whether a machine with the word 1 gives these entries, and then a trace of them. None where there is no memory for the
-/// machine, or to tell.
-fn polls_give(alloc: Global, app: &[u8], notes: &[u8], wanted: &[Entry]) -> Option<bool> {
-    let passed: Passed = passed(alloc, app, notes)?;
-    let mut machine = match Machine::new(alloc, &passed, wanted.len() as u64, &[1]) {
-        Ok(machine) => machine,
-        Err(RunFault::Memory) => return None,
-        Err(_) => return Some(false),
-    };
+/// Whether the next polls give these entries. None where there is no memory to tell.
+fn gives_all(alloc: Global, machine: &mut Machine, wanted: &[Entry]) -> Option<bool> {
     for entry in wanted {
-        if !gives(alloc, &mut machine, *entry)? {
+        if !gives(alloc, machine, *entry)? {
             return Some(false);
         }
     }
+    Some(true)
+}
+
+/// Whether the machine's trace has these entries and the word 1.
+fn has_trace(machine: Machine, wanted: &[Entry]) -> bool {
     let trace = machine.into_trace();
-    Some(trace.entries.as_slice() == wanted && trace.words.as_slice() == [1].as_slice())
+    trace.entries.as_slice() == wanted && trace.words.as_slice() == [1].as_slice()
+}
+
+/// Whether a machine with the word 1 gives these entries, and then a trace of them. None where there is no memory for the
+/// machine, or to tell.
+fn polls_give(alloc: Global, passed: &Passed, wanted: &[Entry]) -> Option<bool> {
+    match Machine::new(alloc, passed, wanted.len() as u64, &[1]) {
+        Ok(mut machine) => {
+            let is_given = gives_all(alloc, &mut machine, wanted);
+            let is_told = has_trace(machine, wanted);
+            Some(is_given? && is_told)
+        }
+        Err(RunFault::Memory) => None,
+        Err(_) => Some(false),
+    }
+}
+
+/// The same of a machine for this application.
+fn app_gives(alloc: Global, app: &[u8], notes: &[u8], wanted: &[Entry]) -> Option<bool> {
+    match &passed(alloc, app, notes) {
+        Some(passed) => polls_give(alloc, passed, wanted),
+        None => None,
+    }
 }
 
 #[test]
@@ -62,8 +82,8 @@ fn polls_of_a_machine(rt: HostRuntime) {
     let alloc = rt.alloc();
     for (app, notes, sent) in [(QUEUE, QUEUE_NOTES, 1), (MESSAGE, MESSAGE_NOTES, 3)] {
         let wanted = entries(sent);
-        let kept = match polls_give(alloc, app, notes, &wanted) {
-            None => polls_give(alloc, app, notes, &wanted),
+        let kept = match app_gives(alloc, app, notes, &wanted) {
+            None => app_gives(alloc, app, notes, &wanted),
             answer => answer,
         };
         assert!(rt; kept == Some(true), "{sent}");

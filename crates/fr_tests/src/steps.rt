@@ -49,7 +49,32 @@ fn step_text(alloc: Global, app: &App, names: &Names, facts: &str, step: &str) -
     after(alloc, app, &mut state, actor, choice).ok()
 }
 
+/// Whether these facts tell the state with this text. None where there is no memory.
+fn tells(alloc: Global, app: &App, names: &Names, facts: &str, text: &str) -> Option<bool> {
+    match &state_in(alloc, app, names, facts) {
+        Some(state) => Some(state_text(alloc, state).ok()?.as_str() == text),
+        None => Some(false),
+    }
+}
+
 /// What comes of the step: this answer where it is that, or tells the state to which the step leads.
+fn answer_by(
+    alloc: Global,
+    app: &App,
+    names: &Names,
+    facts: &str,
+    step: &str,
+    expected: &str,
+) -> Option<String> {
+    let got = step_text(alloc, app, names, facts, step)?;
+    if tells(alloc, app, names, expected, got.as_str())? {
+        String::from_str(alloc, expected).ok()
+    } else {
+        Some(got)
+    }
+}
+
+/// The same, by the names of the application.
 pub fn step_answer(
     alloc: Global,
     app: &App,
@@ -57,15 +82,8 @@ pub fn step_answer(
     step: &str,
     expected: &str,
 ) -> Option<String> {
-    let names = names_of(alloc, app).ok()?;
-    let got = step_text(alloc, app, &names, facts, step)?;
-    let is_told = match state_in(alloc, app, &names, expected) {
-        Some(state) => state_text(alloc, &state).ok()?.as_str() == got.as_str(),
-        None => false,
-    };
-    if is_told {
-        String::from_str(alloc, expected).ok()
-    } else {
-        Some(got)
+    match &names_of(alloc, app) {
+        Ok(names) => answer_by(alloc, app, names, facts, step, expected),
+        Err(_) => None,
     }
 }

@@ -4,7 +4,7 @@ use fr_calls::Rule;
 use fr_cert::read_cert;
 use fr_judge::{Part, Verdict};
 use fr_parallel::{Gate, judge_with};
-use fr_program::{ActorId, Point, Side};
+use fr_program::{ActorId, App, Point, Side};
 use fr_reader::read_app;
 use std::alloc::Global;
 use std::sync::Wait;
@@ -31,8 +31,39 @@ fn task(alloc: Global, name: &str, first: usize, line: &str) -> Option<String> {
     ).ok()
 }
 
-/// The verdict of so many workers on two tasks with 800 points and notes that say nothing. Points 3 and 700 fail, where the
-/// tasks leave a critical section in which they aren't, or none. None where something is refused.
+/// Two tasks with 800 points. Points 3 and 700 fail, where the tasks leave a critical section in which they aren't, or none.
+fn two_tasks(alloc: Global, fails: bool) -> Option<String> {
+    let line = if fails {
+        "taskEXIT_CRITICAL()"
+    } else {
+        "vTaskDelay(1)"
+    };
+    let (t, u) = (task(alloc, "t", 3, line)?, task(alloc, "u", 300, line)?);
+    format!(in alloc; "actor=[{t},{u}]").ok()
+}
+
+/// 800 notes that say nothing.
+fn plain_notes(alloc: Global) -> Option<String> {
+    let plain = "{},".repeat(alloc, 799).ok()?;
+    format!(in alloc; "{{\"version\":1,\"ends\":[],\"notes\":[{plain}{{}}]}}").ok()
+}
+
+/// The verdict of so many workers on an application with these notes. None where something is refused.
+fn judged_with<R: Threads + Wait + Sync, G: Gate>(
+    rt: &R,
+    alloc: Global,
+    app: &App,
+    notes: &str,
+    workers: usize,
+    gate: &G,
+) -> Option<Verdict> {
+    match &read_cert(alloc, app, notes.as_bytes()) {
+        Ok(certificate) => judge_with(rt, alloc, app, certificate, workers, gate).ok(),
+        Err(_) => None,
+    }
+}
+
+/// The verdict of so many workers on the two tasks with notes that say nothing. None where something is refused.
 fn judged<R: Threads + Wait + Sync, G: Gate>(
     rt: &R,
     alloc: Global,
@@ -40,22 +71,11 @@ fn judged<R: Threads + Wait + Sync, G: Gate>(
     workers: usize,
     gate: &G,
 ) -> Option<Verdict> {
-    let line = if fails {
-        "taskEXIT_CRITICAL()"
-    } else {
-        "vTaskDelay(1)"
-    };
-    let (t, u) = (task(alloc, "t", 3, line)?, task(alloc, "u", 300, line)?);
-    let text = format!(in alloc; "actor=[{t},{u}]").ok()?;
-    let plain = "{},".repeat(alloc, 799).ok()?;
-    let notes = format!(in alloc; "{{\"version\":1,\"ends\":[],\"notes\":[{plain}{{}}]}}").ok()?;
-    let Ok(app) = read_app(alloc, text.as_bytes()) else {
-        return None;
-    };
-    let Ok(certificate) = read_cert(alloc, &app, notes.as_bytes()) else {
-        return None;
-    };
-    judge_with(rt, alloc, &app, &certificate, workers, gate).ok()
+    let (text, notes) = (two_tasks(alloc, fails)?, plain_notes(alloc)?);
+    match &read_app(alloc, text.as_bytes()) {
+        Ok(app) => judged_with(rt, alloc, app, notes.as_str(), workers, gate),
+        Err(_) => None,
+    }
 }
 
 /// Holds job 3 until job 700 has arrived.
