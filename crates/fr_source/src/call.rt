@@ -33,10 +33,10 @@ fn instead_of(name: &str) -> &'static str {
     }
 }
 
-impl<'a> Reader<'a> {
+impl Reader {
     /// Takes the arguments of the call with this name, and gives the call. A name of another kind is refused.
-    pub(crate) fn kernel_call(&mut self, token: Token<'a>) -> Option<Call> {
-        let Some(kernel) = kernel_named(token.text) else {
+    pub(crate) fn kernel_call(&mut self, token: Token) -> Option<Call> {
+        let Some(kernel) = kernel_named(self.cursor.text(token)) else {
             self.refuse_call(token);
             return None;
         };
@@ -73,7 +73,7 @@ impl<'a> Reader<'a> {
         variable: usize,
         other: Range,
         form: &str,
-        name: &'a str,
+        name: &str,
         spot: Spot,
     ) {
         let Variable {
@@ -83,7 +83,7 @@ impl<'a> Reader<'a> {
         } = self.program.variable(variable);
         if !range.includes(other) {
             let words = &[
-                Word::Text(shown),
+                Word::Piece(shown),
                 Word::Number(range.low),
                 Word::Number(range.high),
                 Word::Number(other.low),
@@ -95,27 +95,29 @@ impl<'a> Reader<'a> {
     }
 
     /// Refuses to call a name that is neither a function's nor the kernel's.
-    fn refuse_call(&mut self, token: Token<'a>) {
-        let Token { text, spot, .. } = token;
-        let (form, more) = if text == self.here.name {
+    fn refuse_call(&mut self, token: Token) {
+        let Token { span, spot, .. } = token;
+        let (form, more) = if self.cursor.pieces.are_alike(span, self.here.name) {
             (
                 "'%' can't call itself: a function is expanded where it is called",
-                "",
+                Word::Text(""),
             )
-        } else if let Some(meaning) = self.scope.meaning(text) {
+        } else if let Some(meaning) = self.meaning(token) {
             (
                 "'%' is the name of %, and only a function or a call of the kernel is called",
-                meaning.text(),
+                Word::Text(meaning.text()),
             )
-        } else if let Some(near) = self.scope.near(text) {
+        } else if let Some(near) = self.near(token) {
             (
                 "no function above and no kernel call '%'. Did you mean '%'?",
                 near,
             )
         } else {
-            ("no function above and no kernel call '%%", instead_of(text))
+            let hint = Word::Text(instead_of(self.cursor.text(token)));
+            ("no function above and no kernel call '%%", hint)
         };
-        self.cursor.refuse_about(spot, form, text, more);
+        let words = &[Word::Piece(span), more];
+        self.cursor.refuse_with(spot, form, words);
     }
 
     /// Refuses the next token, in whose place something is expected in a call.
@@ -133,12 +135,11 @@ impl<'a> Reader<'a> {
 
     /// Takes the argument in a place. `object` is the first one.
     fn argument(&mut self, kernel: &Kernel, place: Place, object: Argument) -> Argument {
-        let text = self.cursor.token().text;
-        if text == ")" {
+        if self.cursor.sees(")") {
             self.refuse_in(place.text(), kernel);
         }
-        let is_forever = text == "portMAX_DELAY"
-            || matches!(self.scope.meaning(text), Some(Meaning::Forever));
+        let is_forever = self.cursor.sees("portMAX_DELAY")
+            || matches!(self.meaning(self.cursor.token()), Some(Meaning::Forever));
         match place {
             Place::Object => self.object_argument(kernel),
             Place::Operand => Argument::Operand(self.number_or_variable()),
@@ -178,7 +179,7 @@ impl<'a> Reader<'a> {
             && !kernel.is_for(object.kind)
         {
             let words = &[
-                Word::Text(object.name),
+                Word::Piece(object.name),
                 Word::Text(object.kind.text()),
                 Word::Text(kernel.name),
                 Word::Text(kernel.kinds_text()),

@@ -6,8 +6,9 @@ use crate::kernel::Answer;
 use crate::lines::Condition;
 use crate::program::{Call, Comparison, Operand, Owner, Variable};
 use crate::reader::Reader;
+use crate::texts::Word;
 
-impl Reader<'_> {
+impl Reader {
     /// Refuses a call that doesn't answer whether it worked.
     fn check_fails(&mut self, call: Call, spot: Spot) {
         if call.kernel.may_fail() {
@@ -105,7 +106,7 @@ impl Reader<'_> {
                 let Variable { name, owner, .. } = self.program.variable(variable);
                 if matches!(owner, Owner::Everyone) {
                     let form = "'%' is shared: give this to a 'var'";
-                    self.cursor.refuse_about(left.spot, form, name, "");
+                    self.cursor.refuse_piece(left.spot, form, name, "");
                 }
                 let value = Value::Variable(variable);
                 let left = Term { value, ..left };
@@ -190,7 +191,7 @@ impl Reader<'_> {
         } else {
             return;
         };
-        self.cursor
-            .refuse_about(spot, form, first.name, second.name);
+        let words = &[Word::Piece(first.name), Word::Piece(second.name)];
+        self.cursor.refuse_with(spot, form, words);
     }
 }

@@ -1,26 +1,28 @@
 // Where a reader is among the tokens of a source, and the first fault in them. Once a fault is noted, only the end of the
 // source is seen: so what reads goes on, with values of no meaning, and soon ends.
 
-use crate::fault::{Fault, Spot, clipped, wrong_with};
-use crate::texts::Word;
+use crate::fault::{Fault, Spot, wrong_in};
+use crate::texts::{Pieces, Span, Word};
 use crate::token::{Kind, Token};
 use std::alloc::Global;
 
 /// The tokens of a source, and which is read next.
 #[derive(Drop)]
-pub(crate) struct Cursor<'a> {
+pub(crate) struct Cursor {
     pub(crate) alloc: Global,
-    tokens: Vec<Token<'a>>,
-    end: Token<'a>,
+    pub(crate) pieces: Pieces,
+    tokens: Vec<Token>,
+    end: Token,
     /// The place of the next token among all tokens.
     pub(crate) next: usize,
     pub(crate) fault: Option<Fault>,
 }
 
-impl<'a> Cursor<'a> {
-    pub(crate) fn new(alloc: Global, tokens: Vec<Token<'a>>, end: Token<'a>) -> Cursor<'a> {
+impl Cursor {
+    pub(crate) fn new(alloc: Global, pieces: Pieces, tokens: Vec<Token>, end: Token) -> Cursor {
         Cursor {
             alloc,
+            pieces,
             tokens,
             end,
             next: 0,
@@ -37,14 +39,19 @@ impl<'a> Cursor<'a> {
     /// Notes the fault that a form says is at a place, with its words, unless one is noted already.
     pub(crate) fn refuse_with(&mut self, spot: Spot, form: &str, words: &[Word<'_>]) {
         if self.fault.is_none() {
-            self.note(wrong_with(self.alloc, spot, form, words));
+            let fault = wrong_in(self.alloc, &self.pieces, spot, form, words);
+            self.note(fault);
         }
     }
 
-    /// The same with one or two texts as its words: the first one is cut where it is too long.
+    /// The same with a piece of the source and a text as its words.
+    pub(crate) fn refuse_piece(&mut self, spot: Spot, form: &str, piece: Span, second: &str) {
+        self.refuse_with(spot, form, &[Word::Piece(piece), Word::Text(second)]);
+    }
+
+    /// The same with one or two fixed texts as its words.
     pub(crate) fn refuse_about(&mut self, spot: Spot, form: &str, first: &str, second: &str) {
-        let words = &[Word::Text(clipped(first)), Word::Text(second)];
-        self.refuse_with(spot, form, words);
+        self.refuse_with(spot, form, &[Word::Text(first), Word::Text(second)]);
     }
 
     /// The same with a fixed text.
@@ -58,7 +65,7 @@ impl<'a> Cursor<'a> {
     }
 
     /// The next token.
-    pub(crate) fn token(&self) -> Token<'a> {
+    pub(crate) fn token(&self) -> Token {
         match self.tokens.get(self.next) {
             Some(token) => *token,
             None => self.end,
@@ -66,7 +73,7 @@ impl<'a> Cursor<'a> {
     }
 
     /// The token after the next one.
-    pub(crate) fn following(&self) -> Token<'a> {
+    pub(crate) fn following(&self) -> Token {
         match self.tokens.get(self.next.saturating_add(1)) {
             Some(token) => *token,
             None => self.end,
@@ -74,11 +81,21 @@ impl<'a> Cursor<'a> {
     }
 
     /// The token before the next one.
-    pub(crate) fn previous(&self) -> Token<'a> {
+    pub(crate) fn previous(&self) -> Token {
         match self.tokens.get(self.next.saturating_sub(1)) {
             Some(token) => *token,
             None => self.end,
         }
+    }
+
+    /// The text of a token.
+    pub(crate) fn text(&self, token: Token) -> &str {
+        self.pieces.text(token.span)
+    }
+
+    /// Whether a token is this word or sign.
+    pub(crate) fn is(&self, token: Token, text: &str) -> bool {
+        self.text(token) == text
     }
 
     /// Whether the next token is an argument of a call that isn't its first one, and with those after it there are more than
@@ -87,18 +104,17 @@ impl<'a> Cursor<'a> {
         let mut count = 2usize;
         let mut depth = 1usize;
         for token in self.tokens.get(self.next..).unwrap_or(&[]) {
-            if token.text == "(" {
-                depth = depth.saturating_add(1);
-            } else if token.text == ")" {
-                depth = depth.saturating_sub(1);
-            } else if token.text == "," && depth == 1 {
-                count = count.saturating_add(1);
+            match self.text(*token) {
+                "(" => depth = depth.saturating_add(1),
+                ")" => depth = depth.saturating_sub(1),
+                "," if depth == 1 => count = count.saturating_add(1),
+                _ => {}
             }
             if depth == 0 {
                 break;
             }
         }
-        self.previous().text == "," && count > most
+        self.is(self.previous(), ",") && count > most
     }
 
     pub(crate) fn spot(&self) -> Spot {
@@ -111,12 +127,12 @@ impl<'a> Cursor<'a> {
 
     /// Whether the next token is this word or sign.
     pub(crate) fn sees(&self, text: &str) -> bool {
-        self.token().text == text
+        self.is(self.token(), text)
     }
 
     /// Whether the next token is a word, and this sign is after it.
     pub(crate) fn is_before(&self, sign: &str) -> bool {
-        matches!(self.token().kind, Kind::Word) && self.following().text == sign
+        matches!(self.token().kind, Kind::Word) && self.is(self.following(), sign)
     }
 
     /// Takes the next token if it is this word or sign.
@@ -140,10 +156,10 @@ impl<'a> Cursor<'a> {
         self.take("{", "");
         let mut depth = 1usize;
         for _ in 0..self.left() {
-            match self.token().text {
-                "{" => depth = depth.saturating_add(1),
-                "}" => depth = depth.saturating_sub(1),
-                _ => {}
+            if self.sees("{") {
+                depth = depth.saturating_add(1);
+            } else if self.sees("}") {
+                depth = depth.saturating_sub(1);
             }
             self.advance();
             if depth == 0 {
@@ -154,7 +170,7 @@ impl<'a> Cursor<'a> {
     }
 
     /// Takes a word.
-    pub(crate) fn word(&mut self, what: &str) -> Token<'a> {
+    pub(crate) fn word(&mut self, what: &str) -> Token {
         let token = self.token();
         match token.kind {
             Kind::Word => self.advance(),
@@ -163,28 +179,42 @@ impl<'a> Cursor<'a> {
         token
     }
 
-    /// Refuses the next token, in whose place something else was expected, which four texts say. Where a semicolon is
-    /// missing, the mark is after the token before it.
-    pub(crate) fn refuse_for(&mut self, first: &str, sign: &str, third: &str, last: &str) {
-        let found = self.token();
-        let mut spot = found.spot;
-        if sign == ";" {
-            let before = self.previous();
-            spot = before.spot;
-            spot.column = spot.column.saturating_add(before.text.len());
+    /// Where the next token is refused, in whose place this sign was expected: where a semicolon is missing, that is after the
+    /// token before it.
+    fn spot_for(&self, sign: &str) -> Spot {
+        if sign != ";" {
+            return self.spot();
         }
-        let form = match (found.kind, found.text) {
-            (Kind::End, _) => "expected %%%%, found the end of the file",
-            (_, "[") => "expected %%%%, found '[': there are no arrays",
-            _ => "expected %%%%, found '%'",
+        let Token { span, spot, .. } = self.previous();
+        let width = span.end.saturating_sub(span.start);
+        let column = spot.column.saturating_add(width);
+        Spot { column, ..spot }
+    }
+
+    /// Refuses the next token, in whose place something else was expected, which four texts say.
+    pub(crate) fn refuse_for<'x>(
+        &mut self,
+        first: &'x str,
+        sign: &'x str,
+        third: &'x str,
+        last: &'x str,
+    ) {
+        let found = self.token();
+        let form = if matches!(found.kind, Kind::End) {
+            "expected %%%%, found the end of the file"
+        } else if self.is(found, "[") {
+            "expected %%%%, found '[': there are no arrays"
+        } else {
+            "expected %%%%, found '%'"
         };
         let words = &[
             Word::Text(first),
             Word::Text(sign),
             Word::Text(third),
             Word::Text(last),
-            Word::Text(clipped(found.text)),
+            Word::Piece(found.span),
         ];
+        let spot = self.spot_for(sign);
         self.refuse_with(spot, form, words);
     }
 

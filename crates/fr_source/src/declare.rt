@@ -1,7 +1,7 @@
 // Declarations: constants, variables, objects, functions, tasks and interrupts.
 
 use crate::cursor::Cursor;
-use crate::fault::{Fault, Spot, clipped};
+use crate::fault::{Fault, Spot};
 use crate::kernel::DECLARATIONS;
 use crate::lines::Lines;
 use crate::near::{OF_C, hint_for, near_among};
@@ -10,7 +10,7 @@ use crate::program::{
 };
 use crate::reader::Reader;
 use crate::scope::Meaning;
-use crate::texts::Word;
+use crate::texts::{Pieces, Word};
 use crate::token::{Kind, Token};
 use std::alloc::Global;
 use std::mem;
@@ -30,30 +30,58 @@ const SIZES: Range = Range {
     high: 65_535,
 };
 
-/// What the source declares.
-pub(crate) fn program_in<'a>(
+/// What the word that begins a declaration declares.
+#[derive(Clone, Copy)]
+enum Declared {
+    Constant,
+    Shared,
+    Actor(Home),
+    Function,
+    Object(ObjectKind),
+    Nothing,
+}
+
+impl Declared {
+    fn of(word: &str) -> Declared {
+        match word {
+            "const" => Declared::Constant,
+            "shared" => Declared::Shared,
+            "task" => Declared::Actor(Home::Task),
+            "interrupt" => Declared::Actor(Home::Interrupt),
+            "function" => Declared::Function,
+            _ => match ObjectKind::of(word) {
+                Some(kind) => Declared::Object(kind),
+                None => Declared::Nothing,
+            },
+        }
+    }
+}
+
+/// What the source declares, by its pieces and its tokens.
+pub(crate) fn program_in(
     alloc: Global,
-    tokens: Vec<Token<'a>>,
-    end: Token<'a>,
-) -> Result<Program<'a>, Fault> {
-    let mut reader = Reader::new(alloc, Cursor::new(alloc, tokens, end));
+    pieces: Pieces,
+    tokens: Vec<Token>,
+    end: Token,
+) -> Result<Program, Fault> {
+    let mut reader = Reader::new(alloc, Cursor::new(alloc, pieces, tokens, end));
     reader.declarations();
     reader.outcome()
 }
 
-impl<'a> Reader<'a> {
+impl Reader {
     /// Refuses a word that begins no declaration.
-    fn refuse_declaration(&mut self, word: Token<'a>) {
-        let (shown, spot) = (clipped(word.text), word.spot);
+    fn refuse_declaration(&mut self, word: Token) {
+        let text = self.cursor.text(word);
         let what =
             "expected a declaration, which begins with one of const, shared, task, interrupt, function, queue, \
             binary, counting, mutex, recursive, stream, message; found '";
-        let (form, more) = match near_among(&DECLARATIONS, word.text) {
+        let (form, more) = match near_among(&DECLARATIONS, text) {
             Some(near) => ("%%'. Did you mean '%'?", near),
-            None => ("%%'%", hint_for(&OF_C, word.text).unwrap_or("")),
+            None => ("%%'%", hint_for(&OF_C, text).unwrap_or("")),
         };
-        let words = &[Word::Text(what), Word::Text(shown), Word::Text(more)];
-        self.cursor.refuse_with(spot, form, words);
+        let words = &[Word::Text(what), Word::Piece(word.span), Word::Text(more)];
+        self.cursor.refuse_with(word.spot, form, words);
     }
 
     /// Refuses one more of what there may be at most so many.
@@ -81,13 +109,17 @@ impl<'a> Reader<'a> {
     }
 
     /// What is read, or the first fault.
-    fn outcome(&mut self) -> Result<Program<'a>, Fault> {
+    fn outcome(&mut self) -> Result<Program, Fault> {
         if self.scope.is_short {
             return Err(Fault::Memory);
         }
         match self.cursor.fault.take() {
             Some(fault) => Err(fault),
-            None => Ok(mem::replace(&mut self.program, Program::new(self.alloc))),
+            None => {
+                let none = Pieces::none(self.alloc);
+                self.program.pieces = mem::replace(&mut self.cursor.pieces, none);
+                Ok(mem::replace(&mut self.program, Program::new(self.alloc)))
+            }
         }
     }
 
@@ -99,16 +131,13 @@ impl<'a> Reader<'a> {
             self.cursor
                 .refuse(word.spot, "more than 1024 names are declared");
         }
-        match word.text {
-            "const" => self.constant_declaration(),
-            "shared" => self.variable_declaration(Owner::Everyone, false),
-            "task" => self.actor(Home::Task),
-            "interrupt" => self.actor(Home::Interrupt),
-            "function" => self.function(),
-            text => match ObjectKind::of(text) {
-                Some(kind) => self.object(kind),
-                None => self.refuse_declaration(word),
-            },
+        match Declared::of(self.cursor.text(word)) {
+            Declared::Constant => self.constant_declaration(),
+            Declared::Shared => self.variable_declaration(Owner::Everyone, false),
+            Declared::Actor(home) => self.actor(home),
+            Declared::Function => self.function(),
+            Declared::Object(kind) => self.object(kind),
+            Declared::Nothing => self.refuse_declaration(word),
         }
     }
 
@@ -116,7 +145,7 @@ impl<'a> Reader<'a> {
         let name = self.new_name("the name of a constant");
         self.cursor.take("=", "");
         let number = self.constant();
-        self.scope.add_outside(name.text, Meaning::Constant(number));
+        self.scope.add_outside(name.span, Meaning::Constant(number));
         self.cursor.take(";", " after the declaration");
     }
 
@@ -154,7 +183,7 @@ impl<'a> Reader<'a> {
             _ => None,
         };
         let variable = Variable {
-            name: name.text,
+            name: name.span,
             spot: name.spot,
             range,
             first,
@@ -164,8 +193,8 @@ impl<'a> Reader<'a> {
         };
         let place = self.add_variable(variable);
         match owner {
-            Owner::Everyone => self.scope.add_outside(name.text, Meaning::Variable(place)),
-            _ => self.scope.add_inside(name.text, Meaning::Variable(place)),
+            Owner::Everyone => self.scope.add_outside(name.span, Meaning::Variable(place)),
+            _ => self.scope.add_inside(name.span, Meaning::Variable(place)),
         }
     }
 
@@ -202,7 +231,7 @@ impl<'a> Reader<'a> {
     }
 
     /// Adds a variable of the application, or one of a function: each actor that calls it gets its own.
-    pub(crate) fn add_variable(&mut self, variable: Variable<'a>) -> usize {
+    pub(crate) fn add_variable(&mut self, variable: Variable) -> usize {
         let is_of_function = matches!(variable.owner, Owner::Function(_));
         let count = if is_of_function {
             self.here.lines.body.variables.len()
@@ -228,7 +257,7 @@ impl<'a> Reader<'a> {
         let place = self.program.objects.len();
         self.check_count("objects", place, MOST_OBJECTS, name.spot);
         let mut object = Object {
-            name: name.text,
+            name: name.span,
             kind,
             size: None,
             items: None,
@@ -245,11 +274,11 @@ impl<'a> Reader<'a> {
         if self.program.objects.push(object).is_err() {
             self.cursor.note(Fault::Memory);
         }
-        self.scope.add_outside(name.text, Meaning::Object(place));
+        self.scope.add_outside(name.span, Meaning::Object(place));
     }
 
     /// Takes the size of an object, the range of its items and its first count, where its kind has them.
-    fn sizes(&mut self, object: &mut Object<'a>) {
+    fn sizes(&mut self, object: &mut Object) {
         if matches!(
             object.kind,
             ObjectKind::Binary | ObjectKind::Mutex | ObjectKind::Recursive
@@ -278,7 +307,7 @@ impl<'a> Reader<'a> {
         self.cursor.take(")", ": a function has no arguments");
         let place = self.program.bodies.len();
         self.body(Home::Function, name, Owner::Function(place), None);
-        self.scope.add_outside(name.text, Meaning::Function(place));
+        self.scope.add_outside(name.span, Meaning::Function(place));
     }
 
     /// Reads a task or an interrupt, with a body of its own or made of a body with parameters. Or notes such a body.
@@ -289,8 +318,8 @@ impl<'a> Reader<'a> {
         };
         let name = self.new_name(what);
         let parameter = self.cursor.following();
-        if self.cursor.sees("(") && parameter.text != ")" {
-            if parameter.text == "void" {
+        if self.cursor.sees("(") && !self.cursor.is(parameter, ")") {
+            if self.cursor.is(parameter, "void") {
                 let text = "leave out '(void *p)': there are no types";
                 self.cursor.refuse(parameter.spot, text);
             }
@@ -306,20 +335,20 @@ impl<'a> Reader<'a> {
     }
 
     /// Reads an actor whose parameters, if it has any, and body are next.
-    pub(crate) fn actor_here(&mut self, kind: Home, name: Token<'a>, values: &[Meaning]) {
+    pub(crate) fn actor_here(&mut self, kind: Home, name: Token, values: &[Meaning]) {
         let (meaning, last) = match kind {
             Home::Task => (Meaning::Task, Action::End),
             _ => (Meaning::Interrupt, Action::Return),
         };
         let number = self.program.actors.len();
-        self.scope.add_outside(name.text, meaning);
+        self.scope.add_outside(name.span, meaning);
         if !values.is_empty() {
             self.give(values);
         }
         let body = self.program.bodies.len();
         let end = self.body(kind, name, Owner::Actor(number), Some(last));
         let actor = Actor {
-            name: name.text,
+            name: name.span,
             kind,
             body,
             end,
@@ -330,9 +359,9 @@ impl<'a> Reader<'a> {
     }
 
     /// Reads a body, keeps it with a last line after it, and gives the place of its closing brace.
-    fn body(&mut self, home: Home, name: Token<'a>, owner: Owner, last: Option<Action>) -> Spot {
+    fn body(&mut self, home: Home, name: Token, owner: Owner, last: Option<Action>) -> Spot {
         self.here.home = home;
-        self.here.name = name.text;
+        self.here.name = name.span;
         self.here.labels.clear();
         self.cursor.take("{", "");
         for _ in 0..self.cursor.left() {

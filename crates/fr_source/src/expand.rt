@@ -66,9 +66,9 @@ struct Own {
 
 /// What writes out the body of an actor.
 #[derive(Drop)]
-struct Expander<'a> {
+struct Expander {
     alloc: Global,
-    actor: Actor<'a>,
+    actor: Actor,
     number: usize,
     items: usize,
     frames: Vec<Frame>,
@@ -79,9 +79,9 @@ struct Expander<'a> {
     own: Vec<Own>,
 }
 
-impl<'a> Expander<'a> {
+impl Expander {
     /// Writes out the body of the actor.
-    fn write_out(&mut self, program: &mut Program<'a>) -> Result<Code, Fault> {
+    fn write_out(&mut self, program: &mut Program) -> Result<Code, Fault> {
         self.enter(program, self.actor.body, None)?;
         for _ in 0..=MOST_ITEMS * 4 {
             if !self.step(program)? {
@@ -92,12 +92,7 @@ impl<'a> Expander<'a> {
     }
 
     /// Begins to write out a body.
-    fn enter(
-        &mut self,
-        program: &Program<'a>,
-        body: usize,
-        call: Option<usize>,
-    ) -> Result<(), Fault> {
+    fn enter(&mut self, program: &Program, body: usize, call: Option<usize>) -> Result<(), Fault> {
         let first_label = self.labels.len();
         let count = match program.bodies.get(body) {
             Some(body) => body.labels,
@@ -116,7 +111,7 @@ impl<'a> Expander<'a> {
     }
 
     /// Writes out the next item of the innermost body, or leaves that body. Answers whether there is more.
-    fn step(&mut self, program: &mut Program<'a>) -> Result<bool, Fault> {
+    fn step(&mut self, program: &mut Program) -> Result<bool, Fault> {
         let Some(frame) = self.frames.last().copied() else {
             return Ok(false);
         };
@@ -129,7 +124,7 @@ impl<'a> Expander<'a> {
         }
         self.items = self.items.saturating_add(1);
         if self.items > MOST_ITEMS {
-            return Err(self.too_large(item, frame.call));
+            return Err(self.too_large(program, item, frame.call));
         }
         self.write_item(program, item, frame)?;
         Ok(true)
@@ -137,12 +132,7 @@ impl<'a> Expander<'a> {
 
     /// Writes a line with the actor's own variables, notes the line that a label is before, or begins to write out a
     /// function.
-    fn write_item(
-        &mut self,
-        program: &mut Program<'a>,
-        item: Item,
-        frame: Frame,
-    ) -> Result<(), Fault> {
+    fn write_item(&mut self, program: &mut Program, item: Item, frame: Frame) -> Result<(), Fault> {
         let Frame {
             first_label,
             call,
@@ -172,7 +162,7 @@ impl<'a> Expander<'a> {
     /// Writes a line with the actor's own variables.
     fn write_line(
         &mut self,
-        program: &mut Program<'a>,
+        program: &mut Program,
         action: Action,
         to: Option<usize>,
         place: Place,
@@ -185,7 +175,7 @@ impl<'a> Expander<'a> {
     /// Notes a call of a function, and begins to write out its body.
     fn enter_function(
         &mut self,
-        program: &Program<'a>,
+        program: &Program,
         function: usize,
         place: Place,
     ) -> Result<(), Fault> {
@@ -195,7 +185,7 @@ impl<'a> Expander<'a> {
     }
 
     /// Gives the actor its own variables of a function, unless it has them.
-    fn copy_variables(&mut self, program: &mut Program<'a>, function: usize) -> Result<(), Fault> {
+    fn copy_variables(&mut self, program: &mut Program, function: usize) -> Result<(), Fault> {
         for place in 0..MOST_VARIABLES {
             let Some(declared) = program.declared(function, place) else {
                 break;
@@ -208,19 +198,15 @@ impl<'a> Expander<'a> {
     }
 
     /// Refuses a static variable of a second actor, and one more than there may be.
-    fn check_copy(&self, program: &Program<'a>, variable: Variable<'a>) -> Result<(), Fault> {
-        let (name, spot) = (variable.name, variable.spot);
+    fn check_copy(&self, program: &Program, variable: Variable) -> Result<(), Fault> {
+        let (name, spot) = (Word::Text(program.text(variable.name)), variable.spot);
         if let (true, Owner::Actor(first)) = (variable.is_static, variable.owner) {
             let form =
                 "'%' is static, and '%' and '%' call the function: in C they share it. Declare it outside, \
                  as 'shared % in ..;'";
             let first = Word::Text(program.actor_name(first));
-            let words = &[
-                Word::Text(name),
-                first,
-                Word::Text(self.actor.name),
-                Word::Text(name),
-            ];
+            let second = Word::Text(program.text(self.actor.name));
+            let words = &[name, first, second, name];
             return Err(wrong_with(self.alloc, spot, form, words));
         }
         if program.written.len() >= MOST_VARIABLES {
@@ -232,7 +218,7 @@ impl<'a> Expander<'a> {
     }
 
     /// Gives the actor its own variable for one of a function.
-    fn copy_variable(&mut self, program: &mut Program<'a>, declared: usize) -> Result<(), Fault> {
+    fn copy_variable(&mut self, program: &mut Program, declared: usize) -> Result<(), Fault> {
         let owner = Owner::Actor(self.number);
         let variable = program.variable(declared);
         self.check_copy(program, variable)?;
@@ -263,7 +249,7 @@ impl<'a> Expander<'a> {
         }
     }
 
-    fn own_call(&self, program: &mut Program<'a>, call: Call) -> Result<Call, AllocError> {
+    fn own_call(&self, program: &mut Program, call: Call) -> Result<Call, AllocError> {
         let mut arguments = program.arguments(call);
         for argument in &mut arguments {
             if let Argument::Operand(operand) = *argument {
@@ -274,7 +260,7 @@ impl<'a> Expander<'a> {
     }
 
     /// The action, with the actor's own variables in place of those of functions.
-    fn own_action(&self, program: &mut Program<'a>, action: Action) -> Result<Action, AllocError> {
+    fn own_action(&self, program: &mut Program, action: Action) -> Result<Action, AllocError> {
         if let Action::Call { answer, call } = action {
             let answer = match answer {
                 Some(variable) => Some(self.own_variable(variable)),
@@ -319,7 +305,7 @@ impl<'a> Expander<'a> {
     }
 
     /// The fault that an actor grows too large. A label is told by the line above it.
-    fn too_large(&self, item: Item, call: Option<usize>) -> Fault {
+    fn too_large(&self, program: &Program, item: Item, call: Option<usize>) -> Fault {
         let place = match (item, self.lines.last()) {
             (Item::Line { spot, .. } | Item::Expand { spot, .. }, _) => Place { spot, call },
             (Item::Label(_), Some(line)) => line.place,
@@ -332,13 +318,8 @@ impl<'a> Expander<'a> {
         let form =
             "% '%' grows to more than 4096 lines and labels: this construct passed the limit, and at most 512 lines \
             may be left in the end";
-        wrong_about(
-            self.alloc,
-            spot,
-            form,
-            self.actor.kind.text(),
-            self.actor.name,
-        )
+        let name = program.text(self.actor.name);
+        wrong_about(self.alloc, spot, form, self.actor.kind.text(), name)
     }
 
     /// The lines, with the lines that their labels are before.
@@ -376,10 +357,10 @@ pub(crate) fn outermost(calls: &[Place], place: Place) -> Spot {
 }
 
 /// The lines of an actor. Its own variables of the functions that it calls are added to the program's.
-pub(crate) fn code_of<'a>(
+pub(crate) fn code_of(
     alloc: Global,
-    program: &mut Program<'a>,
-    actor: Actor<'a>,
+    program: &mut Program,
+    actor: Actor,
     number: usize,
 ) -> Result<Code, Fault> {
     let mut expander = Expander {

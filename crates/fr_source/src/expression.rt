@@ -153,7 +153,7 @@ fn number_in(text: &str) -> Option<i64> {
     }
 }
 
-impl<'a> Reader<'a> {
+impl Reader {
     /// Two terms, joined by an operator on numbers: worked out, where both are numbers.
     pub(crate) fn binary(&mut self, left: Term, sign: Arithmetic, right: Term, spot: Spot) -> Term {
         let value = match (left.operand(), right.operand()) {
@@ -249,17 +249,13 @@ impl<'a> Reader<'a> {
 
     /// Takes an operator before a term, or an opening bracket, if it is next.
     fn prefix(&mut self, yard: &mut Yard) -> bool {
-        let Token { text, spot, .. } = self.cursor.token();
-        let waiting = if text == "!" && yard.is_of_tests {
-            Waiting::Not(spot)
-        } else if text == "-" && self.cursor.following().text != LEAST {
-            Waiting::Minus(spot)
-        } else if text == "(" {
-            Waiting::Bracket
-        } else if text == "pdMS_TO_TICKS" {
-            Waiting::Ticks
-        } else {
-            return false;
+        let spot = self.cursor.spot();
+        let waiting = match self.cursor.text(self.cursor.token()) {
+            "!" if yard.is_of_tests => Waiting::Not(spot),
+            "-" if !self.cursor.is(self.cursor.following(), LEAST) => Waiting::Minus(spot),
+            "(" => Waiting::Bracket,
+            "pdMS_TO_TICKS" => Waiting::Ticks,
+            _ => return false,
         };
         self.cursor.advance();
         if matches!(waiting, Waiting::Ticks) {
@@ -274,25 +270,33 @@ impl<'a> Reader<'a> {
     /// Takes an operand: a call, `any(..)`, `NULL` or a plain one.
     fn operand(&mut self) -> Term {
         let token = self.cursor.token();
-        let Token { text, spot, .. } = token;
-        if text != "any" && text != "NULL" && !self.cursor.is_before("(") {
+        let (is_any, is_null) = (self.cursor.sees("any"), self.cursor.sees("NULL"));
+        if !is_any && !is_null && !self.cursor.is_before("(") {
             return self.plain_operand();
         }
         self.cursor.advance();
-        let value = match (text, self.scope.meaning(text)) {
-            ("any", _) => Value::Any(self.any()),
-            ("NULL", _) => Value::Null,
-            (_, Some(Meaning::Function(_))) => {
-                let form = "'%' is a function and answers nothing: let it set a variable";
-                self.cursor.refuse_about(spot, form, text, "");
-                Value::Null
-            }
-            _ => match self.kernel_call(token) {
-                Some(call) => Value::Called(call),
-                None => Value::Null,
-            },
+        let spot = token.spot;
+        let value = if is_any {
+            Value::Any(self.any())
+        } else if is_null {
+            Value::Null
+        } else {
+            self.called_value(token)
         };
         Term { value, spot }
+    }
+
+    /// Takes a call, after its name.
+    fn called_value(&mut self, token: Token) -> Value {
+        if let Some(Meaning::Function(_)) = self.meaning(token) {
+            let form = "'%' is a function and answers nothing: let it set a variable";
+            self.cursor.refuse_piece(token.spot, form, token.span, "");
+            return Value::Null;
+        }
+        match self.kernel_call(token) {
+            Some(call) => Value::Called(call),
+            None => Value::Null,
+        }
     }
 
     /// Takes the two numbers of an `any`.
@@ -308,21 +312,21 @@ impl<'a> Reader<'a> {
         let token = self.cursor.token();
         let Token {
             kind,
-            text,
+            span,
             spot,
             ..
         } = token;
         let value = match kind {
-            Kind::Number => match number_in(text) {
+            Kind::Number => match number_in(self.cursor.text(token)) {
                 Some(number) => Value::Number(number),
                 None => {
                     let form = "% doesn't fit in 64 bits";
-                    self.cursor.refuse_about(spot, form, text, "");
+                    self.cursor.refuse_piece(spot, form, span, "");
                     Value::Null
                 }
             },
             Kind::Word => self.named_operand(token),
-            _ if text == "-" => {
+            _ if self.cursor.sees("-") => {
                 self.cursor.advance();
                 Value::Number(i64::MIN)
             }
@@ -336,19 +340,19 @@ impl<'a> Reader<'a> {
     }
 
     /// What the name of a constant or a variable is.
-    fn named_operand(&mut self, token: Token<'a>) -> Value {
-        let Token { text, spot, .. } = token;
-        if let Some(number) = value_of(text) {
+    fn named_operand(&mut self, token: Token) -> Value {
+        let Token { span, spot, .. } = token;
+        if let Some(number) = value_of(self.cursor.text(token)) {
             return Value::Number(number);
         }
-        match self.scope.meaning(text) {
+        match self.meaning(token) {
             Some(Meaning::Constant(number)) => return Value::Number(number),
             Some(Meaning::Variable(variable)) => return Value::Variable(variable),
             Some(meaning) => {
                 let form = "'%' is the name of %, and a variable or a number is expected";
-                self.cursor.refuse_about(spot, form, text, meaning.text());
+                self.cursor.refuse_piece(spot, form, span, meaning.text());
             }
-            None if text == "NULL" || text == "portMAX_DELAY" => {
+            None if self.cursor.is(token, "NULL") || self.cursor.is(token, "portMAX_DELAY") => {
                 self.cursor.refuse_next("a variable or a number");
             }
             None => self.refuse_undeclared(token),
@@ -400,7 +404,7 @@ impl<'a> Reader<'a> {
     /// The ticks of so many milliseconds.
     fn ticks(&mut self, term: Term) -> Term {
         let Term { value, spot } = term;
-        let rate = self.scope.meaning("configTICK_RATE_HZ");
+        let rate = self.meaning_of("configTICK_RATE_HZ");
         let text = match (rate, value) {
             (Some(Meaning::Constant(rate)), Value::Number(time)) => match time.checked_mul(rate) {
                 Some(product) => {
@@ -442,8 +446,9 @@ impl<'a> Reader<'a> {
 
     /// Takes an operator between two terms, if it is next. Answers whether none is.
     fn infix(&mut self, yard: &mut Yard) -> bool {
-        let Token { text, spot, .. } = self.cursor.token();
-        let Some((operator, level)) = Operator::of(text) else {
+        let token = self.cursor.token();
+        let spot = token.spot;
+        let Some((operator, level)) = Operator::of(self.cursor.text(token)) else {
             return true;
         };
         if level < 4 && !yard.is_of_tests {

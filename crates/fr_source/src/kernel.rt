@@ -171,10 +171,10 @@ pub(crate) fn kernel_named(name: &str) -> Option<&'static Kernel> {
 }
 
 /// The name of a call of the kernel that a word is near to.
-pub(crate) fn kernel_near(word: &str) -> Option<&'static str> {
+pub(crate) fn kernel_near(word: &str) -> Option<Word<'static>> {
     for row in calls() {
         if is_near(word, row.name) {
-            return Some(row.name);
+            return Some(Word::Text(row.name));
         }
     }
     None

@@ -2,11 +2,46 @@
 
 use crate::fault::Spot;
 
+/// A construct, by the word that it begins with.
+#[derive(Clone, Copy)]
+pub(crate) enum Construct {
+    If,
+    Else,
+    While,
+    Do,
+    For,
+    Switch,
+}
+
+impl Construct {
+    /// The construct that begins with a word.
+    pub(crate) fn of(word: &str) -> Option<Construct> {
+        match word {
+            "if" => Some(Construct::If),
+            "while" => Some(Construct::While),
+            "do" => Some(Construct::Do),
+            "for" => Some(Construct::For),
+            "switch" => Some(Construct::Switch),
+            _ => None,
+        }
+    }
+
+    pub(crate) fn text(self) -> &'static str {
+        match self {
+            Construct::If => "if",
+            Construct::Else => "else",
+            Construct::While => "while",
+            Construct::Do => "do",
+            Construct::For => "for",
+            Construct::Switch => "switch",
+        }
+    }
+}
+
 /// Where the body of a construct begins, so that what is after a body without braces can't look as if it belonged to it.
 #[derive(Clone, Copy)]
 pub(crate) struct Margin {
-    /// The word of the construct.
-    pub(crate) word: &'static str,
+    pub(crate) construct: Construct,
     pub(crate) indent: usize,
     /// Whether the body has braces, or begins on the line of its head.
     pub(crate) is_plain: bool,

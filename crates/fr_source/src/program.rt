@@ -6,6 +6,7 @@ ghost use Rattle.fr_source.specs.Kept.{inverse, turned};
 
 use crate::fault::Spot;
 use crate::kernel::Kernel;
+use crate::texts::{Pieces, Span};
 use std::alloc::{AllocError, Global};
 
 /// The most variables of an application.
@@ -42,15 +43,15 @@ pub(crate) enum Owner {
 }
 
 #[derive(Clone, Copy)]
-pub(crate) struct Variable<'a> {
-    pub(crate) name: &'a str,
+pub(crate) struct Variable {
+    pub(crate) name: Span,
     pub(crate) spot: Spot,
     pub(crate) range: Range,
     pub(crate) first: i64,
     pub(crate) owner: Owner,
     pub(crate) is_static: bool,
     /// The name of the function that declares it.
-    pub(crate) function: Option<&'a str>,
+    pub(crate) function: Option<Span>,
 }
 
 #[derive(Clone, Copy)]
@@ -93,8 +94,8 @@ impl ObjectKind {
 }
 
 #[derive(Clone, Copy)]
-pub(crate) struct Object<'a> {
-    pub(crate) name: &'a str,
+pub(crate) struct Object {
+    pub(crate) name: Span,
     pub(crate) kind: ObjectKind,
     /// How many items, counts or bytes it has room for, where its kind has a size.
     pub(crate) size: Option<i64>,
@@ -312,28 +313,30 @@ impl Home {
 
 /// A task or an interrupt, with the place of its body among all bodies and where it ends in the source.
 #[derive(Clone, Copy)]
-pub(crate) struct Actor<'a> {
-    pub(crate) name: &'a str,
+pub(crate) struct Actor {
+    pub(crate) name: Span,
     pub(crate) kind: Home,
     pub(crate) body: usize,
     pub(crate) end: Spot,
 }
 
-/// All that a source declares. Variables of functions are among `variables`, and each actor that calls the function has
-/// its own copy of them: `written` has the variables of the application, in order.
+/// All that a source declares. Names are pieces of the source. Variables of functions are among `variables`, and each actor that
+/// calls the function has its own copy of them: `written` has the variables of the application, in order.
 #[derive(Drop)]
-pub(crate) struct Program<'a> {
-    pub(crate) variables: Vec<Variable<'a>>,
+pub(crate) struct Program {
+    pub(crate) pieces: Pieces,
+    pub(crate) variables: Vec<Variable>,
     pub(crate) written: Vec<usize>,
-    pub(crate) objects: Vec<Object<'a>>,
-    pub(crate) actors: Vec<Actor<'a>>,
+    pub(crate) objects: Vec<Object>,
+    pub(crate) actors: Vec<Actor>,
     pub(crate) bodies: Vec<Body>,
     arguments: Vec<[Argument; 3]>,
 }
 
-impl<'a> Program<'a> {
-    pub(crate) fn new(alloc: Global) -> Program<'a> {
+impl Program {
+    pub(crate) fn new(alloc: Global) -> Program {
         Program {
+            pieces: Pieces::none(alloc),
             variables: Vec::new(alloc),
             written: Vec::new(alloc),
             objects: Vec::new(alloc),
@@ -382,11 +385,11 @@ impl<'a> Program<'a> {
     }
 
     /// The variable in this place. There is always one.
-    pub(crate) fn variable(&self, place: usize) -> Variable<'a> {
+    pub(crate) fn variable(&self, place: usize) -> Variable {
         match self.variables.get(place) {
             Some(variable) => *variable,
             None => Variable {
-                name: "",
+                name: Span::NONE,
                 spot: Spot { line: 1, column: 1 },
                 range: Range { low: 0, high: 0 },
                 first: 0,
@@ -430,10 +433,15 @@ impl<'a> Program<'a> {
         }
     }
 
+    /// The name that is this piece of the source.
+    pub(crate) fn text(&self, name: Span) -> &str {
+        self.pieces.text(name)
+    }
+
     /// The name of the actor with this number.
-    pub(crate) fn actor_name(&self, number: usize) -> &'a str {
+    pub(crate) fn actor_name(&self, number: usize) -> &str {
         match self.actors.get(number) {
-            Some(actor) => actor.name,
+            Some(actor) => self.text(actor.name),
             None => "",
         }
     }

@@ -9,7 +9,7 @@ use crate::open::{Case, Open};
 use crate::program::{Home, Program};
 use crate::scope::{Meaning, Scope};
 use crate::template::Template;
-use crate::texts::Word;
+use crate::texts::{Span, Word};
 use crate::token::Token;
 use std::alloc::Global;
 
@@ -21,8 +21,8 @@ pub(crate) const DEEPEST: usize = 40;
 
 /// A label that the source names. It may be named before it is there.
 #[derive(Clone, Copy)]
-pub(crate) struct NamedLabel<'a> {
-    pub(crate) text: &'a str,
+pub(crate) struct NamedLabel {
+    pub(crate) name: Span,
     pub(crate) label: usize,
     pub(crate) spot: Spot,
     pub(crate) is_placed: bool,
@@ -30,16 +30,16 @@ pub(crate) struct NamedLabel<'a> {
 
 /// The body that is read.
 #[derive(Drop)]
-pub(crate) struct Here<'a> {
+pub(crate) struct Here {
     pub(crate) lines: Lines,
-    pub(crate) labels: Vec<NamedLabel<'a>>,
+    pub(crate) labels: Vec<NamedLabel>,
     /// The constructs whose end isn't read yet, the innermost last, and the cases of the switches among them.
     pub(crate) open: Vec<Open>,
     pub(crate) cases: Vec<Case>,
     /// Whose body is read.
     pub(crate) home: Home,
     /// The name of the actor or function that is read.
-    pub(crate) name: &'a str,
+    pub(crate) name: Span,
     /// The operators of this statement so far.
     pub(crate) operators: usize,
     /// The variable of `configASSERT`, once there is one.
@@ -49,18 +49,33 @@ pub(crate) struct Here<'a> {
 }
 
 #[derive(Drop)]
-pub(crate) struct Reader<'a> {
+pub(crate) struct Reader {
     pub(crate) alloc: Global,
-    pub(crate) cursor: Cursor<'a>,
-    pub(crate) scope: Scope<'a>,
-    pub(crate) program: Program<'a>,
+    pub(crate) cursor: Cursor,
+    pub(crate) scope: Scope,
+    pub(crate) program: Program,
     /// The bodies with parameters.
-    pub(crate) templates: Vec<Template<'a>>,
-    pub(crate) here: Here<'a>,
+    pub(crate) templates: Vec<Template>,
+    pub(crate) here: Here,
 }
 
-impl<'a> Reader<'a> {
-    pub(crate) fn new(alloc: Global, cursor: Cursor<'a>) -> Reader<'a> {
+/// What is said of a name that isn't declared, where that is known by its text alone.
+fn why_undeclared(text: &str) -> Option<&'static str> {
+    if kernel_named(text).is_some() {
+        Some("'%' is a call: make it a statement of its own, as in 'f(..);' or 'x = f(..);'")
+    } else if text == "any" {
+        Some("any(..) stands alone after '=': write 'n = any(0, 3);' first, with a variable")
+    } else if is_among(text, &TYPES) {
+        Some("'%' isn't declared: there are no types, write 'var n in 0..9;'")
+    } else if text == "portTICK_PERIOD_MS" {
+        Some("'%' isn't declared: write pdMS_TO_TICKS(500) for 500 milliseconds")
+    } else {
+        None
+    }
+}
+
+impl Reader {
+    pub(crate) fn new(alloc: Global, cursor: Cursor) -> Reader {
         Reader {
             alloc,
             cursor,
@@ -73,7 +88,7 @@ impl<'a> Reader<'a> {
                 open: Vec::new(alloc),
                 cases: Vec::new(alloc),
                 home: Home::Function,
-                name: "",
+                name: Span::NONE,
                 operators: 0,
                 assertion: None,
                 call: None,
@@ -88,22 +103,38 @@ impl<'a> Reader<'a> {
         }
     }
 
+    /// What a text means here.
+    pub(crate) fn meaning_of(&self, text: &str) -> Option<Meaning> {
+        self.scope.meaning(&self.cursor.pieces, text)
+    }
+
+    /// What the text of a token means here.
+    pub(crate) fn meaning(&self, token: Token) -> Option<Meaning> {
+        self.meaning_of(self.cursor.text(token))
+    }
+
+    /// Whether no name may have the text of a token.
+    fn is_taken(&self, token: Token) -> bool {
+        let text = self.cursor.text(token);
+        is_reserved(text) || kernel_named(text).is_some()
+    }
+
     /// Takes the name of something new. `what` is what is expected.
-    pub(crate) fn new_name(&mut self, what: &str) -> Token<'a> {
+    pub(crate) fn new_name(&mut self, what: &str) -> Token {
         let token = self.cursor.word(what);
-        let Token { text, spot, .. } = token;
-        if is_reserved(text) || kernel_named(text).is_some() {
+        let Token { span, spot, .. } = token;
+        if self.is_taken(token) {
             let form = "'%' is a word of this notation or of the kernel: choose another name";
-            self.cursor.refuse_about(spot, form, text, "");
+            self.cursor.refuse_piece(spot, form, span, "");
         }
-        if text.len() > LONGEST_NAME {
+        let length = self.cursor.text(token).len();
+        if length > LONGEST_NAME {
             let form = "a name has at most 32 characters, this one %";
-            self.cursor
-                .refuse_with(spot, form, &[Word::Count(text.len())]);
+            self.cursor.refuse_with(spot, form, &[Word::Count(length)]);
         }
-        if let Some(meaning) = self.scope.meaning(text) {
+        if let Some(meaning) = self.meaning(token) {
             let form = "'%' is already the name of %";
-            self.cursor.refuse_about(spot, form, text, meaning.text());
+            self.cursor.refuse_piece(spot, form, span, meaning.text());
         }
         token
     }
@@ -111,7 +142,7 @@ impl<'a> Reader<'a> {
     /// Takes a name, and gives what it means here. `what` is what is expected.
     pub(crate) fn named(&mut self, what: &str) -> Meaning {
         let token = self.cursor.word(what);
-        match self.scope.meaning(token.text) {
+        match self.meaning(token) {
             Some(meaning) => meaning,
             None => {
                 self.refuse_undeclared(token);
@@ -121,57 +152,49 @@ impl<'a> Reader<'a> {
     }
 
     /// Refuses a name that means something else than what is expected.
-    pub(crate) fn refuse_meaning(&mut self, token: Token<'a>, what: &str, meaning: Meaning) {
-        let (shown, kind) = (token.text, meaning.text());
+    pub(crate) fn refuse_meaning(&mut self, token: Token, what: &str, meaning: Meaning) {
+        let (shown, kind) = (Word::Piece(token.span), Word::Text(meaning.text()));
         let form = "expected the name of %, and '%' is the name of %";
-        let words = &[Word::Text(what), Word::Text(shown), Word::Text(kind)];
+        let words = &[Word::Text(what), shown, kind];
         self.cursor.refuse_with(token.spot, form, words);
     }
 
     /// Refuses an argument that isn't declared, where there are more than the call has.
-    fn refuse_surplus(&mut self, token: Token<'a>, kernel: &Kernel) {
+    fn refuse_surplus(&mut self, token: Token, kernel: &Kernel) {
         let form = "'%' isn't declared: data pointers are left out, as in %";
         match kernel.shape(self.alloc) {
             Ok(shape) => self
                 .cursor
-                .refuse_about(token.spot, form, token.text, shape.as_str()),
+                .refuse_piece(token.spot, form, token.span, shape.as_str()),
             Err(_) => self.cursor.note(Fault::Memory),
         }
     }
 
     /// Refuses a name that isn't declared.
-    pub(crate) fn refuse_undeclared(&mut self, token: Token<'a>) {
-        let Token { text, spot, .. } = token;
-        let (form, more) = if kernel_named(text).is_some() {
-            (
-                "'%' is a call: make it a statement of its own, as in 'f(..);' or 'x = f(..);'",
-                "",
-            )
-        } else if text == "any" {
-            (
-                "any(..) stands alone after '=': write 'n = any(0, 3);' first, with a variable",
-                "",
-            )
-        } else if is_among(text, &TYPES) {
-            (
-                "'%' isn't declared: there are no types, write 'var n in 0..9;'",
-                "",
-            )
-        } else if text == "portTICK_PERIOD_MS" {
-            (
-                "'%' isn't declared: write pdMS_TO_TICKS(500) for 500 milliseconds",
-                "",
-            )
-        } else {
-            match (self.scope.near(text), self.here.call) {
-                (Some(near), _) => ("'%' isn't declared. Did you mean '%'?", near),
-                (None, Some(kernel)) if self.cursor.is_at_surplus(kernel.places.len()) => {
-                    return self.refuse_surplus(token, kernel);
-                }
-                _ => ("'%' isn't declared", ""),
+    pub(crate) fn refuse_undeclared(&mut self, token: Token) {
+        let Token { span, spot, .. } = token;
+        if let Some(form) = why_undeclared(self.cursor.text(token)) {
+            return self.cursor.refuse_piece(spot, form, span, "");
+        }
+        match (self.near(token), self.here.call) {
+            (Some(near), _) => {
+                let words = &[Word::Piece(span), near];
+                let form = "'%' isn't declared. Did you mean '%'?";
+                self.cursor.refuse_with(spot, form, words);
             }
-        };
-        self.cursor.refuse_about(spot, form, text, more);
+            (None, Some(kernel)) if self.cursor.is_at_surplus(kernel.places.len()) => {
+                self.refuse_surplus(token, kernel);
+            }
+            _ => self
+                .cursor
+                .refuse_piece(spot, "'%' isn't declared", span, ""),
+        }
+    }
+
+    /// A name or a call of the kernel that the text of a token is near to.
+    pub(crate) fn near(&self, token: Token) -> Option<Word<'static>> {
+        self.scope
+            .near(&self.cursor.pieces, self.cursor.text(token))
     }
 
     /// Takes the name of a variable.

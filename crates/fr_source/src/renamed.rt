@@ -12,7 +12,7 @@ const LONGEST_NAME: usize = 32;
 const MOST_TRIES: usize = 1000;
 
 /// How many variables of the application have a name: all of them, or those of the actor with this number.
-fn count_of_variables(program: &Program<'_>, name: &str, actor: Option<usize>) -> usize {
+fn count_of_variables(program: &Program, name: &str, actor: Option<usize>) -> usize {
     let mut count = 0usize;
     for place in &program.written {
         let variable = program.variable(*place);
@@ -21,7 +21,7 @@ fn count_of_variables(program: &Program<'_>, name: &str, actor: Option<usize>) -
             (Some(number), Owner::Actor(owner)) => number == owner,
             _ => false,
         };
-        if is_counted && variable.name == name {
+        if is_counted && program.text(variable.name) == name {
             count = count.saturating_add(1);
         }
     }
@@ -29,13 +29,13 @@ fn count_of_variables(program: &Program<'_>, name: &str, actor: Option<usize>) -
 }
 
 /// How many variables, objects and actors of the application have a name.
-fn count_of(program: &Program<'_>, name: &str) -> usize {
+fn count_of(program: &Program, name: &str) -> usize {
     let mut count = count_of_variables(program, name, None);
     for object in &program.objects {
-        count = count.saturating_add(usize::from(object.name == name));
+        count = count.saturating_add(usize::from(program.text(object.name) == name));
     }
     for actor in &program.actors {
-        count = count.saturating_add(usize::from(actor.name == name));
+        count = count.saturating_add(usize::from(program.text(actor.name) == name));
     }
     count
 }
@@ -43,14 +43,15 @@ fn count_of(program: &Program<'_>, name: &str) -> usize {
 /// The name of an actor's own variable: the actor's, and its own after it.
 fn own_name(
     alloc: Global,
-    program: &Program<'_>,
-    variable: Variable<'_>,
+    program: &Program,
+    variable: Variable,
     number: usize,
 ) -> Result<String, AllocError> {
-    let (actor, name) = (program.actor_name(number), variable.name);
+    let (actor, name) = (program.actor_name(number), program.text(variable.name));
     match variable.function {
         Some(function) if count_of_variables(program, name, Some(number)) > 1 => {
-            let words = &[Word::Text(actor), Word::Text(function), Word::Text(name)];
+            let function = Word::Text(program.text(function));
+            let words = &[Word::Text(actor), function, Word::Text(name)];
             filled(alloc, "%_%_%", words)
         }
         _ => filled(alloc, "%_%", &[Word::Text(actor), Word::Text(name)]),
@@ -68,7 +69,7 @@ fn is_name_among(names: &[String], text: &str) -> bool {
 }
 
 /// Whether a text can be a variable's name: it is short, no word of the notation or of the kernel, and no other name.
-fn is_free(program: &Program<'_>, names: &[String], text: &str) -> bool {
+fn is_free(program: &Program, names: &[String], text: &str) -> bool {
     text.len() <= LONGEST_NAME
         && !is_reserved(text)
         && kernel_named(text).is_none()
@@ -79,13 +80,14 @@ fn is_free(program: &Program<'_>, names: &[String], text: &str) -> bool {
 /// A name for an actor's own variable that no other has.
 fn free_name(
     alloc: Global,
-    program: &Program<'_>,
+    program: &Program,
     names: &[String],
-    variable: Variable<'_>,
+    variable: Variable,
     number: usize,
 ) -> Result<String, AllocError> {
     let mut text = own_name(alloc, program, variable, number)?;
-    let short = variable.name.get(..28).unwrap_or(variable.name);
+    let name = program.text(variable.name);
+    let short = name.get(..28).unwrap_or(name);
     for number in 2..MOST_TRIES {
         if is_free(program, names, text.as_str()) {
             break;
@@ -96,29 +98,29 @@ fn free_name(
 }
 
 /// The name of each variable in the source, by its place.
-fn names_in_source(alloc: Global, program: &Program<'_>) -> Result<Vec<String>, AllocError> {
+fn names_in_source(alloc: Global, program: &Program) -> Result<Vec<String>, AllocError> {
     let mut names = Vec::new(alloc);
     for variable in &program.variables {
-        names.push(String::from_str(alloc, variable.name)?)?;
+        names.push(String::from_str(alloc, program.text(variable.name))?)?;
     }
     Ok(names)
 }
 
 /// The name of each variable in the application, by its place.
-pub(crate) fn names_of(alloc: Global, program: &Program<'_>) -> Result<Vec<String>, AllocError> {
+pub(crate) fn names_of(alloc: Global, program: &Program) -> Result<Vec<String>, AllocError> {
     let mut names = names_in_source(alloc, program)?;
     rename(alloc, program, &mut names)?;
     Ok(names)
 }
 
 /// Gives each actor's own variable a name that no other has.
-fn rename(alloc: Global, program: &Program<'_>, names: &mut [String]) -> Result<(), AllocError> {
+fn rename(alloc: Global, program: &Program, names: &mut [String]) -> Result<(), AllocError> {
     for place in &program.written {
         let variable = program.variable(*place);
         let Owner::Actor(number) = variable.owner else {
             continue;
         };
-        if count_of(program, variable.name) > 1 {
+        if count_of(program, program.text(variable.name)) > 1 {
             let text = free_name(alloc, program, names, variable, number)?;
             if let Some(slot) = names.get_mut(*place) {
                 *slot = text;

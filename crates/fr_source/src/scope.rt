@@ -2,6 +2,7 @@
 
 use crate::kernel::kernel_near;
 use crate::near::is_near;
+use crate::texts::{Pieces, Span, Word};
 use std::alloc::Global;
 
 /// What a name means. A variable, an object, a function or a body with parameters is named by its place among all of
@@ -37,15 +38,15 @@ impl Meaning {
 }
 
 #[derive(Clone, Copy)]
-pub(crate) struct Name<'a> {
-    text: &'a str,
+pub(crate) struct Name {
+    span: Span,
     meaning: Meaning,
 }
 
 /// What the text means among some names.
-fn meaning_among(names: &[Name<'_>], text: &str) -> Option<Meaning> {
+fn meaning_among(pieces: &Pieces, names: &[Name], text: &str) -> Option<Meaning> {
     for name in names {
-        if name.text == text {
+        if pieces.text(name.span) == text {
             return Some(name.meaning);
         }
     }
@@ -53,10 +54,10 @@ fn meaning_among(names: &[Name<'_>], text: &str) -> Option<Meaning> {
 }
 
 /// The first of some names that a word is near to.
-fn near_among<'a>(names: &[Name<'a>], word: &str) -> Option<&'a str> {
+fn near_among(pieces: &Pieces, names: &[Name], word: &str) -> Option<Span> {
     for name in names {
-        if is_near(word, name.text) {
-            return Some(name.text);
+        if is_near(word, pieces.text(name.span)) {
+            return Some(name.span);
         }
     }
     None
@@ -64,15 +65,15 @@ fn near_among<'a>(names: &[Name<'a>], word: &str) -> Option<&'a str> {
 
 /// The names outside, and those of the actor or function that is read.
 #[derive(Drop)]
-pub(crate) struct Scope<'a> {
-    pub(crate) outside: Vec<Name<'a>>,
-    pub(crate) inside: Vec<Name<'a>>,
+pub(crate) struct Scope {
+    pub(crate) outside: Vec<Name>,
+    pub(crate) inside: Vec<Name>,
     /// Whether an allocation was refused, so that a name is missing.
     pub(crate) is_short: bool,
 }
 
-impl<'a> Scope<'a> {
-    pub(crate) fn new(alloc: Global) -> Scope<'a> {
+impl Scope {
+    pub(crate) fn new(alloc: Global) -> Scope {
         Scope {
             outside: Vec::new(alloc),
             inside: Vec::new(alloc),
@@ -81,32 +82,32 @@ impl<'a> Scope<'a> {
     }
 
     /// What the text means here.
-    pub(crate) fn meaning(&self, text: &str) -> Option<Meaning> {
-        match meaning_among(&self.inside, text) {
+    pub(crate) fn meaning(&self, pieces: &Pieces, text: &str) -> Option<Meaning> {
+        match meaning_among(pieces, &self.inside, text) {
             Some(meaning) => Some(meaning),
-            None => meaning_among(&self.outside, text),
+            None => meaning_among(pieces, &self.outside, text),
         }
     }
 
     /// A name or a call of the kernel that a word is near to.
-    pub(crate) fn near(&self, word: &str) -> Option<&'a str> {
-        match near_among(&self.inside, word) {
-            Some(name) => Some(name),
-            None => match near_among(&self.outside, word) {
-                Some(name) => Some(name),
+    pub(crate) fn near(&self, pieces: &Pieces, word: &str) -> Option<Word<'static>> {
+        match near_among(pieces, &self.inside, word) {
+            Some(name) => Some(Word::Piece(name)),
+            None => match near_among(pieces, &self.outside, word) {
+                Some(name) => Some(Word::Piece(name)),
                 None => kernel_near(word),
             },
         }
     }
 
-    pub(crate) fn add_outside(&mut self, text: &'a str, meaning: Meaning) {
-        if self.outside.push(Name { text, meaning }).is_err() {
+    pub(crate) fn add_outside(&mut self, span: Span, meaning: Meaning) {
+        if self.outside.push(Name { span, meaning }).is_err() {
             self.is_short = true;
         }
     }
 
-    pub(crate) fn add_inside(&mut self, text: &'a str, meaning: Meaning) {
-        if self.inside.push(Name { text, meaning }).is_err() {
+    pub(crate) fn add_inside(&mut self, span: Span, meaning: Meaning) {
+        if self.inside.push(Name { span, meaning }).is_err() {
             self.is_short = true;
         }
     }

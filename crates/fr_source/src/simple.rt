@@ -7,7 +7,7 @@ use crate::kernel::Answer;
 use crate::program::{Action, Argument, Arithmetic, Call, Item, Operand, Owner, Range, Variable};
 use crate::reader::Reader;
 use crate::scope::Meaning;
-use crate::texts::Word;
+use crate::texts::{ASSERTION, Word};
 use crate::token::Token;
 
 /// What `++` and `--` change a variable by.
@@ -16,76 +16,76 @@ const ONE: Term = Term {
     spot: Spot { line: 1, column: 1 },
 };
 
-impl<'a> Reader<'a> {
+/// The operator of an assignment that changes a variable, and whether it changes it by one.
+fn change_of(sign: &str) -> Option<(Arithmetic, bool)> {
+    match sign {
+        "++" => Some((Arithmetic::Plus, true)),
+        "--" => Some((Arithmetic::Minus, true)),
+        "+=" => Some((Arithmetic::Plus, false)),
+        "-=" => Some((Arithmetic::Minus, false)),
+        "*=" => Some((Arithmetic::Times, false)),
+        _ => None,
+    }
+}
+
+impl Reader {
     /// Takes a simple statement, and writes its lines.
     pub(crate) fn simple(&mut self) {
         let token = self.cursor.token();
-        let Token { text, spot, .. } = token;
-        if text != "any" && self.cursor.is_before("(") {
+        if !self.cursor.sees("any") && self.cursor.is_before("(") {
             return self.called(token);
         }
-        match text {
-            "++" | "--" => {
+        match change_of(self.cursor.text(token)) {
+            Some((sign, true)) => {
                 self.cursor.advance();
                 let variable = self.variable_named("a variable");
-                self.changed(variable, spot, token, ONE);
+                self.changed(variable, token.spot, (sign, token.spot), ONE);
             }
-            "(" => {
+            _ if self.cursor.sees("(") => {
                 let text = "a statement doesn't begin with '(': leave out a cast like '(void)'";
-                self.cursor.refuse(spot, text);
+                self.cursor.refuse(token.spot, text);
             }
-            _ => self.assignment_here(spot),
+            _ => self.assignment_here(token.spot),
         }
     }
 
     /// Takes a variable, and what it is given or how it is changed.
     fn assignment_here(&mut self, spot: Spot) {
         let variable = self.variable_named("a statement");
-        let operator = self.cursor.token();
         if self.cursor.accepts("=") {
             let term = self.expression();
             return self.assigned(variable, spot, term);
         }
-        let by = match operator.text {
-            "++" | "--" => {
-                self.cursor.advance();
-                ONE
-            }
-            "+=" | "-=" | "*=" => {
-                self.cursor.advance();
-                self.expression()
-            }
-            _ => return self
-                .cursor
-                .refuse_next("'=', '+=', '-=', '*=', '++' or '--'"),
+        let operator = self.cursor.token();
+        let Some((sign, is_by_one)) = change_of(self.cursor.text(operator)) else {
+            let what = "'=', '+=', '-=', '*=', '++' or '--'";
+            return self.cursor.refuse_next(what);
         };
-        self.changed(variable, spot, operator, by);
+        self.cursor.advance();
+        let by = if is_by_one { ONE } else { self.expression() };
+        self.changed(variable, spot, (sign, operator.spot), by);
     }
 
-    /// Joins a variable with a term. `spot` is the place of the statement.
-    fn changed(&mut self, variable: usize, spot: Spot, operator: Token<'a>, by: Term) {
-        let sign = match operator.text {
-            "+=" | "++" => Arithmetic::Plus,
-            "*=" => Arithmetic::Times,
-            _ => Arithmetic::Minus,
-        };
+    /// Joins a variable with a term. `spot` is the place of the statement, and `operator` has its own.
+    fn changed(&mut self, variable: usize, spot: Spot, operator: (Arithmetic, Spot), by: Term) {
+        let (sign, operator_spot) = operator;
         let whole = Term {
             value: Value::Variable(variable),
             spot,
         };
-        let term = self.binary(whole, sign, by, operator.spot);
+        let term = self.binary(whole, sign, by, operator_spot);
         self.assigned(variable, spot, term);
     }
 
     /// Takes what is after the name of what is called.
-    fn called(&mut self, token: Token<'a>) {
-        let Token { text, spot, .. } = token;
+    fn called(&mut self, token: Token) {
+        let spot = token.spot;
         self.cursor.advance();
-        if text == "configASSERT" {
+        if self.cursor.is(token, "configASSERT") {
             let test = self.condition();
             let variable = self.assertion_variable(spot);
             self.here.lines.assert(variable, test, spot);
-        } else if let Some(Meaning::Function(function)) = self.scope.meaning(text) {
+        } else if let Some(Meaning::Function(function)) = self.meaning(token) {
             self.cursor.take("(", "");
             self.cursor.take(")", ": a function has no arguments");
             self.here.lines.add(Item::Expand { function, spot });
@@ -100,12 +100,13 @@ impl<'a> Reader<'a> {
         if let Some(variable) = self.here.assertion {
             return variable;
         }
-        if self.scope.meaning("assertion").is_some() {
+        if self.meaning_of(ASSERTION).is_some() {
             let text = "configASSERT makes the variable 'assertion', and that name is used";
             self.cursor.refuse(spot, text);
         }
+        let name = self.cursor.pieces.assertion;
         let variable = Variable {
-            name: "assertion",
+            name,
             spot,
             range: Range { low: 0, high: 0 },
             first: 0,
@@ -114,8 +115,7 @@ impl<'a> Reader<'a> {
             function: None,
         };
         let place = self.add_variable(variable);
-        self.scope
-            .add_outside("assertion", Meaning::Variable(place));
+        self.scope.add_outside(name, Meaning::Variable(place));
         self.here.assertion = Some(place);
         place
     }
@@ -163,7 +163,7 @@ impl<'a> Reader<'a> {
             let words = &[
                 Word::Number(range.low),
                 Word::Number(range.high),
-                Word::Text(target.name),
+                Word::Piece(target.name),
                 Word::Number(target.range.low),
                 Word::Number(target.range.high),
             ];
@@ -207,7 +207,7 @@ impl<'a> Reader<'a> {
         if one == other {
             let form = "'%' can't be both operands: copy it to another variable";
             let name = self.program.variable(one).name;
-            self.cursor.refuse_about(spot, form, name, "");
+            self.cursor.refuse_piece(spot, form, name, "");
         }
         if matches!(sign, Arithmetic::Times) {
             self.cursor
@@ -250,6 +250,7 @@ impl<'a> Reader<'a> {
             }
         };
         let (one, other) = (self.program.variable(one), self.program.variable(other));
-        self.cursor.refuse_about(spot, form, one.name, other.name);
+        let words = &[Word::Piece(one.name), Word::Piece(other.name)];
+        self.cursor.refuse_with(spot, form, words);
     }
 }

@@ -1,16 +1,16 @@
 // The text of a source: its lines, as comments and messages show them.
 
+use crate::texts::Pieces;
 use std::alloc::{AllocError, Global};
 
 /// The most bytes of a line that a message or a comment looks at.
 const LONGEST_LINE: usize = 240;
 
-/// A source: the name of its file, its bytes, the same with blanks in place of its comments, and where its lines begin.
+/// A source: the name of its file, its bytes, and where its lines begin.
 #[derive(Drop)]
 pub(crate) struct Source<'a> {
     pub(crate) file: &'a str,
     pub(crate) bytes: &'a [u8],
-    pub(crate) blank: Vec<u8>,
     starts: Vec<usize>,
 }
 
@@ -29,7 +29,6 @@ impl<'a> Source<'a> {
         Ok(Source {
             file,
             bytes,
-            blank: Vec::new(alloc),
             starts,
         })
     }
@@ -42,7 +41,7 @@ impl<'a> Source<'a> {
         };
         let end = match self.starts.get(number) {
             Some(next) => next.saturating_sub(1),
-            None => bytes.len(),
+            None => self.bytes.len(),
         };
         bytes
             .get(start..end.min(start.saturating_add(LONGEST_LINE)))
@@ -50,10 +49,15 @@ impl<'a> Source<'a> {
     }
 
     /// The words of a line, without comments.
-    pub(crate) fn excerpt(&self, alloc: Global, line: usize) -> Result<String, AllocError> {
+    pub(crate) fn excerpt(
+        &self,
+        alloc: Global,
+        pieces: &Pieces,
+        line: usize,
+    ) -> Result<String, AllocError> {
         let mut shown = String::new(alloc);
         let mut has_gap = false;
-        for byte in self.line_of(&self.blank, line) {
+        for byte in self.line_of(pieces.bytes(), line) {
             if byte.is_ascii_whitespace() {
                 has_gap = !shown.is_empty();
                 continue;

@@ -2,12 +2,66 @@
 
 use crate::fault::{Fault, Spot};
 use crate::kernel::is_reserved;
-use crate::open::{Margin, Open};
+use crate::open::{Construct, Margin, Open};
 use crate::program::{Home, MOST_ITEMS};
 use crate::reader::{NamedLabel, Reader};
+use crate::texts::Word;
 use crate::token::{Kind, Token};
 
-impl<'a> Reader<'a> {
+/// What a statement begins with.
+#[derive(Clone, Copy)]
+enum Beginning {
+    Case,
+    Open,
+    Close,
+    Nothing,
+    Construct(Construct),
+    Other,
+}
+
+impl Beginning {
+    fn of(word: &str) -> Beginning {
+        match word {
+            "case" | "default" => Beginning::Case,
+            "{" => Beginning::Open,
+            "}" => Beginning::Close,
+            ";" => Beginning::Nothing,
+            _ => match Construct::of(word) {
+                Some(construct) => Beginning::Construct(construct),
+                None => Beginning::Other,
+            },
+        }
+    }
+}
+
+/// A jump, or another word that begins a statement without a body.
+#[derive(Clone, Copy)]
+enum Jump {
+    Break,
+    Continue,
+    Return,
+    Goto,
+    Variable,
+    Constant,
+    Else,
+}
+
+impl Jump {
+    fn of(word: &str) -> Option<Jump> {
+        match word {
+            "break" => Some(Jump::Break),
+            "continue" => Some(Jump::Continue),
+            "return" => Some(Jump::Return),
+            "goto" => Some(Jump::Goto),
+            "var" | "static" => Some(Jump::Variable),
+            "const" => Some(Jump::Constant),
+            "else" => Some(Jump::Else),
+            _ => None,
+        }
+    }
+}
+
+impl Reader {
     /// Reads statements up to the closing brace of the body, and gives its place.
     pub(crate) fn statements(&mut self) -> Spot {
         for _ in 0..=self.cursor.left() {
@@ -24,8 +78,9 @@ impl<'a> Reader<'a> {
             }
             if self.here.lines.body.items.len() > MOST_ITEMS {
                 let form = "% '%' grows to more than 4096 lines and labels: this passed the limit";
-                let (home, name) = (self.here.home.text(), self.here.name);
-                self.cursor.refuse_about(spot, form, home, name);
+                let home = Word::Text(self.here.home.text());
+                let words = &[home, Word::Piece(self.here.name)];
+                self.cursor.refuse_with(spot, form, words);
             }
         }
         self.cursor.refuse_next("'}'");
@@ -39,23 +94,23 @@ impl<'a> Reader<'a> {
             Some(Open::Switch { first_case, .. }) => (true, self.here.cases.len() <= first_case),
             _ => (false, false),
         };
-        match self.cursor.token().text {
-            "case" | "default" => self.case(),
-            "}" if holds_many => {
+        match Beginning::of(self.cursor.text(self.cursor.token())) {
+            Beginning::Case => self.case(),
+            Beginning::Close if holds_many => {
                 self.cursor.advance();
                 self.close_many();
                 return true;
             }
             _ if is_before_cases => self.cursor.refuse_next("'case' or 'default'"),
-            "{" => {
+            Beginning::Open => {
                 self.cursor.advance();
                 self.enter(Open::Block);
             }
-            ";" => {
+            Beginning::Nothing => {
                 self.cursor.advance();
                 return true;
             }
-            "if" | "while" | "do" | "for" | "switch" => self.construct(),
+            Beginning::Construct(construct) => self.construct(construct),
             // A label belongs to the statement after it.
             _ if self.cursor.is_before(":") => self.named_label(),
             _ => {
@@ -80,15 +135,15 @@ impl<'a> Reader<'a> {
     }
 
     /// Reads the head of a construct.
-    fn construct(&mut self) {
-        let Token { text, spot, .. } = self.cursor.token();
+    fn construct(&mut self, construct: Construct) {
+        let spot = self.cursor.spot();
         self.cursor.advance();
-        match text {
-            "if" => self.if_head(spot),
-            "while" => self.while_head(spot),
-            "do" => self.do_head(),
-            "for" => self.for_head(spot),
-            _ => self.switch_head(spot),
+        match construct {
+            Construct::If | Construct::Else => self.if_head(spot),
+            Construct::While => self.while_head(spot),
+            Construct::Do => self.do_head(),
+            Construct::For => self.for_head(spot),
+            Construct::Switch => self.switch_head(spot),
         }
     }
 
@@ -97,7 +152,7 @@ impl<'a> Reader<'a> {
         self.here.lines.place(top);
         let test = self.condition();
         let first = self.here.lines.body.items.len();
-        self.loop_head(Some(test), top, first, "while", spot);
+        self.loop_head(Some(test), top, first, Construct::While, spot);
     }
 
     fn do_head(&mut self) {
@@ -105,7 +160,7 @@ impl<'a> Reader<'a> {
         let again = self.here.lines.label();
         let end = self.here.lines.label();
         self.here.lines.place(top);
-        let margin = self.margin("do");
+        let margin = self.margin(Construct::Do);
         self.enter(Open::Do {
             top,
             again,
@@ -120,7 +175,7 @@ impl<'a> Reader<'a> {
         let no = self.here.lines.label();
         self.here.lines.branch(test, spot, yes, no, yes);
         self.here.lines.place(yes);
-        let margin = self.branch_margin("if");
+        let margin = self.branch_margin(Construct::If);
         self.enter(Open::If { no, margin, spot });
     }
 
@@ -142,7 +197,7 @@ impl<'a> Reader<'a> {
             self.simple();
         }
         self.cursor.take(")", "");
-        self.loop_head(test, top, first, "for", spot);
+        self.loop_head(test, top, first, Construct::For, spot);
     }
 
     /// Writes the test of a loop, and notes that its body comes. `first` is where the lines of its step begin: they are put
@@ -152,7 +207,7 @@ impl<'a> Reader<'a> {
         test: Option<usize>,
         top: usize,
         first: usize,
-        word: &'static str,
+        construct: Construct,
         spot: Spot,
     ) {
         let step = self.here.lines.put_aside(first);
@@ -163,7 +218,7 @@ impl<'a> Reader<'a> {
             self.here.lines.branch(test, spot, body, end, body);
         }
         self.here.lines.place(body);
-        let margin = self.margin(word);
+        let margin = self.margin(construct);
         self.enter(Open::Loop {
             top,
             again,
@@ -175,24 +230,24 @@ impl<'a> Reader<'a> {
     }
 
     /// Where the body of a construct begins.
-    fn margin(&self, word: &'static str) -> Margin {
+    fn margin(&self, construct: Construct) -> Margin {
         let head = self.cursor.previous();
         let first = self.cursor.token();
         Margin {
-            word,
+            construct,
             indent: first.indent,
-            is_plain: first.text == "{" || first.spot.line <= head.spot.line,
+            is_plain: self.cursor.sees("{") || first.spot.line <= head.spot.line,
         }
     }
 
     /// Where the body of an `if` or an `else` begins.
-    fn branch_margin(&mut self, word: &'static str) -> Margin {
+    fn branch_margin(&mut self, construct: Construct) -> Margin {
         if self.cursor.sees(";") {
             let spot = self.cursor.spot();
             let form = "an '%' with nothing but ';': write '{ }' if this is meant";
-            self.cursor.refuse_about(spot, form, word, "");
+            self.cursor.refuse_about(spot, form, construct.text(), "");
         }
-        self.margin(word)
+        self.margin(construct)
     }
 
     /// Refuses what is after a body without braces and looks as if it belonged to it.
@@ -209,13 +264,14 @@ impl<'a> Reader<'a> {
         let is_apart = margin.is_plain
             || after.spot.line <= last.spot.line
             || after.indent < margin.indent
-            || after.text == "else"
-            || after.text == "}";
+            || self.cursor.sees("else")
+            || self.cursor.sees("}");
         if !is_apart {
             let form =
                 "this looks as if it were in the '%' above, and isn't: put braces around its body, \
                 or move this to the left";
-            self.cursor.refuse_about(after.spot, form, margin.word, "");
+            let construct = margin.construct.text();
+            self.cursor.refuse_about(after.spot, form, construct, "");
         }
     }
 
@@ -276,7 +332,7 @@ impl<'a> Reader<'a> {
         let end = self.here.lines.label();
         self.here.lines.goto(end, spot);
         self.here.lines.place(no);
-        let margin = self.branch_margin("else");
+        let margin = self.branch_margin(Construct::Else);
         self.enter(Open::Else { end, margin });
         false
     }
@@ -298,35 +354,37 @@ impl<'a> Reader<'a> {
 
     /// Reads a jump, or else a simple statement.
     fn jump(&mut self) {
-        let Token { text, spot, .. } = self.cursor.token();
-        match text {
-            "break" => self.leave_loop(true, spot),
-            "continue" => self.leave_loop(false, spot),
-            "return" if matches!(self.here.home, Home::Task) => {
+        let spot = self.cursor.spot();
+        let Some(jump) = Jump::of(self.cursor.text(self.cursor.token())) else {
+            return self.simple();
+        };
+        match jump {
+            Jump::Break => self.leave_loop(true, spot),
+            Jump::Continue => self.leave_loop(false, spot),
+            Jump::Return if matches!(self.here.home, Home::Task) => {
                 let text = "a task doesn't return (rule 11): end it with vTaskDelete(NULL)";
                 self.cursor.refuse(spot, text);
             }
-            "return" => {
+            Jump::Return => {
                 self.cursor.advance();
                 self.here.lines.goto(0, spot);
             }
-            "goto" => {
+            Jump::Goto => {
                 self.cursor.advance();
                 let name = self.cursor.word("a label");
                 let label = self.label_named(name, false);
                 self.here.lines.goto(label, spot);
             }
-            "var" | "static" => {
+            Jump::Variable => {
                 let form = "variables are declared at the beginning of the %";
                 self.cursor
                     .refuse_about(spot, form, self.here.home.text(), "");
             }
-            "const" => {
+            Jump::Constant => {
                 let why = "constants are declared outside tasks, interrupts and functions";
                 self.cursor.refuse(spot, why);
             }
-            "else" => self.cursor.refuse(spot, "'else' without an 'if' above it"),
-            _ => self.simple(),
+            Jump::Else => self.cursor.refuse(spot, "'else' without an 'if' above it"),
         }
     }
 
@@ -359,31 +417,31 @@ impl<'a> Reader<'a> {
         let name = self.cursor.token();
         self.cursor.advance();
         self.cursor.advance();
-        if is_reserved(name.text) {
+        if is_reserved(self.cursor.text(name)) {
             let form = "'%' is a word of this notation: choose another label";
-            self.cursor.refuse_about(name.spot, form, name.text, "");
+            self.cursor.refuse_piece(name.spot, form, name.span, "");
         }
         let label = self.label_named(name, true);
         self.here.lines.place(label);
     }
 
     /// The label with this name, which is placed here or only named.
-    fn label_named(&mut self, name: Token<'a>, is_placed: bool) -> usize {
-        let Token { text, spot, .. } = name;
+    fn label_named(&mut self, name: Token, is_placed: bool) -> usize {
+        let Token { span, spot, .. } = name;
         for one in &mut self.here.labels {
-            if one.text != text {
+            if !self.cursor.pieces.are_alike(one.name, span) {
                 continue;
             }
             if one.is_placed && is_placed {
                 let form = "the label '%' is there already";
-                self.cursor.refuse_about(spot, form, text, "");
+                self.cursor.refuse_piece(spot, form, span, "");
             }
             one.is_placed = one.is_placed || is_placed;
             return one.label;
         }
         let label = self.here.lines.label();
         let new = NamedLabel {
-            text,
+            name: span,
             label,
             spot,
             is_placed,
@@ -399,9 +457,8 @@ impl<'a> Reader<'a> {
         let kind = self.here.home.text();
         for one in &self.here.labels {
             if !one.is_placed {
-                let (spot, name) = (one.spot, one.text);
-                self.cursor
-                    .refuse_about(spot, "no label '%' in this %", name, kind);
+                let form = "no label '%' in this %";
+                self.cursor.refuse_piece(one.spot, form, one.name, kind);
             }
         }
     }

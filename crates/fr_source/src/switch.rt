@@ -5,7 +5,6 @@ use crate::open::{Case, Open};
 use crate::program::Range;
 use crate::reader::Reader;
 use crate::texts::Word;
-use crate::token::Token;
 
 /// The last number among the cases, if the cases have every number of the range: its test would always hold.
 fn last_of_all(cases: &[Case], range: Range) -> Option<i64> {
@@ -34,7 +33,7 @@ fn label_of_case(cases: &[Case], value: Option<i64>) -> Option<usize> {
     None
 }
 
-impl<'a> Reader<'a> {
+impl Reader {
     /// Reads the head of a switch.
     pub(crate) fn switch_head(&mut self, spot: Spot) {
         self.cursor.take("(", "");
@@ -44,7 +43,7 @@ impl<'a> Reader<'a> {
             let form =
                 "'%' is shared, and each 'case' would read it again: copy it to a 'var' and switch on that";
             let name = self.program.variable(variable).name;
-            self.cursor.refuse_about(variable_spot, form, name, "");
+            self.cursor.refuse_piece(variable_spot, form, name, "");
         }
         self.cursor.take(")", "");
         self.cursor.take("{", "");
@@ -62,13 +61,14 @@ impl<'a> Reader<'a> {
 
     /// Takes a `case` or a `default` with its colon.
     pub(crate) fn case(&mut self) {
-        let Token { text, spot, .. } = self.cursor.token();
+        let spot = self.cursor.spot();
+        let is_case = self.cursor.sees("case");
         let Some(Open::Switch { first_case, .. }) = self.here.open.last().copied() else {
             return self.cursor.refuse_next("a statement");
         };
         self.cursor.advance();
         let mut value = None;
-        if text == "case" {
+        if is_case {
             value = Some(self.constant());
         }
         self.cursor.take(":", "");

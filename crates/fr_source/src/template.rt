@@ -5,7 +5,7 @@ use crate::fault::Fault;
 use crate::program::Home;
 use crate::reader::Reader;
 use crate::scope::Meaning;
-use crate::texts::{Word, push_filled};
+use crate::texts::{Pieces, Word, push_pieces};
 use crate::token::Token;
 use std::alloc::Global;
 
@@ -14,8 +14,8 @@ const MOST_PARAMETERS: usize = 64;
 
 /// A body with parameters.
 #[derive(Clone, Copy)]
-pub(crate) struct Template<'a> {
-    name: Token<'a>,
+pub(crate) struct Template {
+    name: Token,
     /// What can be made of it.
     kind: Home,
     /// The place among the tokens where its parameters begin.
@@ -27,20 +27,21 @@ pub(crate) struct Template<'a> {
 }
 
 /// A fault in a body with parameters, with the actor that it is read for.
-fn fault_for(alloc: Global, fault: Fault, name: Token<'_>) -> Fault {
+fn fault_for(alloc: Global, pieces: &Pieces, fault: Fault, name: Token) -> Fault {
     let Fault::Wrong(spot, mut text) = fault else {
         return Fault::Memory;
     };
-    let words = &[Word::Text(name.text), Word::Count(name.spot.line)];
-    match push_filled(alloc, &mut text, " (read for '%' of line %)", words) {
+    let words = &[Word::Piece(name.span), Word::Count(name.spot.line)];
+    let form = " (read for '%' of line %)";
+    match push_pieces(alloc, &mut text, pieces, form, words) {
         Ok(()) => Fault::Wrong(spot, text),
         Err(_) => Fault::Memory,
     }
 }
 
-impl<'a> Reader<'a> {
+impl Reader {
     /// Notes a body with parameters, and passes it by.
-    pub(crate) fn template(&mut self, kind: Home, name: Token<'a>) {
+    pub(crate) fn template(&mut self, kind: Home, name: Token) {
         let start = self.cursor.next;
         let mut count = 0usize;
         for _ in 0..self.cursor.left() {
@@ -48,7 +49,7 @@ impl<'a> Reader<'a> {
             let spot = self.cursor.spot();
             let parameter = self.new_name("the name of a parameter");
             self.check_count("parameters", count, MOST_PARAMETERS, spot);
-            self.scope.add_inside(parameter.text, Meaning::Parameter);
+            self.scope.add_inside(parameter.span, Meaning::Parameter);
             count = count.saturating_add(1);
             if !self.cursor.sees(",") {
                 break;
@@ -67,12 +68,12 @@ impl<'a> Reader<'a> {
         if self.templates.push(template).is_err() {
             self.cursor.note(Fault::Memory);
         }
-        self.scope.add_outside(name.text, meaning);
+        self.scope.add_outside(name.span, meaning);
         self.cursor.pass_body();
     }
 
     /// Reads what an actor is made of, after the `=`: a body with parameters, and a value for each of them.
-    pub(crate) fn made_actor(&mut self, kind: Home, name: Token<'a>) {
+    pub(crate) fn made_actor(&mut self, kind: Home, name: Token) {
         let word = self.cursor.token();
         let Some(template) = self.template_named(kind) else {
             return;
@@ -89,13 +90,16 @@ impl<'a> Reader<'a> {
         self.cursor.next = template.start;
         self.actor_here(kind, name, &values);
         match self.cursor.fault.take() {
-            Some(fault) => self.cursor.note(fault_for(self.alloc, fault, name)),
+            Some(fault) => {
+                let fault = fault_for(self.alloc, &self.cursor.pieces, fault, name);
+                self.cursor.note(fault);
+            }
             None => self.cursor.next = after,
         }
     }
 
     /// Takes the name of a body with parameters, for an actor of this kind. Another name is refused.
-    fn template_named(&mut self, kind: Home) -> Option<Template<'a>> {
+    fn template_named(&mut self, kind: Home) -> Option<Template> {
         let word = self.cursor.token();
         let meaning = self.named("the name of a body with parameters");
         if let Meaning::Template(place) = meaning
@@ -105,7 +109,7 @@ impl<'a> Reader<'a> {
             let begins = template.kind.text();
             if begins != kind.text() {
                 let form = "'%' begins with '%', and so does each actor that is made of it";
-                self.cursor.refuse_about(word.spot, form, word.text, begins);
+                self.cursor.refuse_piece(word.spot, form, word.span, begins);
             }
             return Some(*template);
         }
@@ -114,7 +118,7 @@ impl<'a> Reader<'a> {
     }
 
     /// Refuses more or fewer values than the body with this name has parameters.
-    fn check_values(&mut self, word: Token<'a>, count: usize, given: usize) {
+    fn check_values(&mut self, word: Token, count: usize, given: usize) {
         if count == given {
             return;
         }
@@ -124,7 +128,7 @@ impl<'a> Reader<'a> {
             _ => "'%' has % parameters, and this gives % values",
         };
         let words = &[
-            Word::Text(word.text),
+            Word::Piece(word.span),
             Word::Count(count),
             Word::Count(given),
         ];
@@ -151,7 +155,7 @@ impl<'a> Reader<'a> {
         if self.cursor.accepts("portMAX_DELAY") {
             return Meaning::Forever;
         }
-        match self.scope.meaning(self.cursor.token().text) {
+        match self.meaning(self.cursor.token()) {
             Some(meaning @ (Meaning::Object(_) | Meaning::Variable(_) | Meaning::Function(_))) => {
                 self.cursor.advance();
                 meaning
@@ -165,7 +169,7 @@ impl<'a> Reader<'a> {
         for value in values {
             self.cursor.advance();
             let parameter = self.new_name("the name of a parameter");
-            self.scope.add_inside(parameter.text, *value);
+            self.scope.add_inside(parameter.span, *value);
         }
         self.cursor.advance();
     }
@@ -174,10 +178,11 @@ impl<'a> Reader<'a> {
     pub(crate) fn check_templates(&mut self) {
         for template in &self.templates {
             if !template.is_used {
-                let (kind, shown) = (template.kind.text(), template.name.text);
-                let words = &[Word::Text(kind), Word::Text(kind), Word::Text(shown)];
+                let Token { span, spot, .. } = template.name;
+                let kind = Word::Text(template.kind.text());
+                let words = &[kind, kind, Word::Piece(span)];
                 let form = "no % is made of this body: write '% NAME = %(..);' below it";
-                self.cursor.refuse_with(template.name.spot, form, words);
+                self.cursor.refuse_with(spot, form, words);
             }
         }
     }

@@ -26,7 +26,7 @@ struct Writer {
 pub(crate) fn text_of(
     alloc: Global,
     source: &Source<'_>,
-    program: &Program<'_>,
+    program: &Program,
     codes: &[Code],
 ) -> Result<String, Fault> {
     let form = "# Generated from % by fr_check translate: edit that file, not this one.\n";
@@ -54,7 +54,7 @@ impl Writer {
     /// Writes the variables, the objects and the actors.
     fn application(
         &mut self,
-        program: &Program<'_>,
+        program: &Program,
         source: &Source<'_>,
         codes: &[Code],
     ) -> Result<(), Fault> {
@@ -69,7 +69,7 @@ impl Writer {
     }
 
     /// Writes the variables.
-    fn variables(&mut self, program: &Program<'_>) -> Result<(), AllocError> {
+    fn variables(&mut self, program: &Program) -> Result<(), AllocError> {
         for place in &program.written {
             let variable = program.variable(*place);
             let words = &[
@@ -89,9 +89,10 @@ impl Writer {
     }
 
     /// Writes the objects.
-    fn objects(&mut self, program: &Program<'_>) -> Result<(), AllocError> {
+    fn objects(&mut self, program: &Program) -> Result<(), AllocError> {
         for object in &program.objects {
-            let words = &[Word::Text(object.name), Word::Text(object.kind.text())];
+            let name = Word::Text(program.text(object.name));
+            let words = &[name, Word::Text(object.kind.text())];
             self.write("\n[[object]]\nname = \"%\"\nkind = \"%\"\n", words)?;
             if let Some(size) = object.size {
                 self.write("size = %\n", &[Word::Number(size)])?;
@@ -111,15 +112,16 @@ impl Writer {
     /// Writes an actor with its code.
     fn actor(
         &mut self,
-        program: &Program<'_>,
+        program: &Program,
         source: &Source<'_>,
-        actor: Actor<'_>,
+        actor: Actor,
         code: &Code,
     ) -> Result<(), Fault> {
         let said = self.lines_said(program, code)?;
-        let words = &[Word::Text(actor.name), Word::Text(actor.kind.text())];
+        let name = Word::Text(program.text(actor.name));
+        let words = &[name, Word::Text(actor.kind.text())];
         self.write("\n[[actor]]\nname = \"%\"\nkind = \"%\"\ncode = [\n", words)?;
-        self.rows(source, code, &said)?;
+        self.rows(program, source, code, &said)?;
         if self.text.len() > MOST_BYTES {
             return Err(wrong(self.alloc, actor.end, "the translation has more than 1 MiB"));
         }
@@ -128,7 +130,13 @@ impl Writer {
     }
 
     /// Writes the lines of an actor, each with its comment.
-    fn rows(&mut self, source: &Source<'_>, code: &Code, said: &Said) -> Result<(), AllocError> {
+    fn rows(
+        &mut self,
+        program: &Program,
+        source: &Source<'_>,
+        code: &Code,
+        said: &Said,
+    ) -> Result<(), AllocError> {
         let mut last = None;
         for (number, line) in code.lines.iter().enumerate() {
             let text = match said.lines.get(number) {
@@ -142,14 +150,23 @@ impl Writer {
                 Word::Blanks(usize::from(number < 10)),
             ];
             self.write("  %%  # %% ", words)?;
-            self.comment(source, code, line.place, last)?;
+            let is_told = match last {
+                Some(last) => are_of_one_place(code, last, line.place),
+                None => false,
+            };
+            self.place(source, code, line.place)?;
+            if is_told {
+                self.text.push_str("\n")?;
+            } else {
+                self.excerpt(program, source, line.place.spot.line)?;
+            }
             last = Some(line.place);
         }
         Ok(())
     }
 
     /// The lines of code, each as it is quoted in the application.
-    fn lines_said(&self, program: &Program<'_>, code: &Code) -> Result<Said, AllocError> {
+    fn lines_said(&self, program: &Program, code: &Code) -> Result<Said, AllocError> {
         let mut lines = Vec::new(self.alloc);
         let mut width = 0usize;
         for line in &code.lines {
@@ -161,7 +178,7 @@ impl Writer {
     }
 
     /// A line of code in quotes, with a comma.
-    fn line_said(&self, program: &Program<'_>, line: Line) -> Result<String, AllocError> {
+    fn line_said(&self, program: &Program, line: Line) -> Result<String, AllocError> {
         let target = line.to.unwrap_or(0);
         match line.action {
             Action::Set {
@@ -214,11 +231,11 @@ impl Writer {
         }
     }
 
-    fn argument<'b>(&'b self, program: &'b Program<'_>, argument: Argument) -> Word<'b> {
+    fn argument<'b>(&'b self, program: &'b Program, argument: Argument) -> Word<'b> {
         match argument {
             Argument::Absent => Word::Text(""),
             Argument::Object(place) => match program.objects.get(place) {
-                Some(object) => Word::Text(object.name),
+                Some(object) => Word::Text(program.text(object.name)),
                 None => Word::Text(""),
             },
             Argument::Operand(operand) => self.operand(operand),
@@ -230,7 +247,7 @@ impl Writer {
     /// A call with its arguments, in quotes, with a comma.
     fn call_said<'b>(
         &'b self,
-        program: &'b Program<'_>,
+        program: &'b Program,
         answer: Option<usize>,
         call: Call,
         to: Option<usize>,
@@ -262,26 +279,21 @@ impl Writer {
         filled(self.alloc, form, words)
     }
 
-    /// Writes where a line is in the source, and what is there, unless the line before it is of the same place.
-    fn comment(
-        &mut self,
-        source: &Source<'_>,
-        code: &Code,
-        place: Place,
-        last: Option<Place>,
-    ) -> Result<(), AllocError> {
+    /// Writes where a line is in the source.
+    fn place(&mut self, source: &Source<'_>, code: &Code, place: Place) -> Result<(), AllocError> {
         let Spot { line, .. } = place.spot;
         self.write("%:%", &[Word::Text(source.file), Word::Count(line)])?;
-        self.callers(code, place)?;
-        match last {
-            Some(last) if are_of_one_place(code, last, place) => self.text.push_str("\n"),
-            _ => self.excerpt(source, line),
-        }
+        self.callers(code, place)
     }
 
     /// Writes the text of a line of the source.
-    fn excerpt(&mut self, source: &Source<'_>, line: usize) -> Result<(), AllocError> {
-        let shown = source.excerpt(self.alloc, line)?;
+    fn excerpt(
+        &mut self,
+        program: &Program,
+        source: &Source<'_>,
+        line: usize,
+    ) -> Result<(), AllocError> {
+        let shown = source.excerpt(self.alloc, &program.pieces, line)?;
         match shown.as_str().get(..LONGEST_EXCERPT - 3) {
             Some(cut) if shown.len() > LONGEST_EXCERPT => {
                 self.write(": %...\n", &[Word::Text(cut)])

@@ -2,20 +2,96 @@
 
 use std::alloc::{AllocError, Global};
 
+/// A piece of the source, as a word or a name: its bytes from `start` up to `end`, without the last one.
+#[derive(Clone, Copy)]
+pub(crate) struct Span {
+    pub(crate) start: usize,
+    pub(crate) end: usize,
+}
+
+impl Span {
+    /// No piece: its text is empty.
+    pub(crate) const NONE: Span = Span { start: 0, end: 0 };
+}
+
+/// The name of the variable of `configASSERT`, which no source writes.
+pub(crate) const ASSERTION: &str = "assertion";
+
+/// The source with blanks in place of its comments, and after it the name of the variable of `configASSERT`: what names and words
+/// are pieces of.
+#[derive(Drop)]
+pub(crate) struct Pieces {
+    bytes: Vec<u8>,
+    /// The name that is after the source.
+    pub(crate) assertion: Span,
+}
+
+impl Pieces {
+    pub(crate) fn none(alloc: Global) -> Pieces {
+        Pieces {
+            bytes: Vec::new(alloc),
+            assertion: Span::NONE,
+        }
+    }
+
+    /// The pieces of a source with blanks in place of its comments.
+    pub(crate) fn of(blank: Vec<u8>) -> Result<Pieces, AllocError> {
+        let mut bytes = blank;
+        let start = bytes.len();
+        bytes.extend_from_slice(ASSERTION.as_bytes())?;
+        let end = bytes.len();
+        let assertion = Span { start, end };
+        Ok(Pieces { bytes, assertion })
+    }
+
+    pub(crate) fn bytes(&self) -> &[u8] {
+        &self.bytes
+    }
+
+    /// The text of a piece.
+    pub(crate) fn text(&self, span: Span) -> &str {
+        match self.bytes.get(span.start..span.end) {
+            Some(bytes) => std::str::from_utf8(bytes).unwrap_or(""),
+            None => "",
+        }
+    }
+
+    /// Whether two pieces have the same text.
+    pub(crate) fn are_alike(&self, one: Span, other: Span) -> bool {
+        self.text(one) == self.text(other)
+    }
+}
+
 /// What is filled into a form.
 #[derive(Clone, Copy)]
 pub(crate) enum Word<'a> {
     Text(&'a str),
+    /// A piece of the source, cut where it is too long for a message.
+    Piece(Span),
     Number(i64),
     Count(usize),
     /// So many blanks.
     Blanks(usize),
 }
 
+/// The most characters of a word that a message repeats.
+const MOST_REPEATED: usize = 40;
+
+/// The text, cut where it is too long for a message.
+pub(crate) fn clipped(text: &str) -> &str {
+    text.get(..MOST_REPEATED).unwrap_or(text)
+}
+
 /// Appends a word.
-fn push_word(alloc: Global, whole: &mut String, word: Word<'_>) -> Result<(), AllocError> {
+fn push_word(
+    alloc: Global,
+    whole: &mut String,
+    pieces: &Pieces,
+    word: Word<'_>,
+) -> Result<(), AllocError> {
     let digits = match word {
         Word::Text(text) => return whole.push_str(text),
+        Word::Piece(span) => return whole.push_str(clipped(pieces.text(span))),
         Word::Blanks(count) => {
             for _ in 0..count {
                 whole.push(' ')?;
@@ -28,10 +104,11 @@ fn push_word(alloc: Global, whole: &mut String, word: Word<'_>) -> Result<(), Al
     whole.push_str(digits.as_str())
 }
 
-/// Appends a form, with its words in their places.
-pub(crate) fn push_filled(
+/// Appends a form, with its words in their places, some of them pieces of a source.
+pub(crate) fn push_pieces(
     alloc: Global,
     whole: &mut String,
+    pieces: &Pieces,
     form: &str,
     words: &[Word<'_>],
 ) -> Result<(), AllocError> {
@@ -40,13 +117,23 @@ pub(crate) fn push_filled(
         if character != '%' {
             whole.push(character)?;
         } else if let Some(word) = rest.next() {
-            push_word(alloc, whole, *word)?;
+            push_word(alloc, whole, pieces, *word)?;
         }
     }
     Ok(())
 }
 
-/// A form, with its words in their places.
+/// Appends a form, with its words in their places. None of them is a piece of a source.
+pub(crate) fn push_filled(
+    alloc: Global,
+    whole: &mut String,
+    form: &str,
+    words: &[Word<'_>],
+) -> Result<(), AllocError> {
+    push_pieces(alloc, whole, &Pieces::none(alloc), form, words)
+}
+
+/// A form, with its words in their places. None of them is a piece of a source.
 pub(crate) fn filled(alloc: Global, form: &str, words: &[Word<'_>]) -> Result<String, AllocError> {
     let mut whole = String::new(alloc);
     push_filled(alloc, &mut whole, form, words)?;

@@ -13,7 +13,7 @@ use std::alloc::{AllocError, Global};
 /// Lines that are being tidied.
 #[derive(Drop)]
 struct Tidying<'a> {
-    program: &'a Program<'a>,
+    program: &'a Program,
     plain: &'a [Line],
     kept: Vec<Kept>,
     /// For each plain line, what goes on as it did.
@@ -274,7 +274,7 @@ impl Tidying<'_> {
 /// All lines as they are.
 fn untouched<'a>(
     alloc: Global,
-    program: &'a Program<'a>,
+    program: &'a Program,
     plain: &'a [Line],
 ) -> Result<Tidying<'a>, AllocError> {
     let (mut kept, mut heirs) = (Vec::new(alloc), Vec::new(alloc));
@@ -295,7 +295,7 @@ fn untouched<'a>(
 /// lines as they were.
 pub(crate) fn tidied(
     alloc: Global,
-    program: &Program<'_>,
+    program: &Program,
     lines: &[Line],
 ) -> Result<Vec<Line>, AllocError>
     ensures { IfOk result (λ tidied. ShowsNoLess program.now.variables.items lines.now tidied.items) }

@@ -1,7 +1,7 @@
 // The words, numbers and signs of a source, with their places.
 
 use crate::fault::{Fault, Spot, wrong, wrong_about, wrong_with};
-use crate::texts::Word;
+use crate::texts::{Span, Word};
 use std::alloc::{AllocError, Global};
 
 /// What a token is.
@@ -15,9 +15,9 @@ pub(crate) enum Kind {
 
 /// A word, a number or a sign of the source, or its end.
 #[derive(Clone, Copy)]
-pub(crate) struct Token<'a> {
+pub(crate) struct Token {
     pub(crate) kind: Kind,
-    pub(crate) text: &'a str,
+    pub(crate) span: Span,
     pub(crate) spot: Spot,
     /// The column from 0, where a tab counts to the next multiple of 8.
     pub(crate) indent: usize,
@@ -213,9 +213,9 @@ fn check_number(alloc: Global, spot: Spot, text: &[u8], rest: &[u8]) -> Result<(
 
 /// The tokens of a source, its end, and its bytes with blanks in place of comments.
 #[derive(Drop)]
-pub(crate) struct Scan<'a> {
-    pub(crate) tokens: Vec<Token<'a>>,
-    pub(crate) end: Token<'a>,
+pub(crate) struct Scan {
+    pub(crate) tokens: Vec<Token>,
+    pub(crate) end: Token,
     pub(crate) blank: Vec<u8>,
 }
 
@@ -227,13 +227,13 @@ fn push_blanks(blank: &mut Vec<u8>, text: &[u8]) -> Result<(), AllocError> {
     Ok(())
 }
 
-impl<'a> Scan<'a> {
+impl Scan {
     /// Keeps a piece of the source. `after` is what is behind it.
     fn keep(
         &mut self,
         alloc: Global,
         piece: Piece,
-        text: &'a [u8],
+        text: &[u8],
         after: &[u8],
         position: Position,
     ) -> Result<(), Fault> {
@@ -246,10 +246,11 @@ impl<'a> Scan<'a> {
                 if matches!(kind, Kind::Number) {
                     check_number(alloc, spot, text, after)?;
                 }
-                let text = std::str::from_utf8(text).unwrap_or("");
+                let start = self.blank.len();
+                let end = start.saturating_add(text.len());
                 self.tokens.push(Token {
                     kind,
-                    text,
+                    span: Span { start, end },
                     spot,
                     indent,
                 })?;
@@ -261,7 +262,7 @@ impl<'a> Scan<'a> {
     }
 
     /// Reads the pieces of a source.
-    fn read(&mut self, alloc: Global, source: &'a [u8]) -> Result<(), Fault> {
+    fn read(&mut self, alloc: Global, source: &[u8]) -> Result<(), Fault> {
         let mut rest = source;
         let mut position = START;
         for _ in 0..source.len() {
@@ -284,11 +285,11 @@ impl<'a> Scan<'a> {
 }
 
 /// The words, numbers and signs of a source.
-pub(crate) fn scanned<'a>(alloc: Global, source: &'a [u8]) -> Result<Scan<'a>, Fault> {
+pub(crate) fn scanned(alloc: Global, source: &[u8]) -> Result<Scan, Fault> {
     let Position { spot, indent } = START;
     let end = Token {
         kind: Kind::End,
-        text: "",
+        span: Span::NONE,
         spot,
         indent,
     };

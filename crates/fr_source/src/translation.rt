@@ -8,7 +8,7 @@ use crate::message::{Message, Refused, message_at, refused_by};
 use crate::program::{Action, Actor, Home, Program};
 use crate::source::{Source, plain};
 use crate::text::text_of;
-use crate::texts::{Word, filled};
+use crate::texts::{Pieces, Word, filled};
 use crate::tidy::{reached, tidied};
 use crate::token::{Scan, scanned};
 use std::alloc::{AllocError, Global};
@@ -35,7 +35,7 @@ pub struct Translation {
 }
 
 /// Refuses a task that makes a call of interrupts, in a function that it calls.
-fn check_calls(alloc: Global, actor: Actor<'_>, code: &Code) -> Result<(), Fault> {
+fn check_calls(alloc: Global, program: &Program, actor: Actor, code: &Code) -> Result<(), Fault> {
     for line in &code.lines {
         if let Action::Call { call, .. } = line.action
             && call.kernel.is_of_interrupts()
@@ -43,20 +43,22 @@ fn check_calls(alloc: Global, actor: Actor<'_>, code: &Code) -> Result<(), Fault
         {
             let spot = outermost(&code.calls, line.place);
             let form = "task '%' makes the call % here, which is for interrupts";
-            return Err(wrong_about(alloc, spot, form, actor.name, call.kernel.name));
+            let name = program.text(actor.name);
+            return Err(wrong_about(alloc, spot, form, name, call.kernel.name));
         }
     }
     Ok(())
 }
 
 /// Refuses a task that can come to its end, and an actor with too many lines.
-fn check_code(alloc: Global, actor: Actor<'_>, code: &Code) -> Result<(), Fault> {
+fn check_code(alloc: Global, program: &Program, actor: Actor, code: &Code) -> Result<(), Fault> {
+    let name = program.text(actor.name);
     for line in &code.lines {
         if matches!(line.action, Action::End) {
             let form =
                 "task '%' can come to its end here, and a task doesn't return (rule 11): write vTaskDelete(NULL) \
                 or an endless loop";
-            return Err(wrong_about(alloc, actor.end, form, actor.name, ""));
+            return Err(wrong_about(alloc, actor.end, form, name, ""));
         }
     }
     if let Some(line) = code.lines.get(MOST_LINES) {
@@ -64,7 +66,7 @@ fn check_code(alloc: Global, actor: Actor<'_>, code: &Code) -> Result<(), Fault>
         let form = "% '%' has % lines, at most 512 are allowed: this construct passed the limit";
         let words = &[
             Word::Text(actor.kind.text()),
-            Word::Text(actor.name),
+            Word::Text(name),
             Word::Count(code.lines.len()),
         ];
         return Err(wrong_with(alloc, spot, form, words));
@@ -91,11 +93,13 @@ fn is_reached(lines: &[Line], seen: &[bool], place: Place) -> bool {
 fn warning(
     alloc: Global,
     source: &Source<'_>,
-    actor: Actor<'_>,
+    program: &Program,
+    actor: Actor,
     spot: Spot,
 ) -> Result<Message, AllocError> {
     let form = "warning: this is never reached in % '%', and left out";
-    let words = &[Word::Text(actor.kind.text()), Word::Text(actor.name)];
+    let name = Word::Text(program.text(actor.name));
+    let words = &[Word::Text(actor.kind.text()), name];
     let text = filled(alloc, form, words)?;
     message_at(alloc, source, spot, text)
 }
@@ -105,11 +109,12 @@ fn warning(
 fn warn(
     alloc: Global,
     source: &Source<'_>,
-    actor: Actor<'_>,
+    program: &Program,
+    actor: Actor,
     code: &Code,
     warnings: &mut Vec<Message>,
 ) -> Result<(), Fault> {
-    check_calls(alloc, actor, code)?;
+    check_calls(alloc, program, actor, code)?;
     let seen = reached(alloc, &code.lines)?;
     let mut was_dropped = false;
     for (number, line) in code.lines.iter().enumerate() {
@@ -120,7 +125,8 @@ fn warn(
         }
         let is_kept = is_reached(&code.lines, &seen, line.place);
         if !is_kept && !was_dropped && warnings.len() < MOST_WARNINGS {
-            warnings.push(warning(alloc, source, actor, line.place.spot)?)?;
+            let warning = warning(alloc, source, program, actor, line.place.spot)?;
+            warnings.push(warning)?;
         }
         was_dropped = !is_kept;
     }
@@ -131,21 +137,21 @@ fn warn(
 fn tidy(
     alloc: Global,
     source: &Source<'_>,
-    program: &Program<'_>,
-    actor: Actor<'_>,
+    program: &Program,
+    actor: Actor,
     code: &mut Code,
     warnings: &mut Vec<Message>,
 ) -> Result<(), Fault> {
-    warn(alloc, source, actor, code, warnings)?;
+    warn(alloc, source, program, actor, code, warnings)?;
     code.lines = tidied(alloc, program, &code.lines)?;
-    check_code(alloc, actor, code)
+    check_code(alloc, program, actor, code)
 }
 
 /// The code of each actor, and the warnings.
 fn codes_of(
     alloc: Global,
     source: &Source<'_>,
-    program: &mut Program<'_>,
+    program: &mut Program,
     warnings: &mut Vec<Message>,
 ) -> Result<Vec<Code>, Fault> {
     let mut codes = Vec::new(alloc);
@@ -161,11 +167,7 @@ fn codes_of(
 }
 
 /// A source, translated.
-fn translation_of(
-    alloc: Global,
-    source: &mut Source<'_>,
-    bytes: &[u8],
-) -> Result<Translation, Fault>
+fn translation_of(alloc: Global, source: &Source<'_>, bytes: &[u8]) -> Result<Translation, Fault>
     ensures { IfOk result (λ translation. length (string_bytes translation.text) ≤ 1048576) }
 {
     if bytes.len() > MOST_SOURCE_BYTES {
@@ -173,8 +175,7 @@ fn translation_of(
         return Err(wrong(alloc, spot, "the source has more than 1 MiB"));
     }
     let Scan { tokens, end, blank } = scanned(alloc, bytes)?;
-    source.blank = blank;
-    let mut program = program_in(alloc, tokens, end)?;
+    let mut program = program_in(alloc, Pieces::of(blank)?, tokens, end)?;
     application_of(alloc, source, &mut program)
 }
 
@@ -182,7 +183,7 @@ fn translation_of(
 fn application_of(
     alloc: Global,
     source: &Source<'_>,
-    program: &mut Program<'_>,
+    program: &mut Program,
 ) -> Result<Translation, Fault>
     ensures { IfOk result (λ translation. length (string_bytes translation.text) ≤ 1048576) }
 {
@@ -211,8 +212,8 @@ pub fn translated(alloc: Global, file: &str, source: &[u8]) -> Result<Translatio
         [0xef, 0xbb, 0xbf, rest @ ..] => rest,
         _ => source,
     };
-    let mut text = Source::new(alloc, file.as_str(), source)?;
-    match translation_of(alloc, &mut text, source) {
+    let text = Source::new(alloc, file.as_str(), source)?;
+    match translation_of(alloc, &text, source) {
         Ok(translation) => Ok(translation),
         Err(fault) => Err(refused_by(alloc, &text, fault)),
     }

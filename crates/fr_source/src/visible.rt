@@ -107,7 +107,7 @@ fn goto_at(lines: &[Line], number: usize) -> Option<usize>
 }
 
 /// Where the gotos from a line end, as far as so many of them lead.
-fn end_of_gotos(program: &Program<'_>, lines: &[Line], first: usize) -> usize
+fn end_of_gotos(program: &Program, lines: &[Line], first: usize) -> usize
     ensures { Slides program.now.variables.items lines.now first result }
 {
     let _ = program;
@@ -133,7 +133,7 @@ fn is_return(lines: &[Line], number: usize) -> bool
 
 /// The mark of where the gotos from a line end: 0 at a return, otherwise one more than the number of the line there. Where they lead out
 /// of the lines, it is that of the line itself.
-fn mark_of(program: &Program<'_>, lines: &[Line], number: usize) -> usize
+fn mark_of(program: &Program, lines: &[Line], number: usize) -> usize
     requires there { number < length lines.now }
     ensures { Marked program.now.variables.items lines.now number result }
 {
@@ -148,7 +148,7 @@ fn mark_of(program: &Program<'_>, lines: &[Line], number: usize) -> usize
 }
 
 /// The marks of all lines.
-fn marks_of(alloc: Global, program: &Program<'_>, lines: &[Line]) -> Result<Vec<usize>, AllocError>
+fn marks_of(alloc: Global, program: &Program, lines: &[Line]) -> Result<Vec<usize>, AllocError>
     ensures { IfOk result (λ marks. AreMarks program.now.variables.items lines.now marks.items) }
 {
     let mut marks = Vec::new(alloc);
@@ -161,7 +161,7 @@ fn marks_of(alloc: Global, program: &Program<'_>, lines: &[Line]) -> Result<Vec<
 /// Plain lines, and what became of them.
 #[derive(Clone, Copy)]
 struct Comparison<'a> {
-    program: &'a Program<'a>,
+    program: &'a Program,
     plain: &'a [Line],
     kept: &'a [Kept],
     lines: &'a [Line],
@@ -351,7 +351,7 @@ fn copied(alloc: Global, lines: &[Line]) -> Result<Vec<Line>, AllocError>
 /// Whether tidied lines show others no less than the plain ones. `heirs` has for each plain line what goes on for it.
 fn show_no_less<'a>(
     alloc: Global,
-    program: &'a Program<'a>,
+    program: &'a Program,
     plain: &'a [Line],
     kept: &'a [Kept],
     lines: &'a [Line],
@@ -367,7 +367,7 @@ fn show_no_less<'a>(
 
 /// Whether it is so by these marks and aims.
 fn are_kept<'a>(
-    program: &'a Program<'a>,
+    program: &'a Program,
     plain: &'a [Line],
     kept: &'a [Kept],
     lines: &'a [Line],
@@ -393,7 +393,7 @@ fn are_kept<'a>(
 /// each plain line what goes on for it.
 pub(crate) fn tidied_lines(
     alloc: Global,
-    program: &Program<'_>,
+    program: &Program,
     plain: &[Line],
     kept: &[Kept],
     heirs: &[Heir],
