@@ -9,7 +9,7 @@
 -- | Values, value_in       | the values of the variables, by their places; that of an operand           |
 -- | compare                | whether a comparison holds                                                 |
 -- | is_shared, looks       | a variable is shared; an `if` looks at a shared variable                   |
--- | ends                   | no way leads from a line to the next one                                   |
+-- | deletes, ends          | a task deletes itself; no way leads from a line to the next one            |
 -- | Seen                   | what others see of a step                                                  |
 -- | Chooses                | where an `if` goes                                                         |
 -- | HidesAt, Hides         | a step that nobody else sees leads from one line to another                |
@@ -18,9 +18,11 @@
 -- | OwnStay                | the actor's own variables have the same values                             |
 -- | CanShow                | from this line on, others can see these steps, one after another           |
 -- | ShowsNoLess            | whatever others can see of some lines they can see of others               |
-use Rattle.std.specs.Prelude.{◌≡◌, ℕ, suc, ℤ, List, [], ◌∷◌, Option, None, Some, Bool, true, false, not, int_lt, slice_get, unwrap_or, codes, bytes_eq}
+use Rattle.std.specs.Prelude.{◌≡◌, ℕ, suc, ℤ, List, [], ◌∷◌, Option, None, Some, Bool, true, false, not, int_lt, slice_get, unwrap_or}
 use Rattle.std.specs.Ordering.{int_eq}
 use Rattle.fr_source.specs.declared.expand.Line.{Line}
+use Rattle.fr_source.specs.declared.kernel.KernelCall.{KernelCall}
+use Rattle.fr_source.specs.declared.kernel.KernelCall.TheVariants.{DeleteTask}
 use Rattle.fr_source.specs.declared.program.Action.{Action}
 use Rattle.fr_source.specs.declared.program.Action.TheVariants.{Call as Calls, If, Goto, Return, End}
 use Rattle.fr_source.specs.declared.program.Operand.{Operand}
@@ -75,12 +77,17 @@ looks variables left right = by (is_shared_operand variables left)
     by true = true
     by false = is_shared_operand variables right
 
+-- the call by which a task deletes itself
+abbrev pub deletes : KernelCall → Bool
+deletes DeleteTask = true
+deletes call = false
+
 -- no way leads from the line to the next one
 abbrev pub ends : Action → Bool
 ends Goto = true
 ends Return = true
 ends End = true
-ends (Calls answer call) = bytes_eq call.kernel.now.name.now (codes "vTaskDelete")
+ends (Calls answer call) = deletes call.kernel
 ends action = false
 
 -- what others see of a step: what the line does, whether it goes on as one that worked, and the values before and after; or which

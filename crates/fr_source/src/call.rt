@@ -60,7 +60,7 @@ impl Reader {
             self.refuse_in("')'", kernel);
         }
         self.here.call = None;
-        let call = self.program.call(kernel, arguments).ok();
+        let call = self.program.call(kernel.call, arguments).ok();
         if call.is_none() {
             self.cursor.note(Fault::Memory);
         }

@@ -11,15 +11,16 @@ use crate::texts::Word;
 impl Reader {
     /// Refuses a call that doesn't answer whether it worked.
     fn check_fails(&mut self, call: Call, spot: Spot) {
-        if call.kernel.may_fail() {
+        let kernel = call.kernel.row();
+        if kernel.may_fail() {
             return;
         }
-        let form = match call.kernel.answer {
+        let form = match kernel.answer {
             Answer::Bytes =>
                 "% doesn't answer whether it worked: write (n = ..) > 0, where n is a variable",
             _ => "% doesn't answer whether it worked",
         };
-        self.cursor.refuse_about(spot, form, call.kernel.name, "");
+        self.cursor.refuse_about(spot, form, kernel.name, "");
     }
 
     /// The operand that is a side of a comparison.
@@ -125,7 +126,8 @@ impl Reader {
         spot: Spot,
     ) -> usize {
         self.check_fails(call, spot);
-        let is_handle = matches!(call.kernel.answer, Answer::Handle);
+        let kernel = call.kernel.row();
+        let is_handle = matches!(kernel.answer, Answer::Handle);
         let worked = match (right.value, is_handle) {
             (Value::Null, true) | (Value::Number(0), false) => Some(false),
             (Value::Number(1), false) => Some(true),
@@ -140,8 +142,7 @@ impl Reader {
                 } else {
                     "the answer of % is compared by '==' or '!=' with pdTRUE, pdPASS, pdFALSE or pdFAIL"
                 };
-                self.cursor
-                    .refuse_about(right.spot, form, call.kernel.name, "");
+                self.cursor.refuse_about(right.spot, form, kernel.name, "");
                 true
             }
         };

@@ -5,6 +5,7 @@ ghost use Rattle.std.specs.Prelude.{◌≡◌};
 ghost use Rattle.fr_source.specs.Steps.{ends};
 
 use crate::fault::{Fault, Spot, wrong, wrong_about, wrong_with};
+use crate::kernel::KernelCall;
 use crate::program::{
     Action, Actor, Argument, Call, Item, MOST_ITEMS, MOST_VARIABLES, Operand, Owner, Program,
     Variable,
@@ -35,7 +36,7 @@ impl Line {
     {
         match self.action {
             Action::Goto | Action::Return | Action::End => true,
-            Action::Call { call, .. } => call.kernel.name == "vTaskDelete",
+            Action::Call { call, .. } => matches!(call.kernel, KernelCall::DeleteTask),
             _ => false,
         }
     }

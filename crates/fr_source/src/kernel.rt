@@ -41,9 +41,67 @@ pub(crate) enum Answer {
     Bytes,
 }
 
+/// The calls of the kernel, one for each row of the table below.
+#[derive(Clone, Copy)]
+pub(crate) enum KernelCall {
+    EnterCritical,
+    EnterCriticalFromIsr,
+    ExitCritical,
+    ExitCriticalFromIsr,
+    SuspendAll,
+    ResumeAll,
+    Yield,
+    Delay,
+    DeleteTask,
+    CreateQueue,
+    CreateBinary,
+    CreateCounting,
+    CreateMutex,
+    CreateRecursive,
+    CreateStream,
+    CreateMessage,
+    DeleteQueue,
+    DeleteSemaphore,
+    DeleteStream,
+    DeleteMessage,
+    SendToQueue,
+    SendToQueueFromIsr,
+    ReceiveFromQueue,
+    ReceiveFromQueueFromIsr,
+    Take,
+    TakeRecursive,
+    TakeFromIsr,
+    Give,
+    GiveRecursive,
+    GiveFromIsr,
+    SendToStream,
+    SendToStreamFromIsr,
+    ReceiveFromStream,
+    ReceiveFromStreamFromIsr,
+    ResetStream,
+    SendMessage,
+    SendMessageFromIsr,
+    ReceiveMessage,
+    ReceiveMessageFromIsr,
+    ResetMessage,
+}
+
+impl KernelCall {
+    /// The row of the call.
+    pub(crate) fn row(self) -> &'static Kernel {
+        for row in calls() {
+            if row.call as u8 == self as u8 {
+                return row;
+            }
+        }
+        &CALLS[0]
+    }
+}
+
 /// A call of the kernel: its name, what its arguments are, the kinds that its object may have, and what it answers.
 #[derive(Clone, Copy)]
 pub(crate) struct Kernel {
+    pub(crate) call: KernelCall,
     pub(crate) name: &'static str,
     pub(crate) places: &'static [Place],
     pub(crate) kinds: &'static [ObjectKind],
@@ -102,8 +160,9 @@ impl Kernel {
 
 /// The rows of a table, a row a line.
 macro_rules! rows {
-    ($($name:literal [$($place:ident)*] [$($kind:ident)*] $answer:ident;)*) => {
+    ($($call:ident $name:literal [$($place:ident)*] [$($kind:ident)*] $answer:ident;)*) => {
         [$(Kernel {
+            call: KernelCall::$call,
             name: $name,
             places: &[$(Place::$place),*],
             kinds: &[$(ObjectKind::$kind),*],
@@ -114,46 +173,46 @@ macro_rules! rows {
 
 /// Every call once.
 static CALLS: [Kernel; 40] = rows! {
-    "taskENTER_CRITICAL"             [] [] Nothing;
-    "taskENTER_CRITICAL_FROM_ISR"    [] [] Nothing;
-    "taskEXIT_CRITICAL"              [] [] Nothing;
-    "taskEXIT_CRITICAL_FROM_ISR"     [] [] Nothing;
-    "vTaskSuspendAll"                [] [] Nothing;
-    "xTaskResumeAll"                 [] [] Nothing;
-    "taskYIELD"                      [] [] Nothing;
-    "vTaskDelay"                     [Ticks] [] Nothing;
-    "vTaskDelete"                    [Null] [] Nothing;
-    "xQueueCreate"                   [Object] [Queue] Handle;
-    "xSemaphoreCreateBinary"         [Object] [Binary] Handle;
-    "xSemaphoreCreateCounting"       [Object] [Counting] Handle;
-    "xSemaphoreCreateMutex"          [Object] [Mutex] Handle;
-    "xSemaphoreCreateRecursiveMutex" [Object] [Recursive] Handle;
-    "xStreamBufferCreate"            [Object] [Stream] Handle;
-    "xMessageBufferCreate"           [Object] [Message] Handle;
-    "vQueueDelete"                   [Object] [Queue] Nothing;
-    "vSemaphoreDelete"               [Object] [Binary Counting Mutex Recursive] Nothing;
-    "vStreamBufferDelete"            [Object] [Stream] Nothing;
-    "vMessageBufferDelete"           [Object] [Message] Nothing;
-    "xQueueSend"                     [Object Operand Time] [Queue] Success;
-    "xQueueSendFromISR"              [Object Operand] [Queue] Success;
-    "xQueueReceive"                  [Object Variable Time] [Queue] Success;
-    "xQueueReceiveFromISR"           [Object Variable] [Queue] Success;
-    "xSemaphoreTake"                 [Object Time] [Binary Counting Mutex Recursive] Success;
-    "xSemaphoreTakeRecursive"        [Object Time] [Binary Counting Mutex Recursive] Success;
-    "xSemaphoreTakeFromISR"          [Object] [Binary Counting Mutex Recursive] Success;
-    "xSemaphoreGive"                 [Object] [Binary Counting Mutex Recursive] Success;
-    "xSemaphoreGiveRecursive"        [Object] [Binary Counting Mutex Recursive] Success;
-    "xSemaphoreGiveFromISR"          [Object] [Binary Counting Mutex Recursive] Success;
-    "xStreamBufferSend"              [Object Length Time] [Stream] Bytes;
-    "xStreamBufferSendFromISR"       [Object Length] [Stream] Bytes;
-    "xStreamBufferReceive"           [Object Length Time] [Stream] Bytes;
-    "xStreamBufferReceiveFromISR"    [Object Length] [Stream] Bytes;
-    "xStreamBufferReset"             [Object] [Stream] Success;
-    "xMessageBufferSend"             [Object Length Time] [Message] Bytes;
-    "xMessageBufferSendFromISR"      [Object Length] [Message] Bytes;
-    "xMessageBufferReceive"          [Object Length Time] [Message] Bytes;
-    "xMessageBufferReceiveFromISR"   [Object Length] [Message] Bytes;
-    "xMessageBufferReset"            [Object] [Message] Success;
+    EnterCritical            "taskENTER_CRITICAL"             [] [] Nothing;
+    EnterCriticalFromIsr     "taskENTER_CRITICAL_FROM_ISR"    [] [] Nothing;
+    ExitCritical             "taskEXIT_CRITICAL"              [] [] Nothing;
+    ExitCriticalFromIsr      "taskEXIT_CRITICAL_FROM_ISR"     [] [] Nothing;
+    SuspendAll               "vTaskSuspendAll"                [] [] Nothing;
+    ResumeAll                "xTaskResumeAll"                 [] [] Nothing;
+    Yield                    "taskYIELD"                      [] [] Nothing;
+    Delay                    "vTaskDelay"                     [Ticks] [] Nothing;
+    DeleteTask               "vTaskDelete"                    [Null] [] Nothing;
+    CreateQueue              "xQueueCreate"                   [Object] [Queue] Handle;
+    CreateBinary             "xSemaphoreCreateBinary"         [Object] [Binary] Handle;
+    CreateCounting           "xSemaphoreCreateCounting"       [Object] [Counting] Handle;
+    CreateMutex              "xSemaphoreCreateMutex"          [Object] [Mutex] Handle;
+    CreateRecursive          "xSemaphoreCreateRecursiveMutex" [Object] [Recursive] Handle;
+    CreateStream             "xStreamBufferCreate"            [Object] [Stream] Handle;
+    CreateMessage            "xMessageBufferCreate"           [Object] [Message] Handle;
+    DeleteQueue              "vQueueDelete"                   [Object] [Queue] Nothing;
+    DeleteSemaphore          "vSemaphoreDelete"               [Object] [Binary Counting Mutex Recursive] Nothing;
+    DeleteStream             "vStreamBufferDelete"            [Object] [Stream] Nothing;
+    DeleteMessage            "vMessageBufferDelete"           [Object] [Message] Nothing;
+    SendToQueue              "xQueueSend"                     [Object Operand Time] [Queue] Success;
+    SendToQueueFromIsr       "xQueueSendFromISR"              [Object Operand] [Queue] Success;
+    ReceiveFromQueue         "xQueueReceive"                  [Object Variable Time] [Queue] Success;
+    ReceiveFromQueueFromIsr  "xQueueReceiveFromISR"           [Object Variable] [Queue] Success;
+    Take                     "xSemaphoreTake"                 [Object Time] [Binary Counting Mutex Recursive] Success;
+    TakeRecursive            "xSemaphoreTakeRecursive"        [Object Time] [Binary Counting Mutex Recursive] Success;
+    TakeFromIsr              "xSemaphoreTakeFromISR"          [Object] [Binary Counting Mutex Recursive] Success;
+    Give                     "xSemaphoreGive"                 [Object] [Binary Counting Mutex Recursive] Success;
+    GiveRecursive            "xSemaphoreGiveRecursive"        [Object] [Binary Counting Mutex Recursive] Success;
+    GiveFromIsr              "xSemaphoreGiveFromISR"          [Object] [Binary Counting Mutex Recursive] Success;
+    SendToStream             "xStreamBufferSend"              [Object Length Time] [Stream] Bytes;
+    SendToStreamFromIsr      "xStreamBufferSendFromISR"       [Object Length] [Stream] Bytes;
+    ReceiveFromStream        "xStreamBufferReceive"           [Object Length Time] [Stream] Bytes;
+    ReceiveFromStreamFromIsr "xStreamBufferReceiveFromISR"    [Object Length] [Stream] Bytes;
+    ResetStream              "xStreamBufferReset"             [Object] [Stream] Success;
+    SendMessage              "xMessageBufferSend"             [Object Length Time] [Message] Bytes;
+    SendMessageFromIsr       "xMessageBufferSendFromISR"      [Object Length] [Message] Bytes;
+    ReceiveMessage           "xMessageBufferReceive"          [Object Length Time] [Message] Bytes;
+    ReceiveMessageFromIsr    "xMessageBufferReceiveFromISR"   [Object Length] [Message] Bytes;
+    ResetMessage             "xMessageBufferReset"            [Object] [Message] Success;
 };
 
 fn calls() -> &'static [Kernel] {

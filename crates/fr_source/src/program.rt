@@ -5,7 +5,7 @@ ghost use Rattle.fr_source.specs.Steps.{is_everyones, is_shared, is_shared_opera
 ghost use Rattle.fr_source.specs.Kept.{inverse, turned};
 
 use crate::fault::Spot;
-use crate::kernel::Kernel;
+use crate::kernel::KernelCall;
 use crate::texts::{Pieces, Span};
 use std::alloc::{AllocError, Global};
 
@@ -208,7 +208,7 @@ pub(crate) enum Argument {
 /// A call of the kernel. `arguments` is the place of its arguments among those of all calls.
 #[derive(Clone, Copy)]
 pub(crate) struct Call {
-    pub(crate) kernel: &'static Kernel,
+    pub(crate) kernel: KernelCall,
     pub(crate) arguments: usize,
 }
 
@@ -349,7 +349,7 @@ impl Program {
     /// The call with these arguments.
     pub(crate) fn call(
         &mut self,
-        kernel: &'static Kernel,
+        kernel: KernelCall,
         arguments: [Argument; 3],
     ) -> Result<Call, AllocError> {
         let place = self.arguments.len();

@@ -176,8 +176,9 @@ impl Reader {
 
     /// Gives a variable the answer of a call. Refuses an answer that the variable can't have.
     fn answered(&mut self, variable: usize, call: Call, spot: Spot, call_spot: Spot) {
-        let name = call.kernel.name;
-        let high = match (call.kernel.answer, self.program.arguments(call)) {
+        let kernel = call.kernel.row();
+        let name = kernel.name;
+        let high = match (kernel.answer, self.program.arguments(call)) {
             (Answer::Nothing, _) => {
                 let form = "% answers nothing";
                 return self.cursor.refuse_about(call_spot, form, name, "");
@@ -187,7 +188,7 @@ impl Reader {
         };
         let form = "the range of '%', %..%, has to include %..%, which % can answer";
         self.check_range(variable, Range { low: 0, high }, form, name, spot);
-        if call.kernel.may_fail() {
+        if kernel.may_fail() {
             return self.here.lines.keep(variable, call, spot);
         }
         let answer = Some(variable);

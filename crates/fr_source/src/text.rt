@@ -150,12 +150,12 @@ impl Writer {
                 Word::Blanks(usize::from(number < 10)),
             ];
             self.write("  %%  # %% ", words)?;
-            let is_told = match last {
+            let is_same = match last {
                 Some(last) => are_of_one_place(code, last, line.place),
                 None => false,
             };
             self.place(source, code, line.place)?;
-            if is_told {
+            if is_same {
                 self.text.push_str("\n")?;
             } else {
                 self.excerpt(program, source, line.place.spot.line)?;
@@ -252,7 +252,8 @@ impl Writer {
         call: Call,
         to: Option<usize>,
     ) -> Result<String, AllocError> {
-        let form = match call.kernel.places.len() {
+        let kernel = call.kernel.row();
+        let form = match kernel.places.len() {
             0 | 1 => "\"%%%(%%%)%%\",",
             2 => "\"%%%(%, %%)%%\",",
             _ => "\"%%%(%, %, %)%%\",",
@@ -269,7 +270,7 @@ impl Writer {
         let words = &[
             given,
             Word::Text(is),
-            Word::Text(call.kernel.name),
+            Word::Text(kernel.name),
             self.argument(program, first),
             self.argument(program, second),
             self.argument(program, third),

@@ -38,13 +38,14 @@ pub struct Translation {
 fn check_calls(alloc: Global, program: &Program, actor: Actor, code: &Code) -> Result<(), Fault> {
     for line in &code.lines {
         if let Action::Call { call, .. } = line.action
-            && call.kernel.is_of_interrupts()
+            && call.kernel.row().is_of_interrupts()
             && matches!(actor.kind, Home::Task)
         {
             let spot = outermost(&code.calls, line.place);
             let form = "task '%' makes the call % here, which is for interrupts";
             let name = program.text(actor.name);
-            return Err(wrong_about(alloc, spot, form, name, call.kernel.name));
+            let call = call.kernel.row().name;
+            return Err(wrong_about(alloc, spot, form, name, call));
         }
     }
     Ok(())
