@@ -95,7 +95,7 @@ impl Cursor {
 
     /// Whether a token is this word or sign.
     pub(crate) fn is(&self, token: Token, text: &str) -> bool {
-        self.text(token) == text
+        self.pieces.is(token.span, text)
     }
 
     /// Whether the next token is an argument of a call that isn't its first one, and with those after it there are more than
@@ -186,8 +186,7 @@ impl Cursor {
             return self.spot();
         }
         let Token { span, spot, .. } = self.previous();
-        let width = span.end.saturating_sub(span.start);
-        let column = spot.column.saturating_add(width);
+        let column = spot.column.saturating_add(span.length());
         Spot { column, ..spot }
     }
 

@@ -46,7 +46,7 @@ pub(crate) struct Name {
 /// What the text means among some names.
 fn meaning_among(pieces: &Pieces, names: &[Name], text: &str) -> Option<Meaning> {
     for name in names {
-        if pieces.text(name.span) == text {
+        if pieces.is(name.span, text) {
             return Some(name.meaning);
         }
     }

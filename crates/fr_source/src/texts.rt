@@ -12,6 +12,11 @@ pub(crate) struct Span {
 impl Span {
     /// No piece: its text is empty.
     pub(crate) const NONE: Span = Span { start: 0, end: 0 };
+
+    /// The number of its bytes.
+    pub(crate) fn length(self) -> usize {
+        self.end.saturating_sub(self.start)
+    }
 }
 
 /// The name of the variable of `configASSERT`, which no source writes.
@@ -56,9 +61,18 @@ impl Pieces {
         }
     }
 
+    fn bytes_of(&self, span: Span) -> &[u8] {
+        self.bytes.get(span.start..span.end).unwrap_or(&[])
+    }
+
+    /// Whether a piece has this text.
+    pub(crate) fn is(&self, span: Span, text: &str) -> bool {
+        span.length() == text.len() && self.bytes_of(span) == text.as_bytes()
+    }
+
     /// Whether two pieces have the same text.
     pub(crate) fn are_alike(&self, one: Span, other: Span) -> bool {
-        self.text(one) == self.text(other)
+        one.length() == other.length() && self.bytes_of(one) == self.bytes_of(other)
     }
 }
 
