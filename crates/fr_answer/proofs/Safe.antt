@@ -25,8 +25,6 @@ use Rattle.fr_order.proofs.DeadlockLaw.{order-excludes}
 use Rattle.fr_refuter.specs.declared.answer.Finding.{Finding}
 use Rattle.fr_refuter.specs.declared.answer.Finding.TheVariants.{Breach as FoundBreach, Deadlock as FoundDeadlock, Safe, Free, Unknown}
 use Rattle.fr_refuter.specs.Refutes.{IsFound, Suits}
-use Rattle.fr_formats.specs.declared.answer.AnswerKind.{AnswerKind}
-use Rattle.fr_formats.specs.declared.answer.AnswerKind.TheVariants.{Yes, No, MayDeadlock, Breach, Deadlock, NoBreach, StatesLeft, Followed, FollowedApart, NotFollowed, NotListed, GaveUp, Refused as NoVerdict, Machine}
 use Rattle.fr_formats.specs.Answers.{status_of as kind_status}
 use Rattle.fr_request.specs.declared.request.Judged.{Judged as Named}
 use Rattle.fr_request.specs.declared.request.Judged.TheVariants.{One, Listed}

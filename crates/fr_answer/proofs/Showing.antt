@@ -5,7 +5,6 @@ use Rattle.std.proofs.lemmas.Option.{same_Some}
 use Rattle.std.specs.Prelude.{IsErr, option_map}
 use Rattle.fr_answer.proofs.Terms.{Global, TellsVerdict, Yes, Program, beside, Format, Reading, What, Judged, Searched, Refused, HasFound, IsProofOf, IsSettledIn, IsVerdictOn, IsYes, what_status}
 use Rattle.fr_answer.proofs.Terms.{IsAnswerBy, IsGiven, IsKept, IsLineAnswer, IsPaged, IsPrinted, IsProofAt, IsShown}
-use Rattle.fr_files.specs.declared.outputs.Output.{Output}
 use Rattle.fr_text.specs.Texts.{IsJudged}
 use Rattle.fr_outcome.specs.declared.answer.Answer.{Answer}
 use Rattle.fr_outcome.specs.declared.answer.Refusal.{Refusal}

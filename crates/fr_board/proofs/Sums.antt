@@ -63,9 +63,6 @@ every-push P vs w others mine j v e =
 pub once_below-more : (x n : ℕ) → once_below x (n + 1) ≡ once_below x n + cond (eqb n x) 1 0
 once_below-more x n = grind (arith, nat_tests)
 
-pub once_below-in : (x n : ℕ) → 0 < once_below x n → x < n
-once_below-in x n = grind (arith, nat_tests)
-
 -- where no number from n on was drawn, all are below n
 pub IsAbove-none : (n : ℕ) (ds : List Drawn) → ((x : ℕ) → n ≤ x → sum_of (draw_of x) ds ≡ 0) → IsAbove n ds
 IsAbove-none n [] h k d short = absurd (omega arith)

@@ -1,7 +1,7 @@
 -- What a value is, by what is found in it.
-use Rattle.std.proofs.Common.{◌≡◌, ◌<◌, ◌+◌, ℕ, ℤ, List, ◌∷◌, String, Global, string_bytes, Some, None, option_and_then, length, get_or, drop, sym, ap, ◌∙◌}
-use Rattle.fr_cert.proofs.Terms.{same_Some, none-some, Num, unsigned, negative, float, Data, null, boolean, number, string, array, object, Items, item, Members, member, as_number, as_str, as_array}
-use Rattle.fr_cert.proofs.Terms.{as_object, as_u64, as_i64, items_view, members_view, view, Value, Entry}
+use Rattle.std.proofs.Common.{◌≡◌, ◌<◌, ◌+◌, ℕ, ℤ, List, Some, None, option_and_then, length, get_or, drop, sym, ap, ◌∙◌}
+use Rattle.fr_cert.proofs.Terms.{same_Some, none-some, Num, unsigned, negative, float, Data, null, boolean, number, string, array, object, item, as_number, as_str}
+use Rattle.fr_cert.proofs.Terms.{as_u64, as_i64, items_view, view, Value}
 use Rattle.fr_cert.proofs.WrittenLemmas.{drop_here}
 
 pub num-unsigned : (n : Num) (k : ℕ) → as_u64 n ≡ Some k → n ≡ unsigned k
@@ -38,22 +38,6 @@ is-text (string t) s e = ap string (same_Some t s e)
 is-text (array ds) s e = absurd (none-some s e)
 is-text (object ms) s e = absurd (none-some s e)
 
-pub is-list : (d : Data) (ds : Items) → as_array d ≡ Some ds → d ≡ array ds
-is-list null ds e = absurd (none-some ds e)
-is-list (boolean b) ds e = absurd (none-some ds e)
-is-list (number n) ds e = absurd (none-some ds e)
-is-list (string s) ds e = absurd (none-some ds e)
-is-list (array es) ds e = ap array (same_Some es ds e)
-is-list (object ms) ds e = absurd (none-some ds e)
-
-pub is-object : (d : Data) (ms : Members) → as_object d ≡ Some ms → d ≡ object ms
-is-object null ms e = absurd (none-some ms e)
-is-object (boolean b) ms e = absurd (none-some ms e)
-is-object (number n) ms e = absurd (none-some ms e)
-is-object (string s) ms e = absurd (none-some ms e)
-is-object (array ds) ms e = absurd (none-some ms e)
-is-object (object ns) ms e = ap object (same_Some ns ms e)
-
 -- ---- the rest of two lists, of two objects
 
 pub items-more : (vs ws : List Value) (i : ℕ) (v w : Value) → i < length vs → i < length ws → v ≡ get_or vs i v → w ≡ get_or ws i w → view v ≡ view w
@@ -61,10 +45,3 @@ pub items-more : (vs ws : List Value) (i : ℕ) (v w : Value) → i < length vs 
 items-more vs ws i v w in_vs in_ws is_v is_w same rest =
     ap items_view (drop_here vs i v in_vs is_v)
     ∙ (ap (λ d. item d (items_view (drop (i + 1) vs))) same ∙ (ap (item (view w)) rest ∙ sym (ap items_view (drop_here ws i w in_ws is_w))))
-
-pub members-more : (es fs gs hs : List Entry) (k l : String Global) (v w : Value) → es ≡ (k, v) ∷ fs → gs ≡ (l, w) ∷ hs → string_bytes k ≡ string_bytes l → view v ≡ view w
-    → members_view fs ≡ members_view hs → members_view es ≡ members_view gs
-members-more es fs gs hs k l v w first second names same rest =
-    ap members_view first
-    ∙ (ap (λ n. member n (view v) (members_view fs)) names
-    ∙ (ap (λ d. member (string_bytes l) d (members_view fs)) same ∙ (ap (member (string_bytes l) (view w)) rest ∙ sym (ap members_view second))))

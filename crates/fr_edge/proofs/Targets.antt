@@ -2,7 +2,7 @@
 -- well.
 use Rattle.std.proofs.Common.{◌≡◌, ℕ, List, Some, None, Option, sym, ap, ◌∙◌, subst, arith, ⊎_elim, min}
 use Rattle.std.specs.Prelude.{ℤ, ◌↔◌, All, Contains}
-use Rattle.fr_edge.proofs.Terms.{cases_lt, Instr, Point, Program, instr_of, IsPoint, Way, Then, Else, State, At, Done, place_of, StepBy, landing, CanStep, AlwaysLeaves, AlternativeFits, alone, Keeps}
+use Rattle.fr_edge.proofs.Terms.{cases_lt, Instr, Point, Program, instr_of, IsPoint, Way, Then, Else, State, At, place_of, StepBy, landing, CanStep, AlwaysLeaves, AlternativeFits, alone, Keeps}
 use Rattle.fr_edge.proofs.Terms.{IsLeft, Alternative, Note, HoldsOne, note_at, IsAt, NotedBy, Goes, GoesBy, GoesWell, WayOutcome, GoesOutcome}
 use Rattle.fr_notes.specs.declared.change.Change.{Change}
 use Rattle.fr_edge.proofs.Landings.{lands}
@@ -12,9 +12,6 @@ module _ (P : Program) (notes : List Note) (p : Point) (i : Instr) (way : Way) (
   at-landing : (n : Alternative) (S : State) (c : ℤ) (T : State) (t : Point) → NotedBy P p n S → StepBy P way S p.actor.0 c T → IsAt T t → t.actor ≡ p.actor → landing p.pc p.side i way ≡ At t.pc t.side
   at-landing n S c T t noted step at same =
       sym (lands P p i way point is n S c T noted step) ∙ ap (λ a. place_of T a) (sym (ap (λ a. a.0) same)) ∙ at
-
-  pub no-landing : landing p.pc p.side i way ≡ Done → WayOutcome P notes p way None
-  no-landing e = λ t at_t same n k h. let f = sym e ∙ at-landing n h.0 h.1 h.2 t h.3 h.4 h.5 same in cc
 
   module _ (target : Point) (actor : target.actor ≡ p.actor) (to : landing p.pc p.side i way ≡ At target.pc target.side) where
     is-target : (n : Alternative) (S : State) (c : ℤ) (T : State) (t : Point) → NotedBy P p n S → StepBy P way S p.actor.0 c T → IsAt T t → t.actor ≡ p.actor → t ≡ target

@@ -131,10 +131,6 @@ guard_for-fits P (f ∷ ends) buffer end g fit e = go (nat_eq f.buffer buffer &&
     go true is rest = subst (λ k. GuardFits P k) (same_Some _ _ is) (All-head (λ x. EndFits P x) f ends fit).guard
     go false is rest = rest is
 
--- a point that isn't inside a call owes no end
-pub outside-guarded : (P : Program) (C : Certificate) (p : Point) → called_inside p.side (instr_of P p) ≡ None → (buffer : ℕ) (end : End) → Guarded P C p buffer end
-outside-guarded P C p none buffer end = λ call inside t. let e = sym none ∙ inside.1 in cc
-
 -- the instruction of a point that is inside a call
 called-instr : (side : Side) (i : Option Instr) (call : ObjectCall) → called_inside side i ≡ Some call → i ≡ Some (Calls (On call))
 called-instr Inside (Some (Calls (On other))) call found = ap (λ c. Some (Calls (On c))) (same_Some _ _ found)
@@ -165,9 +161,6 @@ module _ (P : Program) (free : IsFaultless P) (C : Certificate) (fit : Certifica
   -- what is so of the point that was found is so of each point with the number
   each : (Q : Point → Type 0) → Q point → (p : Point) → slice_get (points_of P) k ≡ Some p → Q p
   each Q q p e = subst Q (same_Some _ _ (sym listed ∙ e)) q
-
-  pub first-outside : called_inside point.side (instr_of P point) ≡ None → (p : Point) → slice_get (points_of P) k ≡ Some p → IsFirstEnd P C p None
-  first-outside none = each (λ p. IsFirstEnd P C p None) (λ buffer end. outside-guarded P C point none buffer end)
 
   module _ (inside : Certificate) (view : inside ≡ C) (note : Note) (noted : (p : Point) → slice_get (points_of P) k ≡ Some p → note ≡ note_at P inside.notes p) (fits : NoteFits P note) (call : ObjectCall) (found : called_inside point.side (instr_of P point) ≡ Some call) where
     pub called-object : call.object.0 < length P.objects

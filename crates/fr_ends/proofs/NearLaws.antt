@@ -59,9 +59,6 @@ module _ (P : Program) (p q : Point) where
   near-unused notes f = λ there ne o call inside deletes S h k.
       let t = clash-found (record { object = o; call = call; inside = inside; deletes = deletes }) in cc
 
-  pub near-own : (notes : List Note) → p.actor.0 ≡ q.actor.0 → Near P notes p q
-  near-own notes e = λ there ne. absurd (ne (let f : ℕ → ActorId = λ a. record { 0 = a } in ap f (sym e)))
-
   -- where the instruction of q deletes what p uses, the delete is no danger exactly where the notes aren't together
   pub near-both : IsFaultless P → IsPoint P p → IsPoint P q → (notes : List Note) (one other : Note) → one ≡ note_at P notes p → other ≡ note_at P notes q → NoteFits P one → NoteFits P other → deletes_used P p q ≡ true → (t : Bool) → (IsTrue t ↔ AreTogether P p.actor.0 one q.actor.0 other) → (IsTrue (not t) ↔ Near P notes p q)
   near-both free at there notes one other is_one is_other f g used t h = go t (subst (λ m. IsTrue t ↔ AreTogether P p.actor.0 (note_at P notes p) q.actor.0 m) is_other (subst (λ n. IsTrue t ↔ AreTogether P p.actor.0 n q.actor.0 other) is_one h))

@@ -12,8 +12,7 @@ use Rattle.fr_ends.specs.declared.guard.Guard.TheVariants as guard
 use Rattle.fr_ends.specs.declared.fault.EndsFault.{EndsFault}
 use Rattle.fr_ends.specs.declared.fault.EndsFault.TheVariants as fault
 use Rattle.fr_ends.specs.Guard as listed
-use Rattle.fr_ends.specs.Fits.{EndFits, AreOfOneEnd, EndsFit}
-use Rattle.fr_ends.specs.Refused.{IsPresent}
+use Rattle.fr_ends.specs.Fits.{EndFits, AreOfOneEnd}
 use Rattle.fr_ends.specs.View.{end_of}
 
 abbrev name_made : ℕ → End → EndName
@@ -90,9 +89,3 @@ apart_from es h i j d less within same =
     let other = get_or-map end_of es j d (end_of d) within in
     h i j (end_of d) less (omega (arith, within, length-map es end_of))
     (ap (λ g. g.buffer) one ∙ (ap (λ n. n.buffer.0) same ∙ sym (ap (λ g. g.buffer) other)), ap (λ g. g.end) one ∙ (ap (λ n. n.end) same ∙ sym (ap (λ g. g.end) other)))
-
--- guards in which a fault is present don't fit
-pub unfit : (P : Program) (es : List listed.EndGuard) (f : EndsFault) → IsPresent P es f → EndsFit P es → ⊥
-unfit P es fault.Memory h fit = h
-unfit P es fault.Guard h fit = h fit.0
-unfit P es fault.EndTwice h fit = h fit.1

@@ -1,5 +1,5 @@
 -- Items of notes and of lists of notes, one at a time.
-use Rattle.std.proofs.Common.{◌≡◌, ℕ, zero, suc, ◌+◌, ◌<◌, ◌-◌, List, [], ◌∷◌, ◌++◌, length, get_or, sym, ap, ◌∙◌, subst, arith}
+use Rattle.std.proofs.Common.{◌≡◌, ℕ, zero, suc, ◌+◌, ◌-◌, List, [], ◌∷◌, ◌++◌, length, sym, ap, ◌∙◌, subst, arith}
 use Rattle.std.specs.Prelude.{All, Result, Ok, Err, IfOk, MatchResult, map}
 use Rattle.std.specs.List.{AllZip, range_with_len}
 use Rattle.std.proofs.lemmas.List.FromFn.{length-range_with_len}
@@ -7,25 +7,13 @@ use Rattle.std.proofs.lemmas.List.{length-append, length-map}
 use Rattle.std.proofs.lemmas.Slice.Zip.{AllZip-long}
 use Rattle.std.proofs.lemmas.List.Elements.{All-append}
 use Rattle.fr_program.specs.Program.{Program}
-use Rattle.fr_notes.specs.Fits.{AlternativeFits, NoteFits}
-use Rattle.fr_notes.specs.Note.{Alternative, Note}
-
--- an alternative that the code meets in a note fits
-pub item-fits : (P : Program) (items note : Note) (k : ℕ) (x : Alternative) → items ≡ note → k < length items → x ≡ get_or items k x → NoteFits P note → AlternativeFits P x
-item-fits P items note k x same l is fits =
-    subst (λ n. AlternativeFits P n) (sym is) (subst (λ xs. AlternativeFits P (get_or xs k x)) (sym same) (fits.1 k x (omega (arith, ap length same))))
+use Rattle.fr_notes.specs.Fits.{NoteFits}
+use Rattle.fr_notes.specs.Note.{Note}
 
 -- what holds of one element holds of a list of it alone
 pub all-one : {A : Type 0} (Q : A → Type 0) (x : A) → Q x → All Q (x ∷ [])
 all-one Q x q zero d l = q
 all-one Q x q (suc k) d l = absurd (omega (arith, l))
-
--- one more that fits, where there is room
-pub note-push : (P : Program) (note : Note) (n : Alternative) → NoteFits P note → AlternativeFits P n → length note < 4 → NoteFits P (note ++ n ∷ [])
-note-push P note n fits one room = (
-  omega (arith, length-append note (n ∷ []), room),
-  All-append (λ m. AlternativeFits P m) note (n ∷ []) fits.1 (all-one (λ m. AlternativeFits P m) n one),
-)
 
 -- one more note in a list
 pub notes-push : (P : Program) (notes : List Note) (note : Note) → All (λ n. NoteFits P n) notes → NoteFits P note → All (λ n. NoteFits P n) (notes ++ note ∷ [])

@@ -1,5 +1,5 @@
 -- Calls that are read directly: the tokens that were found, one behind another, are those that the text spells.
-use Rattle.std.proofs.Common.{◌≡◌, ℕ, List, [], ◌∷◌, ◌++◌, Option, Some, None, codes, refl, sym, ap, ◌∙◌, subst, true, Bor}
+use Rattle.std.proofs.Common.{◌≡◌, ℕ, List, ◌∷◌, ◌++◌, Option, Some, None, codes, refl, sym, ap, ◌∙◌, subst, true, Bor}
 use Rattle.std.specs.Option.{IfSome}
 use Rattle.fr_program.specs.declared.instr.Call.{Call}
 use Rattle.fr_program.specs.declared.instr.Instr.TheVariants as line
@@ -7,7 +7,7 @@ use Rattle.fr_instr.specs.declared.call.Place.{Place}
 use Rattle.fr_instr.specs.declared.call.Tail.{Tail}
 use Rattle.fr_instr.specs.declared.given.Given.{Given}
 use Rattle.fr_instr.specs.declared.given.TheConstants.{NOTHING}
-use Rattle.fr_instr.specs.declared.token.Sign.TheVariants.{Open, Close, Comma}
+use Rattle.fr_instr.specs.declared.token.Sign.TheVariants.{Open, Comma}
 use Rattle.fr_instr.specs.Tokens.{Tok, word, number, sign, is_space, IsBlank, Begins, Spells}
 use Rattle.fr_instr.specs.Shapes.{Word, word_tok, args_toks, more_toks, else_toks, call as calls, shape_toks}
 use Rattle.fr_instr.specs.Reading.{front, after}
@@ -28,9 +28,6 @@ behind_at text all first byte rest skipped split same =
 pub opens : (text rest : List ℕ) → Behind text 40 rest → Begins text (sign Open) rest
 opens text rest (gap, blank, e) = (gap, blank, e, tt, refl)
 
-pub closes : (text rest : List ℕ) → Behind text 41 rest → Begins text (sign Close) rest
-closes text rest (gap, blank, e) = (gap, blank, e, tt, refl)
-
 pub commas : (text rest : List ℕ) → Behind text 44 rest → Begins text (sign Comma) rest
 commas text rest (gap, blank, e) = (gap, blank, e, tt, refl)
 
@@ -38,22 +35,13 @@ commas text rest (gap, blank, e) = (gap, blank, e, tt, refl)
 abbrev pub Fronts : List ℕ → List Tok → List ℕ → Type 0
 Fronts text ts rest = (us : List Tok) → Spells rest us → Spells text (ts ++ us)
 
-pub no_more : (text rest : List ℕ) → Behind text 41 rest → Fronts text (more_toks []) rest
-no_more text rest b us h = (rest, closes text rest b, h)
-
 pub one_more : (text rest more last : List ℕ) (w : Word) (ws : List Word) → Behind text 44 rest → Begins rest (word_tok w) more → Fronts more (more_toks ws) last → Fronts text (more_toks (w ∷ ws)) last
 one_more text rest more last w ws b c h us k = (rest, commas text rest b, (more, c, h us k))
-
-pub no_arg : (text rest : List ℕ) → Behind text 41 rest → Fronts text (args_toks []) rest
-no_arg text rest b us h = (rest, closes text rest b, h)
 
 pub first_arg : (text more last : List ℕ) (w : Word) (ws : List Word) → Begins text (word_tok w) more → Fronts more (more_toks ws) last → Fronts text (args_toks (w ∷ ws)) last
 first_arg text more last w ws c h us k = (more, c, h us k)
 
 -- what the arguments give, one place after another
-pub none_given : (N : NamesOf) (places : List Place) (g : Given) → places ≡ [] → AreGiven N places [] g g
-none_given N places g e = subst (λ ps. AreGiven N ps [] g g) (sym e) refl
-
 pub some_given : (N : NamesOf) (places : List Place) (p : Place) (ps : List Place) (w : Word) (ws : List Word) (g k h : Given) → places ≡ p ∷ ps → Gives N p w g k → AreGiven N ps ws k h → AreGiven N places (w ∷ ws) g h
 some_given N places p ps w ws g k h e gives more = subst (λ qs. AreGiven N qs (w ∷ ws) g h) (sym e) (k, gives, more)
 

@@ -13,5 +13,4 @@ pub mod TokenLaws
 pub mod WrittenLaws
 pub mod WrittenLineLaws
 pub mod RoundTrip
-pub mod TestedNames
 pub mod WordBytes

@@ -1,6 +1,6 @@
 -- Numbers and their one text.
 use Rattle.std.proofs.Common.{◌≡◌, ℕ, ℤ, ◌+◌, ◌*◌, ◌/◌, ◌%◌, ◌<◌, ◌≤◌, ◌^◌, pos, negsuc, List, [], ◌∷◌, ◌++◌, length, take, get_or, ap, sym, ◌∙◌, arith}
-use Rattle.std.proofs.lemmas.List.{take_all, take_more}
+use Rattle.std.proofs.lemmas.List.{take_more}
 use Rattle.std.proofs.lemmas.Nat.{div-mul-add, mod-mul-add}
 use Rattle.std.proofs.lemmas.Int.{ints}
 use Rattle.std.proofs.lemmas.Fmt.{decimal_digit, decimal_step, signed_decimal_injective}
@@ -55,6 +55,3 @@ counted_more text i n d within small digit is h =
       within = omega (arith, within);
       some = λ _. omega (arith, some);
     }
-
-pub counted_all : (text : List ℕ) (i n : ℕ) → i ≡ length text → Counted text i n → text ≡ decimal n
-counted_all text i n e h = sym (take_all i text (omega (arith, e))) ∙ h.front

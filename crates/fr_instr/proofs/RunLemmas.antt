@@ -1,6 +1,5 @@
 -- The longest front of bytes that pass a test.
-use Rattle.std.proofs.Common.{◌≡◌, ℕ, ◌+◌, ◌<◌, ◌≤◌, cond, List, [], ◌∷◌, ◌++◌, length, get_or, take, drop, Bool, true, false, refl, sym, ap, ◌∙◌, append_assoc, append-nil}
-use Rattle.std.proofs.lemmas.List.{take_more, drop_more, drop_all}
+use Rattle.std.proofs.Common.{◌≡◌, ℕ, ◌+◌, cond, List, [], ◌∷◌, ◌++◌, take, drop, Bool, true, false, refl, ap}
 use Rattle.std.proofs.lemmas.Bool.{and_parts}
 use Rattle.std.specs.List.{list_all}
 use Rattle.fr_instr.specs.Tokens.{first}
@@ -10,24 +9,6 @@ use Rattle.fr_instr.specs.Reading.{front, after}
 pub record Passed (p : ℕ → Bool) (s : List ℕ) (n : ℕ) : Type 0 where
   pub fronts : front p s ≡ take n s ++ front p (drop n s)
   pub afters : after p s ≡ after p (drop n s)
-
-pub passed_none : (p : ℕ → Bool) (s : List ℕ) → Passed p s 0
-passed_none p s = record { fronts = refl; afters = refl }
-
-pub passed_more : (p : ℕ → Bool) (s : List ℕ) (n : ℕ) → n < length s → p (get_or s n 0) ≡ true → Passed p s n → Passed p s (n + 1)
-passed_more p s n within passes h =
-    record {
-      fronts = h.fronts ∙ rw (drop_more s n 0 within, passes, take_more s n 0 within) (sym (append_assoc (take n s) (get_or s n 0 ∷ []) (front p (drop (n + 1) s))));
-      afters = h.afters ∙ rw (drop_more s n 0 within, passes) refl;
-    }
-
-pub passed_stop : (p : ℕ → Bool) (s : List ℕ) (n : ℕ) → n < length s → p (get_or s n 0) ≡ false → Passed p s n → (take n s ≡ front p s) × (drop n s ≡ after p s)
-passed_stop p s n within no_more h =
-    (sym (h.fronts ∙ rw (drop_more s n 0 within, no_more) (append-nil (take n s))), sym (h.afters ∙ rw (drop_more s n 0 within, no_more) refl))
-
-pub passed_end : (p : ℕ → Bool) (s : List ℕ) (n : ℕ) → length s ≤ n → Passed p s n → (take n s ≡ front p s) × (drop n s ≡ after p s)
-passed_end p s n past h =
-    (sym (h.fronts ∙ rw (drop_all n s past) (append-nil (take n s))), sym (h.afters ∙ rw (drop_all n s past) refl))
 
 -- what the two are, told apart from how they are found
 pub front_after : (p : ℕ → Bool) (s : List ℕ) → front p s ++ after p s ≡ s

@@ -360,9 +360,6 @@ pub record SoFar (text : List ℕ) (found : List Tok) (rest : List ℕ) : Type 0
   pub whole : (ts : List Tok) → Spells rest ts → Spells text (found ++ ts)
   pub only : (us : List Tok) → Spells text us → (ts : List Tok) × (us ≡ found ++ ts) × Spells rest ts
 
-pub so_far_none : (text : List ℕ) → SoFar text [] text
-so_far_none text = record { whole = λ ts h. h; only = λ us h. (us, refl, h) }
-
 after_token : (rest : List ℕ) (t : Tok) (more : List ℕ) (ts : List Tok) → Begins rest t more → Spells rest ts → (us : List Tok) × (ts ≡ t ∷ us) × Spells more us
 after_token rest t more [] b h = absurd (blank_begins rest t more h b)
 after_token rest t more (u ∷ us) b h =

@@ -1,7 +1,6 @@
 -- The one text in which a list of tokens is written.
 use Rattle.std.specs.Prelude.{ℕ, List, [], ◌∷◌, ◌++◌, Bool, true, false, if◌then◌else◌, ◌||◌}
-use Rattle.std.specs.List.{AllByRecursion}
-use Rattle.fr_instr.specs.Tokens.{Tok, sign, tok_bytes, IsTok, Spells}
+use Rattle.fr_instr.specs.Tokens.{Tok, sign, tok_bytes}
 use Rattle.fr_instr.specs.declared.token.Sign.TheVariants.{Open, Close, Comma}
 
 -- an opening bracket: no space is behind it
@@ -25,7 +24,3 @@ abbrev pub written : List Tok → List ℕ
 written [] = []
 written (t ∷ []) = tok_bytes t
 written (t ∷ u ∷ ts) = tok_bytes t ++ (gap t u ++ written (u ∷ ts))
-
--- tokens are read again from the text that is written for them
-abbrev pub ReadAgain : Type 0
-ReadAgain = (ts : List Tok) → AllByRecursion IsTok ts → Spells (written ts) ts

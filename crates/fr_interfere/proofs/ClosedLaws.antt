@@ -1,7 +1,7 @@
 -- Actors of which no writing point disturbs a note, as the hulls of all that they write show.
 use Rattle.std.proofs.Common.{◌≡◌, ℕ, List, Some, None, Bool, true, false, length, get_or, refl, sym, ap, ◌∙◌, subst, arith, ⊎_elim, inl, inr}
 use Rattle.std.specs.Prelude.{Option, IfSome, All, replicate, set, is_some}
-use Rattle.fr_interfere.proofs.Terms.{cases_lt, cases_eq, false≢true, length-replicate, get_or-replicate, get_or_past, get_or-set_same, get_or-set_other, set_past, ActorId, Point, Program, IsPoint}
+use Rattle.fr_interfere.proofs.Terms.{cases_lt, false≢true, length-replicate, get_or-replicate, get_or_past, get_or-set_same, set_past, ActorId, Point, Program, IsPoint}
 use Rattle.fr_interfere.proofs.Terms.{Note, Block, effect_at, target_of, IsClosedBy, IsBlock, HaveWriters, AreClosed, IsTold, IsListed, Undisturbed}
 
 pub some-there : (o : Option ℕ) → is_some o ≡ true → (x : ℕ) × (o ≡ Some x)
@@ -21,12 +21,6 @@ unset-here flags a = ⊎_elim
     (λ there. get_or-set_same flags a false false there)
     (λ past. ap (λ fs. get_or fs a false) (set_past flags a false past) ∙ get_or_past flags a false past)
     (cases_lt a (length flags))
-
-pub unset-stays : (flags : List Bool) (a k : ℕ) → get_or flags k false ≡ false → get_or (set flags a false) k false ≡ false
-unset-stays flags a k is = ⊎_elim
-    (λ same. subst (λ j. get_or (set flags a false) j false ≡ false) (sym same) (unset-here flags a))
-    (λ other. get_or-set_other flags a k false false other ∙ is)
-    (cases_eq k a)
 
 -- ---- closed actors
 

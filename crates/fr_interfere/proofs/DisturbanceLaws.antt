@@ -57,10 +57,6 @@ pub by-row : (P : Program) (p q : Point) (n m : Alternative) (note : Note) (way 
 by-row P p q n m note way k e result both at ne =
     subst (λ x. (p : Point) → IsOther P x q p → (IsTrue result ↔ LeavesSome P x q p way p.actor.0 note)) e both p (at, ne)
 
--- points of one actor don't disturb each other
-pub undisturbed-own : (P : Program) (notes : List Note) (p q : Point) → p.actor.0 ≡ q.actor.0 → Undisturbed P notes p q
-undisturbed-own P notes p q e = λ there ne. absurd (ne (same-actor q.actor p.actor (sym e)))
-
 -- a point by its number
 pub numbered-point : (P : Program) → PointsAreNumbered P → (k : ℕ) (p : Point) → slice_get (points_of P) k ≡ Some p → IsPoint P p
 numbered-point P numbered k p e = (numbered.listed k p e).0

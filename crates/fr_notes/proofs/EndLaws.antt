@@ -1,11 +1,11 @@
 -- The ends of calls as the code has them: which change, and where there is none.
-use Rattle.std.proofs.Common.{◌≡◌, ℕ, ◌-◌, ◌<◌, ◌≤◌, [], length, Option, Some, None, Bool, true, false, refl, sym, ap, ◌∙◌, subst, arith}
+use Rattle.std.proofs.Common.{◌≡◌, ℕ, ◌-◌, ◌<◌, [], length, Option, Some, None, Bool, true, false, refl, sym, ap, ◌∙◌, subst, arith}
 use Rattle.std.specs.Prelude.{ℤ, pos, ◌<ℤ◌, IsTrue, IfSome, All, nat_le, if◌then◌else◌}
 use Rattle.fr_notes.proofs.Terms.{ints, same_Some, All-head, ObjId, VarId, Point, ObjectCall, Act, Try, Move, Attempt, QueueSend, QueueReceive, Take, Give, Reset, OfStream, OfMessage, Timing, Kind}
 use Rattle.fr_notes.proofs.Terms.{Queue, Binary, Counting, Mutex, Recursive, Stream, Message, Range, Program, KindInLimits, ActInLimits, suits_timing, acts_on, act_variables, written_by, option_list}
-use Rattle.fr_notes.proofs.Terms.{Then, Else, State, kind_of, content_of, is_unsuited, Completes, transition, Change, Claim, NotHeld, Alive, Gone, HeldTimes, claim_of, ends_of, CanClaim, Known}
-use Rattle.fr_notes.proofs.Terms.{KnownFits, IsLeft, Holding, Living, Own, holding, holding_of, others_claim, living, mover_claim, taken_by, given_by, worked_by, can_fail_on, is_mutex}
-use Rattle.fr_notes.proofs.Terms.{is_given_unheld, results_of, failed_into, IsSmall, IsEnd, EndLeaves, resulting}
+use Rattle.fr_notes.proofs.Terms.{Then, Else, State, kind_of, content_of, is_unsuited, Completes, transition, Change, ends_of, Known}
+use Rattle.fr_notes.proofs.Terms.{IsLeft, Holding, Living, Own, holding, living, mover_claim, taken_by, given_by, worked_by, can_fail_on, is_mutex}
+use Rattle.fr_notes.proofs.Terms.{is_given_unheld, results_of, failed_into, IsEnd, EndLeaves, resulting}
 use Rattle.fr_notes.proofs.Holdings.{IsIn}
 use Rattle.fr_notes.proofs.Seen.{Site, mover, other}
 use Rattle.fr_notes.proofs.EndRows.{IsEndRow, Follows, IsAlive, living-alive, at, end-names, end-left, end-never}
@@ -139,27 +139,3 @@ module _ (k : Known) (kind : Kind) (known : Holding) (call : ObjectCall) where
   never-fails f = λ P p e at_end.
       end-never P k p known call at_end Else (λ q there S c mid is inside ends.
       fail-never (at P k p known call at_end q there) call.object known (target P k p known call at_end q there) call.timing act (ap (λ x. can_fail_on x call.timing act) e ∙ f) S c mid ends)
-
--- how often the mover holds it is what its claim says
-pub living-small : (P : Program) (k : Known) (o : ObjId) (known : Holding) → KnownFits P k → living (holding k o.0) ≡ Some known → IsSmall known
-living-small P k o known fits live = go (claim_of k.mover o.0) (others_claim k o.0) known (fits.mover.claims.1 o.0) live
-  where
-    small : (kind : Kind) (n : ℕ) → CanClaim kind (HeldTimes n) → n ≤ 255
-    small Mutex n c = omega (arith, c)
-    small Recursive n c = c.1
-    small (Queue size lo hi) n c = absurd c
-    small Binary n c = absurd c
-    small (Counting size first) n c = absurd c
-    small (Stream size) n c = absurd c
-    small (Message size) n c = absurd c
-
-    go : (c d : Claim) (h : Holding) → CanClaim (kind_of P o.0) c → living (holding_of c d) ≡ Some h → IsSmall h
-    go (HeldTimes n) d h can e = subst IsSmall (same_Some _ _ e) (small (kind_of P o.0) n can)
-    go NotHeld (HeldTimes n) h can e = subst IsSmall (same_Some _ _ e) tt
-    go Alive (HeldTimes n) h can e = subst IsSmall (same_Some _ _ e) tt
-    go Gone (HeldTimes n) h can e = subst IsSmall (same_Some _ _ e) tt
-    go NotHeld NotHeld h can e = subst IsSmall (same_Some _ _ e) tt
-    go NotHeld Alive h can e = subst IsSmall (same_Some _ _ e) tt
-    go Alive NotHeld h can e = subst IsSmall (same_Some _ _ e) tt
-    go Alive Alive h can e = subst IsSmall (same_Some _ _ e) tt
-    go c d h can e = cc

@@ -1,9 +1,9 @@
 -- Where there is no step at all, whatever the row: a rule stops the mover.
 use Rattle.std.proofs.Common.{◌≡◌, ℕ, List, [], ◌∷◌, Some, None, Bool, true, false, refl, sym, ap, ◌∙◌, subst}
-use Rattle.std.specs.Prelude.{ℤ, IsTrue, All, find, nat_eq, if◌then◌else◌}
-use Rattle.fr_notes.proofs.Terms.{same_Some, false≢true, All-nil, All-cons, All-head, All-tail, ObjId, Point, Side, Before, Inside, Instr, Calls, Form, ExitCritical, ResumeAll, On, ObjectCall}
+use Rattle.std.specs.Prelude.{IsTrue, All, find, if◌then◌else◌}
+use Rattle.fr_notes.proofs.Terms.{same_Some, false≢true, All-nil, All-cons, All-head, All-tail, ObjId, Point, Side, Before, Inside, Instr, Calls, On, ObjectCall}
 use Rattle.fr_notes.proofs.Terms.{Program, Way, GivenByHolder, AllowedInCritical, AllowedSuspended, AllowedInInterrupt, SuitsSemaphore, DepthAboveZero, EndsInOrder, State, content_of, kind_of}
-use Rattle.fr_notes.proofs.Terms.{Breaches, IsForbidden, condition_of, forbids, first_forbidden, decided_rules, used_object, is_unsuited, Row, IsFree, stops, transition, Known, NeverSteps, Holding}
+use Rattle.fr_notes.proofs.Terms.{Breaches, IsForbidden, condition_of, forbids, first_forbidden, decided_rules, used_object, is_unsuited, IsFree, stops, Known, NeverSteps, Holding}
 use Rattle.fr_notes.proofs.Terms.{Unheld, Living, Lifeless, Own, Others, holding, living, is_given_unheld, IsSpot, condition_known}
 use Rattle.fr_calls.specs.declared.rules.Rule.{Rule}
 use Rattle.fr_notes.proofs.Holdings.{IsIn}
@@ -76,16 +76,3 @@ module _ (P : Program) (k : Known) (p : Point) (way : Way) where
   pub unsuited-never : (call : ObjectCall) → IsSpot P k p Inside (Calls (On call)) → is_unsuited (kind_of P call.object.0) call.timing call.act ≡ true → NeverSteps P k p way
   unsuited-never call spot t = row-never P k p Inside (Calls (On call)) way spot (λ q there S c mid is free row.
       false≢true (sym free.1 ∙ t))
-
-  -- the table has no such row
-  pub rowless-never : (side : Side) (i : Instr) → IsSpot P k p side i → ((S : State) (c : ℤ) (mid : State) → Row P (transition S p.actor.0 c mid) side i way → ⊥) → NeverSteps P k p way
-  rowless-never side i spot none = row-never P k p side i way spot (λ q there S c mid is free row. none S c mid row)
-
-  -- no critical section is left, and no suspension ends, at depth 0
-  pub exit-never : (form : Form) → IsSpot P k p Before (Calls (ExitCritical form)) → k.mover.critical ≡ 0 → NeverSteps P k p way
-  exit-never form spot none = row-never P k p Before (Calls (ExitCritical form)) way spot (λ q there S c mid is free row.
-      free.0 DepthAboveZero refl (ap (λ d. nat_eq d 0) (is.mover.holds.critical ∙ none)))
-
-  pub resume-never : IsSpot P k p Before (Calls ResumeAll) → k.mover.suspended ≡ 0 → NeverSteps P k p way
-  resume-never spot none = row-never P k p Before (Calls ResumeAll) way spot (λ q there S c mid is free row.
-      free.0 DepthAboveZero refl (ap (λ d. nat_eq d 0) (is.mover.holds.suspended ∙ none)))

@@ -1,9 +1,9 @@
 -- The rows that touch no variable and no object.
-use Rattle.std.proofs.Common.{◌≡◌, ◌≢◌, ℕ, zero, suc, ◌+◌, ◌-◌, ◌≤◌, length, get_or, Option, Some, None, true, false, refl, sym, ap, ◌∙◌, subst, arith, ⊎_elim, get_or-set_other}
+use Rattle.std.proofs.Common.{◌≡◌, ◌≢◌, ℕ, zero, suc, ◌+◌, ◌-◌, ◌≤◌, length, get_or, Option, Some, None, false, refl, sym, ap, ◌∙◌, subst, arith, ⊎_elim, get_or-set_other}
 use Rattle.std.specs.Prelude.{ℤ, pos, IfSome}
 use Rattle.fr_notes.proofs.Terms.{get_or-set_same, common_steps, Point, Side, Before, Form, Instr, Goto, Calls, Return, EnterCritical, ExitCritical, SuspendAll, ResumeAll, Yield, Delay, DeleteSelf}
 use Rattle.fr_notes.proofs.Terms.{Program, actor_at, is_interrupt, Way, Then, State, Dead, depth_of, depth_in, suspension_of, in_critical, critical_at, suspend_at, condition_of, first_forbidden}
-use Rattle.fr_notes.proofs.Terms.{holds_some, GivesUnheld, UsesDead, used_object, Row, IsFree, Transition, transition, before-free, no-use, Change, Alternative, Known, IsLeft, NeverSteps}
+use Rattle.fr_notes.proofs.Terms.{holds_some, GivesUnheld, UsesDead, used_object, Row, IsFree, Transition, transition, before-free, no-use, Change, Alternative, Known, IsLeft}
 use Rattle.fr_notes.proofs.Terms.{is_other_critical, Unheld, IsSpot, IsUnforbidden, LeavesBefore, condition_known, unchanged}
 use Rattle.fr_notes.proofs.Shown.{depth_for-same, depth_for-other, held_at-same, held_at-other}
 use Rattle.fr_notes.proofs.Seen.{Site, mover, other, second, second_in, IsKnown, Choice, drawn, IsChosen, drawn-known, usual, usual-chosen, apart, mover-there, holds-known, other-depth, critical_for, second-critical}
@@ -113,10 +113,6 @@ not-critical : (n : Alternative) (o : Option Alternative) → is_other_critical 
 not-critical n None e = refl
 not-critical n (Some m) e = grind (arith, common_steps)
 
-is-critical : (n : Alternative) (o : Option Alternative) → is_other_critical (record { mover = n; other = o }) ≡ true → 1 ≤ (second_in n o).critical
-is-critical n None e = cc
-is-critical n (Some m) e = grind (arith, common_steps)
-
 depths-row : (s : Site) (i : Instr) (crit susp : ℕ) (made : State → State) → IsUnforbidden s.app s.known s.p i → used_object i Before ≡ None → ((S : State) → GivesUnheld s.app S (mover s) i → ⊥) → ((S : State) (c : ℤ) (mid : State) → IsKnown s S → Row s.app (transition S (mover s) c mid) Before i Then → (mid ≡ made S) × IsPlainAfter s crit susp S (made S)) → ((f : Choice) → IsChosen s f → Row s.app (transition (drawn s f) (mover s) (pos 0) (made (drawn s f))) Before i Then) → IsRow s Before i Then (to_depths crit susp) Unheld (λ f. Unit {0})
 depths-row s i crit susp made none uses gives after row = plain-row s Before i Then crit susp
     (λ S c mid known r. let k = after S c mid known r in subst (λ U. IsPlainAfter s crit susp S U) (sym k.0) k.1)
@@ -140,14 +136,6 @@ module _ (P : Program) (k : Known) (p : Point) where
         },
       ))
       (λ f chosen. (refl, own-critical k.mover.critical (second s).critical p.actor.0 (other s) out, refl)))
-
-  pub enter-never : (form : Form) → IsSpot P k p Before (Calls (EnterCritical form)) → is_other_critical k ≡ true → NeverSteps P k p Then
-  enter-never form spot inside = row-never P k p Before (Calls (EnterCritical form)) Then spot (λ q there S c mid known free r.
-      let s = site P k p q Before (Calls (EnterCritical form)) spot there in
-      let none = others-depth S.critical p.actor.0 (other s) (apart s) r.1 in
-      let deep = other-depth s S known in
-      let in_it = is-critical k.mover k.other inside in
-      absurd (omega (arith, none, deep, in_it)))
 
   pub exit-left : (form : Form) → IsSpot P k p Before (Calls (ExitCritical form)) → IsUnforbidden P k p (Calls (ExitCritical form)) → 1 ≤ k.mover.critical → IsLeft P k p Then (to_depths (k.mover.critical - 1) k.mover.suspended)
   exit-left form spot none deep = row-left P k p Before (Calls (ExitCritical form)) Then spot (to_depths (k.mover.critical - 1) k.mover.suspended) Unheld (λ s f. Unit {0}) (λ q there.

@@ -1,8 +1,8 @@
 -- From ranges in code to what is known of each variable: the spans of results, and the least ranges of an `if`'s operands.
-use Rattle.std.proofs.Common.{◌≡◌, ℕ, refl, sym, ◌∙◌, ap, subst, arith}
+use Rattle.std.proofs.Common.{◌≡◌, ℕ, sym, ◌∙◌, ap, subst, arith}
 use Rattle.std.specs.Prelude.{ℤ, ◌*ℤ◌}
-use Rattle.fr_notes.proofs.Terms.{ints, Operand, Number, Variable, Operator, Times, Range, IsNumber, IsIn, IsNarrow, IsSpan, IsScaled, result_of, Within, ends_of, AreLeast, NoPair, operand_in}
-use Rattle.fr_notes.proofs.Terms.{CanBeIn, HasNumbersIn, IsSpanIn, IsBranchIn, NoBranchIn}
+use Rattle.fr_notes.proofs.Terms.{ints, Operand, Number, Operator, Times, Range, IsIn, IsSpan, IsScaled, result_of, Within, ends_of, AreLeast, NoPair, operand_in}
+use Rattle.fr_notes.proofs.Terms.{CanBeIn, IsSpanIn, IsBranchIn, NoBranchIn}
 use Rattle.std.proofs.Math.IntN.{*ℤ_comm}
 
 module _ (range : ℕ → ℤ × ℤ) (o : Operand) (a : Range) (is : ends_of a ≡ operand_in range o) where
@@ -11,14 +11,6 @@ module _ (range : ℕ → ℤ × ℤ) (o : Operand) (a : Range) (is : ends_of a 
 
   can-be : (v : ℤ) → IsIn a v → CanBeIn range o v
   can-be v h = subst (λ r. Within r v) is h
-
-  pub is-narrow : IsNumber (operand_in range o).0 × IsNumber (operand_in range o).1 → IsNarrow a
-  is-narrow h = subst (λ r. IsNumber r.0 × IsNumber r.1) (sym is) h
-
--- the numbers of an operand have 64 bits where a number does
-pub operand-numbers : (range : ℕ → ℤ × ℤ) (o : Operand) → HasNumbersIn range → ((z : ℤ) → o ≡ Number z → IsNumber z) → IsNumber (operand_in range o).0 × IsNumber (operand_in range o).1
-operand-numbers range (Number z) has number = (number z refl, number z refl)
-operand-numbers range (Variable x) has number = has x.0
 
 module _ (range : ℕ → ℤ × ℤ) where
   pub span-made : (op : Operator) (l r : Operand) (a b span : Range) → ends_of a ≡ operand_in range l → ends_of b ≡ operand_in range r → IsSpan (result_of op) a b span → IsSpanIn range op l r span

@@ -139,12 +139,6 @@ module _ (P : Program) (n : Alternative) where
   past-range : (m : Alternative) (x : ℕ) → AlternativeFits P m → length P.variables ≤ x → range_of m x ≡ (pos 0, pos 0)
   past-range m x fits l = get_or_past m.ranges x (pos 0, pos 0) (omega (arith, fits.ranges.0))
 
-  range-past : (o : Option Alternative) (x : ℕ) → KnownFits P (known_in o) → length P.variables ≤ x → Within (joint_range (known_in o) x) (pos 0)
-  range-past None x fits l =
-      subst (λ r. Within r (pos 0)) (sym (past-range n x fits.mover l)) (omega (arith, ints), omega (arith, ints))
-  range-past (Some m) x fits l =
-      meet-within (range_of n x) (range_of m x) (pos 0) (subst (λ r. Within r (pos 0)) (sym (past-range n x fits.mover l)) (omega (arith, ints), omega (arith, ints))) (subst (λ r. Within r (pos 0)) (sym (past-range m x fits.other.0 l)) (omega (arith, ints), omega (arith, ints)))
-
   range-within : (o : Option Alternative) (p q : Point) (S : State) (x : ℕ) → HasKnown P (known_in o) p q S → Within (joint_range (known_in o) x) (value_of S x)
   range-within None p q S x known = known.mover.holds.variables x
   range-within (Some m) p q S x known =

@@ -13,8 +13,8 @@
 use Rattle.std.proofs.Common.{◌≡◌, ◌≢◌, ℕ, zero, suc, ◌<◌, ◌≤◌, List, length, get_or, Bool, true, false, refl, sym, subst, arith, ⊎_elim, map, eq-eqb}
 use Rattle.std.specs.Prelude.{ℤ, pos, IfSome, nat_eq, if◌then◌else◌}
 use Rattle.fr_notes.proofs.Terms.{range_with_len, ints, get_or_past, length-map-range_with_len, get_or-map-range_with_len, cases_lt, eqb-true, Kind, Queue, Binary, Counting, Mutex, Recursive, Stream}
-use Rattle.fr_notes.proofs.Terms.{Message, Program, IsFaultless, State, Place, Done, Content, Dead, Held, CanHave, Exists, IsWellFormed, kind_of, place_of, content_of, value_of, depth_in, depth_of}
-use Rattle.fr_notes.proofs.Terms.{suspension_of, count_held, held_at, new_content, HasSizes, is-built, new-fits, Alternative, Claim, NotHeld, Alive, Gone, HeldTimes, Meets, Within, HoldsOne, claim_of}
+use Rattle.fr_notes.proofs.Terms.{Message, Program, IsFaultless, State, Place, Done, Content, Dead, Held, CanHave, Exists, IsWellFormed, kind_of, content_of, value_of, depth_in}
+use Rattle.fr_notes.proofs.Terms.{count_held, held_at, new_content, HasSizes, is-built, new-fits, Alternative, Claim, NotHeld, Alive, Gone, HeldTimes, Meets, Within, HoldsOne, claim_of}
 use Rattle.fr_notes.proofs.Terms.{range_of, CanClaim, AlternativeFits}
 
 -- the first parts of a choice, as a list
@@ -77,22 +77,11 @@ held_at-formed actors a (suc depth) l = (l, omega arith)
 
 -- what the shown state has at each number
 module _ (P : Program) (n : Alternative) (a : ℕ) (place : ℕ → Place) (value : ℕ → ℤ) (content : ℕ → Content) where
-  pub shown-place : (b : ℕ) → b < length P.actors → place_of (shown P n a place value content) b ≡ place b
-  shown-place b l = get_or-map-range_with_len place 0 (length P.actors) b b Done l (omega arith)
-
   pub shown-value : (x : ℕ) → x < length P.variables → value_of (shown P n a place value content) x ≡ value x
   shown-value x l = get_or-map-range_with_len value 0 (length P.variables) x x (pos 0) l (omega arith)
 
   pub shown-content : (o : ℕ) → o < length P.objects → content_of (shown P n a place value content) o ≡ content o
   shown-content o l = get_or-map-range_with_len content 0 (length P.objects) o o Dead l (omega arith)
-
-  -- every other actor is out of the critical section and suspends nothing
-  pub shown-depth : (b : ℕ) → b ≢ a → depth_of (shown P n a place value content) b ≡ 0
-  shown-depth b ne = held_at-other a n.critical b ne
-
-  pub shown-suspension : (b : ℕ) → b ≢ a → suspension_of (shown P n a place value content) b ≡ 0
-  shown-suspension b ne =
-      listed-case (length P.actors) (depth_for a n.suspended) b 0 (λ k. k ≡ 0) (λ l. depth_for-other a n.suspended b ne) (λ l. refl)
 
   pub shown-formed : Shows P n a place value content → IsWellFormed P (shown P n a place value content)
   shown-formed s = record {

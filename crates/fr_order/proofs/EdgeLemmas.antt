@@ -3,7 +3,7 @@ use Rattle.std.proofs.Common.{◌≡◌, ◌<◌, ◌≤◌, ◌+◌, ℕ, zero,
 use Rattle.std.specs.Prelude.{Contains, slice_get, nat_eq, not, ◌&&◌}
 use Rattle.std.proofs.lemmas.Option.{same_Some, slice_get_within}
 use Rattle.fr_order.proofs.Terms.{cases_lt, eqb_tells, All-contains, All-push, All-weaker, Contains-append_left, Contains-push, Point, Inside, Kind, Mutex, Recursive, Program, IsPoint, HasSide}
-use Rattle.fr_order.proofs.Terms.{instr_of, kind_of, Claim, NotHeld, HeldTimes, Note, note_at, is_any_mutex, Edge, ComesBefore, IsEnd, IsWithin, IsInsideTake, IsEdge, IsOrderOf, NamesThings}
+use Rattle.fr_order.proofs.Terms.{instr_of, kind_of, Claim, NotHeld, HeldTimes, Note, note_at, is_any_mutex, Edge, ComesBefore, IsEnd, IsInsideTake, IsEdge, IsOrderOf, NamesThings}
 use Rattle.fr_order.proofs.Terms.{waits_to_take, inside_take, inside_any_take, can_be_edge, AreInside, HasTakesBelow, AreTakes, ArePoints, AreAllTakes, CanBeEdge, IsEdgeOf, AreEdges, HasEdge}
 use Rattle.fr_order.proofs.Terms.{HasEdgesBelow, HasEdgesFrom}
 use Rattle.fr_program.specs.declared.instr.Instr.{Instr}
@@ -137,14 +137,6 @@ among-all P m all takes a among = λ k l p at t.
 
 -- ---- kinds
 
-pub can-yes : (P : Program) (h m : ℕ) → can_be_edge (kind_of P m) h m ≡ true → CanBeEdge P h m
-can-yes P h m = go (kind_of P m) refl
-  where
-    go : (kind : Kind) → kind_of P m ≡ kind → can_be_edge kind h m ≡ true → CanBeEdge P h m
-    go Mutex is e = record { mutex = ap is_any_mutex is; again = λ same r. let both = sym is ∙ r in absurd (cc) }
-    go Recursive is e = record { mutex = ap is_any_mutex is; again = λ same r. let yes = nat_eq-says h m same in let no : not (nat_eq h m) ≡ true = e in absurd (let f = sym no ∙ ap not yes in cc) }
-    go kind is e = absurd (cc)
-
 pub can-no : (P : Program) (h m : ℕ) → can_be_edge (kind_of P m) h m ≡ false → CanBeEdge P h m → ⊥
 can-no P h m = go (kind_of P m) refl
   where
@@ -237,9 +229,6 @@ below-next P notes edges m n fit le below from = λ p h k l edge.
     (cases_lt k m)
 
 -- ---- what comes of the edges
-
-pub within : (P : Program) (notes : List Note) (edges : List Edge) → AreEdges P notes edges → IsWithin edges (length P.objects)
-within P notes edges all = All-weaker (λ e. IsEdgeOf P notes e) (λ e. (e.held.0 < length P.objects) × (e.taken.0 < length P.objects)) (λ e h. (h.held, h.taken)) edges all
 
 -- an order of all edges, or a cycle of some of them, is one of the application
 pub order-of-edges : (P : Program) (C : Certificate) (edges : List Edge) (order : Order) → IsFaultless P → AreEdges P C.notes edges → HasEdgesBelow P C.notes edges (length P.objects) → IsSettled edges order → IsOrderOf P C order

@@ -1,7 +1,7 @@
 -- The ends of edges, as they are listed by their numbers.
-use Rattle.std.proofs.Common.{◌≡◌, ◌≢◌, ◌<◌, ◌≤◌, ◌+◌, ℕ, List, [], ◌∷◌, ◌++◌, length, get_or, sym, ap, ◌∙◌, subst, ⊎_elim, arith}
+use Rattle.std.proofs.Common.{◌≡◌, ◌≢◌, ◌<◌, ◌≤◌, ◌+◌, ℕ, List, [], ◌∷◌, ◌++◌, get_or, sym, ap, ◌∙◌, subst, ⊎_elim, arith}
 use Rattle.std.specs.Prelude.{All, Contains}
-use Rattle.fr_order.proofs.Terms.{cases_lt, Contains-append_left, Contains-push, All-push, ObjId, Edge, IsListed, ComesBefore, IsEnd, IsWithin, AreEnds, HasEnds, IsPeeled}
+use Rattle.fr_order.proofs.Terms.{cases_lt, Contains-append_left, Contains-push, All-push, ObjId, Edge, IsEnd, IsWithin, AreEnds, HasEnds}
 
 -- both ends of each edge are in the list, as far as their numbers are below this one
 abbrev pub HasEndsBelow : List Edge → List ObjId → ℕ → Type 0
@@ -44,12 +44,3 @@ ends-all edges ends n m le within below only = record {
 
 pub only-more : (edges : List Edge) (ends : List ObjId) (x : ObjId) → AreEnds edges ends → IsEnd edges x.0 → AreEnds edges (ends ++ x ∷ [])
 only-more edges ends x only end = All-push (λ m. IsEnd edges m.0) ends x only end
-
--- where nothing is left, each edge goes upwards
-pub upwards-all : (edges : List Edge) (order rest : List ObjId) → length rest ≡ 0 → IsPeeled edges order rest → All (λ e. ComesBefore order e.held.0 e.taken.0) edges × AreEnds edges order
-upwards-all edges order rest none p = (
-  λ k d l.
-      let listed : IsListed order (get_or edges k d).taken.0 = ⊎_elim (λ h. h) (λ h. absurd (omega (arith, h.1, none))) (p.sorted k d l).1 in
-      record { earlier = p.upward k d l listed; listed = listed },
-  p.ends,
-)

@@ -4,7 +4,7 @@
 -- |-----------------------|-------------------------------------------------------------------------------|
 -- | status_of             | the exit status of a verdict                                                  |
 -- | fault_status          | the exit status of a fault                                                    |
--- | line_of, whole_line   | the line of a fault, and the line with its newline                            |
+-- | line_of                | the line of a fault, without its newline                                      |
 -- | list_line             | the line of a list that is refused                                            |
 -- | IsAnswer              | the status and what was written are those of the verdict on the bytes         |
 -- | IsSafeText            | the bytes mean an application that is safe                                    |
@@ -87,10 +87,6 @@ line_of Memory = codes "machine: memory"
 line_of Thread = codes "machine: thread"
 line_of File = codes "machine: file"
 line_of Write = codes "machine: file"
-
--- the line with its newline
-abbrev pub whole_line : CheckFault → List ℕ
-whole_line fault = line_of fault ++ codes "\n"
 
 -- the bytes mean an application and a certificate; the status is that of the verdict on them, and its report was
 -- written after what the writer had, and nothing else

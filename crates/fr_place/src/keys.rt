@@ -14,34 +14,42 @@ pub(crate) struct Row {
     pub named: Option<Key>,
     /// What else can be wrong behind the key.
     pub reason: &'static str,
-    /// For a guard: which of its sorts has the key.
-    pub sort: u8,
+    /// The sort of guards that has the key.
+    pub sort: Option<Sort>,
+}
+
+/// The sorts of guards, in the order in which a reader of a certificate looks for them.
+#[derive(Clone, Copy, PartialEq, Eq, PartialOrd, Ord)]
+pub(crate) enum Sort {
+    Sole,
+    Mutex,
+    Turn,
 }
 
 /// The rows of the table, a row a line.
 macro_rules! rows {
-    ($($around:literal $key:literal $wanted:literal, $named:expr, $reason:literal, $sort:literal;)*) => {
+    ($($around:literal $key:literal $wanted:literal, $named:expr, $reason:literal, $sort:expr;)*) => {
         [$(Row { around: $around, key: $key, wanted: $wanted, named: $named, reason: $reason, sort: $sort }),*]
     };
 }
 
 static ROWS: [Row; 16] = rows! {
-    "" "version" "1 or 2", None, "", 0;
-    "" "ends" "a list", None, "", 0;
-    "" "notes" "a list", None, "", 0;
-    "ends" "buffer" "an object's name", Some(Key::Object), "", 0;
-    "ends" "end" "writer or reader", None, "", 0;
-    "ends" "guard" "critical, or an object with sole, mutex or turn", None, "; wanted: a number of 64 bits with a sign", 0;
-    "guard" "sole" "an actor's name", Some(Key::Actor), "", 1;
-    "guard" "mutex" "an object's name", Some(Key::Object), "", 2;
-    "guard" "turn" "a variable's name", Some(Key::Variable), "", 3;
-    "guard" "values" "an object with a number at each name", Some(Key::Actor), "", 3;
-    "notes" "held" "an object with a number at each name", Some(Key::Object), "; wanted: 1 to 255", 0;
-    "notes" "crit" "a whole number", None, "; wanted: 0 to 255", 0;
-    "notes" "susp" "a whole number", None, "; wanted: 0 to 255", 0;
-    "notes" "live" "a list of names", Some(Key::Object), " is listed twice", 0;
-    "notes" "dead" "a list of names", Some(Key::Object), " is listed twice", 0;
-    "notes" "range" "an object with a list of two numbers at each name", Some(Key::Variable), ": the first number is above the second", 0;
+    "" "version" "1 or 2", None, "", None;
+    "" "ends" "a list", None, "", None;
+    "" "notes" "a list", None, "", None;
+    "ends" "buffer" "an object's name", Some(Key::Object), "", None;
+    "ends" "end" "writer or reader", None, "", None;
+    "ends" "guard" "critical, or an object with sole, mutex or turn", None, "; wanted: a number of 64 bits with a sign", None;
+    "guard" "sole" "an actor's name", Some(Key::Actor), "", Some(Sort::Sole);
+    "guard" "mutex" "an object's name", Some(Key::Object), "", Some(Sort::Mutex);
+    "guard" "turn" "a variable's name", Some(Key::Variable), "", Some(Sort::Turn);
+    "guard" "values" "an object with a number at each name", Some(Key::Actor), "", Some(Sort::Turn);
+    "notes" "held" "an object with a number at each name", Some(Key::Object), "; wanted: 1 to 255", None;
+    "notes" "crit" "a whole number", None, "; wanted: 0 to 255", None;
+    "notes" "susp" "a whole number", None, "; wanted: 0 to 255", None;
+    "notes" "live" "a list of names", Some(Key::Object), " is listed twice", None;
+    "notes" "dead" "a list of names", Some(Key::Object), " is listed twice", None;
+    "notes" "range" "an object with a list of two numbers at each name", Some(Key::Variable), ": the first number is above the second", None;
 };
 
 /// The row of a key.
@@ -68,6 +76,6 @@ pub(crate) fn has_keys(around: &str) -> bool {
 /// Whether the guard has a key of a sort of guard that is listed before that of the row.
 pub(crate) fn is_after_another(row: &Row, guard: &Value) -> bool {
     ROWS.iter().any(|other| {
-        (1..row.sort).contains(&other.sort) && guard.get(other.key).is_some()
+        other.sort.is_some() && other.sort < row.sort && guard.get(other.key).is_some()
     })
 }

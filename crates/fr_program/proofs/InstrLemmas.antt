@@ -1,7 +1,7 @@
 -- What holds of each instruction of each actor, by actors and by the application's places.
 use Rattle.std.proofs.Common.{◌≡◌, ◌<◌, ◌≤◌, ℕ, List, length, map, get_or, Some, inl, inr, subst, sym, ap, ◌∙◌, All, slice_get}
 use Rattle.std.proofs.lemmas.List.{get_or-map, get_or_past}
-use Rattle.std.proofs.lemmas.Option.{slice_get_within, slice_get-get_or, get_or_from_slice_get, none-some}
+use Rattle.std.proofs.lemmas.Option.{slice_get_within, get_or_from_slice_get, none-some}
 use Rattle.std.proofs.lemmas.Bool.{cases_lt}
 use Rattle.fr_program.specs.declared.instr.Instr.{Instr}
 use Rattle.fr_program.specs.declared.parts.Actor.{Actor}
@@ -26,12 +26,6 @@ instr_at-within P a pc i at =
     elim (cases_lt a (length P.actors)) [ inl below ↦ below | inr past ↦ none past ]
 
 -- from the places of an actor to its code, and back
-pub code-from_places : (P : Program) (F : ActorOf → Instr → Type 0) (a : ℕ) (actor : ActorOf) → actor_at P a ≡ actor →
-    ((pc : ℕ) (i : Instr) → instr_at P a pc ≡ Some i → F (actor_at P a) i) → All (F actor) actor.code
-code-from_places P F a actor is each =
-    let G : ActorOf → Type 0 = λ x. (pc : ℕ) (i : Instr) → slice_get x.code pc ≡ Some i → F x i in
-    λ k d below. subst G is each k (get_or actor.code k d) (slice_get-get_or actor.code k d below)
-
 pub places-from_code : (P : Program) (F : ActorOf → Instr → Type 0) (a : ℕ) (actor : ActorOf) → actor_at P a ≡ actor →
     All (F actor) actor.code → (pc : ℕ) (i : Instr) → instr_at P a pc ≡ Some i → F (actor_at P a) i
 places-from_code P F a actor is each =

@@ -1,5 +1,5 @@
 -- What holds of each element of a mapped list, and of an element that was read.
-use Rattle.std.proofs.Common.{◌≡◌, ◌<◌, ◌+◌, ℕ, List, [], ◌∷◌, length, map, get_or, refl, ap, subst, sym, below_more, All, Result, Ok, Err, OnOk}
+use Rattle.std.proofs.Common.{◌≡◌, ◌<◌, ◌+◌, ℕ, List, [], ◌∷◌, length, map, get_or, refl, ap, subst, sym, below_more, All}
 use Rattle.std.proofs.lemmas.List.{get_or-map, get_or_default, length-map}
 
 -- what holds of each image holds of each element, through the map
@@ -14,11 +14,6 @@ All-read P xs k x below is each = subst P (sym is) (each k x below)
 -- the same, of an element of a mapped list
 pub All-read_map : {X Y : Type 0} (P : Y → Type 0) (f : X → Y) (xs : List X) (k : ℕ) (x : X) → k < length xs → x ≡ get_or xs k x → All P (map f xs) → P (f x)
 All-read_map P f xs k x below is each = All-read (λ y. P (f y)) xs k x below is (All-unmapped P f xs each)
-
--- what holds anyway holds where all went well
-pub OnOk-from : {T E P : Type 0} (r : Result T E) → P → OnOk r P
-OnOk-from (Ok x) holds = holds
-OnOk-from (Err e) holds = tt
 
 -- what holds of each element so far and of the next one, read from an equal list, holds of one more
 pub each_more : {X : Type 0} (P : X → Type 0) (xs ys : List X) (n : ℕ) (e : X) → ys ≡ xs → n < length ys →

@@ -23,7 +23,6 @@ use Rattle.fr_runner.specs.declared.trace.Entry.TheVariants.{Stepped}
 use Rattle.fr_states.specs.declared.step.StepTaken.{StepTaken}
 use Rattle.fr_refuter.specs.declared.replay.Refutation.{Refutation}
 use Rattle.fr_refuter.specs.declared.answer.Finding.{Finding}
-use Rattle.fr_refuter.specs.declared.replay.Deadlocked.{Deadlocked}
 use Rattle.fr_refuter.specs.declared.answer.Finding.TheVariants.{Breach, Deadlock, Safe, Free, Unknown}
 use Rattle.fr_report.specs.declared.changes.ExplainedStep.{ExplainedStep}
 use Rattle.fr_wording.specs.declared.standing.Standing.{Standing}

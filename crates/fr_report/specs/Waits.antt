@@ -9,7 +9,6 @@
 -- | edge_text, edges_text      | where a mutex is taken while another one is held; a cycle of such places           |
 -- | order_text                 | the line that says whether actors can deadlock                                     |
 use Rattle.std.specs.Prelude.{◌++◌, ℕ, List, [], ◌∷◌, codes, decimal, flat_map, length}
-use Rattle.fr_program.specs.declared.ids.ActorId.{ActorId}
 use Rattle.fr_program.specs.declared.ids.ObjId.{ObjId}
 use Rattle.fr_program.specs.Program.{Program}
 use Rattle.fr_program.specs.Lookup.{actor_at, object_at}

@@ -33,14 +33,6 @@ chosen P true n target m to goes far near step = subst P (same_Some target m (sy
 chosen P false n target m to goes far near step = subst P (sym step) near
 
 module _ (t : Tidied) (plain : List Line) (keeps : KeepsAll t plain) where
-  -- a line of the tidied code at which gotos from line q end
-  record Arrives (q : ℕ) : Type 0 where
-    pub m : ℕ
-    pub slides : Slides t.variables t.lines q m
-
-  same-mark : (p k j : ℕ) → Aims t.aims p k → Aims t.aims p j → k ≡ j
-  same-mark p k j one other = same_Some k j (same_Some (Some k) (Some j) (sym one ∙ other))
-
   -- gotos from line q end at the line before the mark
   ends-before : (q mark n : ℕ) → slice_get t.marks q ≡ Some mark → mark ≡ suc n → Slides t.variables t.lines q n
   ends-before q mark n there before =

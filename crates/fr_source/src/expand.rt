@@ -235,12 +235,8 @@ impl Expander {
 
     /// The actor's own variable for one of a function; any other variable itself.
     fn own_variable(&self, variable: usize) -> usize {
-        for own in &self.own {
-            if own.declared == variable {
-                return own.copy;
-            }
-        }
-        variable
+        let own = self.own.iter().find(|own| own.declared == variable);
+        own.map_or(variable, |own| own.copy)
     }
 
     fn own_operand(&self, operand: Operand) -> Operand {

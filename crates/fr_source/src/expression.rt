@@ -62,12 +62,8 @@ pub(crate) enum Operator {
 impl Operator {
     /// The operator that the sign is, and its level.
     fn of(sign: &str) -> Option<(Operator, u8)> {
-        for (text, level, operator) in &OPERATORS {
-            if *text == sign {
-                return Some((*operator, *level));
-            }
-        }
-        None
+        let (_, level, operator) = OPERATORS.iter().find(|(text, _, _)| *text == sign)?;
+        Some((*operator, *level))
     }
 }
 

@@ -1,4 +1,7 @@
 // The calls of the kernel that a source may make: one table, a row a call. And the words that no name may be.
+ghost use Rattle.std.specs.Prelude.{◌≡◌, codes};
+ghost use Rattle.std.specs.Str.{bytes_eq};
+ghost use Rattle.fr_source.specs.Steps.{deletes};
 
 use crate::near::is_near;
 use crate::program::ObjectKind;
@@ -87,14 +90,12 @@ pub(crate) enum KernelCall {
 }
 
 impl KernelCall {
-    /// The row of the call.
-    pub(crate) fn row(self) -> &'static Kernel {
-        for row in calls() {
-            if row.call as u8 == self as u8 {
-                return row;
-            }
-        }
-        &CALLS[0]
+    /// The row of the call, which the table has in the order of the enum.
+    pub(crate) fn row(self) -> &'static Kernel
+        ensures call { result.now.call ≡ self }
+        ensures named { bytes_eq result.now.name.now (codes "vTaskDelete") ≡ deletes self }
+    {
+        &CALLS[self as usize]
     }
 }
 
@@ -116,12 +117,7 @@ impl Kernel {
 
     /// Whether the call is for objects of this kind.
     pub(crate) fn is_for(&self, kind: ObjectKind) -> bool {
-        for one in self.kinds {
-            if one.text() == kind.text() {
-                return true;
-            }
-        }
-        false
+        self.kinds.iter().any(|one| one.text() == kind.text())
     }
 
     /// The kinds of objects that the call is for: one, or those of all semaphores.
@@ -215,28 +211,15 @@ static CALLS: [Kernel; 40] = rows! {
     ResetMessage             "xMessageBufferReset"            [Object] [Message] Success;
 };
 
-fn calls() -> &'static [Kernel] {
-    &CALLS
-}
-
 /// The call of the kernel with this name.
 pub(crate) fn kernel_named(name: &str) -> Option<&'static Kernel> {
-    for row in calls() {
-        if row.name == name {
-            return Some(row);
-        }
-    }
-    None
+    CALLS.iter().find(|row| row.name == name)
 }
 
 /// The name of a call of the kernel that a word is near to.
 pub(crate) fn kernel_near(word: &str) -> Option<Word<'static>> {
-    for row in calls() {
-        if is_near(word, row.name) {
-            return Some(Word::Text(row.name));
-        }
-    }
-    None
+    let near = CALLS.iter().find(|row| is_near(word, row.name))?;
+    Some(Word::Text(near.name))
 }
 
 /// A table of words, several on a line.
@@ -254,12 +237,7 @@ static WORDS: [&str; 21] = words! {
 
 /// Whether the text is one of some words.
 pub(crate) fn is_among(text: &str, words: &[&str]) -> bool {
-    for word in words {
-        if *word == text {
-            return true;
-        }
-    }
-    false
+    words.iter().any(|word| *word == text)
 }
 
 /// Whether the text is a word of statements, or one of the kernel's numbers.

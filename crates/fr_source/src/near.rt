@@ -35,12 +35,7 @@ pub(crate) fn is_near(word: &str, name: &str) -> bool {
 
 /// The first of some words that a word is near to.
 pub(crate) fn near_among(words: &[&'static str], word: &str) -> Option<&'static str> {
-    for one in words {
-        if is_near(word, one) {
-            return Some(*one);
-        }
-    }
-    None
+    words.iter().find(|one| is_near(word, one)).copied()
 }
 
 /// Pairs of a word and what to write in place of it: a hint and its words a line.
@@ -75,10 +70,6 @@ pub(crate) static OF_CALLS: [(&str, &str); 8] = hints! {
 
 /// What to write in place of a word, if it is one of these.
 pub(crate) fn hint_for(pairs: &[(&'static str, &'static str)], word: &str) -> Option<&'static str> {
-    for (text, hint) in pairs {
-        if *text == word {
-            return Some(*hint);
-        }
-    }
-    None
+    let (_, hint) = pairs.iter().find(|(text, _)| *text == word)?;
+    Some(*hint)
 }

@@ -60,12 +60,7 @@ fn own_name(
 
 /// Whether one of some names is this text.
 fn is_name_among(names: &[String], text: &str) -> bool {
-    for name in names {
-        if name.as_str() == text {
-            return true;
-        }
-    }
-    false
+    names.iter().any(|name| name.as_str() == text)
 }
 
 /// Whether a text can be a variable's name: it is short, no word of the notation or of the kernel, and no other name.

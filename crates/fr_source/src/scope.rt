@@ -45,22 +45,14 @@ pub(crate) struct Name {
 
 /// What the text means among some names.
 fn meaning_among(pieces: &Pieces, names: &[Name], text: &str) -> Option<Meaning> {
-    for name in names {
-        if pieces.is(name.span, text) {
-            return Some(name.meaning);
-        }
-    }
-    None
+    let name = names.iter().find(|name| pieces.is(name.span, text))?;
+    Some(name.meaning)
 }
 
 /// The first of some names that a word is near to.
 fn near_among(pieces: &Pieces, names: &[Name], word: &str) -> Option<Span> {
-    for name in names {
-        if is_near(word, pieces.text(name.span)) {
-            return Some(name.span);
-        }
-    }
-    None
+    let near = |name: &&Name| is_near(word, pieces.text(name.span));
+    Some(names.iter().find(near)?.span)
 }
 
 /// The names outside, and those of the actor or function that is read.

@@ -131,12 +131,7 @@ impl Tidying<'_> {
 
     /// Whether a jump comes to the line with this number.
     fn is_aimed(&self, number: usize) -> bool {
-        for Kept { to, .. } in &self.kept {
-            if *to == Some(number) {
-                return true;
-            }
-        }
-        false
+        self.kept.iter().any(|kept| kept.to == Some(number))
     }
 
     /// What can be done at the line with this number.

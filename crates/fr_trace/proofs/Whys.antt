@@ -49,14 +49,6 @@ tokens-why N n s ts said (Wrong f k) e w = (
   λ h. w.1 (h.0, subst (λ x. SaidReads N n x s h.0) (same_Some h.1.0 said (sym h.1.1 ∙ sym e)) h.1.2),
 )
 
--- tokens that say nothing
-pub unsaid-why : (N : NamesOf) (n : ℕ) (s : Sofar) (ts : List Tok) → None ≡ said_by ts
-    → (IsStrangeTokens N ts → ⊥) × (((t : Sofar) × TokensRead N n ts s t) → ⊥)
-unsaid-why N n s ts e = (
-  λ h. let never : None ≡ Some h.0 = e ∙ h.1 in cc,
-  λ h. let never : None ≡ Some h.1.0 = e ∙ h.1.1 in cc,
-)
-
 -- a line that is no comment is read by its tokens
 by-tokens : (N : NamesOf) (n : ℕ) (line : List ℕ) (s t : Sofar) → begins_comment line ≡ false → LineReads N n line s t
     → (ts : List Tok) × Spells line ts × TokensRead N n ts s t

@@ -2,7 +2,7 @@
 use Rattle.std.proofs.Common.{◌≡◌, ◌≤◌, ◌++◌, ◌⊎◌, ◌∙◌, ℕ, List, [], ◌∷◌, Bool, true, false, Option, Some, None, Result, Ok, Err, String, IfOk, IfSome, append-nil, ap, arith, inl, inr, map, max, option_map, refl, string_bytes, subst, sym}
 use Rattle.std.specs.Prelude.{option_copied}
 use Rattle.std.proofs.lemmas.Option.{same_Some}
-use Rattle.fr_traces.proofs.Terms.{Global, map-append, Appends-trans, kind_status, lines_text, TraceAnswer, Each, Reading, AsTrace, AreTraces, AreTracesPrinted, IsAnswerAt, IsPageAt, IsReadAs}
+use Rattle.fr_traces.proofs.Terms.{Global, map-append, Appends-trans, kind_status, lines_text, TraceAnswer, Each, Reading, AreTraces, AreTracesPrinted, IsAnswerAt, IsPageAt, IsReadAs}
 use Rattle.fr_traces.proofs.Terms.{IsRunAt, IsTrailPage, PutsAnswer, PutsBoth, ShowsTrace, TraceAnswerAt, answered_at, greater_of, text_at, each-more}
 use Rattle.std.proofs.lemmas.List.Elements.{All-append, All-cons, All-nil}
 use Rattle.std.proofs.lemmas.List.Folds.{concat-append}
@@ -15,7 +15,6 @@ use Rattle.fr_formats.specs.declared.answer.AnswerKind.TheVariants.{Refused, Mac
 use Rattle.fr_formats.specs.declared.answer.AnswerShown.{AnswerShown}
 use Rattle.fr_formats.specs.Reports.{IsReport}
 use Rattle.fr_request.specs.declared.format.Format.{Format}
-use Rattle.fr_trail.specs.Runs.{IsRunOf}
 use Rattle.fr_request.specs.declared.request.FollowRequest.{FollowRequest}
 
 -- the status of a refusal
@@ -35,16 +34,6 @@ printed-more app several old mid new t answers h now =
     ap concat (map-append (text_at several) answers (t ∷ [])) ∙ concat-append (map (text_at several) answers) (text_at several t ∷ []) ∙ ap (λ x. before ++ x) (append-nil (text_at several t)) in
     subst (Appends old new) (sym whole) (Appends-trans old mid new before (text_at several t) h now)
 
--- the one answer is printed
-pub printed-one : (app : List ℕ) (old new : Option (List ℕ)) (t : TraceAnswerAt) (text : List ℕ) → text ≡ text_at false t → Appends old new text → AreTracesPrinted None app false old new (t ∷ [])
-printed-one app old new t text same h = subst (Appends old new) (same ∙ sym (append-nil (text_at false t))) h
-
--- so it is where it was written
-pub printed-of : {X Y : Type 0} (app : List ℕ) (old new : Option (List ℕ)) (t : TraceAnswerAt) (text same : List ℕ) (r : Result X Y) → same ≡ text → text ≡ text_at false t
-    → IfOk r (λ _. Appends old new same) → IfOk r (λ _. AreTracesPrinted None app false old new (t ∷ []))
-printed-of app old new t text same (Ok x) is told h = printed-one app old new t same (is ∙ told) h
-printed-of app old new t text same (Err y) is told h = tt
-
 -- the one answer is shown by a report
 pub reported-of : {X Y : Type 0} (format : Format) (app : List ℕ) (old new : Option (List ℕ)) (t : TraceAnswerAt) (shown : AnswerShown) (all : List AnswerShown) (r : Result X Y) → all ≡ shown ∷ [] → ShowsTrace app t shown
     → IfOk r (λ _. (text : List ℕ) × IsReport format all text × Appends old new text) → IfOk r (λ _. AreTracesPrinted (Some format) app false old new (t ∷ []))
@@ -55,10 +44,6 @@ module _ (reads : Reading → List ℕ → List ℕ → Type 0) (asked : FollowR
   -- what is said of an answer is said of the same one
   pub of-same : (path : List ℕ) (one other : TraceAnswer) → other ≡ one → IsAnswerAt reads asked P (answered_at path one) → IsAnswerAt reads asked P (answered_at path other)
   of-same path one other same h = subst (λ answer. IsAnswerAt reads asked P (answered_at path answer)) (sym same) h
-
-  -- nothing is promised of a refusal
-  pub refused-by : (t : TraceAnswerAt) → 2 ≤ kind_status t.kind → IsAnswerAt reads asked P t
-  refused-by t least = record { by = λ le. (let no : ⊥ = omega (arith, le, least) in absurd no) }
 
   -- the answers to no traces
   pub none-yet : (Is : List TraceAnswerAt → Type 0) → Is [] → AreTraces reads asked P [] 0 Is
@@ -101,13 +86,6 @@ module _ (reads : Reading → List ℕ → List ℕ → Type 0) (asked : FollowR
   pub answers-at : (one other : List (List ℕ)) (s t : ℕ) (Is : List TraceAnswerAt → Type 0) → other ≡ one → t ≡ s → AreTraces reads asked P one s Is
       → AreTraces reads asked P other t Is
   answers-at one other s t Is same next h = (h.0, h.1 ∙ sym same, h.2, next ∙ h.3, h.4)
-
-  -- the lines of the run are those of one for the trace in this file
-  pub run-at : (path bytes : List ℕ) (found : Option (String Global)) → reads AsTrace path bytes
-      → IfSome found (λ text. IsRunOf asked.any_times asked.from_anywhere P bytes (string_bytes text))
-      → IfSome found (λ text. IsRunAt reads asked P (path ∷ []) (string_bytes text))
-  run-at path bytes (Some text) read own = (path, bytes, refl, read, own)
-  run-at path bytes None read own = tt
 
   -- what was put into the files are the lines of the run that was found, and the page of the answer
   pub puts-both : {Z : Type 0} (puts : Z → List ℕ → List ℕ → Z → Type 0) (answer : Option TraceAnswer) (old new : Z) → IsReadAs reads asked.app.now P

@@ -207,22 +207,14 @@ pub fn note_told(
 
 /// Whether some line deletes the object.
 fn is_deleted(app: &App, object: ObjId) -> bool {
-    for actor in app.actors() {
-        if code_deletes(&actor.code, object) {
-            return true;
-        }
-    }
-    false
+    app.actors()
+        .iter()
+        .any(|actor| code_deletes(&actor.code, object))
 }
 
 /// Whether one of these lines deletes the object.
 fn code_deletes(code: &[Instr], object: ObjId) -> bool {
-    for instr in code {
-        if deletes(instr, object) {
-            return true;
-        }
-    }
-    false
+    code.iter().any(|instr| deletes(instr, object))
 }
 
 /// Whether the line deletes the object.

@@ -50,12 +50,9 @@ pub(super) fn says_of(app: &App, says: &Alternative, subject: Subject) -> bool {
 
 /// Whether the note says something of the subject.
 fn note_says_of(app: &App, note: &Note, subject: Subject) -> bool {
-    for says in note.alternatives() {
-        if says_of(app, says, subject) {
-            return true;
-        }
-    }
-    false
+    note.alternatives()
+        .iter()
+        .any(|says| says_of(app, says, subject))
 }
 
 impl Site<'_> {

@@ -1,6 +1,6 @@
 use Rattle.std.proofs.Common.{◌≡◌, ◌∙◌, ◌<◌, ◌≤◌, length, get_or, sym, ap, subst, arith, rules}
 use Rattle.fr_cert.proofs.Terms.{drop_all, array, object, string, number, view, items_view, number_view, the_lemmas, view-Array, view-Object}
-use Rattle.fr_cert.proofs.SameLemmas.{is-text, is-list, is-object, items-more, members-more}
+use Rattle.fr_cert.proofs.SameLemmas.{is-text, items-more}
 use Rattle.fr_cert.proofs.same.+same.Goals as goal
 
 pub is_same-returns-in-Number : goal.is_same-returns-in-Number

@@ -1,5 +1,4 @@
 use Rattle.std.proofs.Common.{◌≡◌, length, rules}
-use Rattle.fr_cert.proofs.Terms.{IsReadAt}
 use Rattle.fr_cert.proofs.ReadLemmas.{last_at, note_more}
 use Rattle.fr_cert.proofs.notes.NotesRead.add.Goals as goal
 
