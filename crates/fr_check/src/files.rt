@@ -1,5 +1,4 @@
 // The files of the host.
-ghost use Rattle.std.specs.Prelude.{ℕ, List};
 
 use fr_answer::Files;
 use fr_files::{FileFault, Output, OutputFault, check_outputs, read, replace};

@@ -1,10 +1,7 @@
 // Where a point's steps go.
 ghost use Rattle.std.specs.Prelude.{◌≡◌, ◌<◌, ◌+◌, ◌↔◌, Some, length, All, IsTrue, Contains, slice_get};
-ghost use Rattle.fr_program.specs.Lookup.{instr_of, IsPoint};
-ghost use Rattle.fr_program.specs.Points.{points_of, point_number};
 ghost use Rattle.fr_notes.specs.Fits.{AlternativeFits, NoteFits};
 ghost use Rattle.fr_notes.specs.Known.{IsPossible, Keeps};
-ghost use Rattle.fr_notes.specs.Noted.{note_at};
 ghost use Rattle.fr_edge.specs.Alternatives.{GoesWell, WayOutcome, GoesOutcome};
 ghost use Rattle.fr_notes.specs.Note.{Alternative as AlternativeOf};
 

@@ -1,6 +1,5 @@
 // The first round: what each point's note is before any step.
 ghost use Rattle.std.specs.Prelude.{◌≡◌, ◌<◌, IfOk, IfSome, length};
-ghost use Rattle.fr_program.specs.Points.{points_of};
 ghost use Rattle.fr_notes.specs.Fits.{AlternativeFits, NoteFits, NotesFit};
 
 use fr_notes::{Alternative, Claim, Note, Notes};

@@ -1,6 +1,5 @@
 // The names with which the lines of an application are written.
 ghost use Rattle.std.specs.Prelude.{◌≡◌, IfOk, map, string_bytes};
-ghost use Rattle.fr_program.specs.View.{variable_of, object_of, actor_of};
 ghost use Rattle.fr_instr.specs.AppNames.{names_in};
 ghost use Rattle.fr_instr.specs.Views.{texts};
 

@@ -4,7 +4,6 @@ ghost use Rattle.std.specs.Option.{ForSome};
 ghost use Rattle.fr_program.specs.declared.ids.Point.{Point as PointOf};
 ghost use Rattle.fr_program.specs.Points.{points_of};
 ghost use Rattle.fr_calls.specs.Run.{IsSafe};
-ghost use Rattle.fr_edge.specs.declared.failure.Own.{Own as OwnPart};
 ghost use Rattle.fr_ends.specs.Fits.{CertificateFits};
 ghost use Rattle.fr_interfere.specs.Disturbance.{IsSpoiler};
 ghost use Rattle.fr_interfere.specs.Index.{IsIndexOf};

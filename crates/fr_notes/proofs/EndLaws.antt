@@ -3,9 +3,8 @@ use Rattle.std.proofs.Common.{◌≡◌, ℕ, ◌-◌, ◌<◌, [], length, Opti
 use Rattle.std.specs.Prelude.{ℤ, pos, ◌<ℤ◌, IsTrue, IfSome, All, nat_le, if◌then◌else◌}
 use Rattle.fr_notes.proofs.Terms.{ints, same_Some, All-head, ObjId, VarId, Point, ObjectCall, Act, Try, Move, Attempt, QueueSend, QueueReceive, Take, Give, Reset, OfStream, OfMessage, Timing, Kind}
 use Rattle.fr_notes.proofs.Terms.{Queue, Binary, Counting, Mutex, Recursive, Stream, Message, Range, Program, KindInLimits, ActInLimits, suits_timing, acts_on, act_variables, written_by, option_list}
-use Rattle.fr_notes.proofs.Terms.{Then, Else, State, kind_of, content_of, is_unsuited, Completes, transition, Change, ends_of, Known}
-use Rattle.fr_notes.proofs.Terms.{IsLeft, Holding, Living, Own, holding, living, mover_claim, taken_by, given_by, worked_by, can_fail_on, is_mutex}
-use Rattle.fr_notes.proofs.Terms.{is_given_unheld, results_of, failed_into, IsEnd, EndLeaves, resulting}
+use Rattle.fr_notes.proofs.Terms.{Then, Else, State, kind_of, content_of, is_unsuited, Completes, transition, Change, ends_of, Known, IsLeft, Holding, Living, Own, holding, living, mover_claim}
+use Rattle.fr_notes.proofs.Terms.{taken_by, given_by, worked_by, can_fail_on, is_mutex, is_given_unheld, results_of, failed_into, IsEnd, EndLeaves, resulting}
 use Rattle.fr_notes.proofs.Holdings.{IsIn}
 use Rattle.fr_notes.proofs.Seen.{Site, mover, other}
 use Rattle.fr_notes.proofs.EndRows.{IsEndRow, Follows, IsAlive, living-alive, at, end-names, end-left, end-never}

@@ -2,8 +2,7 @@
 -- alternatives.
 use Rattle.std.proofs.Common.{◌≡◌, ◌<◌, length, Option, Some, None, subst}
 use Rattle.std.specs.Prelude.{IfSome}
-use Rattle.fr_notes.proofs.Terms.{Instr, Calls, On, ObjectCall, Program, NamesThings, Alternative}
-use Rattle.fr_notes.proofs.Terms.{AlternativeFits, Known, KnownFits, AreCompatible, IsPossible}
+use Rattle.fr_notes.proofs.Terms.{Instr, Calls, On, ObjectCall, Program, NamesThings, Alternative, AlternativeFits, Known, KnownFits, AreCompatible, IsPossible}
 
 -- some state can have what is known
 pub are-possible : (P : Program) (k : Known) → KnownFits P k → IsPossible k

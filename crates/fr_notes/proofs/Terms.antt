@@ -24,12 +24,12 @@ pub use Rattle.fr_program.specs.declared.instr.Timing.TheVariants.{Now}
 pub use Rattle.fr_program.specs.declared.parts.Kind.{Kind}
 pub use Rattle.fr_program.specs.declared.parts.Kind.TheVariants.{Queue, Mutex, Recursive, Stream, Message, Binary, Counting}
 pub use Rattle.fr_program.specs.declared.range.Range.{Range}
-pub use Rattle.fr_program.specs.Limits.{KindInLimits, ActInLimits, InstrInLimits, IsNumber}
+pub use Rattle.fr_program.specs.Limits.{KindInLimits, ActInLimits, InstrInLimits}
 pub use Rattle.fr_program.specs.Timings.{suits_timing}
 pub use Rattle.fr_program.specs.Uses.{attempts_on, is_buffer, written_by, operand_variables, acts_on, act_variables, option_list}
 pub use Rattle.fr_calls.specs.declared.way.Way.TheVariants.{Then, Else}
 pub use Rattle.fr_calls.specs.State.{State, Content, Values, CanHave, content_of, kind_of, new_content, becomes, Bytes, Lengths, Dead, count_held, Count, Free, Held, IsWellFormed, value_of, depth_of}
-pub use Rattle.fr_calls.specs.State.{suspension_of, write, depth_in, in_critical, critical_at, suspend_at, At, goes_to, Place, Done, Exists, held_at, place_of}
+pub use Rattle.fr_calls.specs.State.{suspension_of, write, depth_in, in_critical, critical_at, suspend_at, At, goes_to, Place, Done, Exists, held_at}
 pub use Rattle.fr_calls.specs.Rule.{operand_of, is_unsuited, given_kind, GivesUnheld, LacksMutex, used_object, Breaches, IsForbidden, condition_of, forbids, first_forbidden, decided_rules, holds_some}
 pub use Rattle.fr_calls.specs.Rule.{UsesDead, result_of}
 pub use Rattle.fr_calls.specs.Step.{Works, Puts, taken, given, queued, can_fail, Completes, Moves, sent_bytes, received_bytes, sent_message, received_message, with_result, transition, IsFree, StepBy}
@@ -44,7 +44,7 @@ pub use Rattle.fr_program.specs.Fault.{IsConstant, AreApart, OperandsFit, IsFaul
 pub use Rattle.fr_calls.specs.declared.way.Way.{Way}
 pub use Rattle.fr_program.specs.declared.instr.Act.{Act}
 pub use Rattle.fr_program.specs.declared.instr.Comparison.TheVariants.{Less, AtMost, Greater, AtLeast, Equal, NotEqual}
-pub use Rattle.fr_program.specs.Spans.{IsIn, IsNarrow, IsSpan, IsScaled}
+pub use Rattle.fr_program.specs.Spans.{IsIn, IsSpan, IsScaled}
 pub use Rattle.fr_program.specs.declared.instr.ObjectCall.{ObjectCall}
 pub use Rattle.fr_program.specs.declared.ids.Side.{Side}
 pub use Rattle.fr_program.specs.declared.ids.Side.TheVariants.{Inside, Before}
@@ -63,11 +63,11 @@ pub use Rattle.fr_notes.specs.Alternatives.{joined}
 pub use Rattle.fr_notes.specs.View.{ends_of, alternative_of}
 pub use Rattle.fr_notes.specs.Holding.{Holding, Living, Own, worked_by, can_fail_on, is_mutex, is_given_unheld, holding, holding_of, others_claim, living, mover_claim, taken_by, given_by, Unheld}
 pub use Rattle.fr_notes.specs.Holding.{Lifeless, Others, other_claim, can_be_dead, can_be_full}
-pub use Rattle.fr_notes.specs.Results.{results_of, size_of, least_moved, failed_into, IsSmall}
+pub use Rattle.fr_notes.specs.Results.{results_of, size_of, least_moved, failed_into}
 pub use Rattle.fr_notes.specs.declared.change.Change.{Change}
 pub use Rattle.fr_notes.specs.Known.{Known, IsLeft, KnownFits, IsOther, NeverSteps, taught, ClaimsMeet, HasKnown, AllLeave, Says, joint_range, joint_claim, claim_after, other_after, AreCompatible}
 pub use Rattle.fr_notes.specs.Known.{beside, is_other_critical, meet_of, is_held, claims_some, IsPossible}
-pub use Rattle.fr_notes.specs.Reckoning.{IsNamed, operand_in, CanBeIn, HasNumbersIn, IsSpanIn, IsBranchIn, NoBranchIn}
+pub use Rattle.fr_notes.specs.Reckoning.{IsNamed, operand_in, CanBeIn, IsSpanIn, IsBranchIn, NoBranchIn}
 pub use Rattle.fr_notes.specs.Spot.{LeavesBefore, unchanged, IsEnd, EndLeaves, resulting, IsSpot, IsUnforbidden, claiming, condition_known, Leaves}
 pub use Rattle.fr_notes.specs.Comparison.{Compares, IsBelow, IsLeast, turned, AreLeast, NoPair, IsWithout}
 pub use Rattle.fr_notes.specs.Implication.{ClaimImplies, IsPart, IsStronger, ImpliesSome}

@@ -2,7 +2,6 @@
 ghost use Rattle.std.specs.Prelude.{◌≡◌, ◌<◌, ◌↔◌, ◌+◌, ℕ, Some, IsTrue, IfOk, IfSome, IfNone, length, slice_get};
 ghost use Rattle.fr_program.specs.declared.ids.Point.{Point as PointOf};
 ghost use Rattle.fr_program.specs.Lookup.{instr_of};
-ghost use Rattle.fr_program.specs.Points.{points_of};
 ghost use Rattle.fr_calls.specs.State.{kind_of};
 ghost use Rattle.fr_notes.specs.Fits.{NotesFit};
 ghost use Rattle.fr_order.specs.Order.{CanHold, IsEdge};

@@ -1,6 +1,5 @@
 // How good a try is: the points at which its certificate fails.
 ghost use Rattle.std.specs.Prelude.{◌≡◌, ◌<◌, All, IfOk, length};
-ghost use Rattle.fr_program.specs.Points.{points_of};
 ghost use Rattle.fr_notes.specs.Fits.{AlternativeFits, NoteFits, NotesFit};
 ghost use Rattle.fr_ends.specs.Fits.{CertificateFits};
 

@@ -235,8 +235,12 @@ impl Expander {
 
     /// The actor's own variable for one of a function; any other variable itself.
     fn own_variable(&self, variable: usize) -> usize {
-        let own = self.own.iter().find(|own| own.declared == variable);
-        own.map_or(variable, |own| own.copy)
+        for own in &self.own {
+            if own.declared == variable {
+                return own.copy;
+            }
+        }
+        variable
     }
 
     fn own_operand(&self, operand: Operand) -> Operand {

@@ -62,8 +62,12 @@ pub(crate) enum Operator {
 impl Operator {
     /// The operator that the sign is, and its level.
     fn of(sign: &str) -> Option<(Operator, u8)> {
-        let (_, level, operator) = OPERATORS.iter().find(|(text, _, _)| *text == sign)?;
-        Some((*operator, *level))
+        for (text, level, operator) in &OPERATORS {
+            if *text == sign {
+                return Some((*operator, *level));
+            }
+        }
+        None
     }
 }
 

@@ -117,7 +117,12 @@ impl Kernel {
 
     /// Whether the call is for objects of this kind.
     pub(crate) fn is_for(&self, kind: ObjectKind) -> bool {
-        self.kinds.iter().any(|one| one.text() == kind.text())
+        for one in self.kinds {
+            if one.text() == kind.text() {
+                return true;
+            }
+        }
+        false
     }
 
     /// The kinds of objects that the call is for: one, or those of all semaphores.
@@ -211,15 +216,28 @@ static CALLS: [Kernel; 40] = rows! {
     ResetMessage             "xMessageBufferReset"            [Object] [Message] Success;
 };
 
+fn calls() -> &'static [Kernel] {
+    &CALLS
+}
+
 /// The call of the kernel with this name.
 pub(crate) fn kernel_named(name: &str) -> Option<&'static Kernel> {
-    CALLS.iter().find(|row| row.name == name)
+    for row in calls() {
+        if row.name == name {
+            return Some(row);
+        }
+    }
+    None
 }
 
 /// The name of a call of the kernel that a word is near to.
 pub(crate) fn kernel_near(word: &str) -> Option<Word<'static>> {
-    let near = CALLS.iter().find(|row| is_near(word, row.name))?;
-    Some(Word::Text(near.name))
+    for row in calls() {
+        if is_near(word, row.name) {
+            return Some(Word::Text(row.name));
+        }
+    }
+    None
 }
 
 /// A table of words, several on a line.
@@ -237,7 +255,12 @@ static WORDS: [&str; 21] = words! {
 
 /// Whether the text is one of some words.
 pub(crate) fn is_among(text: &str, words: &[&str]) -> bool {
-    words.iter().any(|word| *word == text)
+    for word in words {
+        if *word == text {
+            return true;
+        }
+    }
+    false
 }
 
 /// Whether the text is a word of statements, or one of the kernel's numbers.

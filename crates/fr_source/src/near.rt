@@ -35,7 +35,12 @@ pub(crate) fn is_near(word: &str, name: &str) -> bool {
 
 /// The first of some words that a word is near to.
 pub(crate) fn near_among(words: &[&'static str], word: &str) -> Option<&'static str> {
-    words.iter().find(|one| is_near(word, one)).copied()
+    for one in words {
+        if is_near(word, one) {
+            return Some(*one);
+        }
+    }
+    None
 }
 
 /// Pairs of a word and what to write in place of it: a hint and its words a line.
@@ -70,6 +75,10 @@ pub(crate) static OF_CALLS: [(&str, &str); 8] = hints! {
 
 /// What to write in place of a word, if it is one of these.
 pub(crate) fn hint_for(pairs: &[(&'static str, &'static str)], word: &str) -> Option<&'static str> {
-    let (_, hint) = pairs.iter().find(|(text, _)| *text == word)?;
-    Some(*hint)
+    for (text, hint) in pairs {
+        if *text == word {
+            return Some(*hint);
+        }
+    }
+    None
 }

@@ -60,7 +60,12 @@ fn own_name(
 
 /// Whether one of some names is this text.
 fn is_name_among(names: &[String], text: &str) -> bool {
-    names.iter().any(|name| name.as_str() == text)
+    for name in names {
+        if name.as_str() == text {
+            return true;
+        }
+    }
+    false
 }
 
 /// Whether a text can be a variable's name: it is short, no word of the notation or of the kernel, and no other name.

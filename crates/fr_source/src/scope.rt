@@ -45,14 +45,22 @@ pub(crate) struct Name {
 
 /// What the text means among some names.
 fn meaning_among(pieces: &Pieces, names: &[Name], text: &str) -> Option<Meaning> {
-    let name = names.iter().find(|name| pieces.is(name.span, text))?;
-    Some(name.meaning)
+    for name in names {
+        if pieces.is(name.span, text) {
+            return Some(name.meaning);
+        }
+    }
+    None
 }
 
 /// The first of some names that a word is near to.
 fn near_among(pieces: &Pieces, names: &[Name], word: &str) -> Option<Span> {
-    let near = |name: &&Name| is_near(word, pieces.text(name.span));
-    Some(names.iter().find(near)?.span)
+    for name in names {
+        if is_near(word, pieces.text(name.span)) {
+            return Some(name.span);
+        }
+    }
+    None
 }
 
 /// The names outside, and those of the actor or function that is read.

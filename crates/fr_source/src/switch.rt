@@ -25,8 +25,12 @@ fn last_of_all(cases: &[Case], range: Range) -> Option<i64> {
 
 /// The label of the case with this number, or of `default`, if it is there.
 fn label_of_case(cases: &[Case], value: Option<i64>) -> Option<usize> {
-    let case = cases.iter().find(|case| case.value == value)?;
-    Some(case.label)
+    for case in cases {
+        if case.value == value {
+            return Some(case.label);
+        }
+    }
+    None
 }
 
 impl Reader {

@@ -131,7 +131,12 @@ impl Tidying<'_> {
 
     /// Whether a jump comes to the line with this number.
     fn is_aimed(&self, number: usize) -> bool {
-        self.kept.iter().any(|kept| kept.to == Some(number))
+        for Kept { to, .. } in &self.kept {
+            if *to == Some(number) {
+                return true;
+            }
+        }
+        false
     }
 
     /// What can be done at the line with this number.

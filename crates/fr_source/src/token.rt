@@ -113,11 +113,12 @@ impl Class {
 
 /// The length of the comment that the text begins with, if it ends.
 fn comment_length(text: &[u8]) -> Option<usize> {
-    let place = text
-        .get(2..)?
-        .windows(2)
-        .position(|pair| pair == b"*/".as_slice())?;
-    Some(place.saturating_add(4))
+    for (place, pair) in text.get(2..)?.windows(2).enumerate() {
+        if pair == b"*/".as_slice() {
+            return Some(place.saturating_add(4));
+        }
+    }
+    None
 }
 
 /// The length of the number that the text begins with.
@@ -133,8 +134,10 @@ fn number_length(text: &[u8]) -> usize {
 
 /// The length of the sign that the text begins with: 0 if it begins with none.
 fn sign_length(text: &[u8], first: u8) -> usize {
-    if PAIRS.iter().any(|pair| text.starts_with(pair)) {
-        return 2;
+    for pair in &PAIRS {
+        if text.starts_with(pair) {
+            return 2;
+        }
     }
     usize::from(b"-+*/%=!<>(){}[];:,".contains(&first))
 }

@@ -6,7 +6,7 @@ pub use Rattle.fr_formats.specs.Answers.{status_of as kind_status}
 pub use Rattle.fr_wording.specs.Lines.{lines_text}
 pub use Rattle.fr_trail.specs.declared.answer.TraceAnswer.{TraceAnswer}
 pub use Rattle.fr_outcome.specs.Each.{Each}
-pub use Rattle.fr_inputs.specs.Inputs.{Reading, AsTrace, Reads}
+pub use Rattle.fr_inputs.specs.Inputs.{Reading, Reads}
 pub use Rattle.fr_outcome.proofs.Printed.{each-more, status-most}
 pub use Rattle.fr_formats.specs.declared.answer.AnswerKind.{AnswerKind}
 pub use Rattle.fr_traces.specs.Traces.{AreTraces, AreTracesPrinted, IsAnswerAt, IsPageAt, IsReadAs, IsRunAt, IsTrailPage, PutsAnswer, PutsBoth, ShowsTrace, TraceAnswerAt, answered_at, greater_of}

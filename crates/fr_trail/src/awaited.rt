@@ -1,5 +1,4 @@
 // At which lines of its code an actor's next event can be.
-ghost use Rattle.std.specs.Prelude.{◌≡◌};
 
 use fr_calls::{Landing, Way, lands_at};
 use fr_events::{Happening, Trace};

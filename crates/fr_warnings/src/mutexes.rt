@@ -12,10 +12,12 @@ fn can_hold(notes: &Notes, number: usize, mutex: ObjId) -> bool {
     let Some(note) = notes.get(number) else {
         return false;
     };
-    note.alternatives().iter().any(|alternative| matches!(
-        alternative.claim(mutex),
-        Claim::HeldTimes(_)
-    ))
+    for alternative in note.alternatives() {
+        if matches!(alternative.claim(mutex), Claim::HeldTimes(_)) {
+            return true;
+        }
+    }
+    false
 }
 
 /// The object call of the point's line.

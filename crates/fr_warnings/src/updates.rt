@@ -292,16 +292,22 @@ fn update_after(
 
 /// Whether the alternative can hold beside one of the note's.
 fn meets_some(alternative: &Alternative, note: &Note) -> bool {
-    note.alternatives()
-        .iter()
-        .any(|other| can_meet(alternative, other))
+    for other in note.alternatives() {
+        if can_meet(alternative, other) {
+            return true;
+        }
+    }
+    false
 }
 
 /// Whether two actors can be at the points of these two notes at the same time.
 fn can_be_with(note: &Note, other: &Note) -> bool {
-    note.alternatives()
-        .iter()
-        .any(|alternative| meets_some(alternative, other))
+    for alternative in note.alternatives() {
+        if meets_some(alternative, other) {
+            return true;
+        }
+    }
+    false
 }
 
 /// Whether two actors can be at these two points at the same time, by what their notes say.

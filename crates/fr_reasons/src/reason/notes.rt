@@ -207,14 +207,22 @@ pub fn note_told(
 
 /// Whether some line deletes the object.
 fn is_deleted(app: &App, object: ObjId) -> bool {
-    app.actors()
-        .iter()
-        .any(|actor| code_deletes(&actor.code, object))
+    for actor in app.actors() {
+        if code_deletes(&actor.code, object) {
+            return true;
+        }
+    }
+    false
 }
 
 /// Whether one of these lines deletes the object.
 fn code_deletes(code: &[Instr], object: ObjId) -> bool {
-    code.iter().any(|instr| deletes(instr, object))
+    for instr in code {
+        if deletes(instr, object) {
+            return true;
+        }
+    }
+    false
 }
 
 /// Whether the line deletes the object.

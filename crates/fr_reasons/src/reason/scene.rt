@@ -50,9 +50,12 @@ pub(super) fn says_of(app: &App, says: &Alternative, subject: Subject) -> bool {
 
 /// Whether the note says something of the subject.
 fn note_says_of(app: &App, note: &Note, subject: Subject) -> bool {
-    note.alternatives()
-        .iter()
-        .any(|says| says_of(app, says, subject))
+    for says in note.alternatives() {
+        if says_of(app, says, subject) {
+            return true;
+        }
+    }
+    false
 }
 
 impl Site<'_> {
