@@ -1,6 +1,11 @@
 -- One more entry of a list, and one more thing that it means.
 use Rattle.std.proofs.Common.{◌≡◌, ℕ, zero, suc, ◌+◌, ◌<◌, List, [], ◌∷◌, ◌++◌, Some, All, length, get_or, map, take, sym, ap, ◌∙◌, subst, arith}
-use Rattle.fr_cert.proofs.Terms.{All-cons, All-nil, map-id, take_more, get_or-take, length-take-le, Data, Items, no_items, item, get_item, items_view, view, Value, get_item_within, EachEntry}
+use Rattle.fr_cert.proofs.Terms.{All-cons, All-nil, map-id, take_more, get_or-take, length-take-le, Data, Items, no_items, item, items_len, get_item, items_view, view, Value, get_item_within}
+use Rattle.fr_cert.proofs.Terms.{items_len-items_view, EachEntry}
+
+-- how many entries there are
+pub view_length : (vs : List Value) → items_len (items_view vs) ≡ length vs
+view_length vs = items_len-items_view vs
 
 pub entry_push : {A : Type 0} (M : Data → A → Type 0) (vs : List Value) (v : Value) (xs : List A) (x : A) → EachEntry M (items_view vs) xs → M (view v) x → EachEntry M (items_view (vs ++ v ∷ [])) (xs ++ x ∷ [])
 entry_push M [] v [] x h p = (p, tt)

@@ -14,42 +14,32 @@ pub(crate) struct Row {
     pub named: Option<Key>,
     /// What else can be wrong behind the key.
     pub reason: &'static str,
-    /// The sort of guards that has the key.
-    pub sort: Option<Sort>,
-}
-
-/// The sorts of guards, in the order in which a reader of a certificate looks for them.
-#[derive(Clone, Copy, PartialEq, Eq, PartialOrd, Ord)]
-pub(crate) enum Sort {
-    Sole,
-    Mutex,
-    Turn,
 }
 
 /// The rows of the table, a row a line.
 macro_rules! rows {
-    ($($around:literal $key:literal $wanted:literal, $named:expr, $reason:literal, $sort:expr;)*) => {
-        [$(Row { around: $around, key: $key, wanted: $wanted, named: $named, reason: $reason, sort: $sort }),*]
+    ($($around:literal $key:literal $wanted:literal, $named:expr, $reason:literal;)*) => {
+        [$(Row { around: $around, key: $key, wanted: $wanted, named: $named, reason: $reason }),*]
     };
 }
 
 static ROWS: [Row; 16] = rows! {
-    "" "version" "1 or 2", None, "", None;
-    "" "ends" "a list", None, "", None;
-    "" "notes" "a list", None, "", None;
-    "ends" "buffer" "an object's name", Some(Key::Object), "", None;
-    "ends" "end" "writer or reader", None, "", None;
-    "ends" "guard" "critical, or an object with sole, mutex or turn", None, "; wanted: a number of 64 bits with a sign", None;
-    "guard" "sole" "an actor's name", Some(Key::Actor), "", Some(Sort::Sole);
-    "guard" "mutex" "an object's name", Some(Key::Object), "", Some(Sort::Mutex);
-    "guard" "turn" "a variable's name", Some(Key::Variable), "", Some(Sort::Turn);
-    "guard" "values" "an object with a number at each name", Some(Key::Actor), "", Some(Sort::Turn);
-    "notes" "held" "an object with a number at each name", Some(Key::Object), "; wanted: 1 to 255", None;
-    "notes" "crit" "a whole number", None, "; wanted: 0 to 255", None;
-    "notes" "susp" "a whole number", None, "; wanted: 0 to 255", None;
-    "notes" "live" "a list of names", Some(Key::Object), " is listed twice", None;
-    "notes" "dead" "a list of names", Some(Key::Object), " is listed twice", None;
-    "notes" "range" "an object with a list of two numbers at each name", Some(Key::Variable), ": the first number is above the second", None;
+    "" "version" "1 or 2", None, "";
+    "" "ends" "a list", None, "";
+    "" "notes" "a list", None, "";
+    "ends" "buffer" "an object's name", Some(Key::Object), "";
+    "ends" "end" "writer or reader", None, "";
+    "ends" "guard" "critical, or an object with sole, mutex or turn", None, "; wanted: a number of 64 bits with a sign";
+    "guard" "sole" "an actor's name", Some(Key::Actor), "";
+    "guard" "mutex" "an object's name", Some(Key::Object), "";
+    "guard" "turn" "a variable's name", Some(Key::Variable), "";
+    "guard" "values" "an object with a number at each name", Some(Key::Actor), "";
+    "notes" "held" "an object with a number at each name", Some(Key::Object), "; wanted: 1 to 255";
+    "notes" "crit" "a whole number", None, "; wanted: 0 to 255";
+    "notes" "susp" "a whole number", None, "; wanted: 0 to 255";
+    "notes" "live" "a list of names", Some(Key::Object), " is listed twice";
+    "notes" "dead" "a list of names", Some(Key::Object), " is listed twice";
+    "notes" "range" "an object with a list of two numbers at each name", Some(Key::Variable), ": the first number is above the second";
 };
 
 /// The row of a key.
@@ -75,7 +65,9 @@ pub(crate) fn has_keys(around: &str) -> bool {
 
 /// Whether the guard has a key of a sort of guard that is listed before that of the row.
 pub(crate) fn is_after_another(row: &Row, guard: &Value) -> bool {
-    ROWS.iter().any(|other| {
-        other.sort.is_some() && other.sort < row.sort && guard.get(other.key).is_some()
-    })
+    match row.key {
+        "mutex" => guard.get("sole").is_some(),
+        "turn" | "values" => guard.get("sole").or(guard.get("mutex")).is_some(),
+        _ => false,
+    }
 }
