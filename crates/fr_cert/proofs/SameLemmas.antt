@@ -1,4 +1,4 @@
--- What a value is, by what is found in it.
+-- What a value is, by what is found in it, and when two lists of values read the same.
 use Rattle.std.proofs.Common.{◌≡◌, ◌<◌, ◌+◌, ℕ, ℤ, List, Some, None, option_and_then, length, get_or, drop, sym, ap, ◌∙◌}
 use Rattle.fr_cert.proofs.Terms.{same_Some, none-some, Num, unsigned, negative, float, Data, null, boolean, number, string, array, object, item, as_number, as_str}
 use Rattle.fr_cert.proofs.Terms.{as_u64, as_i64, items_view, view, Value}

@@ -1,5 +1,5 @@
--- What a step asks of the application and of what is known: each number is one of 64 bits, and some state can have both
--- alternatives.
+-- What a step asks of the application and of what is known: an object that a call names is there, and some state can have
+-- both alternatives.
 use Rattle.std.proofs.Common.{◌≡◌, ◌<◌, length, Option, Some, None, subst}
 use Rattle.std.specs.Prelude.{IfSome}
 use Rattle.fr_notes.proofs.Terms.{Instr, Calls, On, ObjectCall, Program, NamesThings, Alternative, AlternativeFits, Known, KnownFits, AreCompatible, IsPossible}

@@ -63,7 +63,8 @@ pub(crate) fn has_keys(around: &str) -> bool {
     ROWS.iter().any(|row| row.around == around)
 }
 
-/// Whether the guard has a key of a sort of guard that is listed before that of the row.
+/// Whether the guard has a key of a sort of guard that is listed before that of the row: `sole` comes first, then `mutex`, and
+/// last `turn` with `values`.
 pub(crate) fn is_after_another(row: &Row, guard: &Value) -> bool {
     match row.key {
         "mutex" => guard.get("sole").is_some(),

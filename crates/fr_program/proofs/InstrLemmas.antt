@@ -1,4 +1,4 @@
--- What holds of each instruction of each actor, by actors and by the application's places.
+-- What holds of each instruction of an actor's code holds of each instruction at a place of the application.
 use Rattle.std.proofs.Common.{◌≡◌, ◌<◌, ◌≤◌, ℕ, List, length, map, get_or, Some, inl, inr, subst, sym, ap, ◌∙◌, All, slice_get}
 use Rattle.std.proofs.lemmas.List.{get_or-map, get_or_past}
 use Rattle.std.proofs.lemmas.Option.{slice_get_within, get_or_from_slice_get, none-some}
@@ -25,7 +25,7 @@ instr_at-within P a pc i at =
     absurd (none-some i (ap (λ (x : ActorOf). slice_get x.code pc) (sym (get_or_past P.actors a no_actor past)) ∙ at)) in
     elim (cases_lt a (length P.actors)) [ inl below ↦ below | inr past ↦ none past ]
 
--- from the places of an actor to its code, and back
+-- what holds of each instruction of an actor's code holds at each place of the actor
 pub places-from_code : (P : Program) (F : ActorOf → Instr → Type 0) (a : ℕ) (actor : ActorOf) → actor_at P a ≡ actor →
     All (F actor) actor.code → (pc : ℕ) (i : Instr) → instr_at P a pc ≡ Some i → F (actor_at P a) i
 places-from_code P F a actor is each =
