@@ -26,17 +26,29 @@ def given(chance, token):
     return chance.choice([token, token, f"{number} + 0", f"({number + 2} - 2)", hex(number)])
 
 
-def with_parameters(chance, body, names):
-    """The body with parameters in place of some of its tokens, and the tokens in whose place they are."""
-    tokens, places = TOKEN.findall(body), {}
-    kept = {token for token in tokens if chance.random() < 0.3}
+def another(chance, token):
+    """A value that may mean something else than the token: for a number, for a shared variable, for a function."""
+    if NUMBER.fullmatch(token):
+        return str(chance.choice([int(token, 0), 0, 1, 2]))
+    return chance.choice([token, {"s": "t", "t": "s", "f": "g", "g": "f", "ONE": "TWO", "TWO": "ONE"}.get(token, token)])
+
+
+def places_in(chance, tokens, names):
+    """The tokens in whose place there is a parameter, and where that is."""
+    places, kept = {}, {token for token in tokens if chance.random() < 0.3}
     for at, token in enumerate(tokens):
         if token not in kept and chance.random() < 0.8 and may_be_given(tokens, at, names):
             places.setdefault(token, []).append(at)
-    for number, token in enumerate(places):
+    return places
+
+
+def filled(tokens, places, words):
+    """The body with these words in the places, one for each token there."""
+    tokens = list(tokens)
+    for word, token in zip(words, places):
         for at in places[token]:
-            tokens[at] = f"p_{number}"
-    return "".join(tokens), list(places)
+            tokens[at] = word
+    return "".join(tokens)
 
 
 def outside_names(text):
@@ -45,19 +57,22 @@ def outside_names(text):
 
 
 def with_bodies(chance, text):
-    """A source in which some of the actors of `text` are there twice; and one that means the same, whose actors are made of bodies with
-    parameters."""
+    """A source in which some of the actors of `text` are there a second time, with other values; and one that means the same, whose actors are
+    made of bodies with parameters."""
     names, plain, made, end = outside_names(text), [], [], 0
     for number, actor in enumerate(ACTOR.finditer(text)):
         kind, name, body = actor.groups()
-        changed, values = with_parameters(chance, body, names)
-        for part in (plain, made):
-            part.append(text[end:actor.start()])
-        end, copies = actor.end(), [name] if chance.random() < 0.6 else [name, f"{name}_again"]
-        plain += [f"{kind} {copy} {{\n{body}}}\n" for copy in copies]
-        if values:
-            made.append(f"{kind} body_{number}({', '.join(f'p_{it}' for it in range(len(values)))}) {{\n{changed}}}\n")
-            made += [f"{kind} {copy} = body_{number}({', '.join(given(chance, it) for it in values)});\n" for copy in copies]
-        else:
-            made += plain[-len(copies):]
+        tokens = TOKEN.findall(body)
+        places = places_in(chance, tokens, names)
+        words = [f"p_{it}" for it in range(len(places))]
+        plain.append(text[end:actor.start()])
+        made.append(text[end:actor.start()])
+        end, actors = actor.end(), [(name, list(places))]
+        if chance.random() < 0.4:
+            actors.append((f"{name}_again", [another(chance, it) for it in places]))
+        if places:
+            made.append(f"{kind} body_{number}({', '.join(words)}) {{\n{filled(tokens, places, words)}}}\n")
+        for copy, values in actors:
+            plain.append(f"{kind} {copy} {{\n{filled(tokens, places, values)}}}\n")
+            made.append(f"{kind} {copy} = body_{number}({', '.join(given(chance, it) for it in values)});\n" if places else plain[-1])
     return "".join(plain) + text[end:], "".join(made) + text[end:]
