@@ -26,8 +26,8 @@ use Rattle.fr_refuter.specs.declared.answer.Finding.{Finding}
 use Rattle.fr_refuter.specs.declared.answer.Finding.TheVariants.{Breach as FoundBreach, Deadlock as FoundDeadlock, Safe, Free, Unknown}
 use Rattle.fr_refuter.specs.Refutes.{IsFound, Suits}
 use Rattle.fr_formats.specs.Answers.{status_of as kind_status}
-use Rattle.fr_request.specs.declared.request.Judged.{Judged as Named}
-use Rattle.fr_request.specs.declared.request.Judged.TheVariants.{One, Listed}
+use Rattle.fr_request.specs.declared.request.CheckedFiles.{CheckedFiles as Named}
+use Rattle.fr_request.specs.declared.request.CheckedFiles.TheVariants.{One, Listed}
 use Rattle.fr_outcome.specs.Checked.{IsFreeText, IsSafeText}
 use Rattle.fr_outcome.specs.Judged.{JudgedOf}
 

@@ -33,10 +33,10 @@ use Rattle.fr_list.specs.Beside.{beside}
 use Rattle.fr_wording.specs.Listing.{points_text}
 use Rattle.fr_wording.specs.declared.sources.Sources.{Sources}
 use Rattle.fr_request.specs.declared.detail.Detail.{Detail}
-use Rattle.fr_request.specs.declared.detail.Detail.TheVariants.{Told}
+use Rattle.fr_request.specs.declared.detail.Detail.TheVariants.{Relevant}
 use Rattle.fr_request.specs.declared.format.Format.{Format}
-use Rattle.fr_request.specs.declared.request.Judged.{Judged as Named}
-use Rattle.fr_request.specs.declared.request.Judged.TheVariants.{One, Listed}
+use Rattle.fr_request.specs.declared.request.CheckedFiles.{CheckedFiles as Named}
+use Rattle.fr_request.specs.declared.request.CheckedFiles.TheVariants.{One, Listed}
 use Rattle.fr_request.specs.declared.request.Request.{Request}
 use Rattle.fr_request.specs.declared.request.Request.TheVariants.{Check, Find, Prove, Points, Refute, Run, Translate, Follow}
 use Rattle.fr_outcome.specs.declared.answer.What.{What}
@@ -55,7 +55,7 @@ use Rattle.fr_findings.specs.Words.{AreWords}
 -- what is asked for, and where a machine reads the answer never less than what matters
 abbrev pub detail_in : Option Format → Option Detail → Option Detail
 detail_in None detail = detail
-detail_in (Some format) None = Some Told
+detail_in (Some format) None = Some Relevant
 detail_in (Some format) (Some detail) = Some detail
 
 -- the verdict on the application and the certificate in these two files

@@ -20,7 +20,7 @@ pub(crate) fn detail_in(format: Option<Format>, detail: Option<Detail>) -> Optio
     ensures { result ≡ detail_in format detail }
 {
     match (format, detail) {
-        (Some(_), None) => Some(Detail::Told),
+        (Some(_), None) => Some(Detail::Relevant),
         _ => detail,
     }
 }

@@ -6,7 +6,7 @@ use Rattle.fr_cert.proofs.Terms.{none_below, later_value, key_text, names_in, Is
 use Rattle.fr_cert.proofs.Terms.{each_tree}
 use Rattle.fr_cert.specs.Keys.{field}
 use Rattle.fr_cert.specs.declared.key.Key.TheVariants as key
-use Rattle.fr_cert.specs.declared.key.Place.TheVariants as place
+use Rattle.fr_cert.specs.declared.key.Keyed.TheVariants as place
 use Rattle.fr_cert.specs.Written.{with_values}
 use Rattle.fr_cert.proofs.GivenLemmas.{given, given-cons, put_named, actor_place, object_place, variable_place}
 use Rattle.fr_cert.proofs.NotesAgain.{integer_again, known_more, none_known}

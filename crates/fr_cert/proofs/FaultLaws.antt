@@ -6,9 +6,9 @@ use Rattle.fr_cert.proofs.Terms.{place_of, Note, Certificate, Sole, ByMutex, InC
 use Rattle.fr_cert.proofs.Terms.{IsList, EachEntry, EachMember, IsNamed, Names, AreNames, IsDepth, AreEnds, IsSpan, NoteText, IsNoteText, NoteTextFits, IsTurnNumber, AreTurnValues, IsAlternative}
 use Rattle.fr_cert.proofs.Terms.{IsPlainNote, IsNote, AreNotes, IsGuardObject, IsGuard, IsEndName, IsEnd, IsFitEnd, AreFitEnds, IsVersion, IsCertificate, Means, InKeys, InField, InNeeded, InObject}
 use Rattle.fr_cert.proofs.Terms.{InList, InEntries, InMembers, InNamed, InDepth, InName, IsTwice, InNames, InEnds, InSpan, InKeysOfNote, InAlternative, InAlternatives, InNote, InNotes, InTurnValue}
-use Rattle.fr_cert.proofs.Terms.{InGuardObject, InGuard, InEndName, InKeysOfEnd, InEnd, InAllEnds, InVersion, InCertificate, InTree, InBytes, IsPresent, Key, Place, CertFault}
+use Rattle.fr_cert.proofs.Terms.{InGuardObject, InGuard, InEndName, InKeysOfEnd, InEnd, InAllEnds, InVersion, InCertificate, InTree, InBytes, IsPresent, Key, Keyed, CertFault}
 use Rattle.fr_cert.specs.declared.key.Key.TheVariants as key
-use Rattle.fr_cert.specs.declared.key.Place.TheVariants as place
+use Rattle.fr_cert.specs.declared.key.Keyed.TheVariants as place
 use Rattle.fr_cert.specs.declared.fault.CertFault.TheVariants as fault
 use Rattle.fr_cert.proofs.Laws.{both, never, one_at, one_name, one_text, one_version, one_end, one_end_value, unknown, apart, list_apart, object_apart}
 use Rattle.fr_cert.proofs.EntryLemmas.{each_both}
@@ -27,7 +27,7 @@ FreeIn {A} M F = (ms : Members) (x : A) (f : CertFault) → M ms x → F ms f �
 abbrev FreeOf : {A : Type 0} → (Items → A → Type 0) → (Items → CertFault → Type 0) → Type 0
 FreeOf {A} M F = (ds : Items) (x : A) (f : CertFault) → M ds x → F ds f → ⊥
 
-free_keys : (p : Place) (ms : Members) (f : CertFault) → AreKnown p ms → InKeys p ms f → ⊥
+free_keys : (p : Keyed) (ms : Members) (f : CertFault) → AreKnown p ms → InKeys p ms f → ⊥
 free_keys p ms f h s = false≢true (sym s.3 ∙ h s.0 s.1 s.2)
 
 free_field : {A : Type 0} (k : Key) (M : Data → A → Type 0) (F : Data → CertFault → Type 0) → Free M F → FreeIn (At k M) (InField k F)

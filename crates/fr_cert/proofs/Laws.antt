@@ -4,12 +4,12 @@ use Rattle.fr_cert.proofs.Terms.{false≢true, Decides-eqb, same_Some, bytes_eq-
 use Rattle.fr_cert.proofs.Terms.{as_object, as_str, read, Program, NamesOf, place_of, Note, Certificate, value_for, Guard, Sole, ByMutex, InCritical, Turn, EndGuard, RisesFrom, rises_whole}
 use Rattle.fr_cert.proofs.Terms.{none_below, first_value, later_value, AreKnown, is_key_of, key_text, integer_of, end_at, names_in, At, OrDefault, IsObject, IsList, EachEntry, EachMember, IsNamed}
 use Rattle.fr_cert.proofs.Terms.{Names, AreNames, IsDepth, AreEnds, IsSpan, NoteText, IsNoteText, note_said, IsAlternative, IsPlainNote, IsNote, AreNotes, IsTurnNumber, AreTurnValues, IsGuardObject}
-use Rattle.fr_cert.proofs.Terms.{IsGuard, IsEndName, IsEnd, IsFitEnd, AreFitEnds, IsVersion, IsCertificate, IsTree, Means, Key, Place}
+use Rattle.fr_cert.proofs.Terms.{IsGuard, IsEndName, IsEnd, IsFitEnd, AreFitEnds, IsVersion, IsCertificate, IsTree, Means, Key, Keyed}
 use Rattle.fr_program.specs.declared.instr.End.{End as BufferEnd}
 use Rattle.fr_program.specs.declared.instr.End.TheVariants.{Writer, Reader}
 use Rattle.fr_cert.specs.Keys.{field}
 use Rattle.fr_cert.specs.declared.key.Key.TheVariants as key
-use Rattle.fr_cert.specs.declared.key.Place.TheVariants as place
+use Rattle.fr_cert.specs.declared.key.Keyed.TheVariants as place
 
 -- two values that one place has are the same
 pub both : {A : Type 0} (o : Option A) (x y : A) → o ≡ Some x → o ≡ Some y → x ≡ y
@@ -187,7 +187,7 @@ one_turn N ms x y h g =
     rising_same x y 0 (rises_whole x h.2) (rises_whole y g.2) (λ a. h.3 a ∙ sym (g.3 a ∙ ap (λ vs. value_for vs a) given))
 
 -- an object has no key that is unknown at its place
-pub unknown : (p : Place) (k : Key) (ms : Members) (d : Data) → AreKnown p ms → field k ms ≡ Some d → is_key_of p (key_text k) ≡ false → ⊥
+pub unknown : (p : Keyed) (k : Key) (ms : Members) (d : Data) → AreKnown p ms → field k ms ≡ Some d → is_key_of p (key_text k) ≡ false → ⊥
 unfolding field
 unknown p k ms d h e hidden = false≢true (sym hidden ∙ h (key_text k) d e)
 

@@ -4,13 +4,13 @@ use Rattle.fr_cert.proofs.Terms.{tied_itself, slice_cmp, AllByRecursion, list_al
 use Rattle.fr_cert.proofs.Terms.{get_or-map, length-map, All-head, All-tail, exact_bytes, same_Some, Data, number, unsigned, string, array, object, Items, no_items, item, Members, no_members, member}
 use Rattle.fr_cert.proofs.Terms.{put, of_integer, get_member, as_integer, get_member-put, get_member-put_other, Program, VariableOf, ObjectOf, no_variable, no_object, variable_at, IsFaultless, Kind}
 use Rattle.fr_cert.proofs.Terms.{Mutex, Recursive, place_of, kind_of, Claim, NotHeld, Alive, Gone, HeldTimes, Alternative, Note, AlternativeFits, NoteFits, CanClaim, most_depth, claim_by, AreKnown}
-use Rattle.fr_cert.proofs.Terms.{is_key_of, key_text, names_in, Key, Place, OrDefault, IsObject, IsList, EachEntry, EachMember, IsNamed, Names, AreNames, IsDepth, IsSpan, NoteText, IsNoteText}
+use Rattle.fr_cert.proofs.Terms.{is_key_of, key_text, names_in, Key, Keyed, OrDefault, IsObject, IsList, EachEntry, EachMember, IsNamed, Names, AreNames, IsDepth, IsSpan, NoteText, IsNoteText}
 use Rattle.fr_cert.proofs.Terms.{IsInside, count_for, has, claim_at, range_at, IsPlainNote, IsNote, range_tree, is_declared, with_named, with_count, is_alive, is_gone, is_default, with_field}
 use Rattle.fr_cert.proofs.Terms.{note_tree, each_tree, version_of}
 use Rattle.std.proofs.lemmas.List.FromFn.{fill_by_all}
 use Rattle.fr_cert.specs.Keys.{field}
 use Rattle.fr_cert.specs.declared.key.Key.TheVariants as key
-use Rattle.fr_cert.specs.declared.key.Place.TheVariants as place
+use Rattle.fr_cert.specs.declared.key.Keyed.TheVariants as place
 use Rattle.fr_cert.specs.Written.{with_each, names_where, alternative_tree}
 use Rattle.fr_cert.proofs.GivenLemmas.{given, put_if, put_all, whole, variable_place, object_place}
 
@@ -393,7 +393,7 @@ object_found M no_members [] h = refl
 object_found M no_members (x ∷ xs) h = absurd h
 object_found M (member name d more) xs h = (member name d more, refl, h)
 
-pub known_more : (p : Place) (l : List ℕ) (e : Data) (ms : Members) → IsTrue (is_key_of p l) → AreKnown p ms → AreKnown p (member l e ms)
+pub known_more : (p : Keyed) (l : List ℕ) (e : Data) (ms : Members) → IsTrue (is_key_of p l) → AreKnown p ms → AreKnown p (member l e ms)
 known_more p l e ms known rest k d found =
     elim (slice_cmp nat_cmp k l) as (λ o. o ≡ slice_cmp nat_cmp k l → match_ordering o (get_member k ms) (Some e) (get_member k ms) ≡ Some d → IsTrue (is_key_of p k)) [
       | Less ↦ λ _ more. rest k d more
@@ -401,10 +401,10 @@ known_more p l e ms known rest k d found =
       | Greater ↦ λ _ more. rest k d more
     ] refl found
 
-pub none_known : (p : Place) → AreKnown p no_members
+pub none_known : (p : Keyed) → AreKnown p no_members
 none_known p k d found = cc
 
-known_put : (p : Place) (l : List ℕ) (e : Data) (ms : Members) → IsTrue (is_key_of p l) → AreKnown p ms → AreKnown p (put l e ms)
+known_put : (p : Keyed) (l : List ℕ) (e : Data) (ms : Members) → IsTrue (is_key_of p l) → AreKnown p ms → AreKnown p (put l e ms)
 known_put p l e ms known rest k d at = go (slice_cmp nat_cmp k l) refl
   where
     go : (o : Ordering) → slice_cmp nat_cmp k l ≡ o → IsTrue (is_key_of p k)
@@ -412,7 +412,7 @@ known_put p l e ms known rest k d at = go (slice_cmp nat_cmp k l) refl
     go Equal is = subst (λ t. IsTrue (is_key_of p t)) (sym (exact_bytes k l is)) known
     go Greater is = rest k d (sym (put_other k l Greater e ms is (λ e. cc)) ∙ at)
 
-known_fields : (p : Place) (xs : List (Key × Data)) → AllByRecursion (λ x. IsTrue (is_key_of p (key_text x.0))) xs → AreKnown p (fields xs)
+known_fields : (p : Keyed) (xs : List (Key × Data)) → AllByRecursion (λ x. IsTrue (is_key_of p (key_text x.0))) xs → AreKnown p (fields xs)
 known_fields p [] h = none_known p
 known_fields p (x ∷ xs) h = go (is_default x.1) (known_fields p xs h.1)
   where

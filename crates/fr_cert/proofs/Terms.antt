@@ -65,7 +65,7 @@ pub use Rattle.fr_cert.specs.Faults.{InKeys, InField, InNeeded, InObject, InList
 pub use Rattle.fr_cert.specs.Present.{InKeysOfNote, InAlternative, InAlternatives, InNote, InNotes, InTurnValue, InGuardObject, InGuard, InEndName, InKeysOfEnd, InEnd, InAllEnds, InVersion}
 pub use Rattle.fr_cert.specs.Present.{InCertificate, InTree, InBytes, IsPresent}
 pub use Rattle.fr_cert.specs.declared.key.Key.{Key}
-pub use Rattle.fr_cert.specs.declared.key.Place.{Place}
+pub use Rattle.fr_cert.specs.declared.key.Keyed.{Keyed}
 pub use Rattle.fr_cert.specs.declared.fault.CertFault.{CertFault}
 pub use Rattle.fr_cert.specs.Path.{PathStep, step_of, step_text, more_text, at, path_text}
 pub use Rattle.fr_cert.specs.Views.{HasNumbers, named_of, count_of, number_of, text_of, refused_as, says}

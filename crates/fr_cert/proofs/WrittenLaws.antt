@@ -4,7 +4,7 @@ use Rattle.fr_cert.proofs.Terms.{list_all, Data, number, unsigned, array, no_mem
 use Rattle.fr_cert.proofs.Terms.{IsTree, Means, most_bytes, each_tree, note_tree, end_tree, version_of}
 use Rattle.fr_cert.specs.Keys.{field}
 use Rattle.fr_cert.specs.declared.key.Key.TheVariants as key
-use Rattle.fr_cert.specs.declared.key.Place.TheVariants as place
+use Rattle.fr_cert.specs.declared.key.Keyed.TheVariants as place
 use Rattle.fr_cert.specs.Written.{cert_tree}
 use Rattle.fr_cert.proofs.NotesAgain.{known_more, none_known, notes_again}
 use Rattle.fr_cert.proofs.EndsAgain.{ends_again}

@@ -23,7 +23,7 @@ use Rattle.fr_cert.specs.Path.{PathStep, key, at}
 use Rattle.fr_cert.specs.Keys.{key_text, is_key_of, field, integer_of, end_at}
 use Rattle.fr_cert.specs.Shapes.{Names}
 use Rattle.fr_cert.specs.declared.key.Key.{Key}
-use Rattle.fr_cert.specs.declared.key.Place.{Place}
+use Rattle.fr_cert.specs.declared.key.Keyed.{Keyed}
 use Rattle.fr_cert.specs.declared.fault.CertFault.{CertFault}
 use Rattle.fr_cert.specs.declared.fault.CertFault.TheVariants as fault
 
@@ -55,7 +55,7 @@ abbrev pub Within : PathStep → (CertFault → Type 0) → CertFault → Type 0
 Within s F f = (inner : CertFault) × F inner × (f ≡ deeper s inner)
 
 -- the object has a key that is none of its place
-abbrev pub InKeys : Place → Members → CertFault → Type 0
+abbrev pub InKeys : Keyed → Members → CertFault → Type 0
 InKeys place ms f = (k : List ℕ) × (d : Data) × (get_member k ms ≡ Some d) × (is_key_of place k ≡ false) × Departs (key k ∷ []) f
 
 -- the fault is in what the object holds at the key, if it has it

@@ -16,8 +16,8 @@ use Rattle.serde_json.specs.Find.{get_member, get_item, as_number, as_integer}
 pub use Rattle.fr_instr.specs.AppNames.{names_in}
 use Rattle.fr_cert.specs.declared.key.Key.{Key}
 use Rattle.fr_cert.specs.declared.key.Key.TheVariants.{Version, Ends, Notes, Buffer, End, Guard, Sole, Mutex, Turn, Values, Held, Crit, Susp, Live, Dead, Range}
-use Rattle.fr_cert.specs.declared.key.Place.{Place}
-use Rattle.fr_cert.specs.declared.key.Place.TheVariants as place
+use Rattle.fr_cert.specs.declared.key.Keyed.{Keyed}
+use Rattle.fr_cert.specs.declared.key.Keyed.TheVariants as place
 
 -- the text of a key
 abbrev pub key_text : Key → List ℕ
@@ -43,7 +43,7 @@ abbrev pub spells : List ℕ → Key → Bool
 spells text k = bytes_eq text (key_text k)
 
 -- a key that the whole certificate, an end, each kind of guard, or a note may have
-abbrev pub is_key_of : Place → List ℕ → Bool
+abbrev pub is_key_of : Keyed → List ℕ → Bool
 is_key_of place.Certificate t = spells t Version || spells t Ends || spells t Notes
 is_key_of place.End t = spells t Buffer || spells t End || spells t Guard
 is_key_of place.Sole t = spells t Sole
@@ -52,7 +52,7 @@ is_key_of place.Turn t = spells t Turn || spells t Values
 is_key_of place.Note t = spells t Held || spells t Crit || spells t Susp || spells t Live || spells t Dead || spells t Range
 
 -- each key of the object is known there
-abbrev pub AreKnown : Place → Members → Type 0
+abbrev pub AreKnown : Keyed → Members → Type 0
 AreKnown place ms = (k : List ℕ) (d : Data) → get_member k ms ≡ Some d → IsTrue (is_key_of place k)
 
 -- what an object holds at a key

@@ -40,7 +40,7 @@ use Rattle.fr_ends.specs.Fits.{AreRising, EndFits, AreOfOneEnd}
 use Rattle.fr_cert.specs.Keys.{AreKnown, integer_of, names_in}
 use Rattle.fr_cert.specs.Shapes.{At, AtOrDefault, IsObject, IsList, EachEntry, EachMember, IsNamed, Names, AreNames, IsDepth, IsSpan}
 use Rattle.fr_cert.specs.declared.key.Key.TheVariants as key
-use Rattle.fr_cert.specs.declared.key.Place.TheVariants as place
+use Rattle.fr_cert.specs.declared.key.Keyed.TheVariants as place
 
 -- a note as its object has it: how often objects are held, by number, the two depths, the numbers of live and of dead
 -- objects, and both ends of ranges of variables, by number

@@ -10,7 +10,7 @@ ghost use Rattle.fr_cert.specs.Present.{InKeysOfEnd, InEnd};
 
 use crate::fault::CertFault;
 use crate::guard::GuardValue;
-use crate::key::{Key, Place};
+use crate::key::{Key, Keyed};
 use crate::names::{Name, Thing};
 use crate::path::Path;
 use crate::reader::{Entries, Entry, Reader, needed};
@@ -55,7 +55,7 @@ fn end_of(scope: &Scope, object: &Map<String, Value>) -> Result<EndGuard, CertFa
     ensures err { IfErr result
         (Standing (InKeysOfEnd (names_in scope.now) (members_view object.now.entries))) }
 {
-    known_keys(scope.alloc, object, Place::End)?;
+    known_keys(scope.alloc, object, Keyed::End)?;
     let buffer = needed(scope, object, Key::Buffer, &Name(Thing::Object))?;
     let end = needed(scope, object, Key::End, &EndText)?;
     let guard = needed(scope, object, Key::Guard, &GuardValue)?;

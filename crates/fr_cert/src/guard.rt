@@ -12,7 +12,7 @@ ghost use Rattle.fr_cert.specs.Faults.{Standing, InKeys, InNeeded, InName};
 ghost use Rattle.fr_cert.specs.Present.{Has, InTurn, InGuardObject};
 
 use crate::fault::CertFault;
-use crate::key::{Key, Place};
+use crate::key::{Key, Keyed};
 use crate::names::{Name, Thing, named};
 use crate::path::Path;
 use crate::reader::{Member, Members, Reader, needed};
@@ -125,7 +125,7 @@ fn turn_of(scope: &Scope, object: &Map<String, Value>) -> Result<Guard, CertFaul
     ensures err { IfErr result
         (Standing (InTurn (names_in scope.now) (members_view object.now.entries))) }
 {
-    known_keys(scope.alloc, object, Place::Turn)?;
+    known_keys(scope.alloc, object, Keyed::Turn)?;
     let variable = needed(scope, object, Key::Turn, &Name(Thing::Variable))?;
     let values = needed(scope, object, Key::Values, &TurnValues)?;
     Ok(Guard::Turn(VarId(variable), values))
@@ -136,10 +136,10 @@ fn sole_of(scope: &Scope, object: &Map<String, Value>) -> Result<Guard, CertFaul
     ensures ok { IfOk result
         (λ guard. IsGuardObject (names_in scope.now) (members_view object.now.entries) (guard_of guard)) }
     ensures err { IfErr result
-        (Standing (λ f. InKeys Place.Sole (members_view object.now.entries) f
+        (Standing (λ f. InKeys Keyed.Sole (members_view object.now.entries) f
         ⊎ InNeeded Key.Sole (InName (names_in scope.now).actors) (members_view object.now.entries) f)) }
 {
-    known_keys(scope.alloc, object, Place::Sole)?;
+    known_keys(scope.alloc, object, Keyed::Sole)?;
     let actor = needed(scope, object, Key::Sole, &Name(Thing::Actor))?;
     Ok(Guard::Sole(ActorId(actor)))
 }
@@ -149,10 +149,10 @@ fn mutex_of(scope: &Scope, object: &Map<String, Value>) -> Result<Guard, CertFau
     ensures ok { IfOk result
         (λ guard. IsGuardObject (names_in scope.now) (members_view object.now.entries) (guard_of guard)) }
     ensures err { IfErr result
-        (Standing (λ f. InKeys Place.Mutex (members_view object.now.entries) f
+        (Standing (λ f. InKeys Keyed.Mutex (members_view object.now.entries) f
         ⊎ InNeeded Key.Mutex (InName (names_in scope.now).objects) (members_view object.now.entries) f)) }
 {
-    known_keys(scope.alloc, object, Place::Mutex)?;
+    known_keys(scope.alloc, object, Keyed::Mutex)?;
     let mutex = needed(scope, object, Key::Mutex, &Name(Thing::Object))?;
     Ok(Guard::Mutex(ObjId(mutex)))
 }

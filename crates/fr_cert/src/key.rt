@@ -49,9 +49,9 @@ impl Key {
     }
 }
 
-/// An object of a certificate that has keys of its own.
+/// A JSON object of a certificate, with keys of its own.
 #[derive(Clone, Copy)]
-pub(crate) enum Place {
+pub(crate) enum Keyed {
     Certificate,
     End,
     /// A guard of one actor alone.
@@ -65,7 +65,7 @@ pub(crate) enum Place {
 
 /// Whether a note's object may have this key.
 fn is_key_of_note(key: &str) -> bool
-    ensures { result ≡ is_key_of Place.Note key.now }
+    ensures { result ≡ is_key_of Keyed.Note key.now }
 {
     key == "held"
         || key == "crit"
@@ -76,15 +76,15 @@ fn is_key_of_note(key: &str) -> bool
 }
 
 /// Whether the object at this place may have this key.
-pub(crate) fn is_key_of(place: Place, key: &str) -> bool
+pub(crate) fn is_key_of(place: Keyed, key: &str) -> bool
     ensures { result ≡ is_key_of place key.now }
 {
     match place {
-        Place::Certificate => key == "version" || key == "ends" || key == "notes",
-        Place::End => key == "buffer" || key == "end" || key == "guard",
-        Place::Sole => key == "sole",
-        Place::Mutex => key == "mutex",
-        Place::Turn => key == "turn" || key == "values",
-        Place::Note => is_key_of_note(key),
+        Keyed::Certificate => key == "version" || key == "ends" || key == "notes",
+        Keyed::End => key == "buffer" || key == "end" || key == "guard",
+        Keyed::Sole => key == "sole",
+        Keyed::Mutex => key == "mutex",
+        Keyed::Turn => key == "turn" || key == "values",
+        Keyed::Note => is_key_of_note(key),
     }
 }

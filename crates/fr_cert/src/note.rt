@@ -13,7 +13,7 @@ ghost use Rattle.fr_cert.specs.Views.{text_of, refused_as};
 
 use crate::fault::CertFault;
 use crate::held::{Count, Depth};
-use crate::key::{Key, Place};
+use crate::key::{Key, Keyed};
 use crate::names::ObjectName;
 use crate::path::Path;
 use crate::ranges::NamedRange;
@@ -31,7 +31,7 @@ fn parts_of(scope: &Scope, object: &Map<String, Value>) -> Result<NoteParts, Cer
     ensures err { IfErr result
         (Standing (InKeysOfNote (names_in scope.now) (members_view object.now.entries))) }
 {
-    known_keys(scope.alloc, object, Place::Note)?;
+    known_keys(scope.alloc, object, Keyed::Note)?;
     let none = NoteParts::none(scope.alloc);
     Ok(NoteParts {
         held: optional(scope, object, Key::Held, none.held, &Members(Count))?,

@@ -13,7 +13,7 @@ ghost use Rattle.fr_cert.specs.declared.fault.CertFault.{CertFault as Refusal};
 
 use crate::end::FitEnds;
 use crate::fault::CertFault;
-use crate::key::{Key, Place};
+use crate::key::{Key, Keyed};
 use crate::notes::notes_in;
 use crate::reader::{Reader, needed};
 use crate::scope::Scope;
@@ -79,7 +79,7 @@ fn certificate_of(scope: &Scope, object: Map<String, Value>) -> Result<Certifica
     ensures err { IfErr result
         (Standing (InCertificate scope.now (members_view object.entries))) }
 {
-    known_keys(scope.alloc, &object, Place::Certificate)?;
+    known_keys(scope.alloc, &object, Keyed::Certificate)?;
     let version = needed(scope, &object, Key::Version, &Version)?;
     let ends = needed(scope, &object, Key::Ends, &FitEnds)?;
     let notes = needed_notes(scope, object, version)?;

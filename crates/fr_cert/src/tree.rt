@@ -7,7 +7,7 @@ ghost use Rattle.fr_cert.specs.Keys.{key_text, field, integer_of, AreKnown};
 ghost use Rattle.fr_cert.specs.Faults.{is_memory, Standing, Departs, deeper, InKeys, InInteger};
 
 use crate::fault::CertFault;
-use crate::key::{Key, Place, is_key_of};
+use crate::key::{Key, Keyed, is_key_of};
 use crate::path::{Path, Step};
 use serde_json::{Map, Value};
 use std::alloc::{AllocError, Global};
@@ -166,7 +166,7 @@ pub(crate) fn object_of(alloc: Global, value: Value) -> Result<Map<String, Value
 pub(crate) fn known_keys(
     alloc: Global,
     map: &Map<String, Value>,
-    place: Place,
+    place: Keyed,
 ) -> Result<(), CertFault>
     ensures ok { OnOk result (AreKnown place (members_view map.now.entries)) }
     ensures err { IfErr result (Standing (InKeys place (members_view map.now.entries))) }

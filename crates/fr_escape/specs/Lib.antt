@@ -1,7 +1,7 @@
 pub mod AsJson
 pub mod Html
 pub mod Markup
-pub mod Place
+pub mod Location
 pub mod Plain
 pub mod Steering
 pub mod Uri

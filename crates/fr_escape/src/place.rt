@@ -1,6 +1,6 @@
 // Where a fault is, in lines that can be shown.
 ghost use Rattle.std.specs.Prelude.{◌≡◌, ◌++◌, [], ◌∷◌, IfOk, OnOk, map, string_bytes};
-ghost use Rattle.fr_escape.specs.Place.{IsPlaceLine, place_line};
+ghost use Rattle.fr_escape.specs.Location.{IsPlaceLine, place_line};
 
 use crate::plain::push_plain;
 use std::alloc::{AllocError, Global};
@@ -9,14 +9,14 @@ use std::marker::Model;
 /// The lines that say where a fault is. Each begins with two blanks, so that none looks like an answer, and nothing in one steers a
 /// terminal.
 #[derive(Drop)]
-pub struct Place {
+pub struct Location {
     lines: Vec<String>,
 }
 
-impl Model for Place {
+impl Model for Location {
     ghost use Rattle.std.specs.Prelude.{All, List, String, string_bytes};
     ghost use Rattle.std.specs.declared.alloc.Global.{Global};
-    ghost use Rattle.fr_escape.specs.Place.{IsPlaceLine};
+    ghost use Rattle.fr_escape.specs.Location.{IsPlaceLine};
 
     ghost Value = { List (String Global) };
 
@@ -25,12 +25,12 @@ impl Model for Place {
     ghost invariant = { λ p. All (λ line. IsPlaceLine (string_bytes line)) p.lines.items };
 }
 
-impl Place {
+impl Location {
     /// No line.
-    fn new(alloc: Global) -> Place
+    fn new(alloc: Global) -> Location
         ensures { result ≡ [] }
     {
-        Place {
+        Location {
             lines: Vec::new(alloc),
         }
     }
@@ -63,10 +63,10 @@ fn line_of(alloc: Global, text: &str) -> Result<String, AllocError>
 
 /// The texts as the lines of a place, in order, with what would steer a terminal written as in a literal. Its error is that an allocation
 /// was refused.
-pub fn place_of_texts(alloc: Global, texts: &[String]) -> Result<Place, AllocError>
+pub fn place_of_texts(alloc: Global, texts: &[String]) -> Result<Location, AllocError>
     ensures { IfOk result (λ place. map (λ line. string_bytes line) place ≡ map (λ text. place_line (string_bytes text)) texts.now) }
 {
-    let mut place = Place::new(alloc);
+    let mut place = Location::new(alloc);
     for text in texts {
         place.add(line_of(alloc, text)?)?;
     }

@@ -14,8 +14,8 @@ use Rattle.fr_formats.specs.declared.answer.AnswerKind.{AnswerKind}
 use Rattle.fr_formats.specs.declared.answer.AnswerKind.TheVariants.{Yes, No, MayDeadlock, Breach, Deadlock, NoBreach, StatesLeft, Followed, FollowedApart, NotFollowed, NotListed, GaveUp, Refused, Machine}
 use Rattle.fr_formats.specs.declared.answer.AnswerShown.{AnswerShown}
 use Rattle.fr_formats.specs.declared.answer.WarningShown.{WarningShown}
-use Rattle.fr_formats.specs.declared.junit.Part.{Part}
-use Rattle.fr_formats.specs.declared.junit.Part.TheVariants.{Markup, Text, Number, Lines, Warnings}
+use Rattle.fr_formats.specs.declared.junit.Fragment.{Fragment}
+use Rattle.fr_formats.specs.declared.junit.Fragment.TheVariants.{Markup, Text, Number, Lines, Warnings}
 use Rattle.fr_formats.specs.Answers.{command_name, failed_rule, subject}
 
 unfoldable pub escaped : List ℕ → List ℕ
@@ -64,7 +64,7 @@ unfoldable pub warning_lines : List WarningShown → List ℕ
 warning_lines warnings = flat_map (λ w. line_of (string_bytes w.text)) warnings
 
 -- For private clauses: the bytes of a part.
-abbrev pub bytes_of : Part → List ℕ
+abbrev pub bytes_of : Fragment → List ℕ
 bytes_of (Markup markup) = markup.now
 bytes_of (Text given) = escaped given.now
 bytes_of (Number number) = decimal number

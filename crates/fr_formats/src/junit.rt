@@ -3,14 +3,14 @@ ghost use Rattle.std.specs.Prelude.{◌≡◌, ◌++◌, IfOk, OnOk, flat_map, s
 ghost use Rattle.fr_formats.specs.Junit.{bytes_of, case_begins, case_of, failed, head_of, head_with, is_broken as broken, is_failed as fails, junit_of, line_of, lines_of, outcome_of, output_of, warning_lines, warnings_of};
 
 use crate::answer::{AnswerKind, AnswerShown, WarningShown};
-use Part::{Lines, Markup, Number, Text, Warnings};
+use Fragment::{Lines, Markup, Number, Text, Warnings};
 use fr_escape::push_xml;
 use std::alloc::{AllocError, Global};
 
-/// A part of a text in XML: markup that is written in this crate, a text, which is escaped, a number, or texts with a
+/// A fragment of a text in XML: markup that is written in this crate, a text, which is escaped, a number, or texts with a
 /// line for each.
 #[derive(Clone, Copy)]
-enum Part<'a> {
+enum Fragment<'a> {
     Markup(&'a str),
     Text(&'a str),
     Number(usize),
@@ -51,20 +51,20 @@ fn put_texts(text: &mut String, warnings: &[WarningShown]) -> Result<(), AllocEr
 
 /// Appends a part.
 #[tactic(auto, unfolding(crate::specs::Junit::escaped))]
-fn put_part(text: &mut String, part: Part) -> Result<(), AllocError>
+fn put_part(text: &mut String, part: Fragment) -> Result<(), AllocError>
     ensures { OnOk result (string_bytes text.new ≡ string_bytes text.old ++ bytes_of part.entry) }
 {
     match part {
-        Part::Markup(markup) => text.push_str(markup),
-        Part::Text(given) => push_xml(text, given),
-        Part::Number(number) => write!(text, "{number}"),
-        Part::Lines(lines) => put_lines(text, lines),
-        Part::Warnings(warnings) => put_texts(text, warnings),
+        Fragment::Markup(markup) => text.push_str(markup),
+        Fragment::Text(given) => push_xml(text, given),
+        Fragment::Number(number) => write!(text, "{number}"),
+        Fragment::Lines(lines) => put_lines(text, lines),
+        Fragment::Warnings(warnings) => put_texts(text, warnings),
     }
 }
 
 /// Appends the parts.
-fn put(text: &mut String, parts: &[Part]) -> Result<(), AllocError>
+fn put(text: &mut String, parts: &[Fragment]) -> Result<(), AllocError>
     ensures { OnOk result (string_bytes text.new ≡ string_bytes text.old ++ flat_map bytes_of parts.now) }
 {
     for part in parts {

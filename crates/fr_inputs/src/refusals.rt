@@ -2,7 +2,7 @@
 ghost use Rattle.std.specs.Prelude.{◌≡◌, ◌≤◌, IfOk};
 ghost use Rattle.fr_outcome.specs.Checked.{fault_status};
 
-use fr_escape::{Place, place_of_texts};
+use fr_escape::{Location, place_of_texts};
 use fr_files::{FileFault, OutputFault};
 use fr_outcome::{CheckFault, Refusal};
 use fr_place::{place_of_app, place_of_certificate, place_of_swapped, recipe_at, seem_swapped};
@@ -12,7 +12,7 @@ use std::alloc::{AllocError, Global};
 use std::slice;
 
 /// What is said of a source in a file that has the name of an application.
-fn place_of_source(alloc: Global) -> Result<Place, AllocError> {
+fn place_of_source(alloc: Global) -> Result<Location, AllocError> {
     let line = "this looks like a source: give its file a name that ends in .frc";
     let text = String::from_str(alloc, line)?;
     place_of_texts(alloc, slice::from_ref(&text))
@@ -25,7 +25,7 @@ fn place_in(
     app: &[u8],
     certificate: Option<&[u8]>,
     fault: &CheckFault,
-) -> Result<Option<Place>, AllocError> {
+) -> Result<Option<Location>, AllocError> {
     let place = match (fault, certificate) {
         (CheckFault::App(_) | CheckFault::Cert(_), Some(certificate))
             if seem_swapped(app, certificate) => { place_of_swapped(alloc)? }
@@ -41,7 +41,7 @@ fn place_in(
 }
 
 /// The file that can't be read or written, and why.
-fn file_place(alloc: Global, fault: &FileFault) -> Result<Place, AllocError> {
+fn file_place(alloc: Global, fault: &FileFault) -> Result<Location, AllocError> {
     let text = format!(in alloc; "{fault}")?;
     place_of_texts(alloc, slice::from_ref(&text))
 }
@@ -51,7 +51,7 @@ fn source_fault(
     alloc: Global,
     path: &str,
     message: &Message,
-) -> Result<(CheckFault, Place), AllocError>
+) -> Result<(CheckFault, Location), AllocError>
     ensures { IfOk result (λ r. fault_status r.0 ≡ 2) }
 {
     let report = message.report(alloc, path)?;

@@ -10,7 +10,7 @@ use Rattle.fr_program.specs.declared.instr.Act.{Act}
 use Rattle.fr_program.specs.declared.instr.Act.TheVariants.{Try, Move}
 use Rattle.fr_program.specs.declared.instr.Attempt.TheVariants.{QueueSend, QueueReceive, Take, Give, Reset}
 use Rattle.fr_program.specs.declared.instr.ObjectCall.{ObjectCall}
-use Rattle.fr_instr.specs.declared.call.Place.{Place}
+use Rattle.fr_instr.specs.declared.call.Slot.{Slot}
 use Rattle.fr_instr.specs.declared.given.Given.{Given}
 use Rattle.fr_instr.specs.Names.{NamesOf}
 use Rattle.fr_instr.proofs.CallLaws.{needs, deed_needs, when_needs, is_timely, listed, places_fit, verb_is}
@@ -61,7 +61,7 @@ into-in : (P : Program) (x : Option VarId) → AreThere P (option_list x) → In
 into-in P None there = tt
 into-in P (Some x) there = variable-in P x (there 0 x (omega arith))
 
-joined-in : (N : NamesOf) (ps qs : List Place) (g : Given) → AreGivenIn N ps g → AreGivenIn N qs g → AreGivenIn N (ps ++ qs) g
+joined-in : (N : NamesOf) (ps qs : List Slot) (g : Given) → AreGivenIn N ps g → AreGivenIn N qs g → AreGivenIn N (ps ++ qs) g
 joined-in N [] qs g h k = k
 joined-in N (p ∷ ps) qs g h k = (h.0, joined-in N ps qs g h.1 k)
 
@@ -116,7 +116,7 @@ unfolding GivenFits
 call-in P n c short fits below names =
     let row = listed c (timely c fits) in
     let given = given-in P n c short fits below names in
-    let R : List Place → Type 0 = λ ps. AreGivenIn (names_in P) ps (given_of c) in
+    let R : List Slot → Type 0 = λ ps. AreGivenIn (names_in P) ps (given_of c) in
     let places = places_fit (λ r. is_same r.verb (verb_of c)) row.0 row.1 ∙ ap needs (verb_is (verb_of c) row.0 row.1) in
     record { row = row.0; listed = row.1; args = subst R (sym places) given.0; target = given.1; variable = given.2 }
 

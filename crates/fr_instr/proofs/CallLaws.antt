@@ -9,8 +9,8 @@ use Rattle.std.specs.List.{find, list_all, position_or_len}
 use Rattle.fr_instr.specs.Tokens.{IsTok, word, is_letter, is_word_byte, first}
 use Rattle.fr_instr.specs.Calls.{Row, row_view, table, row_named, row_for, is_same, when_of, deed_of, verb_of}
 use denote.Ref.{Bor}
-use Rattle.fr_instr.specs.declared.call.Place.{Place}
-use Rattle.fr_instr.specs.declared.call.Place.TheVariants as place
+use Rattle.fr_instr.specs.declared.call.Slot.{Slot}
+use Rattle.fr_instr.specs.declared.call.Slot.TheVariants as place
 use Rattle.fr_instr.specs.declared.call.Tail.{Tail}
 use Rattle.fr_instr.specs.declared.call.Tail.TheVariants.{Nothing, Else, Into}
 use Rattle.fr_instr.specs.declared.call.When.{When}
@@ -64,7 +64,7 @@ find_no_place p xs e = by_test (ltb (position_or_len p xs) (length xs)) refl (sy
     by_test false past h = sym (find_at p xs ∙ slice_get_past xs (position_or_len p xs) (omega (arith, ltb-false (position_or_len p xs) (length xs) past)))
 
 abbrev RowInCode : Type 0
-RowInCode = Bor (List ℕ) × Verb × Bor (List Place) × Tail
+RowInCode = Bor (List ℕ) × Verb × Bor (List Slot) × Tail
 
 pub row_found : (p : Row → Bool) (rows : List RowInCode) (i : ℕ) (d : RowInCode) → map row_view rows ≡ table → Some i ≡ position (λ r. p (row_view r)) rows → Some (row_view (get_or rows i d)) ≡ find p table
 row_found p rows i d e found = ap (option_map row_view) (find_at_place (λ r. p (row_view r)) rows i d found) ∙ sym (find-map p row_view rows) ∙ ap (find p) e
@@ -99,17 +99,17 @@ found_passes p (x ∷ xs) r e = by_test (p x) refl (λ h. found_passes p xs r h)
 -- ---- the rows
 
 -- the places that a call's arguments have
-abbrev pub deed_needs : Deed → List Place
+abbrev pub deed_needs : Deed → List Slot
 deed_needs QueueSend = place.Operand ∷ []
 deed_needs QueueReceive = place.Variable ∷ []
 deed_needs (Move side kind) = place.Length ∷ []
 deed_needs deed = []
 
-abbrev pub when_needs : When → List Place
+abbrev pub when_needs : When → List Slot
 when_needs at.Waits = place.Time ∷ []
 when_needs when = []
 
-abbrev pub needs : Verb → List Place
+abbrev pub needs : Verb → List Slot
 needs Delay = place.Ticks ∷ []
 needs DeleteSelf = place.Null ∷ []
 needs (Create kind) = place.Object ∷ []

@@ -3,7 +3,7 @@ use Rattle.std.proofs.Common.{◌≡◌, ℕ, List, ◌∷◌, ◌++◌, Option,
 use Rattle.std.specs.Option.{IfSome}
 use Rattle.fr_program.specs.declared.instr.Call.{Call}
 use Rattle.fr_program.specs.declared.instr.Instr.TheVariants as line
-use Rattle.fr_instr.specs.declared.call.Place.{Place}
+use Rattle.fr_instr.specs.declared.call.Slot.{Slot}
 use Rattle.fr_instr.specs.declared.call.Tail.{Tail}
 use Rattle.fr_instr.specs.declared.given.Given.{Given}
 use Rattle.fr_instr.specs.declared.given.TheConstants.{NOTHING}
@@ -42,18 +42,18 @@ pub first_arg : (text more last : List ℕ) (w : Word) (ws : List Word) → Begi
 first_arg text more last w ws c h us k = (more, c, h us k)
 
 -- what the arguments give, one place after another
-pub some_given : (N : NamesOf) (places : List Place) (p : Place) (ps : List Place) (w : Word) (ws : List Word) (g k h : Given) → places ≡ p ∷ ps → Gives N p w g k → AreGiven N ps ws k h → AreGiven N places (w ∷ ws) g h
+pub some_given : (N : NamesOf) (places : List Slot) (p : Slot) (ps : List Slot) (w : Word) (ws : List Word) (g k h : Given) → places ≡ p ∷ ps → Gives N p w g k → AreGiven N ps ws k h → AreGiven N places (w ∷ ws) g h
 some_given N places p ps w ws g k h e gives more = subst (λ qs. AreGiven N qs (w ∷ ws) g h) (sym e) (k, gives, more)
 
 -- an argument and those behind it
-pub more_read : (N : NamesOf) (places : List Place) (p : Place) (ps : List Place) (text rest more : List ℕ) (g k : Given) (r : Option (Given × Bor (List ℕ))) → places ≡ p ∷ ps → Behind text 44 rest
+pub more_read : (N : NamesOf) (places : List Slot) (p : Slot) (ps : List Slot) (text rest more : List ℕ) (g k : Given) (r : Option (Given × Bor (List ℕ))) → places ≡ p ∷ ps → Behind text 44 rest
     → (w : Word) × Begins rest (word_tok w) more × Gives N p w g k → IfSome r (λ q. (ws : List Word) × AreGiven N ps ws k q.0 × Fronts more (more_toks ws) q.1.now)
     → IfSome r (λ q. (ws : List Word) × AreGiven N places ws g q.0 × Fronts text (more_toks ws) q.1.now)
 more_read N places p ps text rest more g k None e b one rest_given = tt
 more_read N places p ps text rest more g k (Some q) e b (w, begun, gives) (ws, given, fronts) =
     (w ∷ ws, some_given N places p ps w ws g k q.0 e gives given, one_more text rest more q.1.now w ws b begun fronts)
 
-pub first_read : (N : NamesOf) (places : List Place) (p : Place) (ps : List Place) (text more : List ℕ) (g k : Given) (r : Option (Given × Bor (List ℕ))) → places ≡ p ∷ ps
+pub first_read : (N : NamesOf) (places : List Slot) (p : Slot) (ps : List Slot) (text more : List ℕ) (g k : Given) (r : Option (Given × Bor (List ℕ))) → places ≡ p ∷ ps
     → (w : Word) × Begins text (word_tok w) more × Gives N p w g k → IfSome r (λ q. (ws : List Word) × AreGiven N ps ws k q.0 × Fronts more (more_toks ws) q.1.now)
     → IfSome r (λ q. (ws : List Word) × AreGiven N places ws g q.0 × Fronts text (args_toks ws) q.1.now)
 first_read N places p ps text more g k None e one rest_given = tt

@@ -30,8 +30,8 @@ use Rattle.fr_instr.proofs.ShapeLaws.{shape_found, shape_again}
 use Rattle.fr_instr.proofs.NumberLaws.{only_number, natural_fits}
 use Rattle.fr_instr.proofs.CallLaws.{verb_again, places_fit}
 use Rattle.fr_instr.proofs.PartsLaws.{verb_made, args_kept, else_kept, into_kept}
-use Rattle.fr_instr.specs.declared.call.Place.{Place}
-use Rattle.fr_instr.specs.declared.call.Place.TheVariants.{Object, Operand as Operands, Variable as Variables, Length, Time, Ticks as TicksPlace, Null}
+use Rattle.fr_instr.specs.declared.call.Slot.{Slot}
+use Rattle.fr_instr.specs.declared.call.Slot.TheVariants.{Object, Operand as Operands, Variable as Variables, Length, Time, Ticks as TicksSlot, Null}
 use Rattle.fr_instr.specs.declared.call.Tail.{Tail}
 use Rattle.fr_instr.specs.declared.given.Given.{Given}
 use Rattle.fr_instr.specs.declared.given.TheConstants.{NOTHING}
@@ -97,20 +97,20 @@ one_time (name w) MaxDelay (Ticks n) h k = absurd k
 one_time (numeral d) (Ticks n) MaxDelay h k = absurd k
 
 -- what a word or number gives in a place
-one_put : (N : NamesOf) (p : Place) (w : Word) (h k g : Given) → Says N p w h → Says N p w k → put p h g ≡ put p k g
+one_put : (N : NamesOf) (p : Slot) (w : Word) (h k g : Given) → Says N p w h → Says N p w k → put p h g ≡ put p k g
 one_put N Object (name w) h k g i j = ap (λ x. record g { object = x }) (one_object N w h.object k.object i j)
 one_put N Operands w h k g i j = ap (λ x. record g { operand = x }) (one_operand N w h.operand k.operand i j)
 one_put N Variables (name w) h k g i j = ap (λ x. record g { variable = x }) (one_variable N w h.variable k.variable i j)
 one_put N Length (numeral d) h k g i j = ap (λ x. record g { bytes = x }) (one_natural 1 65535 d h.bytes k.bytes (lit< tt) i j)
 one_put N Time w h k g i j = ap (λ x. record g { time = x }) (one_time w h.time k.time i j)
-one_put N TicksPlace (numeral d) h k g i j = ap (λ x. record g { ticks = x }) (one_natural 0 2147483647 d h.ticks k.ticks (lit< tt) i j)
+one_put N TicksSlot (numeral d) h k g i j = ap (λ x. record g { ticks = x }) (one_natural 0 2147483647 d h.ticks k.ticks (lit< tt) i j)
 one_put N Null w h k g i j = refl
 one_put N Object (numeral d) h k g i j = absurd i
 one_put N Variables (numeral d) h k g i j = absurd i
 one_put N Length (name w) h k g i j = absurd i
-one_put N TicksPlace (name w) h k g i j = absurd i
+one_put N TicksSlot (name w) h k g i j = absurd i
 
-one_list : (N : NamesOf) (ps : List Place) (ws : List Word) (g h k : Given) → AreGiven N ps ws g h → AreGiven N ps ws g k → h ≡ k
+one_list : (N : NamesOf) (ps : List Slot) (ws : List Word) (g h k : Given) → AreGiven N ps ws g h → AreGiven N ps ws g k → h ≡ k
 one_list N [] [] g h k i j = i ∙ sym j
 one_list N (p ∷ ps) (w ∷ ws) g h k (m, i, more) (n, j, rest) =
     let P : Given → Type 0 = λ x. AreGiven N ps ws x h in
@@ -178,7 +178,7 @@ one_line N text l m (s, h, i) (t, j, k) =
 none_some : {A : Type 0} (o : Option A) (x : A) → o ≡ None → o ≡ Some x → ⊥
 none_some o x p q = cc
 
-in_plain : (p : Place) (w : Word) (f : LineFault) → (IsWrongKind p w → ⊥) → (IsBadNumber p w → ⊥) → InPlain p w f → ⊥
+in_plain : (p : Slot) (w : Word) (f : LineFault) → (IsWrongKind p w → ⊥) → (IsBadNumber p w → ⊥) → InPlain p w f → ⊥
 in_plain p w Syntax a b h = a h
 in_plain p w BadNumber a b h = b h
 in_plain p w Memory a b h = absurd h
@@ -186,7 +186,7 @@ in_plain p w UnknownName a b h = absurd h
 in_plain p w UnknownCall a b h = absurd h
 in_plain p w ArgCount a b h = absurd h
 
-in_naming : (N : NamesOf) (p : Place) (w : Word) (f : LineFault) → (IsWrongKind p w → ⊥) → (NamesNothing N p w → ⊥) → (IsBadNumber p w → ⊥) → InNaming N p w f → ⊥
+in_naming : (N : NamesOf) (p : Slot) (w : Word) (f : LineFault) → (IsWrongKind p w → ⊥) → (NamesNothing N p w → ⊥) → (IsBadNumber p w → ⊥) → InNaming N p w f → ⊥
 in_naming N p w Syntax a n b h = a h
 in_naming N p w UnknownName a n b h = n h
 in_naming N p w BadNumber a n b h = b h
@@ -206,7 +206,7 @@ time_clash (numeral d) (Ticks n) f h k = in_plain Time (numeral d) f (λ z. z) (
 time_clash (name w) (Ticks n) f h k = absurd k
 time_clash (numeral d) MaxDelay f h k = absurd k
 
-place_clash : (N : NamesOf) (p : Place) (w : Word) (g : Given) (f : LineFault) → InPlace N p w f → Says N p w g → ⊥
+place_clash : (N : NamesOf) (p : Slot) (w : Word) (g : Given) (f : LineFault) → InPlace N p w f → Says N p w g → ⊥
 place_clash N Object (name w) g f h k = in_naming N Object (name w) f (λ z. z) (λ z. none_some (place_of N.objects w) g.object.0 z k) (λ z. z) h
 place_clash N Object (numeral d) g f h k = absurd k
 place_clash N Operands w g f h k = operand_clash N w g.operand f h k
@@ -215,25 +215,25 @@ place_clash N Variables (numeral d) g f h k = absurd k
 place_clash N Length (name w) g f h k = absurd k
 place_clash N Length (numeral d) g f h k = in_plain Length (numeral d) f (λ z. z) (λ z. z g.bytes k) h
 place_clash N Time w g f h k = time_clash w g.time f h k
-place_clash N TicksPlace (name w) g f h k = absurd k
-place_clash N TicksPlace (numeral d) g f h k = in_plain TicksPlace (numeral d) f (λ z. z) (λ z. z g.ticks k) h
+place_clash N TicksSlot (name w) g f h k = absurd k
+place_clash N TicksSlot (numeral d) g f h k = in_plain TicksSlot (numeral d) f (λ z. z) (λ z. z g.ticks k) h
 place_clash N Null (name w) g f h k = in_plain Null (name w) f (λ z. z k) (λ z. z) h
 place_clash N Null (numeral d) g f h k = absurd k
 
-args_clash : (N : NamesOf) (ps : List Place) (ws : List Word) (g h : Given) (f : LineFault) → InArgs N ps ws f → AreGiven N ps ws g h → ⊥
+args_clash : (N : NamesOf) (ps : List Slot) (ws : List Word) (g h : Given) (f : LineFault) → InArgs N ps ws f → AreGiven N ps ws g h → ⊥
 args_clash N (p ∷ ps) (w ∷ ws) g h f (inl i) (k, j, more) = place_clash N p w k f i j.0
 args_clash N (p ∷ ps) (w ∷ ws) g h f (inr i) (k, j, more) = args_clash N ps ws k h f i more
 args_clash N [] [] g h f i j = absurd i
 args_clash N [] (w ∷ ws) g h f i j = absurd j
 args_clash N (p ∷ ps) [] g h f i j = absurd j
 
-count_same : (N : NamesOf) (ps : List Place) (ws : List Word) (g h : Given) → AreGiven N ps ws g h → length ws ≡ length ps
+count_same : (N : NamesOf) (ps : List Slot) (ws : List Word) (g h : Given) → AreGiven N ps ws g h → length ws ≡ length ps
 count_same N [] [] g h i = refl
 count_same N (p ∷ ps) (w ∷ ws) g h (k, j, more) = let rest = count_same N ps ws k h more in omega (arith, rest)
 count_same N [] (w ∷ ws) g h i = absurd i
 count_same N (p ∷ ps) [] g h i = absurd i
 
-places_clash : (N : NamesOf) (ps : List Place) (ws : List Word) (g h : Given) (f : LineFault) → InPlaces N ps ws f → AreGiven N ps ws g h → ⊥
+places_clash : (N : NamesOf) (ps : List Slot) (ws : List Word) (g h : Given) (f : LineFault) → InPlaces N ps ws f → AreGiven N ps ws g h → ⊥
 places_clash N ps ws g h f (inl i) j = i.1 (count_same N ps ws g h j)
 places_clash N ps ws g h f (inr i) j = args_clash N ps ws g h f i j
 
@@ -296,7 +296,7 @@ operand_in N (numeral d) (Number z) h = h.1
 operand_in N (name w) (Number z) h = absurd h
 operand_in N (numeral d) (Variable x) h = absurd h
 
-said_in : (N : NamesOf) (p : Place) (w : Word) (g : Given) → Says N p w g → GivenIn N p g
+said_in : (N : NamesOf) (p : Slot) (w : Word) (g : Given) → Says N p w g → GivenIn N p g
 said_in N Object (name w) g h = place_in N.objects w g.object.0 h
 said_in N Object (numeral d) g h = absurd h
 said_in N Operands w g h = operand_in N w g.operand h
@@ -311,38 +311,38 @@ said_in N Time w g h = time_in w g.time h
     time_in (numeral d) (Ticks n) h = h.2
     time_in (name v) (Ticks n) h = absurd h
     time_in (numeral d) MaxDelay h = absurd h
-said_in N TicksPlace (name w) g h = absurd h
-said_in N TicksPlace (numeral d) g h = h.2
+said_in N TicksSlot (name w) g h = absurd h
+said_in N TicksSlot (numeral d) g h = h.2
 said_in N Null w g h = tt
 
 -- what is given in a place stays within its limits when another place is filled
-put_in : (N : NamesOf) (q p : Place) (k g : Given) → GivenIn N q k → GivenIn N p g → GivenIn N p (put q k g)
+put_in : (N : NamesOf) (q p : Slot) (k g : Given) → GivenIn N q k → GivenIn N p g → GivenIn N p (put q k g)
 put_in N Object Object k g new old = new
 put_in N Operands Operands k g new old = new
 put_in N Variables Variables k g new old = new
 put_in N Length Length k g new old = new
 put_in N Time Time k g new old = new
-put_in N TicksPlace TicksPlace k g new old = new
+put_in N TicksSlot TicksSlot k g new old = new
 put_in N Null p k g new old = old
 put_in N q p k g new old = old
 
-more_in : (N : NamesOf) (ps : List Place) (ws : List Word) (g h : Given) (p : Place) → AreGiven N ps ws g h → GivenIn N p g → GivenIn N p h
+more_in : (N : NamesOf) (ps : List Slot) (ws : List Word) (g h : Given) (p : Slot) → AreGiven N ps ws g h → GivenIn N p g → GivenIn N p h
 more_in N [] [] g h p i old = subst (GivenIn N p) (sym i) old
 more_in N (q ∷ ps) (w ∷ ws) g h p (k, i, more) old = more_in N ps ws k h p more (subst (GivenIn N p) (sym i.1) (put_in N q p k g (said_in N q w k i.0) old))
 more_in N [] (w ∷ ws) g h p i old = absurd i
 more_in N (q ∷ ps) [] g h p i old = absurd i
 
-args_in : (N : NamesOf) (ps : List Place) (ws : List Word) (g h : Given) → AreGiven N ps ws g h → AreGivenIn N ps h
+args_in : (N : NamesOf) (ps : List Slot) (ws : List Word) (g h : Given) → AreGiven N ps ws g h → AreGivenIn N ps h
 args_in N [] ws g h i = tt
 args_in N (p ∷ ps) (w ∷ ws) g h (k, i, more) = (more_in N ps ws k h p more (said_in N p w k i.0), args_in N ps ws k h more)
 args_in N (p ∷ ps) [] g h i = absurd i
 
 -- what is beside a call changes none of its arguments
-beside_in : (N : NamesOf) (p : Place) (g : Given) (e : Option ℕ) (v : Option VarId) → GivenIn N p g → GivenIn N p (record g { or_else = e; into = v })
+beside_in : (N : NamesOf) (p : Slot) (g : Given) (e : Option ℕ) (v : Option VarId) → GivenIn N p g → GivenIn N p (record g { or_else = e; into = v })
 beside_in N Null g e v h = h
 beside_in N p g e v h = h
 
-all_beside_in : (N : NamesOf) (ps : List Place) (g : Given) (e : Option ℕ) (v : Option VarId) → AreGivenIn N ps g → AreGivenIn N ps (record g { or_else = e; into = v })
+all_beside_in : (N : NamesOf) (ps : List Slot) (g : Given) (e : Option ℕ) (v : Option VarId) → AreGivenIn N ps g → AreGivenIn N ps (record g { or_else = e; into = v })
 all_beside_in N [] g e v h = tt
 all_beside_in N (p ∷ ps) g e v h = (beside_in N p g e v h.0, all_beside_in N ps g e v h.1)
 
@@ -360,8 +360,8 @@ call_in : (N : NamesOf) (v : Option (List ℕ)) (k : List ℕ) (ws : List Word) 
 call_in N v k ws e c h =
     let g = record h.given { or_else = h.target; into = h.variable } in
     let places = places_fit (λ r. bytes_eq r.name k) h.row h.named in
-    let P : List Place → Type 0 = λ ps. AreGivenIn N ps g in
-    let Q : List Place → Type 0 = λ ps. AreGivenIn N ps (given_of (made h.row.verb g)) in
+    let P : List Slot → Type 0 = λ ps. AreGivenIn N ps g in
+    let Q : List Slot → Type 0 = λ ps. AreGivenIn N ps (given_of (made h.row.verb g)) in
     let args = args_kept N h.row.verb g (subst P places (all_beside_in N h.row.places h.given h.target h.variable (args_in N h.row.places ws NOTHING h.given h.args))) in
     subst (IsCallIn N) (sym h.call) (record {
       row = h.row;

@@ -3,7 +3,7 @@ use Rattle.std.proofs.Common.{◌≡◌, ℕ, List, [], ◌∷◌, true, Some, N
 use Rattle.fr_instr.specs.Calls.{made, verb_of, given_of, put, may_fail, may_answer}
 use Rattle.fr_instr.specs.Lines.{AreGivenIn, ElseIn, IntoIn}
 use Rattle.fr_instr.specs.Names.{NamesOf}
-use Rattle.fr_instr.specs.declared.call.Place.{Place}
+use Rattle.fr_instr.specs.declared.call.Slot.{Slot}
 use Rattle.fr_instr.specs.declared.call.When.TheVariants as at
 use Rattle.fr_instr.specs.declared.call.Deed.TheVariants.{QueueSend, Move}
 use Rattle.fr_instr.specs.declared.call.Verb.{Verb}
@@ -22,7 +22,7 @@ use Rattle.fr_program.specs.declared.instr.Call.TheVariants as call
 use Rattle.fr_instr.proofs.CallLaws.{needs, tail_of}
 
 -- g with what h has in each of these places
-abbrev pub copied : List Place → Given → Given → Given
+abbrev pub copied : List Slot → Given → Given → Given
 copied [] h g = g
 copied (p ∷ ps) h g = copied ps h (put p h g)
 

@@ -19,8 +19,8 @@ use Rattle.fr_instr.specs.Names.{NamesOf, name_at, place_of, AreNames}
 use Rattle.fr_instr.specs.Calls.{Row, no_row, row_of, row_for, is_same, may_fail, may_answer, made, verb_of, given_of, put}
 use Rattle.fr_instr.specs.WrittenLine.{natural, operand_word, time_word, place_word, into_name, call_shape, shape_of, written_line}
 use Rattle.fr_instr.specs.Lines.{IsOperand, IsBlockTime, Says, AreGiven, IsElse, IsInto, IsCall, IsLineOf, IsLine, VariableIn, OperandIn, GivenIn, AreGivenIn, ElseIn, IntoIn, IsCallIn, IsLineIn}
-use Rattle.fr_instr.specs.declared.call.Place.{Place}
-use Rattle.fr_instr.specs.declared.call.Place.TheVariants.{Object, Operand as Operands, Variable as Variables, Length, Time, Ticks as TicksPlace, Null}
+use Rattle.fr_instr.specs.declared.call.Slot.{Slot}
+use Rattle.fr_instr.specs.declared.call.Slot.TheVariants.{Object, Operand as Operands, Variable as Variables, Length, Time, Ticks as TicksSlot, Null}
 use Rattle.fr_instr.specs.declared.call.Tail.{Tail}
 use Rattle.fr_instr.specs.declared.given.Given.{Given}
 use Rattle.fr_instr.specs.declared.given.TheConstants.{NOTHING}
@@ -68,20 +68,20 @@ time_again MaxDelay h = refl
 least : (n : ℕ) → 0 ≤ n
 least n = omega arith
 
-said_again : (N : NamesOf) (p : Place) (g h : Given) → AllPairs (λ x y. x ≢ y) N.variables → AllPairs (λ x y. x ≢ y) N.objects → GivenIn N p g → Says N p (place_word N g p) (put p g h)
+said_again : (N : NamesOf) (p : Slot) (g h : Given) → AllPairs (λ x y. x ≢ y) N.variables → AllPairs (λ x y. x ≢ y) N.objects → GivenIn N p g → Says N p (place_word N g p) (put p g h)
 said_again N Object g h vs os i = place_again N.objects g.object.0 os i
 said_again N Operands g h vs os i = operand_again N g.operand vs i
 said_again N Variables g h vs os i = place_again N.variables g.variable.0 vs i
 said_again N Length g h vs os i = (refl, i.0, i.1)
 said_again N Time g h vs os i = time_again g.time i
-said_again N TicksPlace g h vs os i = (refl, least g.ticks, i)
+said_again N TicksSlot g h vs os i = (refl, least g.ticks, i)
 said_again N Null g h vs os i = refl
 
-put_twice : (p : Place) (g h : Given) → put p (put p g h) h ≡ put p g h
+put_twice : (p : Slot) (g h : Given) → put p (put p g h) h ≡ put p g h
 put_twice Object g h = refl
 put_twice p g h = refl
 
-args_again : (N : NamesOf) (ps : List Place) (g h : Given) → AllPairs (λ x y. x ≢ y) N.variables → AllPairs (λ x y. x ≢ y) N.objects → AreGivenIn N ps g → AreGiven N ps (map (place_word N g) ps) h (copied ps g h)
+args_again : (N : NamesOf) (ps : List Slot) (g h : Given) → AllPairs (λ x y. x ≢ y) N.variables → AllPairs (λ x y. x ≢ y) N.objects → AreGivenIn N ps g → AreGiven N ps (map (place_word N g) ps) h (copied ps g h)
 args_again N [] g h vs os i = refl
 args_again N (p ∷ ps) g h vs os i = (put p g h, (said_again N p g h vs os i.0, sym (put_twice p g h)), args_again N ps g (put p g h) vs os i.1)
 
@@ -96,7 +96,7 @@ into_again N t (Some x) may vs h = (may x refl, place_again N.variables x.0 vs h
 -- the call is made again of what its line gives
 made_of_row : (c : Call) (r : Row) → r.verb ≡ verb_of c → r.places ≡ needs (verb_of c) → c ≡ made r.verb (record (copied r.places (given_of c) NOTHING) { or_else = (given_of c).or_else; into = (given_of c).into })
 made_of_row c r verb places =
-    let again : List Place → Given = λ ps. record (copied ps (given_of c) NOTHING) { or_else = (given_of c).or_else; into = (given_of c).into } in
+    let again : List Slot → Given = λ ps. record (copied ps (given_of c) NOTHING) { or_else = (given_of c).or_else; into = (given_of c).into } in
     sym (ap (λ v. made v (again r.places)) verb ∙ ap (λ ps. made (verb_of c) (again ps)) places ∙ made_again c)
 
 call_again : (N : NamesOf) (c : Call) (h : IsCallIn N c) → AllPairs (λ x y. x ≢ y) N.variables → AllPairs (λ x y. x ≢ y) N.objects
@@ -189,24 +189,24 @@ time_token : (t : BlockTime) → limits.BlockTimeInLimits t → IsTok (word_tok 
 time_token (Ticks n) h = natural_token n h
 time_token MaxDelay h = (refl, refl)
 
-place_token : (N : NamesOf) (p : Place) (g : Given) → Good N → GivenIn N p g → IsTok (word_tok (place_word N g p))
+place_token : (N : NamesOf) (p : Slot) (g : Given) → Good N → GivenIn N p g → IsTok (word_tok (place_word N g p))
 place_token N Object g good h = name_token (name_at N.objects g.object.0) (good.objects g.object.0 [] h)
 place_token N Operands g good h = operand_token N g.operand good h
 place_token N Variables g good h = variable_token N g.variable good h
 place_token N Length g good h = natural_token g.bytes (omega (arith, h.1))
 place_token N Time g good h = time_token g.time h
-place_token N TicksPlace g good h = natural_token g.ticks h
+place_token N TicksSlot g good h = natural_token g.ticks h
 place_token N Null g good h = (refl, refl)
 
 else_tokens : (e : Option ℕ) → ElseIn e → AllByRecursion IsTok (else_toks (option_map natural e))
 else_tokens None h = tt
 else_tokens (Some k) h = ((refl, refl), (natural_token k h, tt))
 
-more_tokens : (N : NamesOf) (ps : List Place) (g : Given) (e : Option ℕ) → Good N → AreGivenIn N ps g → ElseIn e → AllByRecursion IsTok (more_toks (map (place_word N g) ps) ++ else_toks (option_map natural e))
+more_tokens : (N : NamesOf) (ps : List Slot) (g : Given) (e : Option ℕ) → Good N → AreGivenIn N ps g → ElseIn e → AllByRecursion IsTok (more_toks (map (place_word N g) ps) ++ else_toks (option_map natural e))
 more_tokens N [] g e good h k = (tt, else_tokens e k)
 more_tokens N (p ∷ ps) g e good h k = (tt, (place_token N p g good h.0, more_tokens N ps g e good h.1 k))
 
-args_tokens : (N : NamesOf) (ps : List Place) (g : Given) (e : Option ℕ) → Good N → AreGivenIn N ps g → ElseIn e → AllByRecursion IsTok (args_toks (map (place_word N g) ps) ++ else_toks (option_map natural e))
+args_tokens : (N : NamesOf) (ps : List Slot) (g : Given) (e : Option ℕ) → Good N → AreGivenIn N ps g → ElseIn e → AllByRecursion IsTok (args_toks (map (place_word N g) ps) ++ else_toks (option_map natural e))
 args_tokens N [] g e good h k = (tt, else_tokens e k)
 args_tokens N (p ∷ ps) g e good h k = (place_token N p g good h.0, more_tokens N ps g e good h.1 k)
 

@@ -9,7 +9,7 @@ use Rattle.fr_instr.specs.Views.{texts}
 use Rattle.fr_instr.specs.Written.{written}
 use Rattle.fr_instr.specs.WrittenLine.{natural, joined, word_text, place_word, more_text, args_text, into_name, into_text, else_text, set_text, if_text, line_text, written_line}
 use Rattle.std.proofs.lemmas.List.{take_more, map-append}
-use Rattle.fr_instr.specs.declared.call.Place.{Place}
+use Rattle.fr_instr.specs.declared.call.Slot.{Slot}
 use Rattle.fr_instr.specs.declared.token.Sign.TheVariants.{Open}
 use Rattle.fr_program.specs.declared.ids.VarId.{VarId}
 use Rattle.fr_program.specs.declared.instr.Operand.{Operand}
@@ -67,7 +67,7 @@ more_push : (ws : List Word) (w : Word) → more_text (ws ++ w ∷ []) ≡ more_
 more_push [] w = ap (λ x. 44 ∷ 32 ∷ x) (append-nil (word_text w))
 more_push (v ∷ ws) w = ap (λ x. 44 ∷ 32 ∷ (word_text v ++ x)) (more_push ws w) ∙ ap (λ x. 44 ∷ 32 ∷ x) (sym (append_assoc (word_text v) (more_text ws) (44 ∷ 32 ∷ word_text w)))
 
-pub more_turn : (f : Place → Word) (bs : List Place) (i : ℕ) (d : Place) (old now new : List ℕ) → i < length bs → now ≡ old ++ more_text (map f (take i bs))
+pub more_turn : (f : Slot → Word) (bs : List Slot) (i : ℕ) (d : Slot) (old now new : List ℕ) → i < length bs → now ≡ old ++ more_text (map f (take i bs))
     → new ≡ now ++ (44 ∷ 32 ∷ word_text (f (get_or bs i d))) → new ≡ old ++ more_text (map f (take (i + 1) bs))
 more_turn f bs i d old now new within so_far one =
     let w = word_text (f (get_or bs i d)) in

@@ -14,8 +14,8 @@ use Rattle.std.specs.Str.{bytes_eq}
 use denote.Ref.{Bor}
 use Rattle.fr_instr.specs.contracts.call.VerbPartialEq.TheImpl as verb_eq
 use Rattle.fr_instr.specs.declared.call.TheConstants.{CALLS}
-use Rattle.fr_instr.specs.declared.call.Place.{Place}
-use Rattle.fr_instr.specs.declared.call.Place.TheVariants as place
+use Rattle.fr_instr.specs.declared.call.Slot.{Slot}
+use Rattle.fr_instr.specs.declared.call.Slot.TheVariants as place
 use Rattle.fr_instr.specs.declared.call.Tail.{Tail}
 use Rattle.fr_instr.specs.declared.call.Tail.TheVariants.{Nothing, Else, Into}
 use Rattle.fr_instr.specs.declared.call.When.{When}
@@ -41,11 +41,11 @@ use Rattle.fr_program.specs.declared.instr.Call.TheVariants as call
 pub record Row : Type 0 where
   pub name : List ℕ
   pub verb : Verb
-  pub places : List Place
+  pub places : List Slot
   pub tail : Tail
 
 -- the row that one in code means
-abbrev pub row_view : (Bor (List ℕ) × Verb × Bor (List Place) × Tail) → Row
+abbrev pub row_view : (Bor (List ℕ) × Verb × Bor (List Slot) × Tail) → Row
 row_view r = record { name = r.0.now; verb = r.1; places = r.2.now; tail = r.3 }
 
 -- the table of the calls, which the code has as a constant
@@ -163,7 +163,7 @@ given_of (call.On c) = record (act_given c.act) { object = c.object; time = time
 given_of c = NOTHING
 
 -- g with what h has in this place
-abbrev pub put : Place → Given → Given → Given
+abbrev pub put : Slot → Given → Given → Given
 put place.Object h g = record g { object = h.object }
 put place.Operand h g = record g { operand = h.operand }
 put place.Variable h g = record g { variable = h.variable }

@@ -20,12 +20,12 @@ use Rattle.fr_instr.specs.Shapes.{Word, name, numeral, Shape, set, set_to, branc
 use Rattle.fr_instr.specs.Names.{NamesOf, place_of}
 use Rattle.fr_instr.specs.Numbers.{IsInteger, IsTarget, IsTicks, IsLength}
 use Rattle.fr_instr.specs.Calls.{Row, row_named, may_fail, may_answer}
-use Rattle.fr_instr.specs.declared.call.Place.{Place}
-use Rattle.fr_instr.specs.declared.call.Place.TheVariants as place
+use Rattle.fr_instr.specs.declared.call.Slot.{Slot}
+use Rattle.fr_instr.specs.declared.call.Slot.TheVariants as place
 use Rattle.fr_instr.specs.declared.call.Tail.{Tail}
 
 -- a number where only a word may be, a word where only a number may be, or another word than the one that may be there
-abbrev pub IsWrongKind : Place → Word → Type 0
+abbrev pub IsWrongKind : Slot → Word → Type 0
 IsWrongKind place.Object (numeral d) = Unit {0}
 IsWrongKind place.Variable (numeral d) = Unit {0}
 IsWrongKind place.Length (name w) = Unit {0}
@@ -36,14 +36,14 @@ IsWrongKind place.Null (numeral d) = Unit {0}
 IsWrongKind p w = ⊥
 
 -- a word that names no object where one has to be named, or no variable where one has to
-abbrev pub NamesNothing : NamesOf → Place → Word → Type 0
+abbrev pub NamesNothing : NamesOf → Slot → Word → Type 0
 NamesNothing N place.Object (name w) = place_of N.objects w ≡ None
 NamesNothing N place.Operand (name w) = place_of N.variables w ≡ None
 NamesNothing N place.Variable (name w) = place_of N.variables w ≡ None
 NamesNothing N p w = ⊥
 
 -- a number, but with a text that no number within the limits of this place has
-abbrev pub IsBadNumber : Place → Word → Type 0
+abbrev pub IsBadNumber : Slot → Word → Type 0
 IsBadNumber place.Operand (numeral d) = (z : ℤ) → ¬ IsInteger d z
 IsBadNumber place.Length (numeral d) = (n : ℕ) → ¬ IsLength d n
 IsBadNumber place.Time (numeral d) = (n : ℕ) → ¬ IsTicks d n
@@ -51,20 +51,20 @@ IsBadNumber place.Ticks (numeral d) = (n : ℕ) → ¬ IsTicks d n
 IsBadNumber p w = ⊥
 
 -- the fault is present in the place of an object, an operand or a variable
-abbrev pub InNaming : NamesOf → Place → Word → LineFault → Type 0
+abbrev pub InNaming : NamesOf → Slot → Word → LineFault → Type 0
 InNaming N p w Syntax = IsWrongKind p w
 InNaming N p w UnknownName = NamesNothing N p w
 InNaming N p w BadNumber = IsBadNumber p w
 InNaming N p w f = ⊥
 
 -- the fault is present in the place of a length, a block time, ticks or NULL
-abbrev pub InPlain : Place → Word → LineFault → Type 0
+abbrev pub InPlain : Slot → Word → LineFault → Type 0
 InPlain p w Syntax = IsWrongKind p w
 InPlain p w BadNumber = IsBadNumber p w
 InPlain p w f = ⊥
 
 -- the fault is present in what is written in a place of this kind
-abbrev pub InPlace : NamesOf → Place → Word → LineFault → Type 0
+abbrev pub InPlace : NamesOf → Slot → Word → LineFault → Type 0
 InPlace N place.Object w f = InNaming N place.Object w f
 InPlace N place.Operand w f = InNaming N place.Operand w f
 InPlace N place.Variable w f = InNaming N place.Variable w f
@@ -74,12 +74,12 @@ InPlace N place.Ticks w f = InPlain place.Ticks w f
 InPlace N place.Null w f = InPlain place.Null w f
 
 -- the fault is present in one of the arguments, each in its place
-abbrev pub InArgs : NamesOf → List Place → List Word → LineFault → Type 0
+abbrev pub InArgs : NamesOf → List Slot → List Word → LineFault → Type 0
 InArgs N (p ∷ ps) (w ∷ ws) f = InPlace N p w f ⊎ InArgs N ps ws f
 InArgs N ps ws f = ⊥
 
 -- another number of arguments, or a fault in one of them
-abbrev pub InPlaces : NamesOf → List Place → List Word → LineFault → Type 0
+abbrev pub InPlaces : NamesOf → List Slot → List Word → LineFault → Type 0
 InPlaces N ps ws f = ((f ≡ ArgCount) × (list_length ws ≢ list_length ps)) ⊎ InArgs N ps ws f
 
 -- the word names no variable

@@ -24,8 +24,8 @@ use Rattle.fr_program.specs.declared.instr.BlockTime.TheVariants.{Ticks, MaxDela
 use Rattle.fr_program.specs.declared.instr.Call.{Call}
 use Rattle.fr_program.specs.declared.instr.Instr.{Instr}
 use Rattle.fr_program.specs.declared.instr.Instr.TheVariants as line
-use Rattle.fr_instr.specs.declared.call.Place.{Place}
-use Rattle.fr_instr.specs.declared.call.Place.TheVariants.{Object, Operand as Operands, Variable as Variables, Length, Time, Ticks as TicksPlace, Null}
+use Rattle.fr_instr.specs.declared.call.Slot.{Slot}
+use Rattle.fr_instr.specs.declared.call.Slot.TheVariants.{Object, Operand as Operands, Variable as Variables, Length, Time, Ticks as TicksSlot, Null}
 use Rattle.fr_instr.specs.declared.call.Tail.{Tail}
 use Rattle.fr_instr.specs.declared.given.Given.{Given}
 use Rattle.fr_instr.specs.declared.given.TheConstants.{NOTHING}
@@ -81,21 +81,21 @@ SaysNull (name w) = w ≡ codes "NULL"
 SaysNull (numeral d) = ⊥
 
 -- the word or number is what is given in a place of this kind
-abbrev pub Says : NamesOf → Place → Word → Given → Type 0
+abbrev pub Says : NamesOf → Slot → Word → Given → Type 0
 Says N Object w g = SaysObject N w g.object
 Says N Operands w g = IsOperand N w g.operand
 Says N Variables w g = SaysVariable N w g.variable
 Says N Length w g = SaysLength w g.bytes
 Says N Time w g = IsBlockTime w g.time
-Says N TicksPlace w g = SaysTicks w g.ticks
+Says N TicksSlot w g = SaysTicks w g.ticks
 Says N Null w g = SaysNull w
 
 -- h is g with what the word or number gives in this place
-abbrev pub Gives : NamesOf → Place → Word → Given → Given → Type 0
+abbrev pub Gives : NamesOf → Slot → Word → Given → Given → Type 0
 Gives N p w g h = Says N p w h × (h ≡ put p h g)
 
 -- h is g with what the words and numbers give in these places, one in each
-abbrev pub AreGiven : NamesOf → List Place → List Word → Given → Given → Type 0
+abbrev pub AreGiven : NamesOf → List Slot → List Word → Given → Given → Type 0
 AreGiven N [] [] g h = h ≡ g
 AreGiven N (p ∷ ps) (w ∷ ws) g h = (k : Given) × Gives N p w g k × AreGiven N ps ws k h
 AreGiven N ps ws g h = ⊥
@@ -151,17 +151,17 @@ OperandIn N (Number z) = IsNumber z
 OperandIn N (Variable x) = VariableIn N x
 
 -- what is given in this place is among the names, or a number within the limits of the place
-abbrev pub GivenIn : NamesOf → Place → Given → Type 0
+abbrev pub GivenIn : NamesOf → Slot → Given → Type 0
 GivenIn N Object g = g.object.0 < length N.objects
 GivenIn N Operands g = OperandIn N g.operand
 GivenIn N Variables g = VariableIn N g.variable
 GivenIn N Length g = (1 ≤ g.bytes) × (g.bytes ≤ most_size)
 GivenIn N Time g = BlockTimeInLimits g.time
-GivenIn N TicksPlace g = g.ticks ≤ most_ticks
+GivenIn N TicksSlot g = g.ticks ≤ most_ticks
 GivenIn N Null g = Unit {0}
 
 -- so it is in each of the places
-abbrev pub AreGivenIn : NamesOf → List Place → Given → Type 0
+abbrev pub AreGivenIn : NamesOf → List Slot → Given → Type 0
 AreGivenIn N [] g = Unit {0}
 AreGivenIn N (p ∷ ps) g = GivenIn N p g × AreGivenIn N ps g
 

@@ -20,8 +20,8 @@ use Rattle.fr_program.specs.declared.instr.BlockTime.{BlockTime}
 use Rattle.fr_program.specs.declared.instr.BlockTime.TheVariants.{Ticks, MaxDelay}
 use Rattle.fr_program.specs.declared.instr.Instr.{Instr}
 use Rattle.fr_program.specs.declared.instr.Instr.TheVariants as line
-use Rattle.fr_instr.specs.declared.call.Place.{Place}
-use Rattle.fr_instr.specs.declared.call.Place.TheVariants.{Object, Operand as Operands, Variable as Variables, Length, Time, Ticks as TicksPlace, Null}
+use Rattle.fr_instr.specs.declared.call.Slot.{Slot}
+use Rattle.fr_instr.specs.declared.call.Slot.TheVariants.{Object, Operand as Operands, Variable as Variables, Length, Time, Ticks as TicksSlot, Null}
 use Rattle.fr_instr.specs.declared.given.Given.{Given}
 use Rattle.fr_instr.specs.Names.{NamesOf, name_at}
 use Rattle.fr_instr.specs.Shapes.{Word, name, numeral, Shape, set_to, branch, jump, pick, leave, call, shape_toks}
@@ -43,13 +43,13 @@ time_word (Ticks n) = numeral (natural n)
 time_word MaxDelay = name (codes "portMAX_DELAY")
 
 -- the word or number that is written in a place
-abbrev pub place_word : NamesOf → Given → Place → Word
+abbrev pub place_word : NamesOf → Given → Slot → Word
 place_word N g Object = name (name_at N.objects g.object.0)
 place_word N g Operands = operand_word N g.operand
 place_word N g Variables = name (name_at N.variables g.variable.0)
 place_word N g Length = numeral (natural g.bytes)
 place_word N g Time = time_word g.time
-place_word N g TicksPlace = numeral (natural g.ticks)
+place_word N g TicksSlot = numeral (natural g.ticks)
 place_word N g Null = name (codes "NULL")
 
 -- the name of the variable before a call, if it has one
@@ -142,7 +142,7 @@ abbrev pub pick_text : NamesOf → VarId → ℤ → ℤ → List ℕ
 pick_text N x lo hi = codes "pick " ++ (name_at N.variables x.0 ++ (codes " " ++ (signed_decimal lo ++ (codes " " ++ signed_decimal hi))))
 
 -- a call with this name and these places
-abbrev pub call_text : NamesOf → List ℕ → List Place → Given → List ℕ
+abbrev pub call_text : NamesOf → List ℕ → List Slot → Given → List ℕ
 call_text N k ps g = into_text (into_name N g.into) ++ (k ++ (codes "(" ++ (args_text (map (place_word N g) ps) ++ (codes ")" ++ else_text (option_map natural g.or_else)))))
 
 -- a line

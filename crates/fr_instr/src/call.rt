@@ -5,10 +5,10 @@ ghost use Rattle.fr_instr.specs.Calls.{row_view, table, row_named, row_for, is_s
 
 use fr_program::{BufferKind, CreatedKind, DeletedKind, End, Form, SemaphoreForm};
 
-/// What is in an argument's place: an object, an operand, a variable, a length, a block time, ticks,
+/// What the slot of an argument takes: an object, an operand, a variable, a length, a block time, ticks,
 /// or the word NULL.
 #[derive(Clone, Copy)]
-pub enum Place {
+pub enum Slot {
     Object,
     Operand,
     Variable,
@@ -78,12 +78,12 @@ pub enum Verb {
 
 /// A row of the table: the call's name, what it is, the places of its arguments, and what may be
 /// written beside it.
-pub type Row = (&'static str, Verb, &'static [Place], Tail);
+pub type Row = (&'static str, Verb, &'static [Slot], Tail);
 
 /// The rows of a table, a row a line.
 macro_rules! rows {
     ($($name:literal $verb:expr, [$($place:ident)*] $tail:ident;)*) => {
-        [$(($name, $verb, &[$(Place::$place),*], Tail::$tail)),*]
+        [$(($name, $verb, &[$(Slot::$place),*], Tail::$tail)),*]
     };
 }
 

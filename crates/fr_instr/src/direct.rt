@@ -7,7 +7,7 @@ ghost use Rattle.fr_instr.specs.Lines.{IsElse, Gives, AreGiven, IsLine};
 ghost use Rattle.fr_instr.specs.Views.{word_of};
 ghost use Rattle.fr_program.specs.declared.instr.Instr.TheVariants as line;
 
-use crate::call::{self, Place, Tail};
+use crate::call::{self, Slot, Tail};
 use crate::given::{self, Given, NOTHING};
 use crate::names::Names;
 use crate::shape::Value;
@@ -58,12 +58,7 @@ fn value_at(text: &[u8]) -> Option<(Value<'_>, &[u8])>
 }
 
 /// What the argument at the front gives in a place of this kind, beside what was given before, and the rest.
-fn arg_in<'a>(
-    names: &Names,
-    place: Place,
-    text: &'a [u8],
-    given: Given,
-) -> Option<(Given, &'a [u8])>
+fn arg_in<'a>(names: &Names, place: Slot, text: &'a [u8], given: Given) -> Option<(Given, &'a [u8])>
     ensures { IfSome result (λ r. (w : Word) × Begins text.now (word_tok w) r.1.now × Gives names.now place w given r.0) }
 {
     let (value, rest) = value_at(text)?;
@@ -77,7 +72,7 @@ fn arg_in<'a>(
 /// closing bracket.
 fn more_args_in<'a>(
     names: &Names,
-    places: &[Place],
+    places: &[Slot],
     text: &'a [u8],
     given: Given,
 ) -> Option<(Given, &'a [u8])>
@@ -93,7 +88,7 @@ fn more_args_in<'a>(
 }
 
 /// What the arguments of a call give in these places, and what follows the closing bracket.
-fn args_in<'a>(names: &Names, places: &[Place], text: &'a [u8]) -> Option<(Given, &'a [u8])>
+fn args_in<'a>(names: &Names, places: &[Slot], text: &'a [u8]) -> Option<(Given, &'a [u8])>
     ensures { IfSome result (λ r. (ws : List Word) × AreGiven names.now places.now ws NOTHING r.0
         × ((ts : List Tok) → Spells r.1.now ts → Spells text.now (args_toks ws ++ ts))) }
 {

@@ -18,7 +18,7 @@ mod token;
 mod writing;
 
 pub use app_names::names_of;
-pub use call::{Deed, Place, Row, Tail, Verb, When, row_named, rows};
+pub use call::{Deed, Row, Slot, Tail, Verb, When, row_named, rows};
 pub use fault::{LineFault, LineFaultAt};
 pub use fr_program::Instr as Line;
 pub use given::{Given, given_of, verb_of};

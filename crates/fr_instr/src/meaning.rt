@@ -5,7 +5,7 @@ ghost use Rattle.fr_instr.specs.Calls.{put};
 ghost use Rattle.fr_instr.specs.Lines.{IsVariable, IsOperand, IsBlockTime, SaysLength, SaysTicks, SaysNull, Gives, AreGiven};
 ghost use Rattle.fr_instr.specs.Faults.{InVariable, InPlace, InPlain, InArgs, InPlaces};
 
-use crate::call::Place;
+use crate::call::Slot;
 use crate::fault::{LineFault, TokenFault, at};
 use crate::given::{Given, NOTHING};
 use crate::names::Names;
@@ -25,7 +25,7 @@ pub(crate) fn variable_of(names: &Names, word: &[u8]) -> Result<VarId, LineFault
 
 /// What the variable that this argument names gives.
 fn variable_given(names: &Names, value: Value<'_>, given: Given) -> Result<Given, LineFault>
-    ensures { MatchResult result (Gives names.now Place.Variable (word_of value.entry) given) (InPlace names.now Place.Variable (word_of value.entry)) }
+    ensures { MatchResult result (Gives names.now Slot.Variable (word_of value.entry) given) (InPlace names.now Slot.Variable (word_of value.entry)) }
 {
     match value {
         Value::Name(word) => match names.variable_named(word) {
@@ -38,7 +38,7 @@ fn variable_given(names: &Names, value: Value<'_>, given: Given) -> Result<Given
 
 /// What the object that this argument names gives.
 fn object_given(names: &Names, value: Value<'_>, given: Given) -> Result<Given, LineFault>
-    ensures { MatchResult result (Gives names.now Place.Object (word_of value.entry) given) (InPlace names.now Place.Object (word_of value.entry)) }
+    ensures { MatchResult result (Gives names.now Slot.Object (word_of value.entry) given) (InPlace names.now Slot.Object (word_of value.entry)) }
 {
     match value {
         Value::Name(word) => match names.object_named(word) {
@@ -51,7 +51,7 @@ fn object_given(names: &Names, value: Value<'_>, given: Given) -> Result<Given, 
 
 /// The operand that this word or number is.
 pub(crate) fn operand_at(names: &Names, value: Value<'_>) -> Result<Operand, LineFault>
-    ensures { MatchResult result (IsOperand names.now (word_of value.entry)) (InPlace names.now Place.Operand (word_of value.entry)) }
+    ensures { MatchResult result (IsOperand names.now (word_of value.entry)) (InPlace names.now Slot.Operand (word_of value.entry)) }
 {
     match value {
         Value::Name(word) => match names.variable_named(word) {
@@ -67,7 +67,7 @@ pub(crate) fn operand_at(names: &Names, value: Value<'_>) -> Result<Operand, Lin
 
 /// What the operand that this argument is gives.
 fn operand_given(names: &Names, value: Value<'_>, given: Given) -> Result<Given, LineFault>
-    ensures { MatchResult result (Gives names.now Place.Operand (word_of value.entry) given) (InPlace names.now Place.Operand (word_of value.entry)) }
+    ensures { MatchResult result (Gives names.now Slot.Operand (word_of value.entry) given) (InPlace names.now Slot.Operand (word_of value.entry)) }
 {
     match operand_at(names, value) {
         Ok(operand) => Ok(Given { operand, ..given }),
@@ -77,7 +77,7 @@ fn operand_given(names: &Names, value: Value<'_>, given: Given) -> Result<Given,
 
 /// What the length that this argument is gives.
 fn length_given(value: Value<'_>, given: Given) -> Result<Given, LineFault>
-    ensures { MatchResult result (λ h. SaysLength (word_of value.entry) h.bytes × (h ≡ put Place.Length h given)) (InPlain Place.Length (word_of value.entry)) }
+    ensures { MatchResult result (λ h. SaysLength (word_of value.entry) h.bytes × (h ≡ put Slot.Length h given)) (InPlain Slot.Length (word_of value.entry)) }
 {
     match value {
         Value::Name(_) => Err(LineFault::Syntax),
@@ -90,7 +90,7 @@ fn length_given(value: Value<'_>, given: Given) -> Result<Given, LineFault>
 
 /// What the number of ticks that this argument is gives.
 fn ticks_given(value: Value<'_>, given: Given) -> Result<Given, LineFault>
-    ensures { MatchResult result (λ h. SaysTicks (word_of value.entry) h.ticks × (h ≡ put Place.Ticks h given)) (InPlain Place.Ticks (word_of value.entry)) }
+    ensures { MatchResult result (λ h. SaysTicks (word_of value.entry) h.ticks × (h ≡ put Slot.Ticks h given)) (InPlain Slot.Ticks (word_of value.entry)) }
 {
     match value {
         Value::Name(_) => Err(LineFault::Syntax),
@@ -103,7 +103,7 @@ fn ticks_given(value: Value<'_>, given: Given) -> Result<Given, LineFault>
 
 /// The block time that this argument is: a number of ticks, or `portMAX_DELAY`.
 fn block_time_at(value: Value<'_>) -> Result<BlockTime, LineFault>
-    ensures { MatchResult result (IsBlockTime (word_of value.entry)) (InPlain Place.Time (word_of value.entry)) }
+    ensures { MatchResult result (IsBlockTime (word_of value.entry)) (InPlain Slot.Time (word_of value.entry)) }
 {
     match value {
         Value::Name(word) => {
@@ -122,7 +122,7 @@ fn block_time_at(value: Value<'_>) -> Result<BlockTime, LineFault>
 
 /// What the block time that this argument is gives: a number of ticks, or `portMAX_DELAY`.
 fn block_time_given(value: Value<'_>, given: Given) -> Result<Given, LineFault>
-    ensures { MatchResult result (λ h. IsBlockTime (word_of value.entry) h.time × (h ≡ put Place.Time h given)) (InPlain Place.Time (word_of value.entry)) }
+    ensures { MatchResult result (λ h. IsBlockTime (word_of value.entry) h.time × (h ≡ put Slot.Time h given)) (InPlain Slot.Time (word_of value.entry)) }
 {
     match block_time_at(value) {
         Ok(time) => Ok(Given { time, ..given }),
@@ -132,7 +132,7 @@ fn block_time_given(value: Value<'_>, given: Given) -> Result<Given, LineFault>
 
 /// What is given already, where this argument is `NULL`.
 fn null_given(value: Value<'_>, given: Given) -> Result<Given, LineFault>
-    ensures { MatchResult result (λ h. SaysNull (word_of value.entry) × (h ≡ given)) (InPlain Place.Null (word_of value.entry)) }
+    ensures { MatchResult result (λ h. SaysNull (word_of value.entry) × (h ≡ given)) (InPlain Slot.Null (word_of value.entry)) }
 {
     match value {
         Value::Name(word) if word == b"NULL".as_slice() => Ok(given),
@@ -143,20 +143,20 @@ fn null_given(value: Value<'_>, given: Given) -> Result<Given, LineFault>
 /// What this word or number gives in a place of this kind, beside what was given before.
 pub(crate) fn given_at(
     names: &Names,
-    place: Place,
+    place: Slot,
     value: Value<'_>,
     given: Given,
 ) -> Result<Given, LineFault>
     ensures { MatchResult result (Gives names.now place (word_of value.entry) given) (InPlace names.now place (word_of value.entry)) }
 {
     match place {
-        Place::Object => object_given(names, value, given),
-        Place::Operand => operand_given(names, value, given),
-        Place::Variable => variable_given(names, value, given),
-        Place::Length => length_given(value, given),
-        Place::Time => block_time_given(value, given),
-        Place::Ticks => ticks_given(value, given),
-        Place::Null => null_given(value, given),
+        Slot::Object => object_given(names, value, given),
+        Slot::Operand => operand_given(names, value, given),
+        Slot::Variable => variable_given(names, value, given),
+        Slot::Length => length_given(value, given),
+        Slot::Time => block_time_given(value, given),
+        Slot::Ticks => ticks_given(value, given),
+        Slot::Null => null_given(value, given),
     }
 }
 
@@ -175,7 +175,7 @@ pub(crate) fn left_at_name(values: &[Value<'_>], behind: usize) -> usize {
 /// their closing bracket.
 fn more_given(
     names: &Names,
-    places: &[Place],
+    places: &[Slot],
     values: &[Value<'_>],
     behind: usize,
     given: Given,
@@ -197,7 +197,7 @@ fn more_given(
 /// What the arguments of a call give in the places of its row. So many tokens are behind their closing bracket.
 pub(crate) fn args_given(
     names: &Names,
-    places: &[Place],
+    places: &[Slot],
     values: &[Value<'_>],
     behind: usize,
 ) -> Result<Given, TokenFault>

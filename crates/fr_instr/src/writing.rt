@@ -6,7 +6,7 @@ ghost use Rattle.fr_instr.specs.Views.{texts};
 ghost use Rattle.fr_program.specs.declared.instr.Instr.TheVariants as line;
 ghost use Rattle.fr_instr.specs.WrittenLine.{natural, joined, operand_text, word_text, time_word, place_word, more_text, args_text, into_name, into_text, else_text, operator_text, comparison_text, set_text, if_text, pick_text, call_text, line_text, written_line};
 
-use crate::call::{self, Place};
+use crate::call::{self, Slot};
 use crate::given::{self, Given};
 use crate::names::Names;
 use fr_program::{BlockTime, Call, Comparison, Instr as Line, Operand, Operator, VarId};
@@ -44,17 +44,17 @@ fn time_text(time: BlockTime, buffer: &mut Buffer) -> &str
 }
 
 /// The text of what is given in a place of this kind. The buffer is for that of a number.
-fn place_text<'a>(names: &'a Names, place: Place, given: &Given, buffer: &'a mut Buffer) -> &'a str
+fn place_text<'a>(names: &'a Names, place: Slot, given: &Given, buffer: &'a mut Buffer) -> &'a str
     ensures { result.now ≡ word_text (place_word names.now given.now place) }
 {
     match place {
-        Place::Object => names.object_text(given.object),
-        Place::Operand => operand_text(names, given.operand, buffer),
-        Place::Variable => names.variable_text(given.variable),
-        Place::Length => buffer.format(given.bytes as u64),
-        Place::Time => time_text(given.time, buffer),
-        Place::Ticks => buffer.format(given.ticks as u64),
-        Place::Null => "NULL",
+        Slot::Object => names.object_text(given.object),
+        Slot::Operand => operand_text(names, given.operand, buffer),
+        Slot::Variable => names.variable_text(given.variable),
+        Slot::Length => buffer.format(given.bytes as u64),
+        Slot::Time => time_text(given.time, buffer),
+        Slot::Ticks => buffer.format(given.ticks as u64),
+        Slot::Null => "NULL",
     }
 }
 
@@ -62,7 +62,7 @@ fn place_text<'a>(names: &'a Names, place: Place, given: &Given, buffer: &'a mut
 fn push_more_places(
     out: &mut String,
     names: &Names,
-    places: &[Place],
+    places: &[Slot],
     given: &Given,
 ) -> Result<(), AllocError>
     ensures { OnOk result (string_bytes out.new ≡ string_bytes out.old ++ more_text (map (place_word names.now given.now) places.now)) }
@@ -80,7 +80,7 @@ fn push_more_places(
 fn push_places(
     out: &mut String,
     names: &Names,
-    places: &[Place],
+    places: &[Slot],
     given: &Given,
 ) -> Result<(), AllocError>
     ensures { OnOk result (string_bytes out.new ≡ string_bytes out.old ++ args_text (map (place_word names.now given.now) places.now)) }
@@ -136,7 +136,7 @@ fn push_named(
     out: &mut String,
     names: &Names,
     name: &str,
-    places: &[Place],
+    places: &[Slot],
     given: &Given,
 ) -> Result<(), AllocError>
     ensures { OnOk result (string_bytes out.new ≡ string_bytes out.old ++ call_text names.now name.now places.now given.now) }
@@ -150,7 +150,7 @@ fn push_named(
 }
 
 /// The name and the places in the row of a call, none where it has no row.
-fn name_and_places(call: Call) -> (&'static str, &'static [Place])
+fn name_and_places(call: Call) -> (&'static str, &'static [Slot])
     ensures name { result.0.now ≡ (row_of (verb_of call)).name }
     ensures places { result.1.now ≡ (row_of (verb_of call)).places }
 {

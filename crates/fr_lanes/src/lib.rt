@@ -12,6 +12,6 @@ pub use actors::{count_text, put_actors, put_point};
 pub use body::{Body, empty_body, page_kind, page_with};
 pub use code::Code;
 pub use steps::{
-    Spot, is_shown, omitted_before, put_deadlock, put_end, put_run, put_start, put_step,
+    RowPosition, is_shown, omitted_before, put_deadlock, put_end, put_run, put_start, put_step,
     put_tracks, row_of, rule_told,
 };

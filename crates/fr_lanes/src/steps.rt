@@ -154,9 +154,9 @@ fn move_of(
     })
 }
 
-/// Where a row of a run is.
+/// Which row of a run this is, and where it is among the others.
 #[derive(Clone, Copy)]
-pub struct Spot {
+pub struct RowPosition {
     /// The number of the row, from 0, and how many there are.
     pub row: usize,
     pub rows: usize,
@@ -186,7 +186,7 @@ pub fn put_step(
     app: &App,
     code: &Code,
     depths: &[Depth],
-    spot: Spot,
+    spot: RowPosition,
     step: &ExplainedStep,
     state: &mut State,
 ) -> Result<(), AllocError>
@@ -235,7 +235,7 @@ fn put_steps(
 {
     let mut state = put_start(alloc, body, app, code, depths)?;
     for (number, step) in steps.iter().enumerate() {
-        let spot = Spot {
+        let spot = RowPosition {
             row: number,
             rows: steps.len(),
             step: number,

@@ -27,7 +27,7 @@ use crate::boxed::Boxed;
 use crate::exit::REFUSED;
 use crate::fault::{CheckFault, fault_line, status};
 use crate::judged::Judged;
-use fr_escape::Place;
+use fr_escape::Location;
 use fr_formats::{AnswerKind, Command, WarningShown};
 use fr_judge::Verdict;
 use fr_order::Order;
@@ -42,7 +42,7 @@ use std::alloc::{AllocError, Global};
 pub struct Refusal {
     pub fault: CheckFault,
     /// Where it is, where that is asked for.
-    pub place: Option<Place>,
+    pub place: Option<Location>,
 }
 
 /// A fault alone.

@@ -19,7 +19,7 @@ use fr_ends::Certificate;
 use fr_judge::Verdict;
 use fr_program::App;
 use fr_reader::ReadFault;
-use fr_text::{Judged, TextFault, read_both};
+use fr_text::{JudgedApp, TextFault, read_both};
 use std::alloc::Global;
 use std::sync::Wait;
 use std::thread::Threads;
@@ -120,7 +120,7 @@ pub fn judge_bytes<R: Threads + Wait + Sync, G: Gate>(
     certificate: &[u8],
     workers: usize,
     gate: &G,
-) -> Result<Judged, BytesFault>
+) -> Result<JudgedApp, BytesFault>
     ensures judged { IfOk result
         (λ judged. IsJudged app.now certificate.now judged.app judged.verdict) }
     ensures safe { IfOk result (λ judged. judged.verdict ≡ Yes → IsSafe judged.app) }
@@ -129,7 +129,7 @@ pub fn judge_bytes<R: Threads + Wait + Sync, G: Gate>(
     ensures fault { IfErr result (IsFaultOfBytes app.now certificate.now) }
 {
     let reading = judge_reading(rt, alloc, app, certificate, workers, gate)?;
-    Ok(Judged {
+    Ok(JudgedApp {
         app: reading.app,
         verdict: reading.verdict,
     })

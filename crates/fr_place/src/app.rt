@@ -6,7 +6,7 @@ use crate::lines::Lines;
 use crate::position::{position_at, push_position};
 use crate::shown::Start;
 use crate::table::{line_at, table_named};
-use fr_escape::Place;
+use fr_escape::Location;
 use fr_instr::LineFault;
 use fr_reader::{Key, MOST_BYTES, ReadFault, names_in};
 use std::alloc::{AllocError, Global};
@@ -82,8 +82,8 @@ fn push_place(out: &mut Lines, bytes: &[u8], fault: &ReadFault) {
 /// The fault is one that `read_app` gave for these bytes. For another one the lines say less, or nothing.
 ///
 /// Its error is that an allocation was refused.
-pub fn place_of_app(alloc: Global, bytes: &[u8], fault: &ReadFault) -> Result<Place, AllocError> {
+pub fn place_of_app(alloc: Global, text: &[u8], fault: &ReadFault) -> Result<Location, AllocError> {
     let mut out = Lines::new(alloc);
-    push_place(&mut out, bytes, fault);
+    push_place(&mut out, text, fault);
     out.place()
 }

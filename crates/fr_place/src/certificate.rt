@@ -7,7 +7,7 @@ use crate::position::{position_in, push_position};
 use crate::shown::Quoted;
 use crate::steps::{inner_key, last_key, push_path, value_at};
 use fr_cert::{CertFault, MOST_BYTES, Path, Step};
-use fr_escape::Place;
+use fr_escape::Location;
 use fr_program::App;
 use fr_reader::Key;
 use serde_json::Value;
@@ -205,7 +205,7 @@ pub fn place_of_certificate(
     app: &App,
     bytes: &[u8],
     fault: &CertFault,
-) -> Result<Place, AllocError> {
+) -> Result<Location, AllocError> {
     let mut out = Lines::new(alloc);
     push_place(&mut out, app, bytes, fault);
     out.place()

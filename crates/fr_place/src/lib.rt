@@ -1,7 +1,7 @@
 // Where a refusal is, in plain words: the text that follows the one line of a refusal. Given the bytes that were refused and
 // the fault, the bytes are read again, and what is at the fault's place is told: line and column, table and key, a line of
 // code with a mark below it, the path to a note with its point's name. Nothing is told that isn't known. The words are presentation;
-// the contracts promise that nothing in a line steers a terminal (`Place` of fr_escape), and that `nearest` is exact.
+// the contracts promise that nothing in a line steers a terminal (`Location` of fr_escape), and that `nearest` is exact.
 #![tactic(auto)]
 
 mod app;

@@ -1,6 +1,6 @@
 // The lines of a place while they are written.
 use crate::shown::Start;
-use fr_escape::{Place, place_of_texts};
+use fr_escape::{Location, place_of_texts};
 use std::alloc::{AllocError, Global};
 use std::fmt::Display;
 use std::mem::replace;
@@ -67,7 +67,7 @@ impl Lines {
     }
 
     /// The lines that are done, as they are shown. Its error is that an allocation was refused, here or while they were written.
-    pub(crate) fn place(&self) -> Result<Place, AllocError> {
+    pub(crate) fn place(&self) -> Result<Location, AllocError> {
         if self.is_refused {
             return Err(AllocError);
         }

@@ -1,6 +1,6 @@
 // Files that seem to be swapped.
 use crate::lines::Lines;
-use fr_escape::Place;
+use fr_escape::Location;
 use std::alloc::{AllocError, Global};
 
 /// The first byte that is no blank, and 0 where there is none.
@@ -17,7 +17,7 @@ pub fn seem_swapped(app: &[u8], certificate: &[u8]) -> bool {
 }
 
 /// What is said of two files that seem to be swapped. Its error is that an allocation was refused.
-pub fn place_of_swapped(alloc: Global) -> Result<Place, AllocError> {
+pub fn place_of_swapped(alloc: Global) -> Result<Location, AllocError> {
     let mut out = Lines::new(alloc);
     out.say("the two files seem to be swapped");
     out.place()

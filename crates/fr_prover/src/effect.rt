@@ -3,7 +3,7 @@ ghost use Rattle.fr_notes.specs.Fits.{AlternativeFits};
 ghost use Rattle.fr_finder.specs.Spots.{IsPlaced};
 
 use crate::lists::empty_lists;
-use crate::place::{Place, changed_life, place_at};
+use crate::place::{Placed, changed_life, place_at};
 use crate::trial::{Item, Trial};
 use fr_calls::Way;
 use fr_notes::{Alternative, Claim, Known, change_by};
@@ -267,7 +267,7 @@ fn no_writes(alloc: Global, count: usize) -> Result<Vec<Written>, AllocError> {
 }
 
 /// The variable to which the step by the first row gives numbers, with these numbers.
-pub fn given_by(app: &App, place: Place, facts: &Alternative) -> Option<(VarId, Range)>
+pub fn given_by(app: &App, place: Placed, facts: &Alternative) -> Option<(VarId, Range)>
     requires placed { IsPlaced app.now place.point place.instr.now }
     requires fits { AlternativeFits app.now facts.now }
 {
@@ -276,7 +276,7 @@ pub fn given_by(app: &App, place: Place, facts: &Alternative) -> Option<(VarId, 
 }
 
 /// The variable that a step by the first row writes, with what it can get of the declared range.
-fn written_by(app: &App, place: Place, facts: &Alternative) -> Option<(VarId, Range)>
+fn written_by(app: &App, place: Placed, facts: &Alternative) -> Option<(VarId, Range)>
     requires placed { IsPlaced app.now place.point place.instr.now }
     requires fits { AlternativeFits app.now facts.now }
 {
@@ -313,7 +313,7 @@ impl Effects {
         &mut self,
         alloc: Global,
         trial: &Trial,
-        place: Place,
+        place: Placed,
         mover: Item,
         facts: &Alternative,
     ) -> Result<(), AllocError>

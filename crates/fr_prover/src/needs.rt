@@ -1,8 +1,8 @@
 // What of each note the rest of an actor's code may need: the variables that it reads and the objects that it names, and
 // those by which actors may keep out of each other's way.
 use crate::lists::{list_at, mark};
-use crate::place::{Place, changed_life, place_at, read, tested};
-use crate::table::Table;
+use crate::place::{Placed, changed_life, place_at, read, tested};
+use crate::table::TruthTable;
 use fr_finder::points_before;
 use fr_program::{App, Instr};
 use std::alloc::{AllocError, Global};
@@ -11,9 +11,9 @@ use std::alloc::{AllocError, Global};
 #[derive(Drop)]
 pub struct Needs {
     /// By point and variable: whether its numbers there may be needed.
-    pub variables: Table,
+    pub variables: TruthTable,
     /// By point and object: whether its life there may be needed.
-    pub objects: Table,
+    pub objects: TruthTable,
 }
 
 /// The variable to which an instruction gives another number whatever happens, if there is one.
@@ -25,7 +25,7 @@ fn overwritten(instr: &Instr) -> Option<usize> {
 }
 
 /// By point and variable: whether some line tests the variable.
-fn tested_somewhere(alloc: Global, app: &App) -> Result<Table, AllocError> {
+fn tested_somewhere(alloc: Global, app: &App) -> Result<TruthTable, AllocError> {
     let mut list = vec![in alloc; false; app.variables().len()]?;
     for number in 0..app.points() {
         if let Some(place) = place_at(app, number) {
@@ -36,11 +36,11 @@ fn tested_somewhere(alloc: Global, app: &App) -> Result<Table, AllocError> {
             }
         }
     }
-    Table::repeated(alloc, app.points(), &list)
+    TruthTable::repeated(alloc, app.points(), &list)
 }
 
 /// By point and object: whether some line creates or deletes the object.
-fn changed_somewhere(alloc: Global, app: &App) -> Result<Table, AllocError> {
+fn changed_somewhere(alloc: Global, app: &App) -> Result<TruthTable, AllocError> {
     let mut list = vec![in alloc; false; app.objects().len()]?;
     for number in 0..app.points() {
         if let Some(place) = place_at(app, number) {
@@ -49,12 +49,12 @@ fn changed_somewhere(alloc: Global, app: &App) -> Result<Table, AllocError> {
             }
         }
     }
-    Table::repeated(alloc, app.points(), &list)
+    TruthTable::repeated(alloc, app.points(), &list)
 }
 
 impl Needs {
     /// Marks what the instruction of the point needs.
-    fn mark_own(&mut self, place: Place, number: usize) {
+    fn mark_own(&mut self, place: Placed, number: usize) {
         for variable in read(place.instr) {
             if let Some(variable) = variable {
                 self.variables.mark(number, variable.0);

@@ -7,13 +7,13 @@ use fr_program::{Act, App, Attempt, Call, Instr, Operand, Point, VarId};
 
 /// A point with its instruction.
 #[derive(Clone, Copy)]
-pub struct Place<'a> {
+pub struct Placed<'a> {
     pub point: Point,
     pub instr: &'a Instr,
 }
 
 /// The point with this number; None where the application has no such point.
-pub fn place_at<'a>(app: &'a App, number: usize) -> Option<Place<'a>>
+pub fn place_at<'a>(app: &'a App, number: usize) -> Option<Placed<'a>>
     ensures { IfSome result (λ p. IsPlaced app.now p.point p.instr.now) }
 {
     app.recall_numbered();
@@ -22,7 +22,7 @@ pub fn place_at<'a>(app: &'a App, number: usize) -> Option<Place<'a>>
     }
     let point = app.point(number);
     let instr = app.instr(point)?;
-    Some(Place { point, instr })
+    Some(Placed { point, instr })
 }
 
 /// The number that an operand is, if it is one.

@@ -2,7 +2,7 @@
 use crate::lists::{add_once, empty_lists, insert_inside};
 use crate::order::{heads, places_in_order};
 use crate::place::{number_of, place_at, tested};
-use crate::table::Table;
+use crate::table::TruthTable;
 use crate::thresholds::{Kin, kin_of};
 use fr_program::{App, Instr, Operand};
 use std::alloc::{AllocError, Global};
@@ -19,7 +19,7 @@ pub struct Span {
 pub struct Plan<'a> {
     pub app: &'a App,
     /// By variable and actor: whether the actor's code names the variable.
-    pub users: Table,
+    pub users: TruthTable,
     /// By actor: the variables that its code tests.
     pub tests: Vec<Vec<usize>>,
     /// By variable: the numbers of its declared range that it is compared with, rising.
@@ -35,8 +35,8 @@ pub struct Plan<'a> {
 }
 
 /// Which actor's code names which variable.
-fn users(alloc: Global, app: &App) -> Result<Table, AllocError> {
-    let mut users = Table::new(alloc, app.variables().len(), app.actors().len(), false)?;
+fn users(alloc: Global, app: &App) -> Result<TruthTable, AllocError> {
+    let mut users = TruthTable::new(alloc, app.variables().len(), app.actors().len(), false)?;
     for number in 0..app.points() {
         if let Some(place) = place_at(app, number) {
             for variable in place.instr.variables().by_place() {
@@ -143,9 +143,9 @@ impl<'a> Plan<'a> {
 
     /// Which variables an actor's notes speak of: all but those that one other actor alone names, or,
     /// where `everything` is wanted, all.
-    pub fn kept(&self, alloc: Global, everything: bool) -> Result<Table, AllocError> {
+    pub fn kept(&self, alloc: Global, everything: bool) -> Result<TruthTable, AllocError> {
         let (actors, variables) = (self.app.actors().len(), self.app.variables().len());
-        let mut kept = Table::new(alloc, actors, variables, everything)?;
+        let mut kept = TruthTable::new(alloc, actors, variables, everything)?;
         for variable in 0..variables {
             let shared = self.users.count(variable) != 1;
             for actor in 0..actors {

@@ -9,7 +9,7 @@ use crate::measure::{Failure, Measured, fitting, measure};
 use crate::place::place_at;
 use crate::plan::Plan;
 use crate::rising::rise;
-use crate::table::Table;
+use crate::table::TruthTable;
 use crate::thresholds::thresholds;
 use crate::trial::Trial;
 use fr_ends::Certificate;
@@ -37,7 +37,7 @@ const MOST_LESSONS: u32 = 3;
 #[derive(Drop)]
 struct Search<'a> {
     plan: &'a Plan<'a>,
-    kept: Table,
+    kept: TruthTable,
     thresholds: Vec<Vec<i128>>,
     /// What the last try taught.
     lessons: Vec<Lesson>,

@@ -4,7 +4,7 @@ ghost use Rattle.fr_notes.specs.Fits.{AlternativeFits};
 ghost use Rattle.fr_notes.specs.Known.{IsPossible};
 ghost use Rattle.fr_finder.specs.Spots.{IsPlaced};
 
-use crate::place::{Place, place_at};
+use crate::place::{Placed, place_at};
 use crate::trial::{Item, Trial};
 use fr_calls::Way;
 use fr_finder::{left_to_mover, left_to_other, target};
@@ -47,7 +47,7 @@ impl<'a> Trial<'a> {
     fn left(
         &self,
         alloc: Global,
-        place: Place,
+        place: Placed,
         facts: &Alternative,
         way: Way,
         target: usize,
@@ -73,7 +73,7 @@ impl<'a> Trial<'a> {
     fn left_beside(
         &self,
         alloc: Global,
-        place: Place,
+        place: Placed,
         mover: &Alternative,
         number: usize,
         said: &[bool],

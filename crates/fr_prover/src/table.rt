@@ -4,29 +4,29 @@ use std::alloc::{AllocError, Global};
 
 /// Truth values in rows and columns, by their numbers from 0.
 #[derive(Drop)]
-pub struct Table {
+pub struct TruthTable {
     rows: Vec<Vec<bool>>,
 }
 
-impl Table {
+impl TruthTable {
     /// A table of so many rows and columns with this value everywhere.
     pub fn new(
         alloc: Global,
         rows: usize,
         columns: usize,
         value: bool,
-    ) -> Result<Table, AllocError> {
+    ) -> Result<TruthTable, AllocError> {
         let row = vec![in alloc; value; columns]?;
-        Table::repeated(alloc, rows, &row)
+        TruthTable::repeated(alloc, rows, &row)
     }
 
     /// A table of so many rows that are all like this one.
-    pub fn repeated(alloc: Global, rows: usize, row: &[bool]) -> Result<Table, AllocError> {
+    pub fn repeated(alloc: Global, rows: usize, row: &[bool]) -> Result<TruthTable, AllocError> {
         let mut lists = Vec::with_capacity(alloc, rows)?;
         for _ in 0..rows {
             lists.push(Vec::from_slice(alloc, row)?)?;
         }
-        Ok(Table { rows: lists })
+        Ok(TruthTable { rows: lists })
     }
 
     /// The row; an empty one where the table has none with this number.

@@ -8,7 +8,7 @@ use crate::lists::{empty_lists, is_marked, list_at};
 use crate::place::{place_at, ways};
 use crate::plan::Plan;
 use crate::pool::Pool;
-use crate::table::Table;
+use crate::table::TruthTable;
 use fr_calls::Way;
 use fr_notes::{Alternative, Claim, Known, keeps};
 use fr_program::{App, ObjId, Range, VarId};
@@ -29,7 +29,7 @@ pub struct Trial<'a> {
     /// What keeps alternatives apart.
     pub divisions: &'a [Division],
     /// By actor and variable: whether the actor's notes speak of the variable.
-    pub kept: &'a Table,
+    pub kept: &'a TruthTable,
     /// By variable: whether the notes of several actors speak of it.
     felt: Vec<bool>,
     /// By variable: the numbers at which a range that grows may rest.
@@ -58,7 +58,7 @@ fn thresholds_for(
 }
 
 /// By variable: whether the notes of several actors speak of it.
-fn felt_in(alloc: Global, app: &App, kept: &Table) -> Result<Vec<bool>, AllocError> {
+fn felt_in(alloc: Global, app: &App, kept: &TruthTable) -> Result<Vec<bool>, AllocError> {
     let mut felt = Vec::with_capacity(alloc, app.variables().len())?;
     for variable in 0..app.variables().len() {
         felt.push(kept.count_column(variable) > 1)?;
@@ -95,7 +95,7 @@ impl<'a> Trial<'a> {
         plan: &'a Plan<'a>,
         thresholds: &[Vec<i128>],
         divisions: &'a [Division],
-        kept: &'a Table,
+        kept: &'a TruthTable,
         left: u64,
     ) -> Result<Trial<'a>, AllocError> {
         Ok(Trial {

@@ -19,12 +19,12 @@ use Rattle.fr_outcome.specs.declared.answer.What.{What}
 use Rattle.fr_outcome.specs.declared.answer.What.TheVariants.{Judged, Searched}
 use Rattle.fr_outcome.specs.Answers.{IsAnsweredFor, Settles, kind_of_judged}
 use Rattle.fr_proving.specs.declared.proving.Known.{Known}
-use Rattle.fr_proving.specs.declared.proving.Known.TheVariants.{Settled, Told}
+use Rattle.fr_proving.specs.declared.proving.Known.TheVariants.{Settled, Reached}
 
 -- a verdict is the one on both and names only what the application has, nothing explains a yes, and an order is one of the certificate
 abbrev pub IsTold : Program → Certificate → Known → Type 0
 IsTold P C (Settled found explains) = Unit {0}
-IsTold P C (Told verdict why waits tried) =
+IsTold P C (Reached verdict why waits tried) =
     TellsVerdict P C verdict × Speaks P verdict × (verdict ≡ Yes → why ≡ None) × IfSome waits (IsOrderOf P C)
 
 -- this is the verdict on both, and whether actors can deadlock is answered where that is asked
@@ -33,7 +33,7 @@ IsVerdictFor asks P C verdict waits = TellsVerdict P C verdict × IfSome waits (
 
 -- that verdict; or where it doesn't settle the matter and there is a search, what that found and settles it
 abbrev pub IsKnown : Bool → Bool → Program → Certificate → Known → Type 0
-IsKnown asks searches P C (Told verdict why waits tried) = IsVerdictFor asks P C verdict waits
+IsKnown asks searches P C (Reached verdict why waits tried) = IsVerdictFor asks P C verdict waits
 IsKnown asks searches P C (Settled found explains) =
     IsFound P found × Suits asks found × Settles found × IsTrue searches
     × ((verdict : Verdict) × (waits : Option Order) × IsVerdictFor asks P C verdict waits
@@ -41,6 +41,6 @@ IsKnown asks searches P C (Settled found explains) =
 
 -- the answer is of this application and this certificate, with what is known
 abbrev pub IsWhatOf : Program → Certificate → Known → What → Type 0
-IsWhatOf P C (Told verdict why waits tried) (Judged j) = (j.app ≡ P) × (j.certificate ≡ C) × (j.verdict ≡ verdict) × (j.waits ≡ waits)
+IsWhatOf P C (Reached verdict why waits tried) (Judged j) = (j.app ≡ P) × (j.certificate ≡ C) × (j.verdict ≡ verdict) × (j.waits ≡ waits)
 IsWhatOf P C (Settled found explains) (Searched s) = (s.app ≡ P) × (s.found ≡ found)
 IsWhatOf P C known what = ⊥

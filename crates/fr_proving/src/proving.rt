@@ -122,7 +122,7 @@ pub(crate) enum Known {
     /// What a search found, where the verdict doesn't settle the matter, and the places of the lines in a source.
     Settled(Finding, Option<Sources>),
     /// The verdict, why it is no, whether actors can deadlock, and the search that found nothing.
-    Told(Verdict, Option<Explanation>, Option<Order>, Option<Tried>),
+    Reached(Verdict, Option<Explanation>, Option<Order>, Option<Tried>),
 }
 
 /// What is known by the certificate, of which this is the verdict, with what is known of waits.
@@ -152,7 +152,7 @@ fn known_by<R: Threads + Wait + Sync>(
         }
     }
     let why = why(alloc, text, app, certificate, verdict, ways.detail, true)?;
-    Ok(Known::Told(verdict, why, waits, tried))
+    Ok(Known::Reached(verdict, why, waits, tried))
 }
 
 /// What is known of the application by this certificate, once that is judged by so many workers as there can be.
@@ -209,7 +209,7 @@ fn what_of(
             };
             Ok(What::Searched(Boxed::new(alloc, searched)?))
         }
-        Known::Told(verdict, why, waits, tried) => {
+        Known::Reached(verdict, why, waits, tried) => {
             let judged = Judged::new(app, certificate, verdict, why, waits).after_search(tried);
             Ok(What::Judged(Boxed::new(alloc, judged)?))
         }

@@ -5,7 +5,7 @@ use Rattle.fr_calls.specs.State.{IsWellFormed}
 use Rattle.fr_notes.specs.Fits.{NoteFits}
 use Rattle.fr_witness.specs.declared.taken.Taken.{Taken}
 use Rattle.fr_reasons.specs.declared.reason.scene.Scene.{Scene}
-use Rattle.fr_reasons.specs.declared.reason.scene.Site.{Site}
+use Rattle.fr_reasons.specs.declared.reason.scene.Spot.{Spot}
 use Rattle.fr_witness.specs.declared.evidence.Witness.{Witness}
 use Rattle.fr_witness.specs.declared.evidence.Witness.TheVariants.{Start, Breaks, Leaves, Unguarded, Both}
 
@@ -26,9 +26,9 @@ IsFormed P (Unguarded S) = IfSome S (IsWellFormed P)
 IsFormed P (Both S) = IsWellFormed P S
 
 -- the note fits the application, and its actor is one of its own
-abbrev pub IsSite : Program → Site → Type 0
-IsSite P s = NoteFits P s.note.now × (s.point.actor.0 < length P.actors)
+abbrev pub IsSpot : Program → Spot → Type 0
+IsSpot P s = NoteFits P s.note.now × (s.point.actor.0 < length P.actors)
 
--- so are those of both sites
+-- so are those of both spots
 abbrev pub IsScene : Scene → Type 0
-IsScene s = IsSite s.app.now s.site × IfSome s.other (IsSite s.app.now)
+IsScene s = IsSpot s.app.now s.spot × IfSome s.other (IsSpot s.app.now)

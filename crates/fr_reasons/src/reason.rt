@@ -3,7 +3,7 @@ ghost use Rattle.std.specs.Prelude.{◌≡◌, IfOk, IfSome, None};
 ghost use Rattle.fr_judge.specs.declared.part.Verdict.TheVariants.{Yes};
 ghost use Rattle.fr_calls.specs.State.{IsWellFormed};
 ghost use Rattle.fr_ends.specs.Fits.{CertificateFits};
-ghost use Rattle.fr_reasons.specs.Told.{IsTold, AreTold, IsFormed, IsScene, IsSite};
+ghost use Rattle.fr_reasons.specs.Told.{IsTold, AreTold, IsFormed, IsScene, IsSpot};
 
 mod culprits;
 mod guards;
@@ -24,10 +24,10 @@ use fr_witness::{Taken, Witness, witness};
 use fr_wording::{Explained, Explanation, ShownState, Sources, outcome_text, standing_in};
 use guards::{guard_text, guarded_by, unguarded_text};
 pub use notes::{never_deleted, note_told};
-use notes::{add_broken, claims_of, rival_of, site_of};
+use notes::{add_broken, claims_of, rival_of, spot_of};
 use places::add_actors;
 use rules::forbidden_text;
-use scene::{Scene, Site};
+use scene::{Scene, Spot};
 use std::alloc::{AllocError, Global};
 use std::mem::drop;
 
@@ -48,7 +48,7 @@ fn add_state(
     let facts = scene.shown(state)?;
     add_item(items, Explained::State { of, facts })?;
     match scene.detail {
-        Detail::Told => Ok(()),
+        Detail::Relevant => Ok(()),
         Detail::Whole => add_actors(scene.alloc, items, scene.app, state),
     }
 }
@@ -69,7 +69,7 @@ fn add_changed(items: &mut Vec<Explained>, scene: &Scene, taken: &Taken) -> Resu
 fn add_step(
     items: &mut Vec<Explained>,
     scene: &Scene,
-    mover: &Site,
+    mover: &Spot,
     taken: &Taken,
 ) -> Result<(), AllocError>
     requires { IsTold scene.now.app.now taken.now }
@@ -93,12 +93,12 @@ fn add_step(
 fn add_steps(
     items: &mut Vec<Explained>,
     scene: &Scene,
-    mover: &Site,
-    victim: &Site,
+    mover: &Spot,
+    victim: &Spot,
     steps: &[Taken],
 ) -> Result<(), AllocError>
     requires told { AreTold scene.now.app.now steps.now }
-    requires site { IsSite scene.now.app.now victim.now }
+    requires spot { IsSpot scene.now.app.now victim.now }
 {
     let is_own = mover.point.actor.0 == victim.point.actor.0;
     let of = if is_own {
@@ -125,16 +125,16 @@ fn add_leaving(
     requires scene { IsScene scene.now }
 {
     match (part, &scene.other) {
-        (Part::Goes(_), Some(target)) => add_steps(items, scene, &scene.site, target, steps),
-        (Part::Spoiled(_), Some(other)) => add_steps(items, scene, other, &scene.site, steps),
+        (Part::Goes(_), Some(target)) => add_steps(items, scene, &scene.spot, target, steps),
+        (Part::Spoiled(_), Some(other)) => add_steps(items, scene, other, &scene.spot, steps),
         _ => Ok(()),
     }
 }
 
-/// Adds what the note of a site says.
-fn add_note(items: &mut Vec<Explained>, scene: &Scene, site: Site) -> Result<(), AllocError> {
-    let (of, actor) = (ShownState::OneNote, site.point.actor);
-    let claims = claims_of(scene.alloc, scene.app, site, &[])?;
+/// Adds what the note of a spot says.
+fn add_note(items: &mut Vec<Explained>, scene: &Scene, spot: Spot) -> Result<(), AllocError> {
+    let (of, actor) = (ShownState::OneNote, spot.point.actor);
+    let claims = claims_of(scene.alloc, scene.app, spot, &[])?;
     add_item(items, Explained::Says { of, actor, claims })
 }
 
@@ -148,10 +148,10 @@ fn add_rival(
 ) -> Result<(), AllocError>
     requires { CertificateFits scene.now.app.now certificate.now }
 {
-    let Some(rival) = rival_of(scene.app, certificate, scene.site.point.actor, end) else {
+    let Some(rival) = rival_of(scene.app, certificate, scene.spot.point.actor, end) else {
         return Ok(());
     };
-    add_note(items, scene, scene.site)?;
+    add_note(items, scene, scene.spot)?;
     add_item(items, Explained::Beside(scene.standing_at(rival.point)?))?;
     add_note(items, scene, rival)
 }
@@ -169,7 +169,7 @@ fn add_guard(
     let (alloc, app) = (scene.alloc, scene.app);
     let who = guard_text(alloc, app, guard)?;
     add_item(items, Explained::Guard { end, who })?;
-    let so = unguarded_text(alloc, app, guard, scene.site.point.actor, state)?;
+    let so = unguarded_text(alloc, app, guard, scene.spot.point.actor, state)?;
     add_item(items, Explained::But(so))
 }
 
@@ -186,7 +186,7 @@ fn add_met(
     if !scene.blames {
         return add_rival(items, scene, certificate, end);
     }
-    add_way(items, scene, guard, scene.site.point)?;
+    add_way(items, scene, guard, scene.spot.point)?;
     add_rival(items, scene, certificate, end)?;
     add_lackers(items, scene, certificate, end, guard)
 }
@@ -243,7 +243,7 @@ fn add_breaking(
     requires fits { CertificateFits scene.now.app.now certificate.now }
 {
     add_state(items, scene, ShownState::OneNote, state)?;
-    let so = forbidden_text(scene.alloc, scene.app, &scene.site, state, rule)?;
+    let so = forbidden_text(scene.alloc, scene.app, &scene.spot, state, rule)?;
     add_item(items, Explained::But(so))?;
     if scene.blames && rule == Rule::IsLive {
         add_deleters(items, scene, certificate)?;
@@ -256,7 +256,7 @@ fn add_breaking(
 fn add_beyond(
     items: &mut Vec<Explained>,
     scene: &Scene,
-    other: &Site,
+    other: &Spot,
     state: &State,
 ) -> Result<(), AllocError>
     requires { IsWellFormed scene.now.app.now state.now }
@@ -316,7 +316,7 @@ fn add_start(items: &mut Vec<Explained>, scene: &Scene, state: &State) -> Result
     requires scene { IsScene scene.now }
 {
     add_state(items, scene, ShownState::Start, state)?;
-    add_broken(items, scene, ShownState::Start, scene.site, state)
+    add_broken(items, scene, ShownState::Start, scene.spot, state)
 }
 
 /// Adds what the witness of a part shows.
@@ -344,13 +344,13 @@ fn add_witness(
 }
 
 /// The other point that a part is about, if it is about one.
-fn other_of<'a>(app: &'a App, certificate: &'a Certificate, part: Part) -> Option<Site<'a>>
+fn other_of<'a>(app: &'a App, certificate: &'a Certificate, part: Part) -> Option<Spot<'a>>
     requires { CertificateFits app.now certificate.now }
-    ensures { IfSome result (IsSite app.now) }
+    ensures { IfSome result (IsSpot app.now) }
 {
     match part {
         Part::Goes(point) | Part::Near(point) | Part::Spoiled(point) => {
-            site_of(app, certificate, point)
+            spot_of(app, certificate, point)
         }
         _ => None,
     }
@@ -379,7 +379,7 @@ fn add_points(
 ) -> Result<(), AllocError>
     requires { CertificateFits scene.now.app.now certificate.now }
 {
-    let point = scene.site.point;
+    let point = scene.spot.point;
     if let Part::Spoiled(by) = part
         && scene.blames
     {
@@ -404,7 +404,7 @@ fn add_found(
     requires scene { IsScene scene.now }
     requires fits { CertificateFits scene.now.app.now certificate.now }
 {
-    let (app, point) = (scene.app, scene.site.point);
+    let (app, point) = (scene.app, scene.spot.point);
     app.recall_faultless();
     the_start_is_well_formed();
     match witness(scene.alloc, app, certificate, Verdict::No { point, part })? {
@@ -456,7 +456,7 @@ pub fn explain(
     let Verdict::No { point, part } = verdict else {
         return Ok(None);
     };
-    let Some(site) = site_of(app, certificate, point) else {
+    let Some(spot) = spot_of(app, certificate, point) else {
         return Ok(None);
     };
     let scene = Scene {
@@ -465,7 +465,7 @@ pub fn explain(
         sources,
         detail,
         blames,
-        site,
+        spot,
         other: other_of(app, certificate, part),
         guarded: guarded_in(certificate, part),
     };

@@ -4,7 +4,7 @@
 #[derive(Clone, Copy, PartialEq, Eq)]
 pub enum Detail {
     /// What the notes, the step and the guard speak of.
-    Told,
+    Relevant,
     /// Every variable, every object and all depths.
     Whole,
 }

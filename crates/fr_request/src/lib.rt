@@ -10,7 +10,7 @@ mod warns;
 pub use detail::Detail;
 pub use format::{Format, VERSION};
 pub use request::{
-    CheckRequest, FindRequest, FollowRequest, Judged, ProveRequest, RefuteRequest, Request,
+    CheckRequest, CheckedFiles, FindRequest, FollowRequest, ProveRequest, RefuteRequest, Request,
     RunRequest, TranslateRequest,
 };
 pub use warns::Warns;

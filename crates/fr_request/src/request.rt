@@ -31,7 +31,7 @@ pub enum Request<'a> {
 #[derive(Clone, Copy)]
 pub struct CheckRequest<'a> {
     /// The files that are judged, of which one or more are named.
-    pub files: Judged<'a>,
+    pub files: CheckedFiles<'a>,
     pub workers: u16,
     /// Whether there are warnings of points that are never reached.
     pub warns: bool,
@@ -47,7 +47,7 @@ pub struct CheckRequest<'a> {
 
 /// The files that are judged.
 #[derive(Clone, Copy)]
-pub enum Judged<'a> {
+pub enum CheckedFiles<'a> {
     /// An application and its certificate.
     One { app: &'a str, certificate: &'a str },
     /// Those that the list in this file names.

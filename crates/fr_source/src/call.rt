@@ -1,7 +1,7 @@
 // Calls of the kernel with their arguments.
 
 use crate::fault::{Fault, Spot};
-use crate::kernel::{Kernel, Place, kernel_named};
+use crate::kernel::{Kernel, Slot, kernel_named};
 use crate::near::{OF_CALLS, hint_for};
 use crate::program::{Argument, Call, Home, Object, Operand, Range, Variable};
 use crate::reader::Reader;
@@ -47,13 +47,13 @@ impl Reader {
         self.here.call = Some(kernel);
         self.cursor.take("(", "");
         let mut arguments = [Argument::Absent; 3];
-        for (place, what) in kernel.places.iter().enumerate() {
+        for (place, slot) in kernel.slots.iter().enumerate() {
             if place > 0 && !self.cursor.accepts(",") {
                 self.refuse_in("','", kernel);
             }
-            let argument = self.argument(kernel, *what, arguments[0]);
-            if let Some(slot) = arguments.get_mut(place) {
-                *slot = argument;
+            let argument = self.argument(kernel, *slot, arguments[0]);
+            if let Some(at) = arguments.get_mut(place) {
+                *at = argument;
             }
         }
         if !self.cursor.accepts(")") {
@@ -133,30 +133,30 @@ impl Reader {
         self.cursor.refuse_for(what, " in ", shape.as_str(), more);
     }
 
-    /// Takes the argument in a place. `object` is the first one.
-    fn argument(&mut self, kernel: &Kernel, place: Place, object: Argument) -> Argument {
+    /// Takes the argument for a slot. `object` is the first one.
+    fn argument(&mut self, kernel: &Kernel, slot: Slot, object: Argument) -> Argument {
         if self.cursor.sees(")") {
-            self.refuse_in(place.text(), kernel);
+            self.refuse_in(slot.text(), kernel);
         }
         let is_forever = self.cursor.sees("portMAX_DELAY")
             || matches!(self.meaning(self.cursor.token()), Some(Meaning::Forever));
-        match place {
-            Place::Object => self.object_argument(kernel),
-            Place::Operand => Argument::Operand(self.number_or_variable()),
-            Place::Variable => self.variable_argument(object),
-            Place::Time if is_forever => {
+        match slot {
+            Slot::Object => self.object_argument(kernel),
+            Slot::Operand => Argument::Operand(self.number_or_variable()),
+            Slot::Variable => self.variable_argument(object),
+            Slot::Time if is_forever => {
                 self.cursor.advance();
                 Argument::Forever
             }
-            Place::Length | Place::Time | Place::Ticks => {
-                let range = if matches!(place, Place::Length) {
+            Slot::Length | Slot::Time | Slot::Ticks => {
+                let range = if matches!(slot, Slot::Length) {
                     LENGTHS
                 } else {
                     TICKS
                 };
-                Argument::Operand(Operand::Number(self.number(place.text(), range)))
+                Argument::Operand(Operand::Number(self.number(slot.text(), range)))
             }
-            Place::Null => {
+            Slot::Null => {
                 let spot = self.cursor.spot();
                 if !self.cursor.accepts("NULL") {
                     self.cursor

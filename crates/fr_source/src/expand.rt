@@ -16,7 +16,7 @@ use std::mem;
 
 /// Where a line is in the source. In a function, `call` is the number of the call, among those of the actor.
 #[derive(Clone, Copy)]
-pub(crate) struct Place {
+pub(crate) struct Origin {
     pub(crate) spot: Spot,
     pub(crate) call: Option<usize>,
 }
@@ -26,7 +26,7 @@ pub(crate) struct Place {
 pub(crate) struct Line {
     pub(crate) action: Action,
     pub(crate) to: Option<usize>,
-    pub(crate) place: Place,
+    pub(crate) place: Origin,
 }
 
 impl Line {
@@ -46,7 +46,7 @@ impl Line {
 #[derive(Drop)]
 pub(crate) struct Code {
     pub(crate) lines: Vec<Line>,
-    pub(crate) calls: Vec<Place>,
+    pub(crate) calls: Vec<Origin>,
 }
 
 /// A body that is written out: which item comes next, what its labels are counted from, and its call.
@@ -74,7 +74,7 @@ struct Expander {
     items: usize,
     frames: Vec<Frame>,
     lines: Vec<Line>,
-    calls: Vec<Place>,
+    calls: Vec<Origin>,
     /// The line that each label is before.
     labels: Vec<usize>,
     own: Vec<Own>,
@@ -145,7 +145,7 @@ impl Expander {
                     Some(label) => Some(label.saturating_add(first_label)),
                     None => None,
                 };
-                self.write_line(program, action, to, Place { spot, call })
+                self.write_line(program, action, to, Origin { spot, call })
             }
             Item::Label(label) => {
                 if let Some(slot) = self.labels.get_mut(label.saturating_add(first_label)) {
@@ -155,7 +155,7 @@ impl Expander {
             }
             Item::Expand { function, spot } => {
                 self.copy_variables(program, function)?;
-                self.enter_function(program, function, Place { spot, call })
+                self.enter_function(program, function, Origin { spot, call })
             }
         }
     }
@@ -166,7 +166,7 @@ impl Expander {
         program: &mut Program,
         action: Action,
         to: Option<usize>,
-        place: Place,
+        place: Origin,
     ) -> Result<(), Fault> {
         let action = self.own_action(program, action)?;
         self.lines.push(Line { action, to, place })?;
@@ -178,7 +178,7 @@ impl Expander {
         &mut self,
         program: &Program,
         function: usize,
-        place: Place,
+        place: Origin,
     ) -> Result<(), Fault> {
         let number = self.calls.len();
         self.calls.push(place)?;
@@ -308,9 +308,9 @@ impl Expander {
     /// The fault that an actor grows too large. A label is told by the line above it.
     fn too_large(&self, program: &Program, item: Item, call: Option<usize>) -> Fault {
         let place = match (item, self.lines.last()) {
-            (Item::Line { spot, .. } | Item::Expand { spot, .. }, _) => Place { spot, call },
+            (Item::Line { spot, .. } | Item::Expand { spot, .. }, _) => Origin { spot, call },
             (Item::Label(_), Some(line)) => line.place,
-            (Item::Label(_), None) => Place {
+            (Item::Label(_), None) => Origin {
                 spot: self.actor.end,
                 call: None,
             },
@@ -338,7 +338,7 @@ impl Expander {
 }
 
 /// Where the function is called that a line is of, unless the line is in the actor itself.
-pub(crate) fn caller(calls: &[Place], place: Place) -> Option<Place> {
+pub(crate) fn caller(calls: &[Origin], place: Origin) -> Option<Origin> {
     match place.call {
         Some(call) => calls.get(call).copied(),
         None => None,
@@ -346,7 +346,7 @@ pub(crate) fn caller(calls: &[Place], place: Place) -> Option<Place> {
 }
 
 /// Where a line is in the actor itself: where it calls the function that the line is of.
-pub(crate) fn outermost(calls: &[Place], place: Place) -> Spot {
+pub(crate) fn outermost(calls: &[Origin], place: Origin) -> Spot {
     let mut place = place;
     for _ in 0..calls.len() {
         match caller(calls, place) {

@@ -8,9 +8,9 @@ use crate::program::ObjectKind;
 use crate::texts::{Word, filled};
 use std::alloc::{AllocError, Global};
 
-/// What is in an argument's place.
+/// What the slot of an argument takes.
 #[derive(Clone, Copy)]
-pub(crate) enum Place {
+pub(crate) enum Slot {
     Object,
     Operand,
     Variable,
@@ -20,17 +20,17 @@ pub(crate) enum Place {
     Null,
 }
 
-impl Place {
+impl Slot {
     /// What a message calls it.
     pub(crate) fn text(self) -> &'static str {
         match self {
-            Place::Object => "an object",
-            Place::Operand => "a number or variable",
-            Place::Variable => "a variable",
-            Place::Length => "a length in bytes",
-            Place::Ticks => "ticks",
-            Place::Time => "a block time",
-            Place::Null => "NULL",
+            Slot::Object => "an object",
+            Slot::Operand => "a number or variable",
+            Slot::Variable => "a variable",
+            Slot::Length => "a length in bytes",
+            Slot::Ticks => "ticks",
+            Slot::Time => "a block time",
+            Slot::Null => "NULL",
         }
     }
 }
@@ -104,7 +104,7 @@ impl KernelCall {
 pub(crate) struct Kernel {
     pub(crate) call: KernelCall,
     pub(crate) name: &'static str,
-    pub(crate) places: &'static [Place],
+    pub(crate) slots: &'static [Slot],
     pub(crate) kinds: &'static [ObjectKind],
     pub(crate) answer: Answer,
 }
@@ -134,18 +134,18 @@ impl Kernel {
     }
 
     /// What the argument in this place is.
-    fn place_text(&self, place: usize) -> Word<'static> {
-        match self.places.get(place) {
-            Some(place) => Word::Text(place.text()),
+    fn slot_text(&self, place: usize) -> Word<'static> {
+        match self.slots.get(place) {
+            Some(slot) => Word::Text(slot.text()),
             None => Word::Text(""),
         }
     }
 
     /// The call's name, with what its arguments are.
     pub(crate) fn shape(&self, alloc: Global) -> Result<String, AllocError> {
-        let (first, second) = (self.place_text(0), self.place_text(1));
-        let words = &[Word::Text(self.name), first, second, self.place_text(2)];
-        let form = match self.places.len() {
+        let (first, second) = (self.slot_text(0), self.slot_text(1));
+        let words = &[Word::Text(self.name), first, second, self.slot_text(2)];
+        let form = match self.slots.len() {
             0 | 1 => "%(%)",
             2 => "%(%, %)",
             _ => "%(%, %, %)",
@@ -165,7 +165,7 @@ macro_rules! rows {
         [$(Kernel {
             call: KernelCall::$call,
             name: $name,
-            places: &[$(Place::$place),*],
+            slots: &[$(Slot::$place),*],
             kinds: &[$(ObjectKind::$kind),*],
             answer: Answer::$answer,
         }),*]

@@ -182,7 +182,7 @@ impl Reader {
                 let form = "'%' isn't declared. Did you mean '%'?";
                 self.cursor.refuse_with(spot, form, words);
             }
-            (None, Some(kernel)) if self.cursor.is_at_surplus(kernel.places.len()) => {
+            (None, Some(kernel)) if self.cursor.is_at_surplus(kernel.slots.len()) => {
                 self.refuse_surplus(token, kernel);
             }
             _ => self

@@ -1,6 +1,6 @@
 // The text of an application: its variables, its objects, and the code of its actors with a comment after each line.
 
-use crate::expand::{Code, Line, Place, caller};
+use crate::expand::{Code, Line, Origin, caller};
 use crate::fault::{Fault, Spot, wrong};
 use crate::program::{Action, Actor, Argument, Arithmetic, Call, Operand, Owner, Program, Range};
 use crate::renamed::names_of;
@@ -253,7 +253,7 @@ impl Writer {
         to: Option<usize>,
     ) -> Result<String, AllocError> {
         let kernel = call.kernel.row();
-        let form = match kernel.places.len() {
+        let form = match kernel.slots.len() {
             0 | 1 => "\"%%%(%%%)%%\",",
             2 => "\"%%%(%, %%)%%\",",
             _ => "\"%%%(%, %, %)%%\",",
@@ -281,7 +281,7 @@ impl Writer {
     }
 
     /// Writes where a line is in the source.
-    fn place(&mut self, source: &Source<'_>, code: &Code, place: Place) -> Result<(), AllocError> {
+    fn place(&mut self, source: &Source<'_>, code: &Code, place: Origin) -> Result<(), AllocError> {
         let Spot { line, .. } = place.spot;
         self.write("%:%", &[Word::Text(source.file), Word::Count(line)])?;
         self.callers(code, place)
@@ -304,7 +304,7 @@ impl Writer {
     }
 
     /// Writes the lines that call the function that a line is of, the innermost first.
-    fn callers(&mut self, code: &Code, place: Place) -> Result<(), AllocError> {
+    fn callers(&mut self, code: &Code, place: Origin) -> Result<(), AllocError> {
         let mut place = place;
         for _ in 0..code.calls.len() {
             let Some(outer) = caller(&code.calls, place) else {
@@ -326,7 +326,7 @@ fn name_in(names: &[String], variable: usize) -> Word<'_> {
 }
 
 /// Whether two lines of code are of one line of the source, called from the same lines.
-fn are_of_one_place(code: &Code, one: Place, other: Place) -> bool {
+fn are_of_one_place(code: &Code, one: Origin, other: Origin) -> bool {
     let mut one = one;
     let mut other = other;
     for _ in 0..=code.calls.len() {

@@ -2,7 +2,7 @@
 ghost use Rattle.std.specs.Prelude.{◌≤◌, length, IfOk, string_bytes};
 
 use crate::declare::program_in;
-use crate::expand::{Code, Line, Place, code_of, outermost};
+use crate::expand::{Code, Line, Origin, code_of, outermost};
 use crate::fault::{Fault, Spot, wrong, wrong_about, wrong_with};
 use crate::message::{Message, Refused, message_at, refused_by};
 use crate::program::{Action, Actor, Home, Program};
@@ -76,9 +76,9 @@ fn check_code(alloc: Global, program: &Program, actor: Actor, code: &Code) -> Re
 }
 
 /// Whether a way leads to a line of this place.
-fn is_reached(lines: &[Line], seen: &[bool], place: Place) -> bool {
+fn is_reached(lines: &[Line], seen: &[bool], place: Origin) -> bool {
     for (number, line) in lines.iter().enumerate() {
-        let Place { spot, call } = line.place;
+        let Origin { spot, call } = line.place;
         if seen.get(number) == Some(&true)
             && spot.line == place.spot.line
             && spot.column == place.spot.column

@@ -8,4 +8,4 @@ mod laws;
 mod text;
 
 pub use laws::{the_answer_is_one, yes_is_safe};
-pub use text::{Judged, TextFault, judge_text, read_both};
+pub use text::{JudgedApp, TextFault, judge_text, read_both};

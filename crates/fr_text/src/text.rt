@@ -16,7 +16,7 @@ use std::alloc::{AllocError, Global};
 
 /// An application that was read, and the verdict on it.
 #[derive(Drop)]
-pub struct Judged {
+pub struct JudgedApp {
     pub app: App,
     pub verdict: Verdict,
 }
@@ -77,7 +77,7 @@ fn judge_at_once(alloc: Global, app: &App, certificate: &Certificate) -> Result<
 /// `Yes`, no state of any run of the application breaches any of the twelve rules. A refusal names
 /// a fault that is present in the bytes, the application's before the certificate's; `Memory`, and
 /// `is_memory` of both, tell the refusal of an allocation.
-pub fn judge_text(alloc: Global, app: &[u8], certificate: &[u8]) -> Result<Judged, TextFault>
+pub fn judge_text(alloc: Global, app: &[u8], certificate: &[u8]) -> Result<JudgedApp, TextFault>
     ensures judged { IfOk result (λ judged. IsJudged app.now certificate.now judged.app judged.verdict) }
     ensures safe { IfOk result (λ judged. judged.verdict ≡ Verdict.Yes → IsSafe judged.app) }
     ensures speaks { IfOk result (λ judged. Speaks judged.app judged.verdict) }
@@ -85,7 +85,7 @@ pub fn judge_text(alloc: Global, app: &[u8], certificate: &[u8]) -> Result<Judge
 {
     let (app, certificate) = read_both(alloc, app, certificate)?;
     match judge_at_once(alloc, &app, &certificate) {
-        Ok(verdict) => Ok(Judged { app, verdict }),
+        Ok(verdict) => Ok(JudgedApp { app, verdict }),
         Err(_) => Err(TextFault::Memory),
     }
 }

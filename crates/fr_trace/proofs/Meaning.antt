@@ -8,14 +8,14 @@ use Rattle.fr_instr.proofs.TokenLaws.{spells_once}
 use Rattle.fr_instr.specs.Calls.{Row}
 use Rattle.fr_instr.specs.Names.{NamesOf, place_of}
 use Rattle.fr_instr.specs.Tokens.{Tok, Spells}
-use Rattle.fr_instr.specs.declared.call.Place.{Place}
+use Rattle.fr_instr.specs.declared.call.Slot.{Slot}
 use Rattle.fr_instr.specs.declared.call.Verb.{Verb}
 use Rattle.fr_trace.specs.Args.{unseen_parts}
 use Rattle.fr_trace.specs.Means.{IsPresent, TraceMeans, TraceOf, trace_of}
 use Rattle.fr_trace.specs.Reads.{ActorDoes, Does, HasReturned, HasSet, Hides, IsEnter, IsEnterOf, LineReads, OwnDoes, ReadsAt, ReadsLines, Returned, SaidReads, Sofar, TokensRead, after, is_open, start}
 use Rattle.fr_trace.specs.Said.{Said, nothing, unseen, lost, enter, returns, sets, begins, ends, begins_comment}
-use Rattle.fr_trace.specs.declared.effect.Effect.{Effect}
-use Rattle.fr_trace.specs.declared.effect.Effect.TheVariants.{Add}
+use Rattle.fr_trace.specs.declared.effect.Addition.{Addition}
+use Rattle.fr_trace.specs.declared.effect.Addition.TheVariants.{Add}
 use Rattle.fr_trace.specs.declared.no_trace.NoTrace.TheVariants.{Faulty}
 use Rattle.fr_trace.specs.declared.no_trace.TraceFault.{TraceFault}
 use Rattle.fr_events.specs.declared.recorded.Recorded.{Recorded}
@@ -23,7 +23,7 @@ use Rattle.fr_events.specs.declared.trace.Event.{Event}
 use Rattle.fr_events.specs.declared.trace.Happening.TheVariants.{Enter, Set}
 use Rattle.fr_trace.proofs.Once.{all-once, integer-once, number-once}
 
-enter-of-once : (N : NamesOf) (n : ℕ) (s : Sofar) (a : ActorId) (v : Verb) (ps : List Place) (ts : List Tok) (e f : Event)
+enter-of-once : (N : NamesOf) (n : ℕ) (s : Sofar) (a : ActorId) (v : Verb) (ps : List Slot) (ts : List Tok) (e f : Event)
     → IsEnterOf N n s a v ps ts e → IsEnterOf N n s a v ps ts f → e ≡ f
 enter-of-once N n s a v ps ts e f h k =
     h.is ∙ ap (λ x. record { actor = a; line = n; what = Enter x }) (all-once N ps ts (unseen_parts v) h.seen k.seen h.args k.args) ∙ sym k.is
@@ -34,11 +34,11 @@ enter-once N n s a w ts e f h k =
     let row = same_Some h.0 k.0 (sym h.1 ∙ k.1) in
     enter-of-once N n s a k.0.verb k.0.places ts e f (subst (λ (r : Row). IsEnterOf N n s a r.verb r.places ts e) row h.2) k.2
 
-returned-by : (n : ℕ) (s : Sofar) (a : ActorId) (r v : Recorded ℤ) (b : Bool) (e f : Effect) → Returned n s a r v b e → Returned n s a r v b f → e ≡ f
+returned-by : (n : ℕ) (s : Sofar) (a : ActorId) (r v : Recorded ℤ) (b : Bool) (e f : Addition) → Returned n s a r v b e → Returned n s a r v b f → e ≡ f
 returned-by n s a r v true e f h k = h ∙ sym k
 returned-by n s a r v false e f h k = h.1 ∙ sym k.1
 
-returned-once : (n : ℕ) (s : Sofar) (a : ActorId) (t u : Tok) (e f : Effect) → HasReturned n s a t u e → HasReturned n s a t u f → e ≡ f
+returned-once : (n : ℕ) (s : Sofar) (a : ActorId) (t u : Tok) (e f : Addition) → HasReturned n s a t u e → HasReturned n s a t u f → e ≡ f
 returned-once n s a t u e f (r, v, p, q, h) (x, y, i, j, k) =
     let one = number-once t r x p i in
     let two = number-once u v y q j in
@@ -48,13 +48,13 @@ returned-once n s a t u e f (r, v, p, q, h) (x, y, i, j, k) =
 variable-id : (x y : VarId) → x.0 ≡ y.0 → x ≡ y
 variable-id x y e = ap (λ n. record { 0 = n }) e
 
-set-once : (N : NamesOf) (n : ℕ) (a : ActorId) (x d : List ℕ) (e f : Effect) → HasSet N n a x d e → HasSet N n a x d f → e ≡ f
+set-once : (N : NamesOf) (n : ℕ) (a : ActorId) (x d : List ℕ) (e f : Addition) → HasSet N n a x d e → HasSet N n a x d f → e ≡ f
 set-once N n a x d e f (v, z, p, q, h) (w, y, i, j, k) =
     let one = variable-id v w (same_Some v.0 w.0 (sym p ∙ i)) in
     let two = integer-once d z y q j in
     h ∙ ap (λ m. Add (record { actor = a; line = n; what = Set m z })) one ∙ ap (λ m. Add (record { actor = a; line = n; what = Set w m })) two ∙ sym k
 
-own-once : (N : NamesOf) (n : ℕ) (s : Sofar) (a : ActorId) (said : Said) (e f : Effect) → OwnDoes N n s a said e → OwnDoes N n s a said f → e ≡ f
+own-once : (N : NamesOf) (n : ℕ) (s : Sofar) (a : ActorId) (said : Said) (e f : Addition) → OwnDoes N n s a said e → OwnDoes N n s a said f → e ≡ f
 own-once N n s a (enter w c ts) e f h k = h.2 ∙ ap Add (enter-once N n s a c ts h.0 k.0 h.1 k.1) ∙ sym k.2
 own-once N n s a (returns w t u) e f h k = returned-once n s a t u e f h k
 own-once N n s a (sets w x d) e f h k = set-once N n a x d e f h k
@@ -62,11 +62,11 @@ own-once N n s a (begins w) e f h k = h ∙ sym k
 own-once N n s a (ends w) e f h k = h ∙ sym k
 own-once N n s a said e f h k = absurd h
 
-actor-once : (N : NamesOf) (n : ℕ) (s : Sofar) (o : Option ℕ) (said : Said) (e f : Effect) → ActorDoes N n s o said e → ActorDoes N n s o said f → e ≡ f
+actor-once : (N : NamesOf) (n : ℕ) (s : Sofar) (o : Option ℕ) (said : Said) (e f : Addition) → ActorDoes N n s o said e → ActorDoes N n s o said f → e ≡ f
 actor-once N n s (Some a) said e f h k = own-once N n s (record { 0 = a }) said e f h k
 actor-once N n s None said e f h k = h.1 ∙ sym k.1
 
-does-once : (N : NamesOf) (n : ℕ) (s : Sofar) (said : Said) (e f : Effect) → Does N n s said e → Does N n s said f → e ≡ f
+does-once : (N : NamesOf) (n : ℕ) (s : Sofar) (said : Said) (e f : Addition) → Does N n s said e → Does N n s said f → e ≡ f
 does-once N n s nothing e f h k = h ∙ sym k
 does-once N n s (unseen ts) e f h k = absurd h
 does-once N n s lost e f h k = h ∙ sym k
@@ -89,8 +89,8 @@ hides-once : (s : Sofar) (ts : List Tok) (t u : Sofar) → Hides s ts t → Hide
 hides-once s ts t u (a, b, vs, p, h) (c, d, us, q, k) =
     h ∙ ap (λ xs. record s { unseen = s.unseen ++ xs }) (same-calls vs us (sym p ∙ q)) ∙ sym k
 
-by-effect : (N : NamesOf) (n : ℕ) (s : Sofar) (said : Said) (t u : Sofar) → ((e : Effect) × Does N n s said e × (t ≡ after e s))
-    → ((e : Effect) × Does N n s said e × (u ≡ after e s)) → t ≡ u
+by-effect : (N : NamesOf) (n : ℕ) (s : Sofar) (said : Said) (t u : Sofar) → ((e : Addition) × Does N n s said e × (t ≡ after e s))
+    → ((e : Addition) × Does N n s said e × (u ≡ after e s)) → t ≡ u
 by-effect N n s said t u h k = h.2 ∙ ap (λ e. after e s) (does-once N n s said h.0 k.0 h.1 k.1) ∙ sym k.2
 
 said-once : (N : NamesOf) (n : ℕ) (said : Said) (s t u : Sofar) → SaidReads N n said s t → SaidReads N n said s u → t ≡ u

@@ -6,8 +6,8 @@ use Rattle.fr_instr.proofs.NumberLaws.{only_number}
 use Rattle.fr_instr.specs.Names.{NamesOf}
 use Rattle.fr_instr.specs.Numbers.{IsInteger}
 use Rattle.fr_instr.specs.Tokens.{Tok, word, number, sign}
-use Rattle.fr_instr.specs.declared.call.Place.{Place}
-use Rattle.fr_instr.specs.declared.call.Place.TheVariants.{Object, Operand, Variable, Length, Time, Ticks, Null}
+use Rattle.fr_instr.specs.declared.call.Slot.{Slot}
+use Rattle.fr_instr.specs.declared.call.Slot.TheVariants.{Object, Operand, Variable, Length, Time, Ticks, Null}
 use Rattle.fr_instr.specs.declared.token.Sign.TheVariants.{Comma, Question}
 use Rattle.fr_trace.specs.Args.{IsNumber, IsObjectAt, IsTimeAt, Puts, PutsFirst, PutsMore, PutsAll}
 use Rattle.fr_events.specs.declared.recorded.Recorded.{Recorded}
@@ -47,7 +47,7 @@ time-once (sign Question) Unknown Unknown h k = refl
 time-once (sign Question) Unknown (Known y) h k = absurd k
 time-once t r v h k = absurd h
 
-put-once : (N : NamesOf) (p : Place) (t : Tok) (s u v : SeenCall) → Puts N p t s u → Puts N p t s v → u ≡ v
+put-once : (N : NamesOf) (p : Slot) (t : Tok) (s u v : SeenCall) → Puts N p t s u → Puts N p t s v → u ≡ v
 put-once N Object t s u v h k = h.2 ∙ ap (λ o. record s { object = o }) (object-once N t h.0 k.0 h.1 k.1) ∙ sym k.2
 put-once N Operand t s u v h k = h.2 ∙ ap (λ z. record s { value = z }) (number-once t h.0 k.0 h.1 k.1) ∙ sym k.2
 put-once N Variable t s u v h k = h.1 ∙ sym k.1
@@ -60,41 +60,41 @@ put-once N Null t s u v h k = h.1 ∙ sym k.1
 cons-once : (t u : Tok) (ts us : List Tok) → t ∷ ts ≡ u ∷ us → (t ≡ u) × (ts ≡ us)
 cons-once t u ts us e = (cc, cc)
 
-pub first-once : (N : NamesOf) (p : Place) (ts : List Tok) (s u v : SeenCall) (us vs : List Tok) → PutsFirst N p ts s u us → PutsFirst N p ts s v vs
+pub first-once : (N : NamesOf) (p : Slot) (ts : List Tok) (s u v : SeenCall) (us vs : List Tok) → PutsFirst N p ts s u us → PutsFirst N p ts s v vs
     → (u ≡ v) × (us ≡ vs)
 first-once N p ts s u v us vs h k =
     let e = cons-once h.0 k.0 us vs (sym h.1 ∙ k.1) in
     (put-once N p k.0 s u v (subst (λ t. Puts N p t s u) e.0 h.2) k.2, e.1)
 
-pub more-once : (N : NamesOf) (ps : List Place) (ts : List Tok) (s u v : SeenCall) → PutsMore N ps ts s u → PutsMore N ps ts s v → u ≡ v
+pub more-once : (N : NamesOf) (ps : List Slot) (ts : List Tok) (s u v : SeenCall) → PutsMore N ps ts s u → PutsMore N ps ts s v → u ≡ v
 more-once N [] ts s u v h k = h.1 ∙ sym k.1
 more-once N (p ∷ ps) ts s u v (i, a, r, e, f, m) (j, b, q, d, g, n) =
     let same = cons-once _ _ i j (sym e ∙ d) in
     let first = first-once N p j s a b r q (subst (λ x. PutsFirst N p x s a r) same.1 f) g in
     more-once N ps q b u v (subst (λ x. PutsMore N ps x b u) first.1 (subst (λ x. PutsMore N ps r x u) first.0 m)) n
 
-pub all-once : (N : NamesOf) (ps : List Place) (ts : List Tok) (s u v : SeenCall) → PutsAll N ps ts s u → PutsAll N ps ts s v → u ≡ v
+pub all-once : (N : NamesOf) (ps : List Slot) (ts : List Tok) (s u v : SeenCall) → PutsAll N ps ts s u → PutsAll N ps ts s v → u ≡ v
 all-once N [] ts s u v h k = h.1 ∙ sym k.1
 all-once N (p ∷ ps) ts s u v (a, r, f, m) (b, q, g, n) =
     let first = first-once N p ts s a b r q f g in
     more-once N ps q b u v (subst (λ x. PutsMore N ps x b u) first.1 (subst (λ x. PutsMore N ps r x u) first.0 m)) n
 
 -- where further places have nothing, the whole has nothing
-pub none-more : (N : NamesOf) (p : Place) (ps : List Place) (ts inside : List Tok) (s v : SeenCall) (rest : List Tok) → ts ≡ sign Comma ∷ inside
+pub none-more : (N : NamesOf) (p : Slot) (ps : List Slot) (ts inside : List Tok) (s v : SeenCall) (rest : List Tok) → ts ≡ sign Comma ∷ inside
     → PutsFirst N p inside s v rest → ((u : SeenCall) → PutsMore N ps rest v u → ⊥) → (u : SeenCall) → PutsMore N (p ∷ ps) ts s u → ⊥
 none-more N p ps ts inside s v rest e f none u (j, b, q, d, g, n) =
     let same = cons-once _ _ j inside (sym d ∙ e) in
     let first = first-once N p inside s b v q rest (subst (λ x. PutsFirst N p x s b q) same.1 g) f in
     none u (subst (λ x. PutsMore N ps x v u) first.1 (subst (λ x. PutsMore N ps q x u) first.0 n))
 
-pub none-all : (N : NamesOf) (p : Place) (ps : List Place) (ts : List Tok) (s v : SeenCall) (rest : List Tok)
+pub none-all : (N : NamesOf) (p : Slot) (ps : List Slot) (ts : List Tok) (s v : SeenCall) (rest : List Tok)
     → PutsFirst N p ts s v rest → ((u : SeenCall) → PutsMore N ps rest v u → ⊥) → (u : SeenCall) → PutsAll N (p ∷ ps) ts s u → ⊥
 none-all N p ps ts s v rest f none u (b, q, g, n) =
     let first = first-once N p ts s b v q rest g f in
     none u (subst (λ x. PutsMore N ps x v u) first.1 (subst (λ x. PutsMore N ps q x u) first.0 n))
 
 -- where the first place has nothing, the whole has nothing
-pub none-first : (N : NamesOf) (p : Place) (ps : List Place) (ts inside : List Tok) (s : SeenCall) → ts ≡ sign Comma ∷ inside
+pub none-first : (N : NamesOf) (p : Slot) (ps : List Slot) (ts inside : List Tok) (s : SeenCall) → ts ≡ sign Comma ∷ inside
     → ((u : SeenCall) (rest : List Tok) → PutsFirst N p inside s u rest → ⊥) → (u : SeenCall) → PutsMore N (p ∷ ps) ts s u → ⊥
 none-first N p ps ts inside s e none u (j, b, q, d, g, n) =
     let same = cons-once _ _ j inside (sym d ∙ e) in

@@ -17,8 +17,8 @@ use Rattle.fr_instr.specs.Lines.{IsObject}
 use Rattle.fr_instr.specs.Names.{NamesOf}
 use Rattle.fr_instr.specs.Numbers.{IsInteger}
 use Rattle.fr_instr.specs.Tokens.{Tok, word, number, sign}
-use Rattle.fr_instr.specs.declared.call.Place.{Place}
-use Rattle.fr_instr.specs.declared.call.Place.TheVariants.{Object, Operand, Variable, Length, Time, Ticks, Null}
+use Rattle.fr_instr.specs.declared.call.Slot.{Slot}
+use Rattle.fr_instr.specs.declared.call.Slot.TheVariants.{Object, Operand, Variable, Length, Time, Ticks, Null}
 use Rattle.fr_instr.specs.declared.call.Verb.{Verb}
 use Rattle.fr_instr.specs.declared.token.Sign.TheVariants.{Comma, Close, Question}
 use Rattle.fr_events.specs.declared.recorded.Recorded.{Recorded}
@@ -59,7 +59,7 @@ IsNull (sign Question) = ⊤
 IsNull t = ⊥
 
 -- with the token in a place of this kind, s becomes u. What a receive writes to isn't a part of what is seen
-abbrev pub Puts : NamesOf → Place → Tok → SeenCall → SeenCall → Type 0
+abbrev pub Puts : NamesOf → Slot → Tok → SeenCall → SeenCall → Type 0
 Puts N Object t s u = (o : Recorded ObjId) × IsObjectAt N t o × (u ≡ record s { object = o })
 Puts N Operand t s u = (z : Recorded ℤ) × IsNumber t z × (u ≡ record s { value = z })
 Puts N Variable t s u = IsAnyName t × (u ≡ s)
@@ -73,17 +73,17 @@ abbrev pub closing : List Tok
 closing = sign Close ∷ []
 
 -- with the first of these tokens in a place of this kind, s becomes u; the others follow it
-abbrev pub PutsFirst : NamesOf → Place → List Tok → SeenCall → SeenCall → List Tok → Type 0
+abbrev pub PutsFirst : NamesOf → Slot → List Tok → SeenCall → SeenCall → List Tok → Type 0
 PutsFirst N p ts s u rest = (t : Tok) × (ts ≡ t ∷ rest) × Puts N p t s u
 
 -- with these tokens in these places, each after a comma, s becomes u; the closing bracket ends them
-abbrev pub PutsMore : NamesOf → List Place → List Tok → SeenCall → SeenCall → Type 0
+abbrev pub PutsMore : NamesOf → List Slot → List Tok → SeenCall → SeenCall → Type 0
 PutsMore N [] ts s u = (ts ≡ closing) × (u ≡ s)
 PutsMore N (p ∷ ps) ts s u =
     (inside : List Tok) × (v : SeenCall) × (rest : List Tok) × (ts ≡ sign Comma ∷ inside) × PutsFirst N p inside s v rest × PutsMore N ps rest v u
 
 -- with these tokens in these places, with commas between, s becomes u; the closing bracket ends them
-abbrev pub PutsAll : NamesOf → List Place → List Tok → SeenCall → SeenCall → Type 0
+abbrev pub PutsAll : NamesOf → List Slot → List Tok → SeenCall → SeenCall → Type 0
 PutsAll N [] ts s u = (ts ≡ closing) × (u ≡ s)
 PutsAll N (p ∷ ps) ts s u = (v : SeenCall) × (rest : List Tok) × PutsFirst N p ts s v rest × PutsMore N ps rest v u
 

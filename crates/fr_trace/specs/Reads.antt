@@ -30,15 +30,15 @@ use Rattle.fr_instr.specs.Lines.{IsVariable}
 use Rattle.fr_instr.specs.Names.{NamesOf, place_of}
 use Rattle.fr_instr.specs.Numbers.{IsInteger}
 use Rattle.fr_instr.specs.Tokens.{Tok, word, number, sign, Spells}
-use Rattle.fr_instr.specs.declared.call.Place.{Place}
-use Rattle.fr_instr.specs.declared.call.Place.TheVariants.{Object, Null}
+use Rattle.fr_instr.specs.declared.call.Slot.{Slot}
+use Rattle.fr_instr.specs.declared.call.Slot.TheVariants.{Object, Null}
 use Rattle.fr_instr.specs.declared.call.Verb.{Verb}
 use Rattle.fr_trace.specs.Args.{IsNumber, PutsAll, unseen_parts}
 use Rattle.fr_trace.specs.Said.{Said, nothing, unseen, lost, enter, returns, sets, begins, ends, begins_comment, said_by}
 use Rattle.fr_trace.specs.declared.no_trace.NoTrace.{NoTrace}
 use Rattle.fr_trace.specs.declared.no_trace.NoTrace.TheVariants as no_trace
-use Rattle.fr_trace.specs.declared.effect.Effect.{Effect}
-use Rattle.fr_trace.specs.declared.effect.Effect.TheVariants.{Nothing, Add, Lose, Ignore}
+use Rattle.fr_trace.specs.declared.effect.Addition.{Addition}
+use Rattle.fr_trace.specs.declared.effect.Addition.TheVariants.{Nothing, Add, Lose, Ignore}
 use Rattle.fr_events.specs.declared.recorded.Recorded.{Recorded}
 use Rattle.fr_events.specs.declared.seen_call.SeenCall.{SeenCall}
 use Rattle.fr_trace.specs.declared.stop.Stop.{Stop}
@@ -76,7 +76,7 @@ opened (Return result value) a s = marked a false s
 opened what a s = s
 
 -- what is read with what a line adds
-abbrev pub after : Effect → Sofar → Sofar
+abbrev pub after : Addition → Sofar → Sofar
 after Nothing s = s
 after (Add event) s = opened event.what event.actor (record s { events = s.events ++ event ∷ [] })
 after Lose s = record s { lost = s.lost ++ length s.events ∷ []; inside = replicate (length s.inside) false }
@@ -86,7 +86,7 @@ after Ignore s = record s { ignored = s.ignored + 1 }
 
 -- the event at which the actor begins this call, with these tokens after its bracket: the call isn't one that the header
 -- names, and the actor is inside none
-pub record IsEnterOf (N : NamesOf) (n : ℕ) (s : Sofar) (a : ActorId) (verb : Verb) (places : List Place) (ts : List Tok) (event : Event) : Type 0 where
+pub record IsEnterOf (N : NamesOf) (n : ℕ) (s : Sofar) (a : ActorId) (verb : Verb) (places : List Slot) (ts : List Tok) (event : Event) : Type 0 where
   pub seen : SeenCall
   pub args : PutsAll N places ts (unseen_parts verb) seen
   pub shown : ¬ (Any (λ v. v ≡ verb) s.unseen)
@@ -102,20 +102,20 @@ abbrev pub MayMiss : Sofar → Type 0
 MayMiss s = IsTrue s.anywhere ⊎ (0 < length s.lost)
 
 -- an actor that is inside a call ends it; for one that isn't, the enter must be missing, and the return adds nothing
-abbrev pub Returned : ℕ → Sofar → ActorId → Recorded ℤ → Recorded ℤ → Bool → Effect → Type 0
+abbrev pub Returned : ℕ → Sofar → ActorId → Recorded ℤ → Recorded ℤ → Bool → Addition → Type 0
 Returned n s a result value true e = e ≡ Add (record { actor = a; line = n; what = Return result value })
 Returned n s a result value false e = MayMiss s × (e ≡ Nothing)
 
 -- what a return of an actor adds, with these tokens as its result and its value
-abbrev pub HasReturned : ℕ → Sofar → ActorId → Tok → Tok → Effect → Type 0
+abbrev pub HasReturned : ℕ → Sofar → ActorId → Tok → Tok → Addition → Type 0
 HasReturned n s a t u e = (r : Recorded ℤ) × (v : Recorded ℤ) × IsNumber t r × IsNumber u v × Returned n s a r v (is_open s a) e
 
 -- the event at which the actor has set this variable to this number
-abbrev pub HasSet : NamesOf → ℕ → ActorId → List ℕ → List ℕ → Effect → Type 0
+abbrev pub HasSet : NamesOf → ℕ → ActorId → List ℕ → List ℕ → Addition → Type 0
 HasSet N n a x d e = (v : VarId) × (z : ℤ) × IsVariable N x v × IsInteger d z × (e ≡ Add (record { actor = a; line = n; what = Set v z }))
 
 -- what a line of an actor that is listed adds
-abbrev pub OwnDoes : NamesOf → ℕ → Sofar → ActorId → Said → Effect → Type 0
+abbrev pub OwnDoes : NamesOf → ℕ → Sofar → ActorId → Said → Addition → Type 0
 OwnDoes N n s a (enter w k ts) e = (event : Event) × IsEnter N n s a k ts event × (e ≡ Add event)
 OwnDoes N n s a (returns w t u) e = HasReturned n s a t u e
 OwnDoes N n s a (sets w x d) e = HasSet N n a x d e
@@ -136,12 +136,12 @@ is_touched N (sets w x d) = is_some (place_of N.variables x)
 is_touched N said = false
 
 -- what a line of the actor with this number adds, if the application lists it
-abbrev pub ActorDoes : NamesOf → ℕ → Sofar → Option ℕ → Said → Effect → Type 0
+abbrev pub ActorDoes : NamesOf → ℕ → Sofar → Option ℕ → Said → Addition → Type 0
 ActorDoes N n s (Some a) said e = OwnDoes N n s (record { 0 = a }) said e
 ActorDoes N n s None said e = (is_touched N said ≡ false) × (e ≡ Ignore)
 
 -- what a line other than a header adds
-abbrev pub Does : NamesOf → ℕ → Sofar → Said → Effect → Type 0
+abbrev pub Does : NamesOf → ℕ → Sofar → Said → Addition → Type 0
 Does N n s nothing e = e ≡ Nothing
 Does N n s (unseen ts) e = ⊥
 Does N n s lost e = e ≡ Lose
@@ -172,7 +172,7 @@ Hides s ts t = (s.events ≡ []) × (s.lost ≡ []) × (vs : List Verb) × AreCa
 -- what is read with a line that says this; n is its number, from 1
 abbrev pub SaidReads : NamesOf → ℕ → Said → Sofar → Sofar → Type 0
 SaidReads N n (unseen ts) s t = Hides s ts t
-SaidReads N n said s t = (e : Effect) × Does N n s said e × (t ≡ after e s)
+SaidReads N n said s t = (e : Addition) × Does N n s said e × (t ≡ after e s)
 
 -- what is read with a line of these tokens
 abbrev pub TokensRead : NamesOf → ℕ → List Tok → Sofar → Sofar → Type 0
@@ -185,7 +185,7 @@ LineReads N n line s t = cond (begins_comment line) (t ≡ s) ((ts : List Tok) �
 -- ---- what the application doesn't list
 
 -- a call that no line of the application can be, by its first place: its object isn't listed, or it deletes another task
-abbrev pub is_strange_place : NamesOf → List Place → List Tok → Bool
+abbrev pub is_strange_place : NamesOf → List Slot → List Tok → Bool
 is_strange_place N (Object ∷ ps) (word w ∷ ts) = is_none (place_of N.objects w)
 is_strange_place N (Null ∷ ps) (word w ∷ ts) = not (bytes_eq w (codes "NULL"))
 is_strange_place N ps ts = false

@@ -11,7 +11,7 @@ ghost use Rattle.fr_events.specs.declared.seen_call.SeenTime.{SeenTime};
 
 use crate::no_trace::TraceFault;
 use fr_events::{Recorded, SeenCall, SeenTime};
-use fr_instr::{Names, Place, Sign, Token, Verb, integer_of};
+use fr_instr::{Names, Sign, Slot, Token, Verb, integer_of};
 use fr_program::ObjId;
 
 /// What is wrong, and how many tokens are left where it is.
@@ -103,41 +103,36 @@ fn null_at(token: Token<'_>) -> Result<(), TraceFault>
 }
 
 /// What is seen with this token in a place of this kind, beside what was seen before.
-fn put(
-    names: &Names,
-    place: Place,
-    token: Token<'_>,
-    seen: SeenCall,
-) -> Result<SeenCall, TraceFault>
+fn put(names: &Names, place: Slot, token: Token<'_>, seen: SeenCall) -> Result<SeenCall, TraceFault>
     ensures ok { IfOk result (Puts names.now place (tok token.entry) seen) }
     ensures err { OnErr result ((u : SeenCall) → ¬ Puts names.now place (tok token.entry) seen u) }
 {
     Ok(match place {
-        Place::Object => SeenCall {
+        Slot::Object => SeenCall {
             object: object_at(names, token)?,
             ..seen
         },
-        Place::Operand => SeenCall {
+        Slot::Operand => SeenCall {
             value: number_at(token)?,
             ..seen
         },
-        Place::Variable => {
+        Slot::Variable => {
             any_name_at(token)?;
             seen
         }
-        Place::Length => SeenCall {
+        Slot::Length => SeenCall {
             length: number_at(token)?,
             ..seen
         },
-        Place::Time => SeenCall {
+        Slot::Time => SeenCall {
             time: time_at(token)?,
             ..seen
         },
-        Place::Ticks => SeenCall {
+        Slot::Ticks => SeenCall {
             ticks: number_at(token)?,
             ..seen
         },
-        Place::Null => {
+        Slot::Null => {
             null_at(token)?;
             seen
         }
@@ -193,7 +188,7 @@ fn closed(tokens: &[Token<'_>]) -> Result<(), Wrong>
 /// follow it.
 fn put_first<'a, 't>(
     names: &Names,
-    place: Place,
+    place: Slot,
     tokens: &'t [Token<'a>],
     seen: SeenCall,
 ) -> Result<(SeenCall, &'t [Token<'a>]), Wrong>
@@ -217,7 +212,7 @@ fn put_first<'a, 't>(
 /// ends them.
 fn put_more(
     names: &Names,
-    places: &[Place],
+    places: &[Slot],
     tokens: &[Token<'_>],
     seen: SeenCall,
 ) -> Result<SeenCall, Wrong>
@@ -244,7 +239,7 @@ fn put_more(
 pub(crate) fn seen_in(
     names: &Names,
     verb: Verb,
-    places: &[Place],
+    places: &[Slot],
     tokens: &[Token<'_>],
 ) -> Result<SeenCall, Wrong>
     ensures ok { IfOk result (PutsAll names.now places.now (toks tokens.now) (unseen_parts verb)) }

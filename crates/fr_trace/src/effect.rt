@@ -6,7 +6,7 @@ ghost use Rattle.fr_instr.specs.Names.{place_of};
 ghost use Rattle.fr_instr.specs.Views.{tok, toks};
 ghost use Rattle.fr_trace.specs.Reads.{ActorDoes, Does, HasReturned, HasSet, IsEnter, IsEnterOf, IsWhy, OwnDoes, is_object_name, is_strange, is_strange_by, is_strange_call, is_strange_place, is_touched};
 ghost use Rattle.fr_trace.specs.Views.{said_of, so_far};
-ghost use Rattle.fr_trace.specs.declared.effect.Effect.{Effect};
+ghost use Rattle.fr_trace.specs.declared.effect.Addition.{Addition};
 ghost use Rattle.fr_events.specs.declared.trace.Event.{Event};
 
 use crate::args;
@@ -15,12 +15,12 @@ use crate::progress::Progress;
 use crate::said::Said;
 use crate::stop::Stop;
 use fr_events::{Event, Happening};
-use fr_instr::{Names, Place, Token, Verb, integer_of, row_named};
+use fr_instr::{Names, Slot, Token, Verb, integer_of, row_named};
 use fr_program::ActorId;
 
 /// What a line other than a header adds to what is read before it.
 #[derive(Clone, Copy)]
-pub enum Effect {
+pub enum Addition {
     /// Nothing: it is blank, or it is a return whose enter is missing.
     Nothing,
     /// This event.
@@ -33,7 +33,7 @@ pub enum Effect {
 
 /// What no line of the application can be in a call with these places, by its first argument: its object isn't listed,
 /// or it deletes another task.
-fn unlisted_place<'a>(names: &Names, places: &[Place], tokens: &[Token<'a>]) -> Option<Unlisted<'a>>
+fn unlisted_place<'a>(names: &Names, places: &[Slot], tokens: &[Token<'a>]) -> Option<Unlisted<'a>>
     ensures { is_some result ≡ is_strange_place names.now places.now (toks tokens.now) }
 {
     let Some((place, _)) = places.split_first() else {
@@ -43,11 +43,11 @@ fn unlisted_place<'a>(names: &Names, places: &[Place], tokens: &[Token<'a>]) -> 
         return None;
     };
     match (*place, *token) {
-        (Place::Object, Token::Word(object)) => match names.object_named(object) {
+        (Slot::Object, Token::Word(object)) => match names.object_named(object) {
             Some(_) => None,
             None => Some(Unlisted::Object { object }),
         },
-        (Place::Null, Token::Word(task)) => {
+        (Slot::Null, Token::Word(task)) => {
             if task == b"NULL".as_slice() {
                 None
             } else {
@@ -64,7 +64,7 @@ fn begun(
     line: usize,
     actor: ActorId,
     verb: Verb,
-    places: &[Place],
+    places: &[Slot],
     tokens: &[Token<'_>],
     progress: &Progress,
 ) -> Result<Event, (TraceFault, usize)>
@@ -122,9 +122,9 @@ fn returned(
     answer: Token<'_>,
     value: Token<'_>,
     progress: &Progress,
-) -> Result<Effect, (TraceFault, usize)>
+) -> Result<Addition, (TraceFault, usize)>
     ensures ok { IfOk result (HasReturned line (so_far progress.now) actor (tok answer.entry) (tok value.entry)) }
-    ensures err { OnErr result ((e : Effect) → ¬ HasReturned line (so_far progress.now) actor (tok answer.entry) (tok value.entry) e) }
+    ensures err { OnErr result ((e : Addition) → ¬ HasReturned line (so_far progress.now) actor (tok answer.entry) (tok value.entry) e) }
 {
     let result = match args::number_at(answer) {
         Ok(result) => result,
@@ -135,14 +135,14 @@ fn returned(
         Err(fault) => return Err((fault, 3)),
     };
     if progress.is_open(actor) {
-        return Ok(Effect::Add(Event {
+        return Ok(Addition::Add(Event {
             actor,
             line,
             what: Happening::Return { result, value },
         }));
     }
     if progress.may_miss() {
-        Ok(Effect::Nothing)
+        Ok(Addition::Nothing)
     } else {
         Err((TraceFault::ReturnOutside, 1))
     }
@@ -155,9 +155,9 @@ fn set(
     actor: ActorId,
     variable: &[u8],
     number: &[u8],
-) -> Result<Effect, (TraceFault, usize)>
+) -> Result<Addition, (TraceFault, usize)>
     ensures ok { IfOk result (HasSet names.now line actor variable.now number.now) }
-    ensures err { OnErr result ((e : Effect) → ¬ HasSet names.now line actor variable.now number.now e) }
+    ensures err { OnErr result ((e : Addition) → ¬ HasSet names.now line actor variable.now number.now e) }
 {
     let Some(variable) = names.variable_named(variable) else {
         return Err((TraceFault::UnknownVariable, 2));
@@ -165,7 +165,7 @@ fn set(
     let Some(number) = integer_of(number) else {
         return Err((TraceFault::BadNumber, 3));
     };
-    Ok(Effect::Add(Event {
+    Ok(Addition::Add(Event {
         actor,
         line,
         what: Happening::Set { variable, number },
@@ -179,15 +179,15 @@ fn own<'a>(
     actor: ActorId,
     said: Said<'a, '_>,
     progress: &Progress,
-) -> Result<Effect, Stop<'a>>
+) -> Result<Addition, Stop<'a>>
     ensures ok { IfOk result (OwnDoes names.now line (so_far progress.now) actor (said_of said.entry)) }
     ensures err { IfErr result (λ s. IsWhy s (is_strange_by names.now (Some actor.0) (said_of said.entry))
-        ((e : Effect) × OwnDoes names.now line (so_far progress.now) actor (said_of said.entry) e)) }
+        ((e : Addition) × OwnDoes names.now line (so_far progress.now) actor (said_of said.entry) e)) }
 {
     let what = match said {
         Said::Enter(_, call, tokens) => {
             return match entered(names, line, actor, call, tokens, progress) {
-                Ok(event) => Ok(Effect::Add(event)),
+                Ok(event) => Ok(Addition::Add(event)),
                 Err(stop) => Err(stop),
             };
         }
@@ -207,7 +207,7 @@ fn own<'a>(
         Said::End(_) => Happening::End,
         _ => return Err(Stop::Wrong(TraceFault::NoEvent, 0)),
     };
-    Ok(Effect::Add(Event { actor, line, what }))
+    Ok(Addition::Add(Event { actor, line, what }))
 }
 
 /// The name of an object among these tokens, the first one.
@@ -245,17 +245,17 @@ fn by_actor<'a>(
     actor: &'a [u8],
     said: Said<'a, '_>,
     progress: &Progress,
-) -> Result<Effect, Stop<'a>>
+) -> Result<Addition, Stop<'a>>
     ensures ok { IfOk result (ActorDoes names.now line (so_far progress.now) (place_of names.now.actors actor.now) (said_of said.entry)) }
     ensures err { IfErr result (λ s. IsWhy s (is_strange_by names.now (place_of names.now.actors actor.now) (said_of said.entry))
-        ((e : Effect) × ActorDoes names.now line (so_far progress.now) (place_of names.now.actors actor.now) (said_of said.entry) e)) }
+        ((e : Addition) × ActorDoes names.now line (so_far progress.now) (place_of names.now.actors actor.now) (said_of said.entry) e)) }
 {
     if let Some(actor) = names.actor_named(actor) {
         return own(names, line, actor, said, progress);
     }
     match touched(names, said) {
         Some(touches) => Err(Stop::NotListed(Unlisted::Actor { touches })),
-        None => Ok(Effect::Ignore),
+        None => Ok(Addition::Ignore),
     }
 }
 
@@ -265,15 +265,15 @@ pub(crate) fn effect_of<'a>(
     line: usize,
     said: Said<'a, '_>,
     progress: &Progress,
-) -> Result<Effect, Stop<'a>>
+) -> Result<Addition, Stop<'a>>
     ensures ok { IfOk result (Does names.now line (so_far progress.now) (said_of said.entry)) }
     ensures err { IfErr result (λ s. IsWhy s (is_strange names.now (said_of said.entry))
-        ((e : Effect) × Does names.now line (so_far progress.now) (said_of said.entry) e)) }
+        ((e : Addition) × Does names.now line (so_far progress.now) (said_of said.entry) e)) }
 {
     match said {
-        Said::Nothing => Ok(Effect::Nothing),
+        Said::Nothing => Ok(Addition::Nothing),
         Said::Unseen(_) => Err(Stop::Wrong(TraceFault::NoEvent, 0)),
-        Said::Lost => Ok(Effect::Lose),
+        Said::Lost => Ok(Addition::Lose),
         Said::Enter(actor, _, _)
         | Said::Return(actor, _, _)
         | Said::Set(actor, _, _)

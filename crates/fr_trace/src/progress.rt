@@ -3,7 +3,7 @@ ghost use Rattle.std.specs.Prelude.{◌≡◌, ◌+◌, ◌<◌, ◌≤◌, ◌�
 ghost use Rattle.fr_trace.specs.Reads.{MayMiss, after, is_open, marked, start};
 ghost use Rattle.fr_trace.specs.Views.{so_far};
 
-use crate::effect::Effect;
+use crate::effect::Addition;
 use fr_events::{Event, Happening, is_same};
 use fr_instr::Verb;
 use fr_program::ActorId;
@@ -70,14 +70,14 @@ impl Progress {
     }
 
     /// Adds what a line adds.
-    pub fn add(&mut self, effect: Effect) -> Result<(), AllocError>
+    pub fn add(&mut self, effect: Addition) -> Result<(), AllocError>
         requires { self.old.ignored + 1 < 2 ^ 64 }
         ensures added { OnOk result (so_far self.new ≡ after effect (so_far self.old)) }
         ensures bound { self.new.ignored ≤ self.old.ignored + 1 }
     {
         match effect {
-            Effect::Nothing => {}
-            Effect::Add(event) => {
+            Addition::Nothing => {}
+            Addition::Add(event) => {
                 self.events.push(event)?;
                 match event.what {
                     Happening::Enter(_) => self.mark(event.actor, true),
@@ -85,11 +85,11 @@ impl Progress {
                     _ => {}
                 }
             }
-            Effect::Lose => {
+            Addition::Lose => {
                 self.lost.push(self.events.len())?;
                 self.inside.fill(false);
             }
-            Effect::Ignore => self.ignored += 1,
+            Addition::Ignore => self.ignored += 1,
         }
         Ok(())
     }

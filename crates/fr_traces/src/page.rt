@@ -6,8 +6,8 @@ ghost use Rattle.fr_traces.specs.Traces.{IsTrailPage};
 use fr_calls::{Rule, State};
 use fr_follower::Followed;
 use fr_lanes::{
-    Body, Code, Spot, count_text, empty_body, is_shown, omitted_before, page_kind, page_with,
-    put_actors, put_end, put_start, put_step, put_tracks, row_of, rule_told,
+    Body, Code, RowPosition, count_text, empty_body, is_shown, omitted_before, page_kind,
+    page_with, put_actors, put_end, put_start, put_step, put_tracks, row_of, rule_told,
 };
 use fr_page::{Doing, Moved, page_text};
 use fr_program::{ActorId, App};
@@ -45,7 +45,7 @@ fn put_event(
     app: &App,
     code: &Code,
     depths: &[Depth],
-    spot: Spot,
+    spot: RowPosition,
     event: &TrailRow,
     state: &State,
 ) -> Result<(), AllocError>
@@ -79,7 +79,7 @@ fn put_rows(
     let mut state = put_start(alloc, body, app, code, depths)?;
     let mut taken = 0usize;
     for (number, row) in rows.iter().enumerate() {
-        let spot = Spot {
+        let spot = RowPosition {
             row: number,
             rows: rows.len(),
             step: taken,

@@ -2,7 +2,8 @@
 use crate::memory::MemoryFiles;
 use fr_answer::run;
 use fr_request::{
-    CheckRequest, FindRequest, Format, Judged, ProveRequest, RefuteRequest, Request, RunRequest,
+    CheckRequest, CheckedFiles, FindRequest, Format, ProveRequest, RefuteRequest, Request,
+    RunRequest,
 };
 use std::alloc::{AllocError, Global};
 use std::sync::Wait;
@@ -44,22 +45,22 @@ const BREACH: &str =
     tx step 0\nty step 0\ntx 0 inside: xStreamBufferSend(sb, 8, 10)\n";
 
 /// What a command gives: its exit status, what it prints on each stream, and how often it reads a file.
-type Told<'a> = (u8, &'a str, &'a str, u64);
+type Expected<'a> = (u8, &'a str, &'a str, u64);
 
-const YES: Told<'static> = (0, "yes\n", "", 2);
+const YES: Expected<'static> = (0, "yes\n", "", 2);
 
-const CUT: Told<'static> = (2, "", "refused: app 2 Toml\n", 1);
+const CUT: Expected<'static> = (2, "", "refused: app 2 Toml\n", 1);
 
-const KEPT: Told<'static> = (2, "", "refused: out\n", 0);
+const KEPT: Expected<'static> = (2, "", "refused: out\n", 0);
 
-const NO: Told<'static> = (
+const NO: Expected<'static> = (
     1,
     "no: point 0 (t 0 before): rule 7: handle is not live\n",
     "",
     2,
 );
 
-const BROKEN_RUN: Told<'static> = (1, BREACH, "", 1);
+const BROKEN_RUN: Expected<'static> = (1, BREACH, "", 1);
 
 /// What is printed of the list.
 const LINES: &str = "safe.toml: yes\nother.toml: yes\ncut.toml: refused: app 2 Toml\n";
@@ -87,7 +88,7 @@ fn gives<R: Threads + Wait + Sync + Alloc<A = Global>>(
     rt: &R,
     files: &mut MemoryFiles,
     request: Request,
-    told: Told,
+    told: Expected,
 ) -> bool {
     let (mut out, mut err) = (Vec::new(rt.alloc()), Vec::new(rt.alloc()));
     let before = files.reads();
@@ -105,7 +106,11 @@ fn begins(files: &MemoryFiles, path: &str, text: &str) -> bool {
     bytes.starts_with(text.as_bytes())
 }
 
-fn check<'a>(files: Judged<'a>, format: Option<Format>, html: Option<&'a str>) -> Request<'a> {
+fn check<'a>(
+    files: CheckedFiles<'a>,
+    format: Option<Format>,
+    html: Option<&'a str>,
+) -> Request<'a> {
     Request::Check(CheckRequest {
         files,
         workers: 1,
@@ -118,11 +123,11 @@ fn check<'a>(files: Judged<'a>, format: Option<Format>, html: Option<&'a str>) -
 }
 
 fn check_one<'a>(app: &'a str, certificate: &'a str) -> Request<'a> {
-    check(Judged::One { app, certificate }, None, None)
+    check(CheckedFiles::One { app, certificate }, None, None)
 }
 
 /// Applications, certificates, and what `check` gives for them.
-const CHECKS: &[(&str, &str, Told)] = &[
+const CHECKS: &[(&str, &str, Expected)] = &[
     ("safe.toml", "safe.json", YES),
     ("safe.toml", "wrong.json", NO),
     ("safe.frc", "safe.json", YES),
@@ -142,14 +147,14 @@ fn checks(rt: HostRuntime) -> Result<(), AllocError> {
 }
 
 /// The application that is safe, with its certificate.
-const ONE: Judged<'static> = Judged::One {
+const ONE: CheckedFiles<'static> = CheckedFiles::One {
     app: "safe.toml",
     certificate: "safe.json",
 };
 
 /// What is judged, where its page goes, and what `check` gives.
-const FORMED: &[(Judged, Option<&str>, Told)] = &[
-    (Judged::Listed("all.list"), None, (2, LINES, "", 5)),
+const FORMED: &[(CheckedFiles, Option<&str>, Expected)] = &[
+    (CheckedFiles::Listed("all.list"), None, (2, LINES, "", 5)),
     (ONE, Some("new.html"), YES),
     (ONE, Some("page.html"), KEPT),
     (ONE, Some("safe.json"), KEPT),
@@ -188,7 +193,7 @@ fn prove<'a>(app: &'a str, out: &'a str, html: Option<&'a str>) -> Request<'a> {
 }
 
 /// Applications, where their certificate and their page go, and what `prove` gives.
-const PROOFS: &[(&str, &str, Option<&str>, Told)] = &[
+const PROOFS: &[(&str, &str, Option<&str>, Expected)] = &[
     ("broken.toml", "no.json", Some("no.html"), BROKEN_RUN),
     ("cut.toml", "no.json", None, CUT),
     ("safe.toml", "safe.toml", None, KEPT),
@@ -236,7 +241,7 @@ fn refutes(rt: HostRuntime) -> Result<(), AllocError> {
 }
 
 /// Applications, and what `points` gives for them.
-const POINTS: &[(&str, Told)] = &[("safe.toml", (0, POINT_LINES, "", 1)), ("cut.toml", CUT)];
+const POINTS: &[(&str, Expected)] = &[("safe.toml", (0, POINT_LINES, "", 1)), ("cut.toml", CUT)];
 
 #[test]
 fn tells_points(rt: HostRuntime) -> Result<(), AllocError> {
@@ -260,7 +265,7 @@ fn run_by(words: &str) -> Request<'_> {
 }
 
 /// Words that pick choices, and what `run` gives for them.
-const RUNS: &[(&str, Told)] = &[
+const RUNS: &[(&str, Expected)] = &[
     ("0", (0, "t step 0\nt step 0\nt step 0\n", "", 2)),
     ("0,", (2, "", "refused: words\n", 0)),
 ];

@@ -1,6 +1,6 @@
 pub mod Subject
 pub mod Shown
 pub mod Hunt
-pub mod Site
+pub mod Spot
 pub mod Witness
 pub mod Refutes

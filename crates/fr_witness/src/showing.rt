@@ -6,7 +6,7 @@ ghost use Rattle.fr_notes.specs.Noted.{NotedBy};
 ghost use Rattle.fr_ends.specs.Certificate.{HasGuard, value_for};
 ghost use Rattle.fr_ends.specs.Fits.{CertificateFits};
 ghost use Rattle.fr_ends.specs.View.{guard_of, values_of};
-ghost use Rattle.fr_witness.specs.Site.{IsSaidAt, IsSite};
+ghost use Rattle.fr_witness.specs.Spot.{IsSaidAt, IsSpot};
 ghost use Rattle.fr_witness.specs.Witness.{IsWitness, Shows};
 
 use crate::claims::note_holds;
@@ -24,20 +24,20 @@ use std::collections::BTreeMap;
 
 /// A point of the application with its instruction and its note.
 #[derive(Clone, Copy)]
-struct Site<'a> {
+struct Spot<'a> {
     point: Point,
     instr: &'a Instr,
     note: &'a Note,
 }
 
-/// The site of a point; None where the application has no such point.
-fn site_of<'a>(app: &'a App, certificate: &'a Certificate, point: Point) -> Option<Site<'a>>
+/// The spot of a point; None where the application has no such point.
+fn spot_of<'a>(app: &'a App, certificate: &'a Certificate, point: Point) -> Option<Spot<'a>>
     requires { CertificateFits app.now certificate.now }
-    ensures { IfSome result (λ s. (s.point ≡ point) × IsSite app.now certificate.now s) }
+    ensures { IfSome result (λ s. (s.point ≡ point) × IsSpot app.now certificate.now s) }
 {
     let number = app.number(point)?;
     let instr = app.instr(point)?;
-    Some(Site {
+    Some(Spot {
         point,
         instr,
         note: certificate.notes.at(app, number),
@@ -49,16 +49,16 @@ fn start_of(
     alloc: Global,
     app: &App,
     certificate: &Certificate,
-    site: &Site,
+    spot: &Spot,
 ) -> Result<Option<Witness>, AllocError>
-    requires { IsSite app.now certificate.now site.now }
+    requires { IsSpot app.now certificate.now spot.now }
     ensures { IfOk result (λ found. IfSome found (λ w.
-        Shows app.now certificate.now site.now.point Part.Entry w)) }
+        Shows app.now certificate.now spot.now.point Part.Entry w)) }
 {
     app.recall_faultless();
     the_start_is_well_formed();
     let state = State::start(alloc, app)?;
-    Ok(if note_holds(app, site.note, site.point.actor, &state) {
+    Ok(if note_holds(app, spot.note, spot.point.actor, &state) {
         None
     } else {
         Some(Witness::Start(state))
@@ -70,22 +70,22 @@ fn breaking<'a>(
     alloc: Global,
     app: &'a App,
     certificate: &Certificate,
-    site: &Site<'a>,
+    spot: &Spot<'a>,
     rule: Rule,
 ) -> Result<Option<Witness>, AllocError>
-    requires site { IsSite app.now certificate.now site.now }
+    requires spot { IsSpot app.now certificate.now spot.now }
     ensures { IfOk result (λ found. IfSome found (λ w.
-        Shows app.now certificate.now site.now.point (Part.Rule rule) w)) }
+        Shows app.now certificate.now spot.now.point (Part.Rule rule) w)) }
 {
-    for says in site.note.alternatives() {
+    for says in spot.note.alternatives() {
         let hunt = Hunt {
             app,
-            mover: site.point,
-            instr: site.instr,
+            mover: spot.point,
+            instr: spot.instr,
             says,
             other: None,
             lands: None,
-            victim: site.point.actor,
+            victim: spot.point.actor,
         };
         if let Some(state) = hunt.breach(alloc, rule)? {
             return Ok(Some(Witness::Breaks(state)));
@@ -99,22 +99,22 @@ fn leaving<'a>(
     alloc: Global,
     app: &'a App,
     certificate: &Certificate,
-    site: &Site<'a>,
-    target: &Site<'a>,
+    spot: &Spot<'a>,
+    target: &Spot<'a>,
 ) -> Result<Option<Witness>, AllocError>
-    requires site { IsSite app.now certificate.now site.now × IsSite app.now certificate.now target.now }
+    requires spot { IsSpot app.now certificate.now spot.now × IsSpot app.now certificate.now target.now }
     ensures { IfOk result (λ found. IfSome found (λ w.
-        Shows app.now certificate.now site.now.point (Part.Goes target.now.point) w)) }
+        Shows app.now certificate.now spot.now.point (Part.Goes target.now.point) w)) }
 {
-    for says in site.note.alternatives() {
+    for says in spot.note.alternatives() {
         let hunt = Hunt {
             app,
-            mover: site.point,
-            instr: site.instr,
+            mover: spot.point,
+            instr: spot.instr,
             says,
             other: None,
             lands: Some(target.point),
-            victim: site.point.actor,
+            victim: spot.point.actor,
         };
         if let Some(steps) = hunt.steps(alloc, target.note)? {
             return Ok(Some(Witness::Leaves(steps)));
@@ -130,17 +130,17 @@ const MOST_PAIRS: usize = MOST_ALTERNATIVES * MOST_ALTERNATIVES;
 fn pair_of<'a>(
     app: &App,
     certificate: &Certificate,
-    site: &Site<'a>,
-    other: &Site<'a>,
+    spot: &Spot<'a>,
+    other: &Spot<'a>,
     number: usize,
 ) -> Option<(&'a Alternative, &'a Alternative)>
-    requires { IsSite app.now certificate.now site.now × IsSite app.now certificate.now other.now }
-    ensures says { IfSome result (λ p. IsSaidAt app.now certificate.now site.now.point p.0.now) }
+    requires { IsSpot app.now certificate.now spot.now × IsSpot app.now certificate.now other.now }
+    ensures says { IfSome result (λ p. IsSaidAt app.now certificate.now spot.now.point p.0.now) }
     ensures told { IfSome result (λ p. IsSaidAt app.now certificate.now other.now.point p.1.now) }
 {
     let _ = app;
     let _ = certificate;
-    let says = site.note.alternatives().get(number / MOST_ALTERNATIVES)?;
+    let says = spot.note.alternatives().get(number / MOST_ALTERNATIVES)?;
     let told = other.note.alternatives().get(number % MOST_ALTERNATIVES)?;
     Some((says, told))
 }
@@ -151,15 +151,15 @@ fn spoiling<'a>(
     alloc: Global,
     app: &'a App,
     certificate: &Certificate,
-    site: &Site<'a>,
-    other: &Site<'a>,
+    spot: &Spot<'a>,
+    other: &Spot<'a>,
 ) -> Result<Option<Witness>, AllocError>
-    requires site { IsSite app.now certificate.now site.now × IsSite app.now certificate.now other.now }
+    requires spot { IsSpot app.now certificate.now spot.now × IsSpot app.now certificate.now other.now }
     ensures { IfOk result (λ found. IfSome found (λ w.
-        Shows app.now certificate.now site.now.point (Part.Spoiled other.now.point) w)) }
+        Shows app.now certificate.now spot.now.point (Part.Spoiled other.now.point) w)) }
 {
     for number in 0..MOST_PAIRS {
-        let Some((says, told)) = pair_of(app, certificate, site, other, number) else {
+        let Some((says, told)) = pair_of(app, certificate, spot, other, number) else {
             continue;
         };
         let hunt = Hunt {
@@ -167,11 +167,11 @@ fn spoiling<'a>(
             mover: other.point,
             instr: other.instr,
             says: told,
-            other: Some((site.point, says)),
+            other: Some((spot.point, says)),
             lands: None,
-            victim: site.point.actor,
+            victim: spot.point.actor,
         };
-        if let Some(steps) = hunt.steps(alloc, site.note)? {
+        if let Some(steps) = hunt.steps(alloc, spot.note)? {
             return Ok(Some(Witness::Leaves(steps)));
         }
         if let Side::Before = other.point.side
@@ -188,19 +188,19 @@ fn both<'a>(
     alloc: Global,
     app: &App,
     certificate: &Certificate,
-    site: &Site<'a>,
-    other: &Site<'a>,
+    spot: &Spot<'a>,
+    other: &Spot<'a>,
 ) -> Result<Option<Witness>, AllocError>
-    requires site { IsSite app.now certificate.now site.now × IsSite app.now certificate.now other.now }
+    requires spot { IsSpot app.now certificate.now spot.now × IsSpot app.now certificate.now other.now }
     ensures { IfOk result (λ found. IfSome found (λ w.
-        Shows app.now certificate.now site.now.point (Part.Near other.now.point) w)) }
+        Shows app.now certificate.now spot.now.point (Part.Near other.now.point) w)) }
 {
     for number in 0..MOST_PAIRS {
-        let Some((says, told)) = pair_of(app, certificate, site, other, number) else {
+        let Some((says, told)) = pair_of(app, certificate, spot, other, number) else {
             continue;
         };
-        let state = plain_state(alloc, app, (site.point, says), Some((other.point, told)))?;
-        if is_noted_by(app, site.point, says, &state)
+        let state = plain_state(alloc, app, (spot.point, says), Some((other.point, told)))?;
+        if is_noted_by(app, spot.point, says, &state)
             && is_noted_by(app, other.point, told, &state)
         {
             return Ok(Some(Witness::Both(state)));
@@ -248,16 +248,16 @@ fn unguarded_by(
     alloc: Global,
     app: &App,
     certificate: &Certificate,
-    site: &Site,
+    spot: &Spot,
     says: &Alternative,
     guard: &Guard,
 ) -> Result<Option<State>, AllocError>
-    requires site { IsSite app.now certificate.now site.now }
+    requires spot { IsSpot app.now certificate.now spot.now }
     requires says { AlternativeFits app.now says.now }
     ensures { IfOk result (λ found. IfSome found (λ S.
-        NotedBy app.now site.now.point says.now S × (HasGuard (guard_of guard.now) site.now.point.actor.0 S → ⊥))) }
+        NotedBy app.now spot.now.point says.now S × (HasGuard (guard_of guard.now) spot.now.point.actor.0 S → ⊥))) }
 {
-    let point = site.point;
+    let point = spot.point;
     let plain = plain_state(alloc, app, (point, says), None)?;
     let variants = Variants::turning(alloc, says, guard)?;
     for number in 0..variants.count() {
@@ -274,19 +274,19 @@ fn unguarded(
     alloc: Global,
     app: &App,
     certificate: &Certificate,
-    site: &Site,
+    spot: &Spot,
     end: EndName,
 ) -> Result<Option<Witness>, AllocError>
-    requires site { IsSite app.now certificate.now site.now }
+    requires spot { IsSpot app.now certificate.now spot.now }
     requires fits { CertificateFits app.now certificate.now }
     ensures { IfOk result (λ found. IfSome found (λ w.
-        Shows app.now certificate.now site.now.point (Part.Guard end) w)) }
+        Shows app.now certificate.now spot.now.point (Part.Guard end) w)) }
 {
     let Some(guard) = certificate.ends.guard(end) else {
         return Ok(Some(Witness::Unguarded(None)));
     };
-    for says in site.note.alternatives() {
-        if let Some(state) = unguarded_by(alloc, app, certificate, site, says, guard)? {
+    for says in spot.note.alternatives() {
+        if let Some(state) = unguarded_by(alloc, app, certificate, spot, says, guard)? {
             return Ok(Some(Witness::Unguarded(Some(state))));
         }
     }
@@ -298,26 +298,26 @@ fn witness_of<'a>(
     alloc: Global,
     app: &'a App,
     certificate: &'a Certificate,
-    site: &Site<'a>,
+    spot: &Spot<'a>,
     part: Part,
 ) -> Result<Option<Witness>, AllocError>
-    requires site { IsSite app.now certificate.now site.now }
+    requires spot { IsSpot app.now certificate.now spot.now }
     requires fits { CertificateFits app.now certificate.now }
-    ensures { IfOk result (λ found. IfSome found (λ w. Shows app.now certificate.now site.now.point part w)) }
+    ensures { IfOk result (λ found. IfSome found (λ w. Shows app.now certificate.now spot.now.point part w)) }
 {
     let another = match part {
         Part::Goes(point) | Part::Near(point) | Part::Spoiled(point) => {
-            site_of(app, certificate, point)
+            spot_of(app, certificate, point)
         }
         _ => None,
     };
     match (part, another) {
-        (Part::Entry, _) => start_of(alloc, app, certificate, site),
-        (Part::Rule(rule), _) => breaking(alloc, app, certificate, site, rule),
-        (Part::Goes(_), Some(target)) => leaving(alloc, app, certificate, site, &target),
-        (Part::Guard(end), _) => unguarded(alloc, app, certificate, site, end),
-        (Part::Near(_), Some(other)) => both(alloc, app, certificate, site, &other),
-        (Part::Spoiled(_), Some(other)) => spoiling(alloc, app, certificate, site, &other),
+        (Part::Entry, _) => start_of(alloc, app, certificate, spot),
+        (Part::Rule(rule), _) => breaking(alloc, app, certificate, spot, rule),
+        (Part::Goes(_), Some(target)) => leaving(alloc, app, certificate, spot, &target),
+        (Part::Guard(end), _) => unguarded(alloc, app, certificate, spot, end),
+        (Part::Near(_), Some(other)) => both(alloc, app, certificate, spot, &other),
+        (Part::Spoiled(_), Some(other)) => spoiling(alloc, app, certificate, spot, &other),
         _ => Ok(None),
     }
 }
@@ -342,8 +342,8 @@ pub fn witness(
     let Verdict::No { point, part } = verdict else {
         return Ok(None);
     };
-    match site_of(app, certificate, point) {
-        Some(site) => witness_of(alloc, app, certificate, &site, part),
+    match spot_of(app, certificate, point) {
+        Some(spot) => witness_of(alloc, app, certificate, &spot, part),
         None => Ok(None),
     }
 }

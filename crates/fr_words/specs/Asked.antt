@@ -12,8 +12,8 @@ use Rattle.std.specs.Str.{bytes_eq}
 use Rattle.std.specs.Option.{option_map_or}
 use Rattle.clap.specs.Walk.{Text}
 use Rattle.clap.specs.declared.parser.matches.ArgMatches.{ArgMatches}
-use Rattle.fr_request.specs.declared.request.Judged.{Judged}
-use Rattle.fr_request.specs.declared.request.Judged.TheVariants.{One, Listed}
+use Rattle.fr_request.specs.declared.request.CheckedFiles.{CheckedFiles}
+use Rattle.fr_request.specs.declared.request.CheckedFiles.TheVariants.{One, Listed}
 use Rattle.fr_request.specs.declared.request.CheckRequest.{CheckRequest}
 use Rattle.fr_request.specs.declared.request.FindRequest.{FindRequest}
 use Rattle.fr_request.specs.declared.request.FollowRequest.{FollowRequest}
@@ -38,7 +38,7 @@ abbrev pub has_number : ℕ → Rows → Text → Bool
 has_number bits rs id = is_some (number_at bits rs id)
 
 -- the files that are judged: those of a list where one is named, else an application and its certificate
-abbrev pub IsJudged : Rows → Judged → Type 0
+abbrev pub IsJudged : Rows → CheckedFiles → Type 0
 IsJudged rs (Listed list) = text_at rs (codes "list") ≡ Some list.now
 IsJudged rs (One app certificate) =
     (text_at rs (codes "list") ≡ None) × (text_at rs (codes "APP") ≡ Some app.now)

@@ -21,7 +21,7 @@ use Rattle.clap.specs.Walk.{Row, Text, all_of, first_of, one_of, rows_of}
 use Rattle.clap.specs.Simple.{subcommand_rows_of}
 use Rattle.clap.specs.declared.parser.matches.ArgMatches.{ArgMatches}
 use Rattle.fr_request.specs.declared.detail.Detail.{Detail}
-use Rattle.fr_request.specs.declared.detail.Detail.TheVariants.{Told, Whole}
+use Rattle.fr_request.specs.declared.detail.Detail.TheVariants.{Relevant, Whole}
 use Rattle.fr_request.specs.declared.format.Format.{Format}
 use Rattle.fr_request.specs.declared.format.Format.TheVariants.{Json, Sarif, Junit}
 
@@ -67,7 +67,7 @@ number_at bits rs id = option_and_then (number_in bits) (one_of id rs)
 abbrev pub detail_at : Rows → Option Detail
 detail_at rs =
     if is_given rs (codes "all") then Some Whole
-    else if is_given rs (codes "explain") then Some Told else None
+    else if is_given rs (codes "explain") then Some Relevant else None
 
 -- the form with this name
 abbrev pub format_named : Text → Option Format
@@ -84,8 +84,8 @@ format_at rs = option_and_then format_named (text_at rs (codes "format"))
 abbrev pub proof_detail_at : Rows → Option Detail
 proof_detail_at rs =
     if is_given rs (codes "all") then Some Whole
-    else if is_given rs (codes "explain") then Some Told
-    else if is_given rs (codes "brief") then None else Some Told
+    else if is_given rs (codes "explain") then Some Relevant
+    else if is_given rs (codes "brief") then None else Some Relevant
 
 -- whether `prove` warns: by `--warn`, and where the answer is a text for a person without `--brief`
 abbrev pub warns_at : Rows → Bool

@@ -10,7 +10,7 @@ use crate::shared::{
 };
 use crate::table::{CommandTable, TEXT, Word, command_of};
 use clap::{ArgMatches, Command};
-use fr_request::{CheckRequest, Judged, Request};
+use fr_request::{CheckRequest, CheckedFiles, Request};
 use std::alloc::{AllocError, Global};
 
 /// The command `check`. The files have to be given where no list is.
@@ -52,7 +52,7 @@ pub fn check_command<'a>(alloc: Global) -> Result<Command<'a>, AllocError> {
 }
 
 /// The files that the matched words name.
-fn files_judged<'a>(words: &ArgMatches<'a>) -> Option<Judged<'a>>
+fn files_judged<'a>(words: &ArgMatches<'a>) -> Option<CheckedFiles<'a>>
     ensures files { IfSome result (IsJudged (rows words.now)) }
     ensures whether { is_some result ≡ can_judge (rows words.now) }
 {
@@ -61,8 +61,8 @@ fn files_judged<'a>(words: &ArgMatches<'a>) -> Option<Judged<'a>>
         text_at(words, "APP"),
         text_at(words, "CERT"),
     ) {
-        (Some(list), _, _) => Some(Judged::Listed(list)),
-        (None, Some(app), Some(certificate)) => Some(Judged::One { app, certificate }),
+        (Some(list), _, _) => Some(CheckedFiles::Listed(list)),
+        (None, Some(app), Some(certificate)) => Some(CheckedFiles::One { app, certificate }),
         _ => None,
     }
 }

@@ -5,7 +5,7 @@ ghost use Rattle.fr_words.specs.Asked.{IsAsked, can_follow};
 
 use crate::found::{is_given, number_at, text_at, texts_at};
 use crate::shared::{APP, EXPLAIN, FORMAT, HTML, STATES, format_asked};
-use crate::table::{CommandTable, FILE, FLAG, Place, TEXT, Word, command_of};
+use crate::table::{CommandTable, FILE, FLAG, TEXT, Word, WordForm, command_of};
 use clap::{ArgAction, ArgMatches, Command};
 use fr_request::{FollowRequest, Request};
 use std::alloc::{AllocError, Global};
@@ -24,7 +24,7 @@ const TABLE: &CommandTable = &CommandTable {
         Word {
             name: "TRACE",
             value: &["TRACE"],
-            place: Place::Last,
+            form: WordForm::Last,
             action: ArgAction::Append,
             help: "The traces that the recorder wrote",
             ..FILE

@@ -72,7 +72,7 @@ fn detail_of_proof(words: &ArgMatches) -> Option<Detail>
     ensures { result ≡ proof_detail_at (rows words.now) }
 {
     match detail_asked(words) {
-        None if !is_given(words, "brief") => Some(Detail::Told),
+        None if !is_given(words, "brief") => Some(Detail::Relevant),
         detail => detail,
     }
 }

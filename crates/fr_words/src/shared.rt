@@ -137,7 +137,7 @@ pub fn detail_asked(words: &ArgMatches) -> Option<Detail>
     if is_given(words, "all") {
         Some(Detail::Whole)
     } else if is_given(words, "explain") {
-        Some(Detail::Told)
+        Some(Detail::Relevant)
     } else {
         None
     }

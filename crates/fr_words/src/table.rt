@@ -6,9 +6,9 @@ use std::alloc::{AllocError, Global};
 /// The name that the version is printed with, by `--version` and `check --version` alike.
 pub const NAME: &str = "fr_check";
 
-/// Where a word is.
-pub enum Place {
-    /// A file, by itself: which one it is, its place says.
+/// How a word is given.
+pub enum WordForm {
+    /// A file, by itself: its place says which one it is.
     Alone,
     /// One or more files, after the others.
     Last,
@@ -20,7 +20,7 @@ pub enum Place {
 pub struct Word {
     pub name: &'static str,
     pub help: &'static str,
-    pub place: Place,
+    pub form: WordForm,
     pub action: ArgAction,
     /// What the help calls its value, where it has one.
     pub value: &'static [&'static str],
@@ -40,7 +40,7 @@ pub struct Word {
 pub const FILE: Word = Word {
     name: "",
     help: "",
-    place: Place::Alone,
+    form: WordForm::Alone,
     action: ArgAction::Set,
     value: &[],
     parser: ValueParser::String,
@@ -52,7 +52,7 @@ pub const FILE: Word = Word {
 
 /// A word with two dashes and a text after it.
 pub const TEXT: Word = Word {
-    place: Place::Dashed,
+    form: WordForm::Dashed,
     required: false,
     ..FILE
 };
@@ -86,10 +86,10 @@ fn alone<'a>(alloc: Global, word: &'static Word) -> Arg<'a> {
     let arg = valued(alloc, word)
         .action(word.action)
         .required(word.required);
-    match word.place {
-        Place::Alone => arg,
-        Place::Last => arg.num_args(1..),
-        Place::Dashed => arg.long(word.name),
+    match word.form {
+        WordForm::Alone => arg,
+        WordForm::Last => arg.num_args(1..),
+        WordForm::Dashed => arg.long(word.name),
     }
 }
 

@@ -15,7 +15,7 @@ use fr_formats::{Command, Source};
 use fr_inputs::{Files, output_at};
 use fr_outcome::Refusal;
 use fr_printing::{Asked, show_found, show_outputs_refused};
-use fr_request::{CheckRequest, Judged, Warns};
+use fr_request::{CheckRequest, CheckedFiles, Warns};
 use std::alloc::Global;
 use std::io::Write;
 use std::sync::Wait;
@@ -146,8 +146,8 @@ pub(crate) fn check<R: Threads + Wait + Sync, F: Files, O: Write, E: Write>(
         (option_copied asked.now.html) files.old files.new }
 {
     match asked.files {
-        Judged::Listed(list) => check_list(rt, alloc, list, asked, files, out, err),
-        Judged::One { app, certificate } => {
+        CheckedFiles::Listed(list) => check_list(rt, alloc, list, asked, files, out, err),
+        CheckedFiles::One { app, certificate } => {
             check_one(rt, alloc, app, certificate, asked, files, out, err)
         }
     }

@@ -22,7 +22,7 @@ use std::thread::Threads;
 fn ways_of(asked: &RefuteRequest) -> Ways
     ensures { result.deadlock ≡ asked.now.deadlock }
 {
-    let detail = asked.explains.then_some(Detail::Told);
+    let detail = asked.explains.then_some(Detail::Relevant);
     Ways {
         workers: usize::from(asked.workers),
         states: asked.states as usize,

@@ -3,7 +3,7 @@
 ghost use Rattle.fr_ends.specs.Fits.{CertificateFits};
 
 use super::add_item;
-use super::notes::{deletes, is_inside, site_of};
+use super::notes::{deletes, is_inside, spot_of};
 use super::scene::Scene;
 use fr_calls::Rule;
 use fr_ends::{Certificate, EndName, Guard, note_says};
@@ -92,9 +92,9 @@ fn lacker_at(
 ) -> Option<Point>
     requires { CertificateFits scene.now.app.now certificate.now }
 {
-    let site = site_of(scene.app, certificate, point)?;
-    let is_other = is_inside(site, end) && point != scene.site.point;
-    if is_other && !note_says(site.note, point.actor, guard) {
+    let spot = spot_of(scene.app, certificate, point)?;
+    let is_other = is_inside(spot, end) && point != scene.spot.point;
+    if is_other && !note_says(spot.note, point.actor, guard) {
         Some(point)
     } else {
         None
@@ -136,15 +136,15 @@ pub(super) fn add_deleters(
 ) -> Result<(), AllocError>
     requires { CertificateFits scene.now.app.now certificate.now }
 {
-    let Some(object) = scene.site.instr.object() else {
+    let Some(object) = scene.spot.instr.object() else {
         return Ok(());
     };
     for number in 0..scene.app.points() {
-        if let Some(site) = site_of(scene.app, certificate, scene.app.point(number))
-            && deletes(site.instr, object)
-            && !site.note.alternatives().is_empty()
+        if let Some(spot) = spot_of(scene.app, certificate, scene.app.point(number))
+            && deletes(spot.instr, object)
+            && !spot.note.alternatives().is_empty()
         {
-            add_named(items, scene, Named::Deletes, site.point)?;
+            add_named(items, scene, Named::Deletes, spot.point)?;
         }
     }
     Ok(())

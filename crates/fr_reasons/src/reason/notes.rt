@@ -3,10 +3,10 @@ ghost use Rattle.std.specs.Prelude.{◌≡◌, ◌<◌, IfSome, length};
 ghost use Rattle.fr_calls.specs.State.{IsWellFormed};
 ghost use Rattle.fr_notes.specs.Fits.{AlternativeFits};
 ghost use Rattle.fr_ends.specs.Fits.{CertificateFits};
-ghost use Rattle.fr_reasons.specs.Told.{IsSite};
+ghost use Rattle.fr_reasons.specs.Told.{IsSpot};
 
 use super::add_item;
-use super::scene::{Scene, Site, says_of};
+use super::scene::{Scene, Spot, says_of};
 use super::words::{can_hold, otherwise_text, put_claim, put_said};
 use fr_calls::{State, is_at_end};
 use fr_ends::{Certificate, EndName};
@@ -16,18 +16,18 @@ use fr_witness::claim_broken;
 use fr_wording::{Explained, ShownState, add_text, subject_at, subject_count};
 use std::alloc::{AllocError, Global};
 
-/// The site of a point; None where the application has no such point.
-pub(super) fn site_of<'a>(
+/// The spot of a point; None where the application has no such point.
+pub(super) fn spot_of<'a>(
     app: &'a App,
     certificate: &'a Certificate,
     point: Point,
-) -> Option<Site<'a>>
+) -> Option<Spot<'a>>
     requires { CertificateFits app.now certificate.now }
-    ensures { IfSome result (λ s. (s.point ≡ point) × IsSite app.now s) }
+    ensures { IfSome result (λ s. (s.point ≡ point) × IsSpot app.now s) }
 {
     let number = app.number(point)?;
     let instr = app.instr(point)?;
-    Some(Site {
+    Some(Spot {
         point,
         instr,
         note: certificate.notes.at(app, number),
@@ -77,13 +77,13 @@ pub(super) fn add_broken(
     items: &mut Vec<Explained>,
     scene: &Scene,
     of: ShownState,
-    site: Site,
+    spot: Spot,
     state: &State,
 ) -> Result<(), AllocError>
     requires formed { IsWellFormed scene.now.app.now state.now }
-    requires site { IsSite scene.now.app.now site }
+    requires spot { IsSpot scene.now.app.now spot }
 {
-    let (actor, alternatives) = (site.point.actor, site.note.alternatives());
+    let (actor, alternatives) = (spot.point.actor, spot.note.alternatives());
     if alternatives.is_empty() {
         let claims = Vec::new(scene.alloc);
         return add_item(items, Explained::Says { of, actor, claims });
@@ -169,16 +169,16 @@ fn alternative_text(
     Ok(text)
 }
 
-/// What the note of a site says, an item for each alternative, beside that these objects are live.
+/// What the note of a spot says, an item for each alternative, beside that these objects are live.
 pub(super) fn claims_of(
     alloc: Global,
     app: &App,
-    site: Site,
+    spot: Spot,
     live: &[ObjId],
 ) -> Result<Vec<String>, AllocError> {
     let mut claims = Vec::new(alloc);
-    for says in site.note.alternatives() {
-        let claim = alternative_text(alloc, app, site.point.actor, says, live)?;
+    for says in spot.note.alternatives() {
+        let claim = alternative_text(alloc, app, spot.point.actor, says, live)?;
         add_text(&mut claims, claim)?;
     }
     Ok(claims)
@@ -199,8 +199,8 @@ pub fn note_told(
 ) -> Result<Vec<String>, AllocError>
     requires { CertificateFits app.now certificate.now }
 {
-    match site_of(app, certificate, point) {
-        Some(site) => claims_of(alloc, app, site, live),
+    match spot_of(app, certificate, point) {
+        Some(spot) => claims_of(alloc, app, spot, live),
         None => Ok(Vec::new(alloc)),
     }
 }
@@ -256,13 +256,13 @@ pub fn never_deleted(alloc: Global, app: &App) -> Result<Vec<ObjId>, AllocError>
     Ok(live)
 }
 
-/// Whether an actor at this site is inside a call at the end of a buffer, and its note doesn't say that it is never there.
-pub(super) fn is_inside(site: Site, end: EndName) -> bool {
-    match (site.point.side, site.instr) {
+/// Whether an actor at this spot is inside a call at the end of a buffer, and its note doesn't say that it is never there.
+pub(super) fn is_inside(spot: Spot, end: EndName) -> bool {
+    match (spot.point.side, spot.instr) {
         (Side::Inside, Instr::Call(Call::On(call))) => {
             call.object.0 == end.buffer.0
                 && is_at_end(end.end, call.act)
-                && !site.note.alternatives().is_empty()
+                && !spot.note.alternatives().is_empty()
         }
         _ => false,
     }
@@ -274,13 +274,13 @@ pub(super) fn rival_of<'a>(
     certificate: &'a Certificate,
     actor: ActorId,
     end: EndName,
-) -> Option<Site<'a>>
+) -> Option<Spot<'a>>
     requires { CertificateFits app.now certificate.now }
 {
     for number in 0..app.points() {
-        if let Some(site) = site_of(app, certificate, app.point(number)) {
-            if site.point.actor.0 != actor.0 && is_inside(site, end) {
-                return Some(site);
+        if let Some(spot) = spot_of(app, certificate, app.point(number)) {
+            if spot.point.actor.0 != actor.0 && is_inside(spot, end) {
+                return Some(spot);
             }
         }
     }

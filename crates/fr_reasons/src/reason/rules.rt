@@ -1,7 +1,7 @@
 // Why a state breaches a rule, in words.
 ghost use Rattle.fr_calls.specs.State.{IsWellFormed};
 
-use super::scene::Site;
+use super::scene::Spot;
 use super::words::kind_name;
 use fr_calls::{Rule, State};
 use fr_program::{
@@ -188,17 +188,17 @@ fn put_breach(
     }
 }
 
-/// What it is in this state that the rule forbids, for the actor of this site.
+/// What it is in this state that the rule forbids, for the actor of this spot.
 pub(super) fn forbidden_text(
     alloc: Global,
     app: &App,
-    site: &Site,
+    spot: &Spot,
     state: &State,
     rule: Rule,
 ) -> Result<String, AllocError>
     requires { IsWellFormed app.now state.now }
 {
     let mut text = String::new(alloc);
-    put_breach(&mut text, app, site.point.actor, site.instr, state, rule)?;
+    put_breach(&mut text, app, spot.point.actor, spot.instr, state, rule)?;
     Ok(text)
 }

@@ -14,7 +14,7 @@ use std::alloc::{AllocError, Global};
 
 /// A point with its instruction and its note.
 #[derive(Clone, Copy)]
-pub(super) struct Site<'a> {
+pub(super) struct Spot<'a> {
     pub point: Point,
     pub instr: &'a Instr,
     pub note: &'a Note,
@@ -30,8 +30,8 @@ pub(super) struct Scene<'a> {
     pub detail: Detail,
     /// Whether lines are named that a person would change.
     pub blames: bool,
-    pub site: Site<'a>,
-    pub other: Option<Site<'a>>,
+    pub spot: Spot<'a>,
+    pub other: Option<Spot<'a>>,
     pub guarded: Option<Subject>,
 }
 
@@ -58,7 +58,7 @@ fn note_says_of(app: &App, note: &Note, subject: Subject) -> bool {
     false
 }
 
-impl Site<'_> {
+impl Spot<'_> {
     /// Whether the note or the instruction speaks of the subject.
     fn speaks_of(&self, app: &App, subject: Subject) -> bool {
         let named = match subject {
@@ -78,11 +78,11 @@ impl Scene<'_> {
         standing_at(self.alloc, self.app, self.sources, point)
     }
 
-    /// Whether the subject is shown, for the actor of this site.
-    fn shows(&self, site: Site, state: &State, subject: Subject) -> bool
+    /// Whether the subject is shown, for the actor of this spot.
+    fn shows(&self, spot: Spot, state: &State, subject: Subject) -> bool
         requires { IsWellFormed self.now.app.now state.now }
     {
-        let (app, actor) = (self.app, site.point.actor);
+        let (app, actor) = (self.app, spot.point.actor);
         let spoken = match subject {
             Subject::Critical => state.depth(actor) > 0,
             Subject::Suspended => suspension_in(app, state, actor) > 0,
@@ -94,15 +94,15 @@ impl Scene<'_> {
         spoken
             || self.detail == Detail::Whole
             || self.guarded == Some(subject)
-            || site.speaks_of(app, subject)
+            || spot.speaks_of(app, subject)
     }
 
-    /// Adds what is shown of a state for the actor of this site: its depths, and where `things` says so
+    /// Adds what is shown of a state for the actor of this spot: its depths, and where `things` says so
     /// objects and variables.
     fn add_shown(
         &self,
         facts: &mut Vec<String>,
-        site: Site,
+        spot: Spot,
         state: &State,
         things: bool,
     ) -> Result<(), AllocError>
@@ -111,8 +111,8 @@ impl Scene<'_> {
         for place in 0..subject_count(self.app) {
             let subject = subject_at(self.app, place);
             let is_thing = matches!(subject, Subject::Object(_) | Subject::Variable(_));
-            if (things || !is_thing) && self.shows(site, state, subject) {
-                let so = fact(self.alloc, self.app, site.point.actor, state, subject)?;
+            if (things || !is_thing) && self.shows(spot, state, subject) {
+                let so = fact(self.alloc, self.app, spot.point.actor, state, subject)?;
                 add_text(facts, so)?;
             }
         }
@@ -125,11 +125,11 @@ impl Scene<'_> {
     {
         let mut facts = Vec::new(self.alloc);
         if let Some(other) = self.other {
-            if other.point.actor.0 != self.site.point.actor.0 {
+            if other.point.actor.0 != self.spot.point.actor.0 {
                 self.add_shown(&mut facts, other, state, false)?;
             }
         }
-        self.add_shown(&mut facts, self.site, state, true)?;
+        self.add_shown(&mut facts, self.spot, state, true)?;
         Ok(facts)
     }
 

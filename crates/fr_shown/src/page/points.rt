@@ -87,7 +87,7 @@ fn reasons(
         certificate,
         &code.sources,
         verdict,
-        Detail::Told,
+        Detail::Relevant,
         blames,
     )? {
         Some(mut found) => reasons_in(alloc, app, code, &mut found.items),

@@ -9,16 +9,16 @@ use Rattle.fr_outcome.specs.declared.answer.What.{What}
 use Rattle.fr_outcome.specs.declared.answer.What.TheVariants.{Judged, Searched, Refused}
 use Rattle.fr_outcome.specs.Answers.{CanRefuseProof, IsProofOf}
 use Rattle.fr_proving.specs.declared.proving.Known.{Known}
-use Rattle.fr_proving.specs.declared.proving.Known.TheVariants.{Settled, Told}
+use Rattle.fr_proving.specs.declared.proving.Known.TheVariants.{Settled, Reached}
 use Rattle.fr_proving.specs.Proved.{IsKnown, IsWhatOf}
 use Rattle.fr_findings.proofs.Refusals.{app-refused}
 use Rattle.fr_proving.proofs.proving.proved_text.Goals as goal
 
 proof-of : (asks searches : Bool) (bytes text : List ℕ) (P : Program) (C : Certificate) (known : Known) (what : What) → AppMeans bytes P → CertMeans P text C
     → IsKnown asks searches P C known → IsWhatOf P C known what → IsProofOf asks bytes searches text what
-proof-of asks searches bytes text P C (Told verdict why waits tried) (Judged j) app means k w = inl (rw (w.0, w.1, w.2, w.3) (app, means, k.0, k.1, k.2))
-proof-of asks searches bytes text P C (Told verdict why waits tried) (Searched s) app means k w = absurd w
-proof-of asks searches bytes text P C (Told verdict why waits tried) (Refused r) app means k w = absurd w
+proof-of asks searches bytes text P C (Reached verdict why waits tried) (Judged j) app means k w = inl (rw (w.0, w.1, w.2, w.3) (app, means, k.0, k.1, k.2))
+proof-of asks searches bytes text P C (Reached verdict why waits tried) (Searched s) app means k w = absurd w
+proof-of asks searches bytes text P C (Reached verdict why waits tried) (Refused r) app means k w = absurd w
 proof-of asks searches bytes text P C (Settled found explains) (Judged j) app means k w = absurd w
 proof-of asks searches bytes text P C (Settled found explains) (Refused r) app means k w = absurd w
 proof-of asks searches bytes text P C (Settled found explains) (Searched s) app means k w =

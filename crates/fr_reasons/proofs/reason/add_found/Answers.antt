@@ -9,7 +9,7 @@ pub add_witness-added-requires-clause-formed : goal.add_witness-added-requires-c
 add_witness-added-requires-clause-formed c =
     let P = c.args.scene.now.app.now in
     let C = c.args.certificate.now in
-    let point = c.args.scene.now.site.point in
+    let point = c.args.scene.now.spot.point in
     let found = c.in-Some.found in
     let shown = subst (λ o. IsWitness P C (No point c.args.part) o) c.in-Some.is c.in_ok-found.ensures in
     let first = c.the_start_is_well_formed.ensures P c.recall_faultless.ensures in

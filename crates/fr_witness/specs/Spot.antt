@@ -2,7 +2,7 @@
 --
 -- | word      | meaning                                                        |
 -- |-----------|----------------------------------------------------------------|
--- | IsSite    | the instruction and the note are the point's                   |
+-- | IsSpot    | the instruction and the note are the point's                   |
 -- | IsSaidAt  | an alternative is one of the point's note                      |
 use Rattle.std.specs.Prelude.{◌≡◌, ◌<◌, Some, length, Contains}
 use Rattle.fr_program.specs.declared.ids.Point.{Point}
@@ -12,10 +12,10 @@ use Rattle.fr_notes.specs.Note.{Alternative}
 use Rattle.fr_notes.specs.Fits.{AlternativeFits, NoteFits}
 use Rattle.fr_notes.specs.Noted.{note_at}
 use Rattle.fr_ends.specs.Certificate.{Certificate}
-use Rattle.fr_witness.specs.declared.showing.Site.{Site}
+use Rattle.fr_witness.specs.declared.showing.Spot.{Spot}
 
 -- the application has the point; the instruction and the note are the point's
-pub record IsSite (P : Program) (C : Certificate) (s : Site) : Type 0 where
+pub record IsSpot (P : Program) (C : Certificate) (s : Spot) : Type 0 where
   pub point : IsPoint P s.point
   pub actor : s.point.actor.0 < length P.actors
   pub instr : instr_of P s.point ≡ Some s.instr.now

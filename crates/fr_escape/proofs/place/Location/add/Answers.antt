@@ -2,8 +2,8 @@
 use Rattle.std.proofs.Common.{◌≡◌, ◌++◌, ◌∷◌, [], All, String, rules, string_bytes, subst, sym}
 use Rattle.std.proofs.lemmas.List.Elements.{All-append, All-cons, All-nil}
 use Rattle.std.specs.declared.alloc.Global.{Global}
-use Rattle.fr_escape.specs.Place.{IsPlaceLine}
-use Rattle.fr_escape.proofs.place.Place.add.Goals as goal
+use Rattle.fr_escape.specs.Location.{IsPlaceLine}
+use Rattle.fr_escape.proofs.place.Location.add.Goals as goal
 
 abbrev IsLine : String Global → Type 0
 IsLine line = IsPlaceLine (string_bytes line)

@@ -1,6 +1,6 @@
 use Rattle.std.proofs.lemmas.Option.{slice_get_within}
 use Rattle.fr_program.specs.Points.{points_of}
-use Rattle.fr_witness.proofs.showing.site_of.Goals as goal
+use Rattle.fr_reasons.proofs.reason.notes.spot_of.Goals as goal
 
 pub at-requires-clause-number : goal.at-requires-clause-number
 at-requires-clause-number c =
