@@ -2,9 +2,9 @@
 ghost use Rattle.fr_notes.specs.Fits.{AlternativeFits, NotesFit};
 ghost use Rattle.fr_finder.specs.Spots.{IsPlaced, IsSpot};
 
-use crate::spot::{Spot, spot_at};
+use crate::spot::spot_at;
 use fr_calls::Way;
-use fr_notes::{Alternative, Change, Known, Notes, change_by};
+use fr_notes::{Alternative, Change, Known, Notes, Spot, change_by};
 use fr_program::{ActorId, App, Instr, Point, Range, VarId};
 use std::alloc::{AllocError, Global};
 
@@ -90,15 +90,20 @@ fn reach_from(app: &App, alternative: &Alternative, point: Point, instr: &Instr)
 }
 
 /// Adds what the point's steps change, by each alternative of its note.
-fn add_effects(app: &App, spot: Spot, effects: &mut Vec<Effect>) -> Result<(), AllocError>
-    requires { IsSpot app.now spot.point spot.instr.now spot.note.now }
+fn add_effects(
+    app: &App,
+    number: usize,
+    spot: &Spot,
+    effects: &mut Vec<Effect>,
+) -> Result<(), AllocError>
+    requires { IsSpot app.now spot.now.point spot.now.instr.now spot.now.note.now }
 {
     for (place, alternative) in spot.note.alternatives().iter().enumerate() {
         let reach = reach_from(app, alternative, spot.point, spot.instr);
         if !matches!(reach, Reach::Nothing) {
             effects.push(Effect {
                 actor: spot.point.actor,
-                number: spot.number,
+                number,
                 place,
                 reach,
             })?;
@@ -114,7 +119,7 @@ pub fn effects(alloc: Global, app: &App, notes: &Notes) -> Result<Vec<Effect>, A
     let mut effects = Vec::new(alloc);
     for number in 0..app.points() {
         if let Some(spot) = spot_at(app, notes, number) {
-            add_effects(app, spot, &mut effects)?;
+            add_effects(app, number, &spot, &mut effects)?;
         }
     }
     Ok(effects)

@@ -4,10 +4,10 @@ ghost use Rattle.fr_notes.specs.Fits.{NotesFit};
 ghost use Rattle.fr_ends.specs.Fits.{EndFits, EndsFit};
 ghost use Rattle.fr_ends.specs.View.{end_of};
 
-use crate::spot::{Spot, spot_at};
+use crate::spot::spot_at;
 use fr_calls::is_at_end;
 use fr_ends::{EndGuard, EndName, Ends, Guard, is_listed, note_says};
-use fr_notes::{Alternative, Note, Notes};
+use fr_notes::{Alternative, Note, Notes, Spot};
 use fr_program::{ActorId, App, Call, End, Instr, ObjId, Side, VarId};
 use std::alloc::{AllocError, Global};
 use std::collections::BTreeMap;

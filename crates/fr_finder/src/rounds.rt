@@ -9,9 +9,9 @@ use crate::arrivals::{rows, target};
 use crate::effect::{Effect, Reach, effects};
 use crate::landing::{left_to_mover, left_to_other};
 use crate::merging::{Growth, merge};
-use crate::spot::{Spot, spot_at};
+use crate::spot::spot_at;
 use fr_calls::Way;
-use fr_notes::{Alternative, Change, Known, Note, Notes, can_meet, change_by, keeps, spares};
+use fr_notes::{Alternative, Change, Known, Note, Notes, Spot, can_meet, change_by, keeps, spares};
 use fr_program::App;
 use rayon::prelude::*;
 use std::alloc::{AllocError, Global};
@@ -64,12 +64,12 @@ fn is_spared(known: &Known, other: &Alternative, change: &Change, note: &[Altern
 fn land(
     alloc: Global,
     before: Before,
-    source: Spot,
+    source: &Spot,
     alternative: &Alternative,
     way: Way,
     note: &mut Vec<Alternative>,
 ) -> Result<(), AllocError>
-    requires placed { IsPlaced before.app.now source.point source.instr.now }
+    requires placed { IsPlaced before.app.now source.now.point source.now.instr.now }
     requires fits { AlternativeFits before.app.now alternative.now }
     requires note { NoteFits before.app.now note.old.items }
     ensures { NoteFits before.entry.app.now note.new.items }
@@ -91,13 +91,13 @@ fn land(
 fn land_at(
     alloc: Global,
     before: Before,
-    source: Spot,
+    source: &Spot,
     alternative: &Alternative,
     way: Way,
     number: usize,
     note: &mut Vec<Alternative>,
 ) -> Result<(), AllocError>
-    requires placed { IsPlaced before.app.now source.point source.instr.now }
+    requires placed { IsPlaced before.app.now source.now.point source.now.instr.now }
     requires fits { AlternativeFits before.app.now alternative.now }
     requires note { NoteFits before.app.now note.old.items }
     ensures { NoteFits before.entry.app.now note.new.items }
@@ -113,11 +113,11 @@ fn land_at(
 fn arrive_from(
     alloc: Global,
     before: Before,
-    source: Spot,
+    source: &Spot,
     number: usize,
     note: &mut Vec<Alternative>,
 ) -> Result<(), AllocError>
-    requires spot { IsSpot before.app.now source.point source.instr.now source.note.now }
+    requires spot { IsSpot before.app.now source.now.point source.now.instr.now source.now.note.now }
     requires note { NoteFits before.app.now note.old.items }
     ensures { NoteFits before.entry.app.now note.new.items }
 {
@@ -145,7 +145,7 @@ fn arrive(
     };
     for source in sources {
         if let Some(source) = spot_at(before.app, before.notes, *source) {
-            arrive_from(alloc, before, source, number, note)?;
+            arrive_from(alloc, before, &source, number, note)?;
         }
     }
     Ok(())
@@ -155,13 +155,13 @@ fn arrive(
 fn spread(
     alloc: Global,
     before: Before,
-    mover: Spot,
+    mover: &Spot,
     known: &Known,
     other: &Alternative,
     way: Way,
     note: &mut Vec<Alternative>,
 ) -> Result<(), AllocError>
-    requires placed { IsPlaced before.app.now mover.point mover.instr.now }
+    requires placed { IsPlaced before.app.now mover.now.point mover.now.instr.now }
     requires fits { KnownFits before.app.now known.now }
     requires other { known.now.other ≡ Some other.now }
     requires note { NoteFits before.app.now note.old.items }
@@ -183,12 +183,12 @@ fn spread(
 fn spread_beside(
     alloc: Global,
     before: Before,
-    mover: Spot,
+    mover: &Spot,
     alternative: &Alternative,
     other: &Alternative,
     note: &mut Vec<Alternative>,
 ) -> Result<(), AllocError>
-    requires placed { IsPlaced before.app.now mover.point mover.instr.now }
+    requires placed { IsPlaced before.app.now mover.now.point mover.now.instr.now }
     requires alternative { AlternativeFits before.app.now alternative.now }
     requires other { AlternativeFits before.app.now other.now }
     requires note { NoteFits before.app.now note.old.items }
@@ -207,12 +207,12 @@ fn spread_beside(
 fn spread_to_each(
     alloc: Global,
     before: Before,
-    mover: Spot,
+    mover: &Spot,
     alternative: &Alternative,
     old: &Note,
     note: &mut Vec<Alternative>,
 ) -> Result<(), AllocError>
-    requires placed { IsPlaced before.app.now mover.point mover.instr.now }
+    requires placed { IsPlaced before.app.now mover.now.point mover.now.instr.now }
     requires alternative { AlternativeFits before.app.now alternative.now }
     requires old { NoteFits before.app.now old.now }
     requires note { NoteFits before.app.now note.old.items }
@@ -241,7 +241,7 @@ fn spread_effect(
         return Ok(());
     };
     match mover.note.alternatives().get(effect.place) {
-        Some(alternative) => spread_to_each(alloc, before, mover, alternative, old, note),
+        Some(alternative) => spread_to_each(alloc, before, &mover, alternative, old, note),
         None => Ok(()),
     }
 }

@@ -5,7 +5,7 @@ use Rattle.fr_calls.specs.State.{IsWellFormed}
 use Rattle.fr_notes.specs.Fits.{NoteFits}
 use Rattle.fr_witness.specs.declared.taken.Taken.{Taken}
 use Rattle.fr_reasons.specs.declared.reason.scene.Scene.{Scene}
-use Rattle.fr_reasons.specs.declared.reason.scene.Spot.{Spot}
+use Rattle.fr_notes.specs.declared.case.Spot.{Spot}
 use Rattle.fr_witness.specs.declared.evidence.Witness.{Witness}
 use Rattle.fr_witness.specs.declared.evidence.Witness.TheVariants.{Start, Breaks, Leaves, Unguarded, Both}
 

@@ -17,7 +17,7 @@ use culprits::{add_deleters, add_lackers, add_set, add_way};
 use fr_calls::{Rule, State, the_start_is_well_formed};
 use fr_ends::{Certificate, EndName, Guard};
 use fr_judge::{Part, Verdict};
-use fr_notes::Subject;
+use fr_notes::{Spot, Subject};
 use fr_program::{App, Point};
 use fr_request::Detail;
 use fr_witness::{Taken, Witness, witness};
@@ -27,7 +27,7 @@ pub use notes::{never_deleted, note_told};
 use notes::{add_broken, claims_of, rival_of, spot_of};
 use places::add_actors;
 use rules::forbidden_text;
-use scene::{Scene, Spot};
+use scene::Scene;
 use std::alloc::{AllocError, Global};
 use std::mem::drop;
 
@@ -109,7 +109,7 @@ fn add_steps(
     for taken in steps {
         add_state(items, scene, of, &taken.before)?;
         add_step(items, scene, mover, taken)?;
-        add_broken(items, scene, of, *victim, &taken.after)?;
+        add_broken(items, scene, of, victim, &taken.after)?;
     }
     add_item(items, Explained::Allowed(of))
 }
@@ -132,7 +132,7 @@ fn add_leaving(
 }
 
 /// Adds what the note of a spot says.
-fn add_note(items: &mut Vec<Explained>, scene: &Scene, spot: Spot) -> Result<(), AllocError> {
+fn add_note(items: &mut Vec<Explained>, scene: &Scene, spot: &Spot) -> Result<(), AllocError> {
     let (of, actor) = (ShownState::OneNote, spot.point.actor);
     let claims = claims_of(scene.alloc, scene.app, spot, &[])?;
     add_item(items, Explained::Says { of, actor, claims })
@@ -151,9 +151,9 @@ fn add_rival(
     let Some(rival) = rival_of(scene.app, certificate, scene.spot.point.actor, end) else {
         return Ok(());
     };
-    add_note(items, scene, scene.spot)?;
+    add_note(items, scene, &scene.spot)?;
     add_item(items, Explained::Beside(scene.standing_at(rival.point)?))?;
-    add_note(items, scene, rival)
+    add_note(items, scene, &rival)
 }
 
 /// Adds whose the guard of an end is, and that it isn't the actor's.
@@ -316,7 +316,7 @@ fn add_start(items: &mut Vec<Explained>, scene: &Scene, state: &State) -> Result
     requires scene { IsScene scene.now }
 {
     add_state(items, scene, ShownState::Start, state)?;
-    add_broken(items, scene, ShownState::Start, scene.spot, state)
+    add_broken(items, scene, ShownState::Start, &scene.spot, state)
 }
 
 /// Adds what the witness of a part shows.

@@ -12,7 +12,7 @@ use Rattle.fr_notes.specs.Note.{Alternative}
 use Rattle.fr_notes.specs.Fits.{AlternativeFits, NoteFits}
 use Rattle.fr_notes.specs.Noted.{note_at}
 use Rattle.fr_ends.specs.Certificate.{Certificate}
-use Rattle.fr_witness.specs.declared.showing.Spot.{Spot}
+use Rattle.fr_notes.specs.declared.case.Spot.{Spot}
 
 -- the application has the point; the instruction and the note are the point's
 pub record IsSpot (P : Program) (C : Certificate) (s : Spot) : Type 0 where

@@ -17,31 +17,19 @@ use crate::variants::Variants;
 use fr_calls::{Rule, State, the_start_is_well_formed};
 use fr_ends::{Certificate, EndName, Guard};
 use fr_judge::{Part, Verdict};
-use fr_notes::{Alternative, MOST_ALTERNATIVES, Note};
-use fr_program::{ActorId, App, Instr, Point, Side};
+use fr_notes::{Alternative, Case, MOST_ALTERNATIVES, Spot};
+use fr_program::{ActorId, App, Point, Side};
 use std::alloc::{AllocError, Global};
 use std::collections::BTreeMap;
 
-/// A point of the application with its instruction and its note.
-#[derive(Clone, Copy)]
-struct Spot<'a> {
-    point: Point,
-    instr: &'a Instr,
-    note: &'a Note,
-}
-
-/// The spot of a point; None where the application has no such point.
+/// The point with its instruction and its note; None where the application has no such point.
 fn spot_of<'a>(app: &'a App, certificate: &'a Certificate, point: Point) -> Option<Spot<'a>>
     requires { CertificateFits app.now certificate.now }
     ensures { IfSome result (λ s. (s.point ≡ point) × IsSpot app.now certificate.now s) }
 {
     let number = app.number(point)?;
-    let instr = app.instr(point)?;
-    Some(Spot {
-        point,
-        instr,
-        note: certificate.notes.at(app, number),
-    })
+    let notes = &certificate.notes;
+    (Case { app, notes }).spot(number)
 }
 
 /// The start, where the note of the actor's first point doesn't hold of it.

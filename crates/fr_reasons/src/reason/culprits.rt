@@ -93,7 +93,7 @@ fn lacker_at(
     requires { CertificateFits scene.now.app.now certificate.now }
 {
     let spot = spot_of(scene.app, certificate, point)?;
-    let is_other = is_inside(spot, end) && point != scene.spot.point;
+    let is_other = is_inside(&spot, end) && point != scene.spot.point;
     if is_other && !note_says(spot.note, point.actor, guard) {
         Some(point)
     } else {

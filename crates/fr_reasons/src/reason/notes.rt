@@ -6,17 +6,17 @@ ghost use Rattle.fr_ends.specs.Fits.{CertificateFits};
 ghost use Rattle.fr_reasons.specs.Told.{IsSpot};
 
 use super::add_item;
-use super::scene::{Scene, Spot, says_of};
+use super::scene::{Scene, says_of};
 use super::words::{can_hold, otherwise_text, put_claim, put_said};
 use fr_calls::{State, is_at_end};
 use fr_ends::{Certificate, EndName};
-use fr_notes::{Alternative, Claim, Subject};
+use fr_notes::{Alternative, Case, Claim, Spot, Subject};
 use fr_program::{ActorId, App, Call, Instr, ObjId, Point, Side};
 use fr_witness::claim_broken;
 use fr_wording::{Explained, ShownState, add_text, subject_at, subject_count};
 use std::alloc::{AllocError, Global};
 
-/// The spot of a point; None where the application has no such point.
+/// The point with its instruction and its note; None where the application has no such point.
 pub(super) fn spot_of<'a>(
     app: &'a App,
     certificate: &'a Certificate,
@@ -26,12 +26,8 @@ pub(super) fn spot_of<'a>(
     ensures { IfSome result (λ s. (s.point ≡ point) × IsSpot app.now s) }
 {
     let number = app.number(point)?;
-    let instr = app.instr(point)?;
-    Some(Spot {
-        point,
-        instr,
-        note: certificate.notes.at(app, number),
-    })
+    let notes = &certificate.notes;
+    (Case { app, notes }).spot(number)
 }
 
 /// What an alternative says of the subject, as a list of one claim.
@@ -77,11 +73,11 @@ pub(super) fn add_broken(
     items: &mut Vec<Explained>,
     scene: &Scene,
     of: ShownState,
-    spot: Spot,
+    spot: &Spot,
     state: &State,
 ) -> Result<(), AllocError>
     requires formed { IsWellFormed scene.now.app.now state.now }
-    requires spot { IsSpot scene.now.app.now spot }
+    requires spot { IsSpot scene.now.app.now spot.now }
 {
     let (actor, alternatives) = (spot.point.actor, spot.note.alternatives());
     if alternatives.is_empty() {
@@ -173,7 +169,7 @@ fn alternative_text(
 pub(super) fn claims_of(
     alloc: Global,
     app: &App,
-    spot: Spot,
+    spot: &Spot,
     live: &[ObjId],
 ) -> Result<Vec<String>, AllocError> {
     let mut claims = Vec::new(alloc);
@@ -200,7 +196,7 @@ pub fn note_told(
     requires { CertificateFits app.now certificate.now }
 {
     match spot_of(app, certificate, point) {
-        Some(spot) => claims_of(alloc, app, spot, live),
+        Some(spot) => claims_of(alloc, app, &spot, live),
         None => Ok(Vec::new(alloc)),
     }
 }
@@ -257,7 +253,7 @@ pub fn never_deleted(alloc: Global, app: &App) -> Result<Vec<ObjId>, AllocError>
 }
 
 /// Whether an actor at this spot is inside a call at the end of a buffer, and its note doesn't say that it is never there.
-pub(super) fn is_inside(spot: Spot, end: EndName) -> bool {
+pub(super) fn is_inside(spot: &Spot, end: EndName) -> bool {
     match (spot.point.side, spot.instr) {
         (Side::Inside, Instr::Call(Call::On(call))) => {
             call.object.0 == end.buffer.0
@@ -279,7 +275,7 @@ pub(super) fn rival_of<'a>(
 {
     for number in 0..app.points() {
         if let Some(spot) = spot_of(app, certificate, app.point(number)) {
-            if spot.point.actor.0 != actor.0 && is_inside(spot, end) {
+            if spot.point.actor.0 != actor.0 && is_inside(&spot, end) {
                 return Some(spot);
             }
         }

@@ -1,9 +1,9 @@
 // Why a state breaches a rule, in words.
 ghost use Rattle.fr_calls.specs.State.{IsWellFormed};
 
-use super::scene::Spot;
 use super::words::kind_name;
 use fr_calls::{Rule, State};
+use fr_notes::Spot;
 use fr_program::{
     Act, ActorId, App, Attempt, Call, Instr, Kind, ObjId, ObjectCall, Operand, Operator, Range,
     VarId,

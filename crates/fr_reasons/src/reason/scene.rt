@@ -3,22 +3,14 @@ ghost use Rattle.std.specs.Prelude.{◌<◌, length};
 ghost use Rattle.fr_calls.specs.State.{IsWellFormed};
 
 use fr_calls::State;
-use fr_notes::{Alternative, Claim, Note, Subject};
-use fr_program::{ActorId, App, Instr, Point};
+use fr_notes::{Alternative, Claim, Note, Spot, Subject};
+use fr_program::{ActorId, App, Point};
 use fr_request::Detail;
 use fr_wording::{
     Sources, Standing, add_text, fact, has_changed, standing_at, subject_at, subject_count,
     suspension_in,
 };
 use std::alloc::{AllocError, Global};
-
-/// A point with its instruction and its note.
-#[derive(Clone, Copy)]
-pub(super) struct Spot<'a> {
-    pub point: Point,
-    pub instr: &'a Instr,
-    pub note: &'a Note,
-}
 
 /// What states are shown for: one or two points, and perhaps a thing that a guard names.
 #[derive(Clone, Copy)]
@@ -58,18 +50,14 @@ fn note_says_of(app: &App, note: &Note, subject: Subject) -> bool {
     false
 }
 
-impl Spot<'_> {
-    /// Whether the note or the instruction speaks of the subject.
-    fn speaks_of(&self, app: &App, subject: Subject) -> bool {
-        let named = match subject {
-            Subject::Critical | Subject::Suspended => false,
-            Subject::Object(object) => self.instr.object() == Some(object),
-            Subject::Variable(variable) => {
-                self.instr.variables().by_place().contains(&Some(variable))
-            }
-        };
-        named || note_says_of(app, self.note, subject)
-    }
+/// Whether the note or the instruction of the point speaks of the subject.
+fn speaks_of(spot: &Spot, subject: Subject) -> bool {
+    let named = match subject {
+        Subject::Critical | Subject::Suspended => false,
+        Subject::Object(object) => spot.instr.object() == Some(object),
+        Subject::Variable(variable) => spot.instr.variables().by_place().contains(&Some(variable)),
+    };
+    named || note_says_of(spot.app, spot.note, subject)
 }
 
 impl Scene<'_> {
@@ -79,7 +67,7 @@ impl Scene<'_> {
     }
 
     /// Whether the subject is shown, for the actor of this spot.
-    fn shows(&self, spot: Spot, state: &State, subject: Subject) -> bool
+    fn shows(&self, spot: &Spot, state: &State, subject: Subject) -> bool
         requires { IsWellFormed self.now.app.now state.now }
     {
         let (app, actor) = (self.app, spot.point.actor);
@@ -87,14 +75,14 @@ impl Scene<'_> {
             Subject::Critical => state.depth(actor) > 0,
             Subject::Suspended => suspension_in(app, state, actor) > 0,
             Subject::Object(_) | Subject::Variable(_) => match self.other {
-                Some(other) => other.speaks_of(app, subject),
+                Some(other) => speaks_of(&other, subject),
                 None => false,
             },
         };
         spoken
             || self.detail == Detail::Whole
             || self.guarded == Some(subject)
-            || spot.speaks_of(app, subject)
+            || speaks_of(spot, subject)
     }
 
     /// Adds what is shown of a state for the actor of this spot: its depths, and where `things` says so
@@ -102,7 +90,7 @@ impl Scene<'_> {
     fn add_shown(
         &self,
         facts: &mut Vec<String>,
-        spot: Spot,
+        spot: &Spot,
         state: &State,
         things: bool,
     ) -> Result<(), AllocError>
@@ -126,10 +114,10 @@ impl Scene<'_> {
         let mut facts = Vec::new(self.alloc);
         if let Some(other) = self.other {
             if other.point.actor.0 != self.spot.point.actor.0 {
-                self.add_shown(&mut facts, other, state, false)?;
+                self.add_shown(&mut facts, &other, state, false)?;
             }
         }
-        self.add_shown(&mut facts, self.spot, state, true)?;
+        self.add_shown(&mut facts, &self.spot, state, true)?;
         Ok(facts)
     }
 

@@ -5,7 +5,7 @@ use Rattle.fr_program.specs.Program.{Program}
 use Rattle.fr_calls.specs.declared.way.Way.{Way}
 use Rattle.fr_notes.specs.Note.{Alternative, Note}
 use Rattle.fr_notes.specs.Noted.{IsAt, NotedBy}
-use Rattle.fr_witness.specs.declared.showing.Spot.{Spot}
+use Rattle.fr_notes.specs.declared.case.Spot.{Spot}
 use Rattle.fr_witness.specs.Shown.{Taken, IsTaken, UndoesNote}
 use Rattle.fr_witness.proofs.showing.leaving.Goals as goal
 
