@@ -1,6 +1,6 @@
 // The name that is nearest to a word.
 ghost use Rattle.std.specs.Prelude.{◌≤◌, ◌<◌, All, IfNone, IfOk, IfSome, length};
-ghost use Rattle.fr_place.specs.Told.{IsNearest, edits, too_many};
+ghost use Rattle.fr_place.specs.Nearness.{IsNearest, edits, too_many};
 
 use crate::lines::Lines;
 use std::alloc::{AllocError, Global};

@@ -9,7 +9,7 @@ use Rattle.fr_judge.specs.declared.part.Part.TheVariants.{Entry, Rule, Goes, Gua
 use Rattle.fr_witness.specs.declared.evidence.Witness.{Witness}
 use Rattle.fr_witness.specs.declared.evidence.Witness.TheVariants.{Start, Breaks, Leaves, Unguarded, Both}
 use Rattle.fr_witness.specs.Witness.{Shows}
-use Rattle.fr_reasons.specs.Told.{IsFormed}
+use Rattle.fr_reasons.specs.Shown.{IsFormed}
 
 module _ (P : Program) (C : Certificate) (p : Point) where
   pub formed_of : (part : Part) (w : Witness) → IsWellFormed P (start P) → Shows P C p part w → IsFormed P w

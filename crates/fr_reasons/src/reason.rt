@@ -3,7 +3,7 @@ ghost use Rattle.std.specs.Prelude.{◌≡◌, IfOk, IfSome, None};
 ghost use Rattle.fr_judge.specs.declared.part.Verdict.TheVariants.{Yes};
 ghost use Rattle.fr_calls.specs.State.{IsWellFormed};
 ghost use Rattle.fr_ends.specs.Fits.{CertificateFits};
-ghost use Rattle.fr_reasons.specs.Told.{IsTold, AreTold, IsFormed, IsScene, IsSpot};
+ghost use Rattle.fr_reasons.specs.Shown.{IsFormedStep, AreFormedSteps, IsFormed, IsScene, IsSpot};
 
 mod culprits;
 mod guards;
@@ -55,7 +55,7 @@ fn add_state(
 
 /// Adds what a step changes, if it changes more than the actor's place.
 fn add_changed(items: &mut Vec<Explained>, scene: &Scene, taken: &Taken) -> Result<(), AllocError>
-    requires { IsTold scene.now.app.now taken.now }
+    requires { IsFormedStep scene.now.app.now taken.now }
 {
     let facts = scene.changed(taken.actor, &taken.before, &taken.after)?;
     if facts.is_empty() {
@@ -72,7 +72,7 @@ fn add_step(
     mover: &Spot,
     taken: &Taken,
 ) -> Result<(), AllocError>
-    requires { IsTold scene.now.app.now taken.now }
+    requires { IsFormedStep scene.now.app.now taken.now }
 {
     let (alloc, actor, choice) = (scene.alloc, taken.actor, Some(taken.choice));
     let outcome = outcome_text(alloc, mover.point.side, mover.instr, taken.choice)?;
@@ -97,7 +97,7 @@ fn add_steps(
     victim: &Spot,
     steps: &[Taken],
 ) -> Result<(), AllocError>
-    requires told { AreTold scene.now.app.now steps.now }
+    requires steps { AreFormedSteps scene.now.app.now steps.now }
     requires spot { IsSpot scene.now.app.now victim.now }
 {
     let is_own = mover.point.actor.0 == victim.point.actor.0;
@@ -121,7 +121,7 @@ fn add_leaving(
     part: Part,
     steps: &[Taken],
 ) -> Result<(), AllocError>
-    requires told { AreTold scene.now.app.now steps.now }
+    requires steps { AreFormedSteps scene.now.app.now steps.now }
     requires scene { IsScene scene.now }
 {
     match (part, &scene.other) {

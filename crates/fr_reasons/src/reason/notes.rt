@@ -3,7 +3,7 @@ ghost use Rattle.std.specs.Prelude.{◌≡◌, ◌<◌, IfSome, length};
 ghost use Rattle.fr_calls.specs.State.{IsWellFormed};
 ghost use Rattle.fr_notes.specs.Fits.{AlternativeFits};
 ghost use Rattle.fr_ends.specs.Fits.{CertificateFits};
-ghost use Rattle.fr_reasons.specs.Told.{IsSpot};
+ghost use Rattle.fr_reasons.specs.Shown.{IsSpot};
 
 use super::add_item;
 use super::scene::{Scene, says_of};

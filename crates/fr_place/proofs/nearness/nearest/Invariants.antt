@@ -1,6 +1,6 @@
 -- To each name so far as many edits lead as the least or more, and the least lead to the one that is found.
 use Rattle.std.proofs.Common.{◌≡◌, ◌≤◌, All, IfNone, IfSome, take}
-use Rattle.fr_place.specs.Told.{IsFound, edits, too_many}
+use Rattle.fr_place.specs.Nearness.{IsFound, edits, too_many}
 use Rattle.fr_place.proofs.nearness.nearest.Given as goal
 
 abbrev pub invariant-loop-name : goal.invariant-loop-name

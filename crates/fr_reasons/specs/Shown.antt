@@ -10,18 +10,18 @@ use Rattle.fr_witness.specs.declared.evidence.Witness.{Witness}
 use Rattle.fr_witness.specs.declared.evidence.Witness.TheVariants.{Start, Breaks, Leaves, Unguarded, Both}
 
 -- the states before and after the step are well formed
-abbrev pub IsTold : Program → Taken → Type 0
-IsTold P t = IsWellFormed P t.before × IsWellFormed P t.after
+abbrev pub IsFormedStep : Program → Taken → Type 0
+IsFormedStep P t = IsWellFormed P t.before × IsWellFormed P t.after
 
 -- so are those of all these steps
-abbrev pub AreTold : Program → List Taken → Type 0
-AreTold P steps = All (IsTold P) steps
+abbrev pub AreFormedSteps : Program → List Taken → Type 0
+AreFormedSteps P steps = All (IsFormedStep P) steps
 
 -- so is every state that the witness has
 abbrev pub IsFormed : Program → Witness → Type 0
 IsFormed P (Start S) = IsWellFormed P S
 IsFormed P (Breaks S) = IsWellFormed P S
-IsFormed P (Leaves steps) = AreTold P steps.items
+IsFormed P (Leaves steps) = AreFormedSteps P steps.items
 IsFormed P (Unguarded S) = IfSome S (IsWellFormed P)
 IsFormed P (Both S) = IsWellFormed P S
 

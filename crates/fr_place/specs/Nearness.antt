@@ -3,7 +3,7 @@
 -- | word      | meaning                                                              |
 -- |-----------|----------------------------------------------------------------------|
 -- | edits     | the fewest edits from one text to another                            |
--- | too_many  | as many edits as no name is told for                                 |
+-- | too_many  | as many edits as no name is shown for                                |
 -- | IsFound   | a name to which so many edits lead, with more to each before it       |
 -- | IsNearest | the first of the names to which the fewest edits lead, and few enough |
 use Rattle.std.specs.Prelude.{◌≡◌, ◌≤◌, ◌<◌, ℕ, List, Some, All, length, min, nat_eq, slice_get, take}
