@@ -1,12 +1,13 @@
 #!/usr/bin/env python3
-"""How busy the host of this machine is.
+"""Whether the processors of this machine are as fast as they can be at the moment.
 
   pace.py [SECONDS]
 
 Times a loop of a few milliseconds on each processor, again and again for so many seconds (60 without it), and prints a line for each
 processor: what the loop took at best and on average, and in how many of a hundred tries it took over 1.35 times the best of all. It
-counts the time of the processor, and not that of the clock, so what else runs here hardly matters. Where others use the same host, the loop
-takes twice as long for seconds or minutes, and so does a proof: no price of the gate can be measured then.
+counts the time of the processor, and not that of the clock. Run it with nothing beside it: where the loop is slow then, the cause is outside of
+this machine, most likely others on its host. How much slower a proof is at such a moment wasn't measured; its price then isn't that of an idle
+machine.
 """
 import multiprocessing
 import os
@@ -14,7 +15,7 @@ import statistics
 import sys
 import time
 
-# How much longer than at best a loop may take on a processor that nobody else uses.
+# From here on a try counts as slow. It was chosen between the times that were seen: 4.3 to 5 milliseconds, and 8 to 10.
 MOST = 1.35
 
 
