@@ -14,7 +14,7 @@ use Rattle.fr_parallel.specs.declared.bytes.BytesFault.{BytesFault}
 use Rattle.fr_parallel.specs.declared.bytes.BytesFault.TheVariants.{Par, App as AppRefused, Cert as CertRefused}
 use Rattle.fr_parallel.specs.declared.fault.ParFault.TheVariants.{Memory as NoMemory, Workers as NoWorkers, Threads as NoThreads}
 use Rattle.fr_parallel.specs.Bytes.{bytes_fault, IsFaultOfBytes}
-use Rattle.fr_parallel.specs.Kept.{IsNoCrew}
+use Rattle.fr_parallel.specs.Crew.{IsNoCrew}
 use Rattle.fr_outcome.specs.declared.fault.CheckFault.{CheckFault}
 use Rattle.fr_outcome.specs.declared.fault.CheckFault.TheVariants.{App, Cert, Memory}
 use Rattle.fr_outcome.specs.Checked.{status_of, app_fault, cert_fault, check_fault, IsAppRefused, IsCertRefused, CanRefuse}

@@ -1,6 +1,6 @@
 // Checking the bytes of an application and of a certificate.
 ghost use Rattle.std.specs.Prelude.{◌≡◌, ◌≢◌, ◌≤◌, ◌↔◌, IfOk, IfErr, IsErrOf};
-ghost use Rattle.fr_parallel.specs.Kept.{IsNoCrew};
+ghost use Rattle.fr_parallel.specs.Crew.{IsNoCrew};
 ghost use Rattle.fr_outcome.specs.Checked.{IsAnswer, IsSafeText, CanRefuse, IsRefused, status_of};
 
 use fr_judge::Verdict;

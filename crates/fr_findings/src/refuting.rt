@@ -1,6 +1,6 @@
 // Looking for a run of the application that bytes mean into a breach, or into a deadlock too.
 ghost use Rattle.std.specs.Prelude.{◌↔◌, IfOk, IfErr, IsErrOf};
-ghost use Rattle.fr_parallel.specs.Kept.{IsNoCrew};
+ghost use Rattle.fr_parallel.specs.Crew.{IsNoCrew};
 ghost use Rattle.fr_outcome.specs.Answers.{CanRefuseSearch, IsSearchOf};
 
 use crate::judging::sources_for;

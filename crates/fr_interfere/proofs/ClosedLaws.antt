@@ -1,8 +1,8 @@
 -- Actors of which no writing point disturbs a note, as the hulls of all that they write show.
 use Rattle.std.proofs.Common.{◌≡◌, ℕ, List, Some, None, Bool, true, false, length, get_or, refl, sym, ap, ◌∙◌, subst, arith, ⊎_elim, inl, inr}
 use Rattle.std.specs.Prelude.{Option, IfSome, All, replicate, set, is_some}
-use Rattle.fr_interfere.proofs.Terms.{cases_lt, false≢true, length-replicate, get_or-replicate, get_or_past, get_or-set_same, set_past, ActorId, Point, Program, IsPoint}
-use Rattle.fr_interfere.proofs.Terms.{Note, Block, effect_at, target_of, IsClosedBy, IsBlock, HaveWriters, AreClosed, IsTold, IsListed, Undisturbed}
+use Rattle.fr_interfere.proofs.Terms.{cases_lt, false≢true, length-replicate, get_or-replicate, get_or_past, get_or-set_same, set_past, ActorId, Point, Program, IsPoint, Note, Block, effect_at}
+use Rattle.fr_interfere.proofs.Terms.{target_of, IsClosedBy, IsBlock, HaveWriters, AreClosed, IsTold, IsListed, Undisturbed}
 
 pub some-there : (o : Option ℕ) → is_some o ≡ true → (x : ℕ) × (o ≡ Some x)
 some-there None is = absurd (false≢true is)

@@ -17,9 +17,9 @@ use Rattle.fr_program.specs.declared.instr.CreatedKind.{CreatedKind}
 use Rattle.fr_program.specs.declared.instr.DeletedKind.{DeletedKind}
 use Rattle.fr_calls.proofs.Built.{HasSizes, is-built}
 use Rattle.fr_interfere.specs.IndexLaw.{ChangesNumber, KeepsNumber, IsTurned, ChangesLife, IsAt, IsExact}
-use Rattle.fr_interfere.proofs.BearLaws.{call-suits}
-use Rattle.fr_interfere.proofs.EffectLaws.{Suits}
-use Rattle.fr_interfere.proofs.Lists.{get-below}
+use Rattle.fr_effects.proofs.BearLaws.{call-suits}
+use Rattle.fr_effects.proofs.EffectLaws.{Suits}
+use Rattle.fr_effects.proofs.Lists.{get-below}
 
 -- ---- what a row changes is listed
 

@@ -5,8 +5,8 @@ use Rattle.std.specs.Prelude.{◌⊎◌, ◌↔◌, ℤ, Bool, IsTrue, IfSome, A
 use Rattle.fr_interfere.proofs.Terms.{int_min, int_max, cases_eq, ints, clamps, length-set, get_or-set_same, get_or-set_other, get_or_default, All-contains, same_Some, ObjId, Point, VarId, Range}
 use Rattle.fr_interfere.proofs.Terms.{Program, IsPoint, IsFaultless, Claim, NoteFits, IsPart, ClaimsMeet, Alternative, Note, Within, claim_of, range_of, note_at, CanMeet, RangesMeet, ends_of, Effect}
 use Rattle.fr_interfere.proofs.Terms.{Gives, Sets, Hull, effect_at, target_of, Bears, Has, GivesIn, Covers, IsUnder, IsShut, IsDenied, IsApart, Excludes, IsBorne, IsBorneByEach, Spares, Undisturbed}
-use Rattle.fr_interfere.proofs.DisturbanceLaws.{undisturbed-spared, unmet-spares}
-use Rattle.fr_interfere.proofs.Lists.{contained-fits}
+use Rattle.fr_effects.proofs.DisturbanceLaws.{undisturbed-spared, unmet-spares}
+use Rattle.fr_effects.proofs.Lists.{contained-fits}
 use Rattle.fr_interfere.proofs.UnsaidLaws.{borne-undisturbed}
 
 -- ---- a list whose entries are made wider, one after the other

@@ -1,9 +1,4 @@
 mod Terms
-pub mod BearLaws
-pub mod DisturbanceLaws
-pub mod EffectLaws
-pub mod Lists
-pub mod IndexLaws
 pub mod StayLaws
 pub mod UnsaidLaws
 pub mod SpoilerLaws

@@ -9,8 +9,8 @@ use Rattle.std.proofs.lemmas.Slice.Zip.{AllZip-long}
 use Rattle.fr_interfere.specs.declared.rows.Hulls.{Hulls}
 use Rattle.fr_interfere.specs.declared.rows.Row.{Row}
 use Rattle.fr_interfere.proofs.HullLaws.{spared-undisturbed}
-use Rattle.fr_interfere.proofs.IndexLaws.{listed-point, numbers-below}
-use Rattle.fr_interfere.proofs.Lists.{get-below, get-there, get-at, at-get}
+use Rattle.fr_effects.proofs.IndexLaws.{listed-point, numbers-below}
+use Rattle.fr_effects.proofs.Lists.{get-below, get-there, get-at, at-get}
 use Rattle.fr_interfere.proofs.SpoilerLaws.{each-fits}
 
 module _ (numbers : List ℕ) (from behind : ℕ) (above : from < behind) (most : behind ≤ length numbers) where

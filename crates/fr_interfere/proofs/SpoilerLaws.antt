@@ -6,9 +6,10 @@ use Rattle.fr_interfere.proofs.Terms.{cases_lt, get_or_past, Point, Side, Before
 use Rattle.fr_interfere.proofs.Terms.{IsPoint, point_number, PointsAreNumbered, IsFaultless, NamesThings, kind_of, NoteFits, NotesFit, Note, note_at, Effect, Nothing, Life, Gives, Sets, IsSpoiler}
 use Rattle.fr_interfere.proofs.Terms.{effect_inside, effect_of, effect_by, effect_at, target_of, made_of, HasTarget, CanLeave, IsIndexOf, IndexOf, IsFirstOf, IsListed, WritesInside, MakesOne, IsBelow}
 use Rattle.fr_interfere.proofs.Terms.{least_of, AllStay, StaysAt, Undisturbed}
-use Rattle.fr_interfere.proofs.IndexLaws.{in-list, listed-point}
+use Rattle.fr_effects.proofs.IndexLaws.{in-list, listed-point}
 use Rattle.fr_interfere.proofs.StayLaws.{calm-point}
-use Rattle.fr_interfere.proofs.UnsaidLaws.{still-undisturbed, has-target}
+use Rattle.fr_interfere.proofs.UnsaidLaws.{still-undisturbed}
+use Rattle.fr_effects.proofs.EffectLaws.{has-target}
 
 module _ (P : Program) (notes : List Note) (p : Point) where
   -- the first one of more points is the first one of these

@@ -1,83 +1,44 @@
 -- The words that the proofs of this crate use of other crates and of its own specs, each named in one place.
-pub use Rattle.std.proofs.lemmas.Int.{ints, clamps, by_lt_z, to_z-of_z}
-pub use Rattle.std.proofs.lemmas.Option.{slice_get-get_or, same_Some, cond_some}
-pub use Rattle.std.proofs.lemmas.List.Elements.{All-contains, Contains-get_or, Contains-push, Contains-push_cases, Contains-append_left, AllWithin-more, AllWithin-upto, All-from_all_within, at_read}
-pub use Rattle.std.proofs.lemmas.List.Elements.{All-push}
-pub use Rattle.std.proofs.lemmas.Bool.{cases_lt, cases_eq, false≢true, eqb-true}
-pub use Rattle.std.proofs.lemmas.List.{length-replicate, get_or-replicate, get_or_past, get_or-set_same, get_or-set_other, set_past, length-set, get_or_default, length_push, length-map, map-set}
-pub use Rattle.std.proofs.lemmas.List.{get_or_push, get_or_append_left, get_or-map, length-take, length-drop, get_or-take, get_or-drop, with_items_is, map_push, replicate-append-replicate}
-pub use Rattle.std.proofs.lemmas.List.FromFn.{length-map-range_with_len, get_or-map-range_with_len, length-range_with_len}
+pub use Rattle.fr_effects.proofs.Terms.{ints, by_lt_z, slice_get-get_or, same_Some, cond_some, All-contains, Contains-get_or, Contains-push, Contains-append_left, cases_lt, cases_eq, eqb-true}
+pub use Rattle.fr_effects.proofs.Terms.{length-replicate, get_or-replicate, get_or_past, get_or-set_same, get_or-set_other, set_past, length-set, get_or_default, length_push, length-map, get_or_push}
+pub use Rattle.fr_effects.proofs.Terms.{get_or_append_left, length-map-range_with_len, get_or-map-range_with_len, range_with_len, Point, Side, Before, Inside, Instr, Set, Pick, Calls, If, Goto}
+pub use Rattle.fr_effects.proofs.Terms.{Return, Call, Create, Delete, On, EnterCritical, ExitCritical, SuspendAll, ResumeAll, Yield, Delay, DeleteSelf, ObjectCall, Act, Try, Move, QueueReceive}
+pub use Rattle.fr_effects.proofs.Terms.{QueueSend, Take, Give, Reset, Operand, Number, Variable, Operator, Times, Kind, Queue, Binary, Counting, Mutex, Recursive, Stream, Message, Range, Program}
+pub use Rattle.fr_effects.proofs.Terms.{instr_of, no_object, IsPoint, no_variable, variable_at, acts_on, act_variables, IsFaultless, NamesThings, State, kind_of, Content, Dead, Values, Count, Free}
+pub use Rattle.fr_effects.proofs.Terms.{Held, Bytes, Lengths, content_of, value_of, new_content, write, becomes, operand_of, result_of, Way, Then, Else, Row, Does, Works, Puts, Moves, with_result}
+pub use Rattle.fr_effects.proofs.Terms.{transition, taken, given, queued, moved_bytes, sent_message, received_message, NotHeld, Alternative, Note, Within, claim_of, range_of, CanBeIn, IsSpanIn}
+pub use Rattle.fr_effects.proofs.Terms.{ends_of, joint_range, ActorId, points_of, point_number, PointsAreNumbered, note_at, AlternativeFits, NoteFits, CanMeet, ObjId, VarId, Attempt, End, Writer}
+pub use Rattle.fr_effects.proofs.Terms.{Reader, Timing, BufferKind, OfStream, OfMessage, set_case, Claim, variable_of, object_of, effect_inside, effect_of, Bears}
+pub use Rattle.fr_effects.proofs.Terms.{AllBear, effect_at, target_of, made_of, declared_of, HasTarget, Undisturbed, IndexOf, Lists, list_at, CanLeave}
+pub use Rattle.fr_effects.specs.declared.effects.Effect.{Effect}
+pub use Rattle.fr_effects.specs.declared.effects.Effect.TheVariants.{Life, Gives, Sets, Nothing}
+pub use Rattle.std.proofs.lemmas.Int.{clamps, to_z-of_z}
+pub use Rattle.std.proofs.lemmas.List.Elements.{AllWithin-more, AllWithin-upto, All-from_all_within, at_read, All-push}
+pub use Rattle.std.proofs.lemmas.Bool.{false≢true}
+pub use Rattle.std.proofs.lemmas.List.{length-take, length-drop, get_or-take, get_or-drop, with_items_is}
+pub use Rattle.std.proofs.lemmas.List.FromFn.{length-range_with_len}
 pub use Rattle.std.specs.Int.{int_min, int_max}
-pub use Rattle.std.specs.List.{range_with_len, AllZip, AllWithin}
-pub use Rattle.fr_program.specs.declared.ids.Point.{Point}
-pub use Rattle.fr_program.specs.declared.ids.Side.{Side}
-pub use Rattle.fr_program.specs.declared.ids.Side.TheVariants.{Before, Inside}
-pub use Rattle.fr_program.specs.declared.instr.Instr.{Instr}
-pub use Rattle.fr_program.specs.declared.instr.Instr.TheVariants.{Set, Pick, Call as Calls, If, Goto, Return}
-pub use Rattle.fr_program.specs.declared.instr.Call.{Call}
-pub use Rattle.fr_program.specs.declared.instr.Call.TheVariants.{Create, Delete, On, EnterCritical, ExitCritical, SuspendAll, ResumeAll, Yield, Delay, DeleteSelf}
-pub use Rattle.fr_program.specs.declared.instr.ObjectCall.{ObjectCall}
-pub use Rattle.fr_program.specs.declared.instr.Act.{Act}
-pub use Rattle.fr_program.specs.declared.instr.Act.TheVariants.{Try, Move}
-pub use Rattle.fr_program.specs.declared.instr.Attempt.TheVariants.{QueueReceive, QueueSend, Take, Give, Reset}
-pub use Rattle.fr_program.specs.declared.instr.Operand.{Operand}
-pub use Rattle.fr_program.specs.declared.instr.Operand.TheVariants.{Number, Variable}
-pub use Rattle.fr_program.specs.declared.instr.Operator.{Operator}
-pub use Rattle.fr_program.specs.declared.instr.Operator.TheVariants.{Times, Plus, Minus}
-pub use Rattle.fr_program.specs.declared.parts.Kind.{Kind}
-pub use Rattle.fr_program.specs.declared.parts.Kind.TheVariants.{Queue, Binary, Counting, Mutex, Recursive, Stream, Message}
-pub use Rattle.fr_program.specs.declared.range.Range.{Range}
-pub use Rattle.fr_program.specs.Spans.{IsIn}
-pub use Rattle.fr_program.specs.Program.{Program}
-pub use Rattle.fr_program.specs.Lookup.{instr_of, no_object, IsPoint, no_variable, variable_at}
-pub use Rattle.fr_program.specs.Uses.{acts_on, is_buffer, attempts_on, act_variables}
-pub use Rattle.fr_program.specs.Fault.{IsFaultless, OperandsFit, NamesThings, CoversQueue, TakesIn, ResultsFit}
-pub use Rattle.fr_calls.specs.State.{State, kind_of, Content, Dead, Values, Count, Free, Held, Bytes, Lengths, CanHave, IsWellFormed, content_of, value_of, depth_in, depth_of, suspension_of}
-pub use Rattle.fr_calls.specs.State.{count_held, new_content, write, becomes, suspend_at, held_at}
-pub use Rattle.fr_calls.specs.Rule.{operand_of, result_of, GivesUnheld, is_unsuited, UsesDead}
-pub use Rattle.fr_calls.specs.declared.way.Way.{Way}
-pub use Rattle.fr_calls.specs.declared.way.Way.TheVariants.{Then, Else}
-pub use Rattle.fr_calls.specs.Step.{StepBy, Row, Does, Works, Ends, Puts, Moves, with_result, transition, taken, given, queued, moved_bytes, sent_message, received_message, Completes}
-pub use Rattle.fr_notes.specs.declared.claim.Claim.TheVariants.{NotHeld, Alive, Gone, HeldTimes}
-pub use Rattle.fr_notes.specs.Note.{Alternative, Note, HoldsOne, Within, claim_of, range_of, Meets}
-pub use Rattle.fr_notes.specs.Reckoning.{CanBeIn, IsSpanIn}
-pub use Rattle.fr_notes.specs.View.{ends_of}
-pub use Rattle.fr_notes.specs.Known.{Known, HasKnown, alone, beside, joint_range, AllLeave, IsLeft, IsOther, LeavesSome, ClaimsMeet, KnownFits}
-pub use Rattle.fr_program.specs.declared.ids.ActorId.{ActorId}
-pub use Rattle.fr_program.specs.Points.{points_of, point_number}
-pub use Rattle.fr_program.specs.PointNumbers.{PointsAreNumbered}
-pub use Rattle.fr_notes.specs.Noted.{note_at}
-pub use Rattle.fr_notes.specs.Fits.{AlternativeFits, NoteFits, NotesFit}
-pub use Rattle.fr_notes.specs.Pairs.{CanMeet, RangesMeet}
-pub use Rattle.fr_notes.proofs.PairLaws.{compatible-from, compatible-meet, meet-compatible}
-pub use Rattle.fr_program.specs.declared.ids.ObjId.{ObjId}
-pub use Rattle.fr_program.specs.declared.ids.VarId.{VarId}
-pub use Rattle.fr_program.specs.declared.instr.Attempt.{Attempt}
-pub use Rattle.fr_program.specs.declared.instr.End.{End}
-pub use Rattle.fr_program.specs.declared.instr.End.TheVariants.{Writer, Reader}
-pub use Rattle.fr_program.specs.declared.instr.Timing.{Timing}
-pub use Rattle.fr_program.specs.declared.instr.BufferKind.{BufferKind}
-pub use Rattle.fr_program.specs.declared.instr.BufferKind.TheVariants.{Stream as OfStream, Message as OfMessage}
-pub use Rattle.fr_calls.proofs.Contents.{set_case}
-pub use Rattle.fr_notes.specs.declared.claim.Claim.{Claim}
-pub use Rattle.fr_notes.proofs.Shown.{depth_for-other, held_at-other, listed, instead, instead-same}
+pub use Rattle.std.specs.List.{AllZip, AllWithin}
+pub use Rattle.fr_program.specs.declared.instr.Operator.TheVariants.{Plus, Minus}
+pub use Rattle.fr_program.specs.Uses.{attempts_on}
+pub use Rattle.fr_program.specs.Fault.{CoversQueue, TakesIn, ResultsFit}
+pub use Rattle.fr_calls.specs.Rule.{UsesDead}
+pub use Rattle.fr_calls.specs.Step.{Completes}
+pub use Rattle.fr_notes.specs.Known.{ClaimsMeet}
+pub use Rattle.fr_notes.specs.Fits.{NotesFit}
+pub use Rattle.fr_notes.specs.Pairs.{RangesMeet}
+pub use Rattle.fr_notes.proofs.Shown.{listed, instead, instead-same}
 pub use Rattle.fr_program.specs.Limits.{InstrInLimits, KindInLimits}
 pub use Rattle.fr_notes.specs.Implication.{IsPart}
-pub use Rattle.fr_program.specs.View.{variable_of, object_of}
 pub use Rattle.rayon.proofs.ListFacts.{IfOk-then}
 pub use Rattle.rayon.proofs.ToStd.{nat_range-All}
-pub use Rattle.fr_interfere.specs.declared.effects.Effect.{Effect}
-pub use Rattle.fr_interfere.specs.declared.effects.Effect.TheVariants.{Life, Gives, Sets, Nothing}
-pub use Rattle.fr_interfere.specs.Disturbance.{IsSparedByRow, IsSparedByRows, SparesSome, IsAmong, IsSpoiler}
-pub use Rattle.fr_interfere.specs.Effects.{effect_inside, effect_of, IsMade, IsWritten, IsSeen, Bears, EachBears, AllBear, IsComputable, effect_at, target_of, effect_by, made_of, declared_of}
-pub use Rattle.fr_interfere.specs.Effects.{HasTarget, Stays, IsFree, IsUnclaimed}
+pub use Rattle.fr_effects.specs.Disturbance.{IsSpoiler}
+pub use Rattle.fr_effects.specs.Effects.{effect_by, Stays, IsFree, IsUnclaimed}
 pub use Rattle.fr_interfere.specs.declared.rows.Block.{Block}
 pub use Rattle.fr_interfere.specs.Hull.{IsClosedBy, Has, GivesIn, Covers, IsUnder, IsShut, IsDenied, IsApart, Excludes, IsBorne, IsBorneByEach, Spares, AreUnder, CoversClaims, CoversRanges}
 pub use Rattle.fr_interfere.specs.Rows.{IsBlock, HaveWriters, AreClosed, IsTold, AreHullsOf, AreListed, AreRows, IsBlockAt, HasRun, IsInRun, IsInSome, IsRow, IsRun, WritesOne}
 pub use Rattle.fr_interfere.specs.Spoilers.{IsListed, IsFirstOf, WritesInside, MakesOne, IsBelow, least_of}
-pub use Rattle.fr_interfere.specs.Undisturbed.{Undisturbed}
-pub use Rattle.fr_interfere.specs.Index.{IndexOf, IsIndexOf, Lists, list_at, CanLeave, IsIndexBelow}
+pub use Rattle.fr_effects.specs.Index.{IsIndexOf}
 pub use Rattle.fr_interfere.specs.declared.hull.Hull.{Hull}
-pub use Rattle.fr_interfere.specs.Listing.{enlisted}
 pub use Rattle.fr_interfere.specs.declared.rows.Run.{Run}
 pub use Rattle.fr_interfere.specs.Staying.{AllStay, StaysAt}

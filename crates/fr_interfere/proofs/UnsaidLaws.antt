@@ -1,11 +1,10 @@
 -- A step disturbs no note that doesn't speak of what it changes, where it leaves each variable in its declared range.
 use Rattle.std.proofs.Common.{◌≡◌, ℕ, Some, sym, subst, arith}
-use Rattle.std.specs.Prelude.{◌<◌, List, All, length}
-use Rattle.fr_interfere.proofs.Terms.{ints, same_Some, Point, Side, Before, Inside, Instr, Set, Pick, Calls, Call, Create, Delete, On, Act, Try, Move, QueueReceive, Kind, Queue, Program, IsPoint}
-use Rattle.fr_interfere.proofs.Terms.{act_variables, IsFaultless, NamesThings, kind_of, Alternative, Note, range_of, note_at, IsPart, Effect, Nothing, Life, Gives, Sets, effect_inside, effect_of}
-use Rattle.fr_interfere.proofs.Terms.{effect_by, effect_at, target_of, made_of, Bears, AllBear, HasTarget, Stays, IsFree, IsUnclaimed, declared_of, StaysAt, Undisturbed}
-use Rattle.fr_interfere.proofs.BearLaws.{borne-spared}
-use Rattle.fr_interfere.proofs.DisturbanceLaws.{undisturbed-spared}
+use Rattle.std.specs.Prelude.{List, All}
+use Rattle.fr_interfere.proofs.Terms.{ints, same_Some, Point, Program, IsPoint, IsFaultless, Alternative, Note, range_of, note_at, IsPart, Effect, Nothing, Life, Gives, Sets, effect_by, effect_at}
+use Rattle.fr_interfere.proofs.Terms.{target_of, made_of, Bears, AllBear, Stays, IsFree, IsUnclaimed, declared_of, StaysAt, Undisturbed}
+use Rattle.fr_effects.proofs.BearLaws.{borne-spared}
+use Rattle.fr_effects.proofs.DisturbanceLaws.{undisturbed-spared}
 
 -- where each alternative bears what the step can change, nothing is disturbed
 pub borne-undisturbed : (P : Program) → IsFaultless P → (notes : List Note) (p q : Point) → IsPoint P q →
@@ -53,23 +52,3 @@ module _ (P : Program) (free : IsFaultless P) (notes : List Note) (p q : Point) 
       let borne : AllBear (effect_at P q) (note_at P notes q) (note_at P notes p)
       = subst (λ e. AllBear e (note_at P notes q) (note_at P notes p)) (sym still) (λ k m l j n h. tt) in
       borne-undisturbed P free notes p q at borne
-
--- the variable that an application's step writes is there
-inside-target : (P : Program) (act : Act) (kind : Kind) → All (λ x. x.0 < length P.variables) (act_variables act) →
-    HasTarget P (effect_inside act kind)
-inside-target P (Try (QueueReceive into) e) (Queue size lo hi) names = names 0 into (omega arith)
-inside-target P (Move end buffer n (Some x)) kind names = names 0 x (omega arith)
-inside-target P act kind names = tt
-
-pub has-target : (P : Program) (side : Side) (i : Instr) → NamesThings P i → HasTarget P (effect_of P side i)
-has-target P Before (Set x l op r) names = names.0 0 x (omega arith)
-has-target P Before (Pick x lo hi) names = names.0 0 x (omega arith)
-has-target P Before (Calls call) names = by_call call
-  where
-    by_call : (call : Call) → HasTarget P (effect_of P Before (Calls call))
-    by_call (Create kind o e) = tt
-    by_call (Delete kind o) = tt
-    by_call call = tt
-has-target P Inside (Calls (On call)) names = inside-target P call.act (kind_of P call.object.0) names.0
-has-target P Before i names = tt
-has-target P Inside i names = tt

@@ -33,10 +33,10 @@ use Rattle.fr_notes.specs.Noted.{note_at}
 use Rattle.fr_notes.specs.Pairs.{RangesMeet}
 use Rattle.fr_notes.specs.Reckoning.{CanBeIn}
 use Rattle.fr_notes.specs.View.{ends_of}
-use Rattle.fr_interfere.specs.declared.effects.Effect.{Effect}
-use Rattle.fr_interfere.specs.declared.effects.Effect.TheVariants.{Gives, Sets}
+use Rattle.fr_effects.specs.declared.effects.Effect.{Effect}
+use Rattle.fr_effects.specs.declared.effects.Effect.TheVariants.{Gives, Sets}
 use Rattle.fr_interfere.specs.declared.hull.Hull.{Hull}
-use Rattle.fr_interfere.specs.Effects.{effect_at, target_of}
+use Rattle.fr_effects.specs.Effects.{effect_at, target_of}
 
 -- the number is in the range, if there is one
 abbrev pub Has : Option Range → ℤ → Type 0

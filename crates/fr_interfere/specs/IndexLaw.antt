@@ -23,7 +23,7 @@ use Rattle.fr_calls.specs.State.{State, Content, Dead, content_of, value_of}
 use Rattle.fr_calls.specs.Rule.{UsesDead, operand_of, result_of}
 use Rattle.fr_calls.specs.declared.way.Way.{Way}
 use Rattle.fr_calls.specs.Step.{Row, transition}
-use Rattle.fr_interfere.specs.Index.{IndexOf, IsIndexOf, list_at}
+use Rattle.fr_effects.specs.Index.{IndexOf, IsIndexOf, list_at}
 
 -- some row of the table, at this side of the instruction, gives the variable another number
 pub record ChangesNumber (P : Program) (side : Side) (i : Instr) (x : ℕ) : Type 0 where

@@ -11,7 +11,7 @@ use Rattle.fr_program.specs.Program.{Program}
 use Rattle.fr_notes.specs.Fits.{NotesFit}
 use Rattle.fr_notes.specs.Note.{Note}
 use Rattle.fr_interfere.specs.declared.interference.Interference.TheInside.{Inside}
-use Rattle.fr_interfere.specs.Index.{IsIndexOf}
+use Rattle.fr_effects.specs.Index.{IsIndexOf}
 use Rattle.fr_interfere.specs.Rows.{AreHullsOf}
 use Rattle.fr_interfere.specs.Staying.{AllStay}
 

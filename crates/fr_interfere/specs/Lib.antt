@@ -1,10 +1,4 @@
-pub mod Undisturbed
-pub mod Disturbance
-pub mod Effects
 pub mod Staying
-pub mod Index
-pub mod IndexView
-pub mod Listing
 pub mod Spoilers
 pub mod Interference
 pub mod Hull

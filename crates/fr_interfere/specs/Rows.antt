@@ -25,12 +25,12 @@ use Rattle.fr_interfere.specs.declared.rows.Block.{Block}
 use Rattle.fr_interfere.specs.declared.rows.Row.{Row}
 use Rattle.fr_interfere.specs.declared.rows.Run.{Run}
 use Rattle.fr_interfere.specs.declared.rows.Hulls.{Hulls}
-use Rattle.fr_interfere.specs.declared.effects.Effect.{Effect}
-use Rattle.fr_interfere.specs.Effects.{effect_at, target_of}
+use Rattle.fr_effects.specs.declared.effects.Effect.{Effect}
+use Rattle.fr_effects.specs.Effects.{effect_at, target_of}
 use Rattle.fr_interfere.specs.Hull.{AreUnder}
-use Rattle.fr_interfere.specs.Index.{IndexOf, list_at}
+use Rattle.fr_effects.specs.Index.{IndexOf, list_at}
 use Rattle.fr_interfere.specs.Spoilers.{IsListed}
-use Rattle.fr_interfere.specs.Undisturbed.{Undisturbed}
+use Rattle.fr_effects.specs.Undisturbed.{Undisturbed}
 
 -- rising numbers of points
 pub record AreListed (P : Program) (numbers : List ℕ) : Type 0 where

@@ -15,9 +15,9 @@ use Rattle.fr_program.specs.Program.{Program}
 use Rattle.fr_program.specs.Lookup.{IsPoint}
 use Rattle.fr_program.specs.Points.{point_number}
 use Rattle.fr_notes.specs.Note.{Note}
-use Rattle.fr_interfere.specs.Effects.{effect_at, target_of, made_of}
+use Rattle.fr_effects.specs.Effects.{effect_at, target_of, made_of}
 use Rattle.fr_interfere.specs.Staying.{StaysAt}
-use Rattle.fr_interfere.specs.Undisturbed.{Undisturbed}
+use Rattle.fr_effects.specs.Undisturbed.{Undisturbed}
 
 -- none of these points disturbs p's note; or the point with this number does, and none of these with a lesser number
 abbrev pub IsFirstOf : Program → List Note → Point → (Point → Type 0) → Option ℕ → Type 0

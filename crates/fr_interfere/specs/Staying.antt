@@ -10,7 +10,7 @@ use Rattle.fr_program.specs.Program.{Program}
 use Rattle.fr_program.specs.Lookup.{IsPoint}
 use Rattle.fr_notes.specs.Note.{Note}
 use Rattle.fr_notes.specs.Noted.{note_at}
-use Rattle.fr_interfere.specs.Effects.{effect_at, Stays}
+use Rattle.fr_effects.specs.Effects.{effect_at, Stays}
 
 -- whichever alternative of q's note holds, what the steps from q write is in its declared range
 abbrev pub StaysAt : Program → List Note → Point → Type 0

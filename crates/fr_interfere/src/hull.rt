@@ -8,11 +8,11 @@ ghost use Rattle.fr_notes.specs.declared.claim.Claim.{Claim as ClaimOf};
 ghost use Rattle.fr_notes.specs.Fits.{AlternativeFits, NoteFits, NotesFit};
 ghost use Rattle.fr_notes.specs.Known.{ClaimsMeet};
 ghost use Rattle.fr_notes.specs.Note.{Alternative as AlternativeOf, Note as NoteOf, claim_of, range_of};
-ghost use Rattle.fr_interfere.specs.declared.effects.Effect.{Effect as EffectOf};
-ghost use Rattle.fr_interfere.specs.Effects.{IsComputable};
+ghost use Rattle.fr_effects.specs.declared.effects.Effect.{Effect as EffectOf};
+ghost use Rattle.fr_effects.specs.Effects.{IsComputable};
 ghost use Rattle.fr_interfere.specs.Hull.{Has, GivesIn, CoversClaims, CoversRanges, Covers, IsUnder, AreUnder, IsShut, IsDenied, IsApart, Excludes, IsBorne, IsBorneByEach, Spares, IsClosedBy};
 
-use crate::effects::{Effect, effect_at};
+use fr_effects::{Effect, effect_at};
 use fr_notes::{Alternative, Claim, Known, Note, Notes};
 use fr_program::{ActorId, App, ObjId, Range, VarId};
 use std::alloc::{AllocError, Global};

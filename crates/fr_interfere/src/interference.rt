@@ -3,14 +3,14 @@ ghost use Rattle.std.specs.Prelude.{◌≡◌, ◌<◌, Some, length, slice_get}
 ghost use Rattle.fr_program.specs.declared.ids.Point.{Point};
 ghost use Rattle.fr_program.specs.Points.{points_of};
 ghost use Rattle.fr_notes.specs.Fits.{NotesFit};
-ghost use Rattle.fr_interfere.specs.Disturbance.{IsSpoiler};
-ghost use Rattle.fr_interfere.specs.Index.{IsIndexOf};
+ghost use Rattle.fr_effects.specs.Disturbance.{IsSpoiler};
+ghost use Rattle.fr_effects.specs.Index.{IsIndexOf};
 ghost use Rattle.fr_interfere.specs.Rows.{AreHullsOf};
 
-use crate::index::Index;
 use crate::rows::Hulls;
 use crate::spoilers::{first_listed, first_maker, first_writer, lesser};
 use crate::staying::all_stay;
+use fr_effects::Index;
 use fr_notes::Notes;
 use fr_program::App;
 use std::marker::Model;

@@ -1,19 +1,15 @@
-// What a point owes to the steps of other actors: none of them disturbs its note. Steps are looked at by what they can
-// change: most change nothing that another actor's note says. An index lists the points that change something.
+// What a point owes to the steps of other actors: none of them disturbs its note. The least point whose steps do is
+// looked for among those that the index lists, and by what the notes of many points say together.
 #![tactic(auto)]
 
-mod disturbance;
-mod effects;
 mod hull;
-mod index;
 mod interference;
 mod laws;
 mod rows;
 mod spoilers;
 mod staying;
 
-pub use disturbance::undisturbed;
-pub use index::Index;
+pub use fr_effects::{Index, undisturbed};
 pub use interference::{Interference, spoiler_by};
 pub use laws::an_index_is_exact;
 pub use rows::Hulls;

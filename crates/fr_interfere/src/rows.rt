@@ -7,14 +7,13 @@ ghost use Rattle.fr_program.specs.Points.{points_of};
 ghost use Rattle.fr_program.specs.Program.{Program};
 ghost use Rattle.fr_notes.specs.Fits.{NotesFit};
 ghost use Rattle.fr_notes.specs.Note.{Note as NoteOf};
-ghost use Rattle.fr_interfere.specs.Index.{IndexOf, IsIndexOf, Lists, list_at};
+ghost use Rattle.fr_effects.specs.Index.{IndexOf, IsIndexOf, Lists, list_at};
 ghost use Rattle.fr_interfere.specs.Rows.{AreListed, IsBlock, IsInSome, IsRun, IsInRun, IsBlockAt, IsRow, AreRows, WritesOne, HaveWriters, AreHullsOf, AreClosed, IsTold};
 ghost use Rattle.fr_interfere.specs.Spoilers.{IsFirstOf, IsListed};
 
-use crate::effects::{effect_at, is_free};
 use crate::hull::Hull;
-use crate::index::Index;
 use crate::spoilers::{first_listed, lesser};
+use fr_effects::{Index, effect_at, is_free};
 use fr_notes::{Note, Notes};
 use fr_program::{ActorId, App, ObjId, VarId};
 use rayon::prelude::*;

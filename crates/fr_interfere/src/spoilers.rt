@@ -4,15 +4,13 @@ ghost use Rattle.std.specs.Option.{ForSome};
 ghost use Rattle.fr_program.specs.declared.ids.Point.{Point};
 ghost use Rattle.fr_program.specs.Points.{points_of};
 ghost use Rattle.fr_notes.specs.Fits.{NotesFit};
-ghost use Rattle.fr_interfere.specs.Disturbance.{IsSpoiler};
-ghost use Rattle.fr_interfere.specs.Index.{IsIndexOf};
+ghost use Rattle.fr_effects.specs.Disturbance.{IsSpoiler};
+ghost use Rattle.fr_effects.specs.Index.{IsIndexOf};
 ghost use Rattle.fr_interfere.specs.Rows.{AreHullsOf, AreClosed};
 ghost use Rattle.fr_interfere.specs.Spoilers.{IsFirstOf, IsListed, WritesInside, MakesOne, IsBelow, least_of};
 
-use crate::disturbance::undisturbed;
-use crate::effects::{is_free, is_unclaimed};
-use crate::index::Index;
 use crate::rows::{Hulls, closed_to, first_among, maker_row, writer_row};
+use fr_effects::{Index, is_free, is_unclaimed, undisturbed};
 use fr_notes::Notes;
 use fr_program::{App, ObjId, VarId};
 

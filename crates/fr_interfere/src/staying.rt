@@ -3,12 +3,11 @@ ghost use Rattle.std.specs.Prelude.{◌≡◌, ◌<◌, ◌↔◌, IsTrue, All, 
 ghost use Rattle.fr_program.specs.declared.ids.Point.{Point};
 ghost use Rattle.fr_program.specs.Points.{points_of};
 ghost use Rattle.fr_notes.specs.Fits.{AlternativeFits, NoteFits, NotesFit};
-ghost use Rattle.fr_interfere.specs.Effects.{HasTarget, IsComputable, Stays};
-ghost use Rattle.fr_interfere.specs.Index.{IsIndexOf};
+ghost use Rattle.fr_effects.specs.Effects.{HasTarget, IsComputable, Stays};
+ghost use Rattle.fr_effects.specs.Index.{IsIndexOf};
 ghost use Rattle.fr_interfere.specs.Staying.{StaysAt, AllStay};
 
-use crate::effects::{Effect, effect_at, stays};
-use crate::index::Index;
+use fr_effects::{Effect, Index, effect_at, stays};
 use fr_notes::{Note, Notes};
 use fr_program::App;
 

@@ -6,8 +6,8 @@ use Rattle.fr_judge.proofs.Terms.{same_Some, Point, Program, points_of, point_nu
 use Rattle.fr_judge.proofs.Terms.{RulePart, GoesPart, GuardPart, NearPart, SpoiledPart, IsKept, end_number, place_in_order, KeepsAll, IsFirstPart, part_of_own, TellsFirst, IsPartOf}
 use Rattle.fr_edge.specs.declared.failure.Own.{Own}
 use Rattle.fr_edge.specs.declared.failure.Own.TheVariants.{Entry as OwnEntry, Rule as OwnRule, Goes as OwnGoes}
-use Rattle.fr_interfere.specs.Disturbance.{IsSpoiler}
-use Rattle.fr_interfere.specs.Undisturbed.{Undisturbed}
+use Rattle.fr_effects.specs.Disturbance.{IsSpoiler}
+use Rattle.fr_effects.specs.Undisturbed.{Undisturbed}
 use Rattle.fr_ends.specs.declared.ends.EndName.{EndName}
 use Rattle.fr_ends.specs.FirstEnd.{IsFirstEnd}
 use Rattle.fr_judge.specs.declared.part.Part.TheVariants.{Guard as TellsGuard, Near as TellsNear, Spoiled as TellsSpoiled}

@@ -14,9 +14,9 @@ pub use Rattle.fr_program.specs.Fault.{IsFaultless, EachInstr, EndsWell}
 pub use Rattle.fr_program.specs.Lookup.{IsPoint, instr_of, HasSide, instr_at, no_actor, IsPlace, actor_at}
 pub use Rattle.fr_program.specs.Points.{points_of, point_number}
 pub use Rattle.fr_program.proofs.PointLaws.{points_are_numbered}
-pub use Rattle.fr_interfere.specs.Effects.{effect_at, effect_by, made_of}
-pub use Rattle.fr_interfere.specs.Index.{Lists}
-pub use Rattle.fr_interfere.proofs.IndexLaws.{AreChecked, checked-point, in-list, listed-point, checked-more, numbers-below, earlier}
+pub use Rattle.fr_effects.specs.Effects.{effect_at, effect_by, made_of}
+pub use Rattle.fr_effects.specs.Index.{Lists}
+pub use Rattle.fr_effects.proofs.IndexLaws.{AreChecked, checked-point, in-list, listed-point, checked-more, numbers-below, earlier}
 pub use Rattle.fr_notes.specs.Note.{Note, HoldsOne, Holds}
 pub use Rattle.fr_ends.specs.Guarded.{deleted_before, Near, called_inside, Guarded}
 pub use Rattle.fr_ends.specs.Nearness.{used_inside, are_same, deletes_used}

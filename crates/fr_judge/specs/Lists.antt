@@ -1,7 +1,7 @@
 -- The lists that are made once of an application and a certificate.
 use Rattle.fr_program.specs.Program.{Program}
 use Rattle.fr_ends.specs.Certificate.{Certificate}
-use Rattle.fr_interfere.specs.Index.{IsIndexOf}
+use Rattle.fr_effects.specs.Index.{IsIndexOf}
 use Rattle.fr_interfere.specs.Rows.{AreHullsOf}
 use Rattle.fr_judge.specs.declared.lists.Lists.{Lists}
 

@@ -8,7 +8,7 @@ use Rattle.fr_program.specs.declared.instr.End.TheVariants.{Writer, Reader}
 use Rattle.fr_calls.specs.declared.rules.Rule.{Rule}
 use Rattle.fr_calls.specs.Rule.{number_of}
 use Rattle.fr_edge.specs.Own.{Entry, KeepsRule, Goes}
-use Rattle.fr_interfere.specs.Undisturbed.{Undisturbed}
+use Rattle.fr_effects.specs.Undisturbed.{Undisturbed}
 use Rattle.fr_ends.specs.Certificate.{Certificate}
 use Rattle.fr_ends.specs.Guarded.{Guarded, Near}
 

@@ -2,7 +2,7 @@
 ghost use Rattle.std.specs.Prelude.{◌≡◌, ◌≢◌, IfOk, IfErr, OnOk};
 ghost use Rattle.fr_calls.specs.Run.{IsSafe};
 ghost use Rattle.fr_ends.specs.Fits.{CertificateFits};
-ghost use Rattle.fr_interfere.specs.Index.{IsIndexOf};
+ghost use Rattle.fr_effects.specs.Index.{IsIndexOf};
 ghost use Rattle.fr_judge.specs.Told.{TellsVerdict, Speaks};
 ghost use Rattle.fr_judge.specs.Verdict.{IsCertified};
 ghost use Rattle.fr_judge.specs.Sound.{Certified};

@@ -5,7 +5,7 @@ ghost use Rattle.fr_program.specs.Lookup.{instr_of};
 ghost use Rattle.fr_program.specs.Points.{points_of};
 ghost use Rattle.fr_notes.specs.Fits.{NotesFit};
 ghost use Rattle.fr_ends.specs.Nearness.{used_inside};
-ghost use Rattle.fr_interfere.specs.Index.{IsIndexOf};
+ghost use Rattle.fr_effects.specs.Index.{IsIndexOf};
 ghost use Rattle.fr_judge.specs.Deleter.{IsDeleter};
 
 use fr_ends::{near, used_inside};

@@ -40,7 +40,7 @@ use Rattle.fr_report.specs.Waits.{order_text}
 use Rattle.fr_formats.specs.declared.answer.AnswerKind.{AnswerKind}
 use Rattle.fr_formats.specs.declared.answer.AnswerKind.TheVariants.{Yes, No, MayDeadlock, Breach, Deadlock, NoBreach, StatesLeft, Refused, Machine}
 use Rattle.fr_formats.specs.Answers.{status_of as kind_status}
-use Rattle.fr_parallel.specs.Kept.{IsNoCrew}
+use Rattle.fr_parallel.specs.Crew.{IsNoCrew}
 use Rattle.fr_outcome.specs.declared.fault.CheckFault.{CheckFault}
 use Rattle.fr_outcome.specs.declared.fault.CheckFault.TheVariants.{App, Cert, Workers, Memory, Thread}
 use Rattle.fr_outcome.specs.declared.answer.What.{What}

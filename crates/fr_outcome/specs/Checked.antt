@@ -36,7 +36,7 @@ use Rattle.fr_text.specs.Texts.{IsJudged}
 use Rattle.fr_parallel.specs.declared.bytes.BytesFault.{BytesFault}
 use Rattle.fr_parallel.specs.declared.bytes.BytesFault.TheVariants.{Par, App as AppRefused, Cert as CertRefused}
 use Rattle.fr_parallel.specs.declared.fault.ParFault.TheVariants.{Memory as NoMemory, Workers as NoWorkers, Threads as NoThreads}
-use Rattle.fr_parallel.specs.Kept.{IsNoCrew}
+use Rattle.fr_parallel.specs.Crew.{IsNoCrew}
 use Rattle.fr_judge.specs.declared.part.Verdict.{Verdict}
 use Rattle.fr_judge.specs.declared.part.Verdict.TheVariants.{Yes, No}
 use Rattle.fr_report.specs.Report.{report_text}

@@ -12,7 +12,7 @@ use Rattle.fr_board.specs.Drawn.{sum_of, finishes, failures, skips, finish, draw
 use Rattle.fr_board.specs.Tally.{IsTallyOf, DrewEach}
 use Rattle.fr_board.proofs.Sums.{sum_of-le}
 use Rattle.fr_board.proofs.Outcomes.{flag-one, failures-one}
-use Rattle.fr_parallel.specs.Worked.{IsRight, AreRight, IsLeast}
+use Rattle.fr_worker.specs.Worked.{IsRight, AreRight, IsLeast}
 
 right-finishes : (keeps : Type 0) (o : Outcome) → IsRight keeps o → finishes o ≡ 1
 right-finishes keeps Open r = absurd r

@@ -1,4 +1,3 @@
-pub mod Workers
 pub mod Least
 pub mod Sizes
 pub mod Verdicts

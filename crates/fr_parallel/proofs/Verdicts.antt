@@ -1,5 +1,5 @@
 -- From the least failing number to the verdict.
-use Rattle.std.proofs.Common.{◌≡◌, ℕ, zero, suc, ◌<◌, List, [], ◌∷◌, length, refl, arith}
+use Rattle.std.proofs.Common.{◌≡◌, ℕ, ◌<◌, length, refl}
 use Rattle.std.specs.Prelude.{Some, slice_get}
 use Rattle.fr_program.specs.declared.ids.Point.{Point}
 use Rattle.fr_program.specs.Program.{Program}
@@ -9,25 +9,15 @@ use Rattle.fr_program.proofs.PointLaws.{points_are_numbered}
 use Rattle.fr_ends.specs.Certificate.{Certificate}
 use Rattle.fr_judge.specs.declared.part.Part.{Part as Told}
 use Rattle.fr_judge.specs.declared.part.Verdict.TheVariants.{Yes as TellsYes, No as TellsNo}
-use Rattle.fr_judge.specs.Verdict.{Yes, KeepsAll}
+use Rattle.fr_judge.specs.Verdict.{Yes}
 use Rattle.fr_judge.specs.Told.{TellsFirst, TellsVerdict}
 use Rattle.fr_judge.proofs.Points.{KeepsBelow, all-keep, first-failure}
-use Rattle.fr_parallel.specs.Kept.{KeepsAt}
+use Rattle.fr_worker.specs.Kept.{KeepsAt}
 
 pub listed-point : (P : Program) (n : ℕ) (p : Point) → slice_get (points_of P) n ≡ Some p → IsPoint P p
 listed-point P n p at = ((points_are_numbered P).listed n p at).0
 
 module _ (P : Program) (C : Certificate) where
-  -- a part that fails at a number's point says that the number isn't kept
-  pub told-fails : (number : ℕ) (told : Told) → number < length (points_of P) → ((p : Point) → slice_get (points_of P) number ≡ Some p → TellsFirst P C p (Some told)) → KeepsAt P C number → ⊥
-  told-fails number told below first keeps = not_kept (points_of P) number below first keeps
-    where
-      not_kept : (points : List Point) (number : ℕ) → number < length points → ((p : Point) → slice_get points number ≡ Some p → TellsFirst P C p (Some told)) → ((p : Point) → slice_get points number ≡ Some p → KeepsAll P C p) → ⊥
-      not_kept [] number below first keeps = absurd (omega arith)
-      not_kept (p ∷ points) zero below first keeps = let found = first p refl in found.2.fails (keeps p refl found.0)
-      not_kept (p ∷ points) (suc number) below first keeps =
-          not_kept points number (omega arith) first keeps
-
   -- numbers that are kept are points that keep every part
   keeps-below : (n : ℕ) → ((k : ℕ) → k < n → KeepsAt P C k) → KeepsBelow P C n
   keeps-below n keeps p is lt = keeps (point_number P p) lt p ((points_are_numbered P).at p is)

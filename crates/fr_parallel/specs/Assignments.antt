@@ -3,8 +3,8 @@ use Rattle.std.specs.Prelude.{ℕ}
 use Rattle.fr_board.specs.Values.{PassValue}
 use Rattle.fr_ends.specs.Fits.{CertificateFits}
 use Rattle.fr_judge.specs.Lists.{AreListsOf}
-use Rattle.fr_parallel.specs.declared.worker.Assignment.{Assignment}
-use Rattle.fr_parallel.specs.Kept.{IsFor, IsNewFor, IsWorkedBy}
+use Rattle.fr_parallel.specs.declared.crew.Assignment.{Assignment}
+use Rattle.fr_worker.specs.Kept.{IsFor, IsNewFor, IsWorkedBy}
 
 -- the board has a job for each point, the certificate fits, and the lists are of both
 pub record IsReady (t : Assignment) : Type 0 where

@@ -1,4 +1,3 @@
-pub mod Worked
-pub mod Kept
+pub mod Crew
 pub mod Assignments
 pub mod Bytes

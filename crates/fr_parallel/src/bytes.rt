@@ -9,7 +9,7 @@ ghost use Rattle.fr_judge.specs.Told.{Speaks, TellsVerdict};
 ghost use Rattle.fr_parallel.specs.declared.bytes.BytesFault.TheVariants.{Par};
 ghost use Rattle.fr_parallel.specs.declared.fault.ParFault.TheVariants.{Workers};
 ghost use Rattle.fr_parallel.specs.Bytes.{IsFaultOfBytes};
-ghost use Rattle.fr_parallel.specs.Kept.{IsNoCrew};
+ghost use Rattle.fr_parallel.specs.Crew.{IsNoCrew};
 
 use crate::fault::ParFault;
 use crate::verdict::{is_crew, judge_by_crew};

@@ -3,19 +3,29 @@ ghost use Rattle.std.specs.Prelude.{◌≡◌, ◌≢◌, ◌<◌, length, All, 
 ghost use Rattle.fr_parallel.specs.declared.fault.ParFault.TheVariants.{Workers};
 ghost use Rattle.fr_ends.specs.Fits.{CertificateFits};
 ghost use Rattle.fr_judge.specs.Lists.{AreListsOf};
-ghost use Rattle.fr_parallel.specs.Kept.{IsFor, IsNewFor, IsWorked, IsWorkedBy};
+ghost use Rattle.fr_worker.specs.Kept.{IsFor, IsNewFor, IsWorked, IsWorkedBy};
 ghost use Rattle.fr_parallel.specs.Assignments.{IsDoneBy, IsNewOf, IsReady};
 
 use crate::fault::ParFault;
-use crate::worker::{Assignment, work_by};
 use fr_board::{Board, Gate, Pass};
 use fr_ends::Certificate;
 use fr_judge::{Judging, Lists};
 use fr_program::App;
+use fr_worker::work_by;
 use std::alloc::Global;
 use std::sync::Wait;
 use std::thread;
 use std::thread::{Promise, PromisedHandle, Scope, Threads};
+
+/// What workers work on: the points of an application, by a certificate that fits it and the lists that were made for both, and
+/// the board that hands them out.
+#[derive(Clone, Copy)]
+pub(crate) struct Assignment<'s> {
+    pub app: &'s App,
+    pub certificate: &'s Certificate,
+    pub lists: &'s Lists,
+    pub board: &'s Board,
+}
 
 impl<'s> Promise<Pass> for Assignment<'s> {
     ghost use Rattle.fr_parallel.specs.Assignments.{IsDoneBy};

@@ -7,7 +7,8 @@ ghost use Rattle.fr_ends.specs.Fits.{CertificateFits};
 ghost use Rattle.fr_judge.specs.declared.part.Verdict.TheVariants.{Yes};
 ghost use Rattle.fr_judge.specs.Told.{TellsVerdict, Speaks};
 ghost use Rattle.fr_parallel.specs.declared.fault.ParFault.TheVariants.{Workers};
-ghost use Rattle.fr_parallel.specs.Kept.{IsLeastFailing, IsNoCrew};
+ghost use Rattle.fr_worker.specs.Kept.{IsLeastFailing};
+ghost use Rattle.fr_parallel.specs.Crew.{IsNoCrew};
 
 use crate::crew::worked_by_all;
 use crate::fault::ParFault;

@@ -1,7 +1,7 @@
 // Working out a certificate for the application that bytes mean, and judging it.
 ghost use Rattle.std.specs.Prelude.{◌≡◌, ◌⊎◌, ◌↔◌, IsTrue, IfOk, IfErr, IsErrOf, string_bytes};
 ghost use Rattle.fr_ends.specs.Fits.{CertificateFits};
-ghost use Rattle.fr_parallel.specs.Kept.{IsNoCrew};
+ghost use Rattle.fr_parallel.specs.Crew.{IsNoCrew};
 ghost use Rattle.fr_refuter.specs.Refutes.{IsFound, Suits};
 ghost use Rattle.fr_cert.specs.Meaning.{Means as CertMeans};
 ghost use Rattle.fr_judge.specs.Told.{Speaks};

@@ -3,7 +3,7 @@
 ghost use Rattle.std.specs.Prelude.{◌≡◌, ◌<◌, length};
 ghost use Rattle.fr_program.specs.Points.{points_of};
 ghost use Rattle.fr_ends.specs.Fits.{CertificateFits};
-ghost use Rattle.fr_interfere.specs.Index.{IsIndexOf};
+ghost use Rattle.fr_effects.specs.Index.{IsIndexOf};
 
 use crate::applications::{
     CRITICAL, CRITICAL_NOTES, DELETED, DELETED_NOTES, LIFE, LIFE_NOTES, QUEUE, QUEUE_NOTES,

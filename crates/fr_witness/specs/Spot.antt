@@ -1,4 +1,4 @@
--- For private clauses: a point with its instruction and its note.
+-- A point with its instruction and its note.
 --
 -- | word      | meaning                                                        |
 -- |-----------|----------------------------------------------------------------|

@@ -16,5 +16,5 @@ mod variants;
 pub use claims::{claim_broken, note_holds};
 pub use evidence::Witness;
 pub use laws::what_is_shown_is_not_kept;
-pub use showing::witness;
+pub use showing::{spot_of, witness};
 pub use taken::Taken;

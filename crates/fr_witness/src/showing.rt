@@ -1,5 +1,6 @@
 // The search for what shows that the part that a verdict names isn't kept.
-ghost use Rattle.std.specs.Prelude.{Some, ◌≡◌, ◌↔◌, IfOk, IfSome, IsTrue};
+ghost use Rattle.std.specs.Prelude.{Some, ◌≡◌, ◌↔◌, IfOk, IfSome, IfNone, IsTrue};
+ghost use Rattle.fr_program.specs.Lookup.{IsPoint};
 ghost use Rattle.fr_calls.specs.State.{IsWellFormed};
 ghost use Rattle.fr_notes.specs.Fits.{AlternativeFits};
 ghost use Rattle.fr_notes.specs.Noted.{NotedBy};
@@ -23,9 +24,10 @@ use std::alloc::{AllocError, Global};
 use std::collections::BTreeMap;
 
 /// The point with its instruction and its note; None where the application has no such point.
-fn spot_of<'a>(app: &'a App, certificate: &'a Certificate, point: Point) -> Option<Spot<'a>>
+pub fn spot_of<'a>(app: &'a App, certificate: &'a Certificate, point: Point) -> Option<Spot<'a>>
     requires { CertificateFits app.now certificate.now }
-    ensures { IfSome result (λ s. (s.point ≡ point) × IsSpot app.now certificate.now s) }
+    ensures some { IfSome result (λ s. (s.point ≡ point) × IsSpot app.now certificate.now s) }
+    ensures none { IfNone result (IsPoint app.now point → ⊥) }
 {
     let number = app.number(point)?;
     let notes = &certificate.notes;

@@ -3,13 +3,13 @@
 ghost use Rattle.fr_ends.specs.Fits.{CertificateFits};
 
 use super::add_item;
-use super::notes::{deletes, is_inside, spot_of};
+use super::notes::{deletes, is_inside};
 use super::scene::Scene;
 use fr_calls::Rule;
 use fr_ends::{Certificate, EndName, Guard, note_says};
 use fr_judge::{Part, Verdict};
 use fr_program::{Act, Attempt, Call, Instr, Point, Side};
-use fr_witness::{Witness, witness};
+use fr_witness::{Witness, spot_of, witness};
 use fr_wording::{Explained, Named};
 use std::alloc::AllocError;
 use std::mem::drop;

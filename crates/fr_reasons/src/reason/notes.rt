@@ -1,5 +1,5 @@
 // What notes say, and what of it isn't so in a state.
-ghost use Rattle.std.specs.Prelude.{◌≡◌, ◌<◌, IfSome, length};
+ghost use Rattle.std.specs.Prelude.{◌<◌, length};
 ghost use Rattle.fr_calls.specs.State.{IsWellFormed};
 ghost use Rattle.fr_notes.specs.Fits.{AlternativeFits};
 ghost use Rattle.fr_ends.specs.Fits.{CertificateFits};
@@ -10,25 +10,11 @@ use super::scene::{Scene, says_of};
 use super::words::{can_hold, otherwise_text, put_claim, put_said};
 use fr_calls::{State, is_at_end};
 use fr_ends::{Certificate, EndName};
-use fr_notes::{Alternative, Case, Claim, Spot, Subject};
+use fr_notes::{Alternative, Claim, Spot, Subject};
 use fr_program::{ActorId, App, Call, Instr, ObjId, Point, Side};
-use fr_witness::claim_broken;
+use fr_witness::{claim_broken, spot_of};
 use fr_wording::{Explained, ShownState, add_text, subject_at, subject_count};
 use std::alloc::{AllocError, Global};
-
-/// The point with its instruction and its note; None where the application has no such point.
-pub(super) fn spot_of<'a>(
-    app: &'a App,
-    certificate: &'a Certificate,
-    point: Point,
-) -> Option<Spot<'a>>
-    requires { CertificateFits app.now certificate.now }
-    ensures { IfSome result (λ s. (s.point ≡ point) × IsSpot app.now s) }
-{
-    let number = app.number(point)?;
-    let notes = &certificate.notes;
-    (Case { app, notes }).spot(number)
-}
 
 /// What an alternative says of the subject, as a list of one claim.
 fn one_claim(

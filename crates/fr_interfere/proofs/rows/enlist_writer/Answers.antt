@@ -1,7 +1,7 @@
 use Rattle.std.proofs.Common.{◌≡◌, ◌+◌, Some, sym, ap, ◌∙◌, subst}
 use Rattle.std.specs.Prelude.{is_some}
 use Rattle.fr_interfere.proofs.Terms.{effect_at, target_of, Lists, WritesOne}
-use Rattle.fr_interfere.proofs.IndexLaws.{lists-more, lists-same}
+use Rattle.fr_effects.proofs.IndexLaws.{lists-more, lists-same}
 use Rattle.fr_interfere.proofs.ClosedLaws.{some-there}
 use Rattle.fr_interfere.proofs.rows.enlist_writer.Goals as goal
 

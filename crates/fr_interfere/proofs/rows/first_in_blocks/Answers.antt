@@ -1,6 +1,6 @@
 use Rattle.std.proofs.Common.{sym, ◌∙◌, subst, arith}
 use Rattle.fr_interfere.proofs.Terms.{same_Some, IsBlock, IsInSome, IsBelow, IsListed}
-use Rattle.fr_interfere.proofs.Lists.{at-get}
+use Rattle.fr_effects.proofs.Lists.{at-get}
 use Rattle.fr_interfere.proofs.RowLaws.{IsInBlock}
 use Rattle.fr_interfere.proofs.SpoilerLaws.{first-fewer, one-more, none-yet}
 use Rattle.fr_interfere.proofs.rows.first_in_blocks.Goals as goal

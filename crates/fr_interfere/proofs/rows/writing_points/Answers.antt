@@ -1,6 +1,6 @@
 use Rattle.std.proofs.Common.{◌≡◌, length, sym, subst, arith}
 use Rattle.fr_interfere.proofs.Terms.{points_of, Lists, WritesOne}
-use Rattle.fr_interfere.proofs.IndexLaws.{lists-none}
+use Rattle.fr_effects.proofs.IndexLaws.{lists-none}
 use Rattle.fr_interfere.proofs.rows.writing_points.Goals as goal
 
 pub loop-number-init : goal.loop-number-init

@@ -1,8 +1,8 @@
 -- The numbers rise, so the first of the points that disturbs is the one with the least number.
 use Rattle.std.proofs.Common.{arith}
 use Rattle.fr_interfere.proofs.Terms.{points_of, Undisturbed}
-use Rattle.fr_interfere.proofs.IndexLaws.{checked-more, checked-point, earlier}
-use Rattle.fr_interfere.proofs.Lists.{get-there}
+use Rattle.fr_effects.proofs.IndexLaws.{checked-more, checked-point, earlier}
+use Rattle.fr_effects.proofs.Lists.{get-there}
 use Rattle.fr_interfere.proofs.spoilers.first_listed.Goals as goal
 
 pub loop-other-init : goal.loop-other-init

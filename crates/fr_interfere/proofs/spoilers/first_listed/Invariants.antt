@@ -1,6 +1,6 @@
 use Rattle.std.specs.Prelude.{◌≡◌, Some, slice_get}
 use Rattle.fr_interfere.proofs.Terms.{Point, points_of, Undisturbed}
-use Rattle.fr_interfere.proofs.IndexLaws.{AreChecked}
+use Rattle.fr_effects.proofs.IndexLaws.{AreChecked}
 use Rattle.fr_interfere.proofs.spoilers.first_listed.Given as goal
 
 -- none of the points so far disturbs the note

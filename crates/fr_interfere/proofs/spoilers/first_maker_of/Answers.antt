@@ -2,7 +2,7 @@
 use Rattle.std.proofs.Common.{◌≡◌, Some, length, sym, subst}
 use Rattle.std.specs.Prelude.{All}
 use Rattle.fr_interfere.proofs.Terms.{points_of, made_of, IsUnclaimed, Lists, AreListed, IsRow, IsListed, MakesOne}
-use Rattle.fr_interfere.proofs.IndexLaws.{listed-point}
+use Rattle.fr_effects.proofs.IndexLaws.{listed-point}
 use Rattle.fr_interfere.proofs.RowLaws.{lists-listed}
 use Rattle.fr_interfere.proofs.SpoilerLaws.{first-fewer}
 use Rattle.fr_interfere.proofs.UnsaidLaws.{unclaimed-undisturbed}

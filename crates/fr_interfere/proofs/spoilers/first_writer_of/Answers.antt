@@ -2,7 +2,7 @@
 use Rattle.std.proofs.Common.{◌≡◌, Some, length, sym, subst}
 use Rattle.std.specs.Prelude.{All}
 use Rattle.fr_interfere.proofs.Terms.{points_of, target_of, IsFree, Lists, AreListed, IsRow, IsListed, WritesInside}
-use Rattle.fr_interfere.proofs.IndexLaws.{listed-point}
+use Rattle.fr_effects.proofs.IndexLaws.{listed-point}
 use Rattle.fr_interfere.proofs.RowLaws.{lists-listed}
 use Rattle.fr_interfere.proofs.SpoilerLaws.{first-fewer}
 use Rattle.fr_interfere.proofs.UnsaidLaws.{free-undisturbed}

@@ -1,7 +1,7 @@
 use Rattle.std.proofs.Common.{◌≡◌, ◌<◌, Some, subst, arith, ⊎_elim}
 use Rattle.std.specs.Prelude.{slice_get}
 use Rattle.fr_interfere.proofs.Terms.{cases_lt, points_of, point_number}
-use Rattle.fr_interfere.proofs.Lists.{get-below, get-there}
+use Rattle.fr_effects.proofs.Lists.{get-below, get-there}
 use Rattle.fr_interfere.proofs.spoilers.spoiler.Goals as goal
 
 pub loop-other-init : goal.loop-other-init

@@ -2,8 +2,8 @@
 use Rattle.std.proofs.Common.{length, refl, sym, subst, arith, ⊎_elim}
 use Rattle.std.specs.Prelude.{Contains}
 use Rattle.fr_interfere.proofs.Terms.{points_of, point_number, CanLeave, Lists, StaysAt}
-use Rattle.fr_interfere.proofs.IndexLaws.{checked-more, checked-point, in-list, numbers-below}
-use Rattle.fr_interfere.proofs.Lists.{get-there}
+use Rattle.fr_effects.proofs.IndexLaws.{checked-more, checked-point, in-list, numbers-below}
+use Rattle.fr_effects.proofs.Lists.{get-there}
 use Rattle.fr_interfere.proofs.SpoilerLaws.{unlisted-stays}
 use Rattle.fr_interfere.proofs.staying.all_stay.Goals as goal
 

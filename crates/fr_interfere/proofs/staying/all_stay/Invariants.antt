@@ -1,5 +1,5 @@
 use Rattle.fr_interfere.proofs.Terms.{StaysAt}
-use Rattle.fr_interfere.proofs.IndexLaws.{AreChecked}
+use Rattle.fr_effects.proofs.IndexLaws.{AreChecked}
 use Rattle.fr_interfere.proofs.staying.all_stay.Given as goal
 
 -- so it is of the leavers so far

@@ -4,8 +4,8 @@ use Rattle.std.specs.declared.thread.PromisedHandle.{PromisedHandle}
 use Rattle.fr_board.specs.declared.pass.Pass.{Pass}
 use Rattle.fr_board.specs.Values.{PassValue}
 use Rattle.fr_parallel.specs.Assignments.{IsDoneBy}
-use Rattle.fr_parallel.specs.declared.worker.Assignment.{Assignment}
-use Rattle.fr_parallel.proofs.Workers.{joined-gathered}
+use Rattle.fr_parallel.specs.declared.crew.Assignment.{Assignment}
+use Rattle.fr_worker.proofs.Workers.{joined-gathered}
 use Rattle.fr_parallel.proofs.crew.gather.Goals as goal
 
 same-assignment : (t u : Assignment) (p : PassValue) → t ≡ u → IsDoneBy t 1 p → IsDoneBy u 1 p

@@ -3,7 +3,7 @@ use Rattle.fr_board.specs.Tally.{IsTallyOf}
 use Rattle.fr_judge.specs.declared.part.Verdict.{Verdict}
 use Rattle.fr_judge.specs.Told.{TellsVerdict}
 use Rattle.fr_judge.proofs.Points.{yes-safe}
-use Rattle.fr_parallel.specs.Kept.{KeepsAt}
+use Rattle.fr_worker.specs.Kept.{KeepsAt}
 use Rattle.fr_parallel.proofs.Least.{all-done, tally-least}
 use Rattle.fr_parallel.proofs.verdict.judge_by_crew.Goals as goal
 

@@ -1,6 +1,6 @@
 use Rattle.std.proofs.Common.{subst}
 use Rattle.std.specs.Prelude.{Option, ℕ}
-use Rattle.fr_parallel.specs.Kept.{IsLeastFailing}
+use Rattle.fr_worker.specs.Kept.{IsLeastFailing}
 use Rattle.fr_parallel.proofs.Verdicts.{tells-yes}
 use Rattle.fr_parallel.proofs.verdict.verdict_at.Goals as goal
 

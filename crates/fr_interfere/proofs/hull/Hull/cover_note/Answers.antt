@@ -1,7 +1,7 @@
 use Rattle.std.proofs.Common.{get_or, refl, ◌∙◌, subst, arith, ⊎_elim}
 use Rattle.std.specs.Prelude.{All}
 use Rattle.fr_interfere.proofs.Terms.{cases_lt, get_or_default, Covers}
-use Rattle.fr_interfere.proofs.Lists.{item-fits}
+use Rattle.fr_effects.proofs.Lists.{item-fits}
 use Rattle.fr_interfere.proofs.hull.Hull.cover_note.Goals as goal
 
 pub loop-alternative-init : goal.loop-alternative-init

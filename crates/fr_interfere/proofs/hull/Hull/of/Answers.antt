@@ -1,7 +1,7 @@
 -- Each point is covered in turn, and what was covered stays so.
 use Rattle.std.proofs.Common.{arith}
 use Rattle.fr_interfere.proofs.Terms.{IsUnder}
-use Rattle.fr_interfere.proofs.IndexLaws.{checked-more, checked-point}
+use Rattle.fr_effects.proofs.IndexLaws.{checked-more, checked-point}
 use Rattle.fr_interfere.proofs.hull.Hull.of.Goals as goal
 
 pub loop-number-preserved : goal.loop-number-preserved

@@ -1,5 +1,5 @@
 use Rattle.fr_interfere.proofs.Terms.{IsUnder}
-use Rattle.fr_interfere.proofs.IndexLaws.{AreChecked}
+use Rattle.fr_effects.proofs.IndexLaws.{AreChecked}
 use Rattle.fr_interfere.proofs.hull.Hull.of.Given as goal
 
 -- the points so far are under the hull

@@ -2,7 +2,7 @@
 use Rattle.std.proofs.Common.{◌≡◌, Some, length, sym, subst}
 use Rattle.std.specs.Prelude.{slice_get}
 use Rattle.fr_interfere.proofs.Terms.{Point, points_of, IsSpoiler, CanLeave, Lists, IsFirstOf, IsListed}
-use Rattle.fr_interfere.proofs.IndexLaws.{numbers-below}
+use Rattle.fr_effects.proofs.IndexLaws.{numbers-below}
 use Rattle.fr_interfere.proofs.SpoilerLaws.{first-of-two, first-of-three}
 use Rattle.fr_interfere.proofs.interference.Interference.spoiler.Goals as goal
 

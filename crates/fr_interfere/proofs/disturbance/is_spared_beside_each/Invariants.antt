@@ -1,7 +1,0 @@
-use Rattle.std.specs.Prelude.{◌≢◌}
-use Rattle.fr_interfere.proofs.Terms.{Point, IsPoint, Alternative, IsAmong, IsSparedByRows}
-use Rattle.fr_interfere.proofs.disturbance.is_spared_beside_each.Given as goal
-
-abbrev pub invariant-loop-other : goal.invariant-loop-other
-invariant-loop-other l =
-    (p : Point) → IsPoint l.mover.app.now p → p.actor ≢ l.mover.point.actor → (m : Alternative) → IsAmong l.other-items l.other-index m → IsSparedByRows l.mover.app.now p l.alternative l.mover.point m l.note
