@@ -28,9 +28,7 @@ past : Exists (one_of Mutex true) 0 (At 1 Before) → ⊥
 past h = let e = h.1 in cc
 
 no-call : Exists (one_of Mutex true) 0 (At 0 Inside) → ⊥
-no-call h =
-    let e = sym (same_Some _ _ h.1) in
-    elim (subst (λ i. HasSide i Inside) e h.2) [ ]
+no-call h = elim (subst (λ i. HasSide i Inside) (sym (same_Some _ _ h.1)) h.2) [ ]
 
 pub worked-formed : WorkedFormed
 worked-formed = record {
