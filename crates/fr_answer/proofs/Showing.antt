@@ -1,8 +1,8 @@
 -- What a command shows is what it found.
-use Rattle.std.proofs.Common.{◌≡◌, ◌≤◌, inl, inr, ℕ, List, Bool, Option, None, Some, Result, Ok, Err, IfOk, IfErr, String, string_bytes, refl, sym, subst, ◌∙◌}
+use Rattle.std.proofs.Common.{◌≡◌, ◌≤◌, inl, inr, ℕ, List, Bool, Option, None, Some, Result, Ok, Err, IfOk, IfErr, String, string_bytes, refl, sym, subst}
 use Rattle.std.proofs.lemmas.Bool.{false≢true}
 use Rattle.std.proofs.lemmas.Option.{same_Some}
-use Rattle.std.specs.Prelude.{IsErr, option_map}
+use Rattle.std.specs.Prelude.{IsErr}
 use Rattle.fr_answer.proofs.Terms.{Global, TellsVerdict, Yes, Program, beside, Format, Reading, What, Judged, Searched, Refused, HasFound, IsProofOf, IsSettledIn, IsVerdictOn, IsYes, what_status}
 use Rattle.fr_answer.proofs.Terms.{IsAnswerBy, IsGiven, IsKept, IsLineAnswer, IsPaged, IsPrinted, IsProofAt, IsShown}
 use Rattle.fr_text.specs.Texts.{IsJudged}

@@ -32,18 +32,15 @@ module _ (P : Program) (S : State) (a : ℕ) (i : Instr) where
       no k h t = find-none (forbids P (condition_of P S a) i) decided_rules k e h t
 
       rules : (rule : Rule) → IsTrue (stops rule) → Breaches P S a Before i rule → ⊥
-      rules OneWriter s b = cc
-      rules OneReader s b = cc
       rules GivenByHolder s b = gives b
       rules AllowedInCritical s b = no 0 (omega arith) b
       rules AllowedSuspended s b = no 1 (omega arith) b
       rules AllowedInInterrupt s b = no 2 (omega arith) b
       rules IsLive s b = uses b
-      rules LifeInOrder s b = cc
       rules SuitsSemaphore s b = no 3 (omega arith) b
       rules DepthAboveZero s b = no 4 (omega arith) b
       rules EndsInOrder s b = no 5 (omega arith) b
-      rules InRange s b = cc
+      rules rule s b = cc
 
   pub inside-free : SuitsInside P Inside i → (GivesUnheld P S a i → ⊥) → (UsesDead S i Inside → ⊥) → IsFree P S a Inside i
   inside-free suits gives uses = (rules, suits)

@@ -2,6 +2,7 @@ pub mod Breached
 pub mod Built
 pub mod Contents
 pub mod Formed
+pub mod Places
 pub mod Free
 pub mod Unforbidden
 pub mod Endings

@@ -1,6 +1,7 @@
 -- What is written for the guards of ends means them again.
-use Rattle.std.proofs.Common.{◌≡◌, ◌<◌, ◌≤◌, ◌∙◌, ℕ, suc, ℤ, List, [], ◌∷◌, Bool, true, false, Some, None, nat_eq, cond, length, All, refl, sym, ap, inl, inr, arith}
-use Rattle.fr_cert.proofs.Terms.{AllByRecursion, cases_lt, Decides-eqb, All-head, All-tail, number, string, object, Members, no_members, member, put, of_integer, Program, variable_at, object_at}
+use Rattle.std.proofs.Common.{◌≡◌, ◌<◌, ◌≤◌, ◌∙◌, ℕ, suc, ℤ, List, [], ◌∷◌, Some, None, nat_eq, cond, length, All, refl, sym, ap, inl, inr, arith}
+use Rattle.std.proofs.lemmas.Bool.{ne_eqb}
+use Rattle.fr_cert.proofs.Terms.{AllByRecursion, cases_lt, All-head, All-tail, number, string, object, Members, no_members, member, put, of_integer, Program, variable_at, object_at}
 use Rattle.fr_cert.proofs.Terms.{actor_at, IsNumber, IsFaultless, end_text, Guard, Sole, ByMutex, InCritical, Turn, EndGuard, value_for, AreRising, GuardFits, EndFits, RisesFrom, rises_whole}
 use Rattle.fr_cert.proofs.Terms.{none_below, later_value, key_text, names_in, IsObject, EachEntry, EachMember, IsNamed, IsTurnNumber, AreTurnValues, IsGuard, IsEnd, IsFitEnd, guard_tree, end_tree}
 use Rattle.fr_cert.proofs.Terms.{each_tree}
@@ -32,13 +33,6 @@ each_unit : (xs : List (ℕ × ℤ)) → AllByRecursion (λ x. Unit {0}) xs
 each_unit [] = tt
 each_unit (x ∷ xs) = (tt, each_unit xs)
 
-differ : (a b : ℕ) → (a ≡ b → ⊥) → nat_eq a b ≡ false
-differ a b other = go (nat_eq a b) refl
-  where
-    go : (c : Bool) → nat_eq a b ≡ c → nat_eq a b ≡ false
-    go true e = absurd (other ((Decides-eqb a b).0 e))
-    go false e = e
-
 turns : (P : Program) (vs : List (ℕ × ℤ)) (least : ℕ) (ms : Members) (xs : List (ℕ × ℤ)) → IsFaultless P → RisesFrom least vs → All (IsTurn P) vs → EachMember (IsNamed (names_in P).actors IsTurnNumber) ms xs → ((a : ℕ) → least ≤ a → given xs a ≡ None)
     → Turns P least vs xs (with_values P vs ms)
 unfolding with_values
@@ -48,13 +42,13 @@ turns P (v ∷ vs) least ms xs faultless rises fits named fresh =
     let more = put_named (names_in P).actors IsTurnNumber (λ x. Unit {0}) (actor_at P v.0).name (number (of_integer v.1)) v.0 v.1 ms xs (actor_place P v.0 faultless fit.0) (integer_again v.1, fit.1) tt
     (fresh v.0 (omega (arith, rises.0))) named (each_unit xs) in
     let later : (a : ℕ) → suc v.0 ≤ a → given more.ys a ≡ None =
-    λ a from. more.found a ∙ (ap (λ b. cond b (Some v.1) (given xs a)) (differ v.0 a (λ same. omega (arith, same, from))) ∙ fresh a (omega (arith, from, rises.0))) in
+    λ a from. more.found a ∙ (ap (λ b. cond b (Some v.1) (given xs a)) (ne_eqb v.0 a (λ same. omega (arith, same, from))) ∙ fresh a (omega (arith, from, rises.0))) in
     let rest = turns P vs (suc v.0) (put (actor_at P v.0).name (number (of_integer v.1)) ms) more.ys faultless rises.1 (All-tail (IsTurn P) v vs fits) more.named later in
     record {
       ys = rest.ys;
       named = rest.named;
       before = λ a below.
-          rest.before a (omega (arith, below, rises.0)) ∙ (more.found a ∙ ap (λ b. cond b (Some v.1) (given xs a)) (differ v.0 a (λ same. omega (arith, same, below, rises.0))));
+          rest.before a (omega (arith, below, rises.0)) ∙ (more.found a ∙ ap (λ b. cond b (Some v.1) (given xs a)) (ne_eqb v.0 a (λ same. omega (arith, same, below, rises.0))));
       after = λ a from.
           elim (cases_lt a (suc v.0)) [
             | inl below ↦ rest.before a below ∙ (more.found a ∙ ap (cond (nat_eq v.0 a) (Some v.1)) (fresh a from ∙ sym (none_below vs (suc v.0) a rises.1 below)))

@@ -10,8 +10,9 @@ use Rattle.fr_cert.proofs.Terms.{InGuardObject, InGuard, InEndName, InKeysOfEnd,
 use Rattle.fr_cert.specs.declared.key.Key.TheVariants as key
 use Rattle.fr_cert.specs.declared.key.Keyed.TheVariants as place
 use Rattle.fr_cert.specs.declared.fault.CertFault.TheVariants as fault
-use Rattle.fr_cert.proofs.Laws.{both, never, one_at, one_name, one_text, one_version, one_end, one_end_value, unknown, apart, list_apart, object_apart}
+use Rattle.fr_cert.proofs.Laws.{both, one_at, one_name, one_text, one_version, one_end, one_end_value, unknown, apart, list_apart, object_apart}
 use Rattle.fr_cert.proofs.EntryLemmas.{each_both}
+use Rattle.fr_instr.proofs.TokenLaws.{apart as never}
 
 -- ---- values by their shape
 

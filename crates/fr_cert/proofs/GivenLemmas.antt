@@ -1,10 +1,12 @@
 -- Names in an object: one more of them, and what the object then gives to each thing that is named. It serves ranges
 -- and counts, which are written for all variables and objects in turn, and turn values, which are not.
 use Rattle.std.proofs.Common.{◌≡◌, ◌≢◌, ◌<◌, ◌≤◌, ◌+◌, ◌∙◌, ℕ, zero, suc, List, [], ◌∷◌, ◌++◌, Bool, true, false, Option, Some, None, option_map, Ordering, Less, Equal, Greater, nat_cmp, nat_eq, bytes_eq, cond, find, get_or, length, map, AllPairs, refl, sym, ap, subst, arith}
-use Rattle.fr_cert.proofs.Terms.{slice_cmp, AllByRecursion, position_or_len, match_ordering, false≢true, Decides-eqb, Decides-ltb, get_or-map, get_or_append_left, get_or-append-add, length-append}
+use Rattle.fr_cert.proofs.Terms.{slice_cmp, AllByRecursion, position_or_len, match_ordering, false≢true, Decides-eqb, Decides-ltb, get_or-map}
 use Rattle.fr_cert.proofs.Terms.{length-map, exact_bytes, same_Some, bytes_eq-Decides, Data, Members, no_members, member, put, Program, VariableOf, ObjectOf, ActorOf, no_variable, no_object, no_actor}
 use Rattle.fr_cert.proofs.Terms.{variable_at, object_at, actor_at, IsFaultless, place_of, names_in, EachMember, IsNamed}
 use Rattle.std.proofs.lemmas.List.Sums.{position_or_len_is}
+use Rattle.std.proofs.lemmas.Bool.{ne_eqb}
+use Rattle.fr_instr.proofs.NameLaws.{apart_left, apart_right}
 
 -- what is given to the thing with this number
 abbrev pub given : {A : Type 0} → List (ℕ × A) → ℕ → Option A
@@ -102,17 +104,10 @@ turn names Q R tree name (Some a) i ms xs is fits named each fresh =
       ys = more.ys;
       named = more.named;
       each = more.each;
-      before = λ n below. more.found n ∙ ap (λ b. cond b (Some a) (given xs n)) (apart i n (λ same. omega (arith, same, below)));
+      before = λ n below. more.found n ∙ ap (λ b. cond b (Some a) (given xs n)) (ne_eqb i n (λ same. omega (arith, same, below)));
       now = more.found i ∙ ap (λ b. cond b (Some a) (given xs i)) ((Decides-eqb i i).1 refl);
-      after = λ n above. more.found n ∙ (ap (λ b. cond b (Some a) (given xs n)) (apart i n (λ same. omega (arith, same, above))) ∙ fresh n (omega (arith, above)));
+      after = λ n above. more.found n ∙ (ap (λ b. cond b (Some a) (given xs n)) (ne_eqb i n (λ same. omega (arith, same, above))) ∙ fresh n (omega (arith, above)));
     }
-  where
-    apart : (k n : ℕ) → (k ≡ n → ⊥) → nat_eq k n ≡ false
-    apart k n differ = go (nat_eq k n) refl
-      where
-        go : (b : Bool) → nat_eq k n ≡ b → nat_eq k n ≡ false
-        go true e = absurd (differ ((Decides-eqb k n).0 e))
-        go false e = e
 
 -- the object after all of them
 pub record Whole {A : Type 0} (names : List (List ℕ)) (Q : Data → A → Type 0) (R : ℕ × A → Type 0) (i : ℕ) (os : List (Option A)) (xs : List (ℕ × A)) (ms : Members) : Type 0 where
@@ -169,20 +164,12 @@ place_there names k once within =
         go true e = absurd (once j k [] below within (sym ((bytes_eq-Decides (get_or names k []) (get_or names j [])).0 e)))
         go false e = e
 
-front_once : (xs ys : List (List ℕ)) → AllPairs (λ x y. x ≢ y) (xs ++ ys) → AllPairs (λ x y. x ≢ y) xs
-front_once xs ys once i j d less within same =
-    once i j d less (omega (arith, within, length-append xs ys)) (get_or_append_left xs ys d i (omega (arith, less, within)) ∙ (same ∙ sym (get_or_append_left xs ys d j within)))
-
-back_once : (xs ys : List (List ℕ)) → AllPairs (λ x y. x ≢ y) (xs ++ ys) → AllPairs (λ x y. x ≢ y) ys
-back_once xs ys once i j d less within same =
-    once (length xs + i) (length xs + j) d (omega (arith, less)) (omega (arith, within, length-append xs ys)) (get_or-append-add xs ys i d ∙ (same ∙ sym (get_or-append-add xs ys j d)))
-
 pub variable_place : (P : Program) (k : ℕ) → IsFaultless P → k < length P.variables → place_of (names_in P).variables (variable_at P k).name ≡ Some k
 variable_place P k faultless within =
     let names = map (λ (v : VariableOf). v.name) P.variables in
     let rest = map (λ (o : ObjectOf). o.name) P.objects ++ map (λ (a : ActorOf). a.name) P.actors in
     let at : get_or names k [] ≡ (variable_at P k).name = get_or-map (λ (v : VariableOf). v.name) P.variables k no_variable [] within in
-    ap (λ t. place_of names t) (sym at) ∙ place_there names k (front_once names rest faultless.names.once) (omega (arith, within, length-map P.variables (λ (v : VariableOf). v.name)))
+    ap (λ t. place_of names t) (sym at) ∙ place_there names k (apart_left names rest faultless.names.once) (omega (arith, within, length-map P.variables (λ (v : VariableOf). v.name)))
 
 pub object_place : (P : Program) (k : ℕ) → IsFaultless P → k < length P.objects → place_of (names_in P).objects (object_at P k).name ≡ Some k
 object_place P k faultless within =
@@ -191,7 +178,7 @@ object_place P k faultless within =
     let rest = map (λ (a : ActorOf). a.name) P.actors in
     let at : get_or names k [] ≡ (object_at P k).name = get_or-map (λ (o : ObjectOf). o.name) P.objects k no_object [] within in
     ap (λ t. place_of names t) (sym at)
-    ∙ place_there names k (front_once names rest (back_once front (names ++ rest) faultless.names.once)) (omega (arith, within, length-map P.objects (λ (o : ObjectOf). o.name)))
+    ∙ place_there names k (apart_left names rest (apart_right front (names ++ rest) faultless.names.once)) (omega (arith, within, length-map P.objects (λ (o : ObjectOf). o.name)))
 
 pub actor_place : (P : Program) (k : ℕ) → IsFaultless P → k < length P.actors → place_of (names_in P).actors (actor_at P k).name ≡ Some k
 actor_place P k faultless within =
@@ -200,4 +187,4 @@ actor_place P k faultless within =
     let names = map (λ (a : ActorOf). a.name) P.actors in
     let at : get_or names k [] ≡ (actor_at P k).name = get_or-map (λ (a : ActorOf). a.name) P.actors k no_actor [] within in
     ap (λ t. place_of names t) (sym at)
-    ∙ place_there names k (back_once before names (back_once front (before ++ names) faultless.names.once)) (omega (arith, within, length-map P.actors (λ (a : ActorOf). a.name)))
+    ∙ place_there names k (apart_right before names (apart_right front (before ++ names) faultless.names.once)) (omega (arith, within, length-map P.actors (λ (a : ActorOf). a.name)))

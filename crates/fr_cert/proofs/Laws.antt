@@ -1,6 +1,6 @@
 -- A text means one certificate at the most: at each level, a value means one thing.
 use Rattle.std.proofs.Common.{◌≡◌, ◌<◌, ℕ, ℤ, suc, pos, List, [], ◌∷◌, Bool, true, false, Option, Some, None, bytes_eq, codes, nat_eq, refl, sym, ap, ◌∙◌, subst, inl, inr, arith}
-use Rattle.fr_cert.proofs.Terms.{false≢true, Decides-eqb, same_Some, bytes_eq-Decides, Data, Items, no_items, item, Members, no_members, member, null, boolean, number, string, array, object, as_array}
+use Rattle.fr_cert.proofs.Terms.{false≢true, Decides-eqb, same_Some, bytes_eq-Decides, Data, Items, no_items, item, Members, no_members, member, null, object, as_array}
 use Rattle.fr_cert.proofs.Terms.{as_object, as_str, read, Program, NamesOf, place_of, Note, Certificate, value_for, Guard, Sole, ByMutex, InCritical, Turn, EndGuard, RisesFrom, rises_whole}
 use Rattle.fr_cert.proofs.Terms.{none_below, first_value, later_value, AreKnown, is_key_of, key_text, integer_of, end_at, names_in, At, OrDefault, IsObject, IsList, EachEntry, EachMember, IsNamed}
 use Rattle.fr_cert.proofs.Terms.{Names, AreNames, IsDepth, AreEnds, IsSpan, NoteText, IsNoteText, note_said, IsAlternative, IsPlainNote, IsNote, AreNotes, IsTurnNumber, AreTurnValues, IsGuardObject}
@@ -10,13 +10,11 @@ use Rattle.fr_program.specs.declared.instr.End.TheVariants.{Writer, Reader}
 use Rattle.fr_cert.specs.Keys.{field}
 use Rattle.fr_cert.specs.declared.key.Key.TheVariants as key
 use Rattle.fr_cert.specs.declared.key.Keyed.TheVariants as place
+use Rattle.fr_instr.proofs.TokenLaws.{apart as never}
 
 -- two values that one place has are the same
 pub both : {A : Type 0} (o : Option A) (x y : A) → o ≡ Some x → o ≡ Some y → x ≡ y
 both o x y p q = same_Some x y (sym p ∙ q)
-
-pub never : {A : Type 0} (o : Option A) (x : A) → o ≡ None → o ≡ Some x → ⊥
-never o x p q = let e = sym p ∙ q in cc
 
 pair : {A B : Type 0} (x y : A × B) → x.0 ≡ y.0 → x.1 ≡ y.1 → x ≡ y
 pair x y p q =
@@ -111,27 +109,15 @@ one_plain P = one_object (IsAlternative P) (one_alternative P)
 -- no value is two of an object, a list and a text
 pub apart : (d : Data) (ms : Members) (s : List ℕ) → as_object d ≡ Some ms → as_str d ≡ Some s → ⊥
 apart null ms s h k = cc
-apart (boolean b) ms s h k = cc
-apart (number n) ms s h k = cc
-apart (string t) ms s h k = cc
-apart (array ds) ms s h k = cc
-apart (object m) ms s h k = cc
+apart d ms s h k = cc
 
 pub list_apart : (d : Data) (ds : Items) (s : List ℕ) → as_array d ≡ Some ds → as_str d ≡ Some s → ⊥
 list_apart null ds s h k = cc
-list_apart (boolean b) ds s h k = cc
-list_apart (number n) ds s h k = cc
-list_apart (string t) ds s h k = cc
-list_apart (array es) ds s h k = cc
-list_apart (object m) ds s h k = cc
+list_apart d ds s h k = cc
 
 pub object_apart : (d : Data) (ms : Members) (ds : Items) → as_object d ≡ Some ms → as_array d ≡ Some ds → ⊥
 object_apart null ms ds h k = cc
-object_apart (boolean b) ms ds h k = cc
-object_apart (number n) ms ds h k = cc
-object_apart (string t) ms ds h k = cc
-object_apart (array es) ms ds h k = cc
-object_apart (object m) ms ds h k = cc
+object_apart d ms ds h k = cc
 
 one_note : (P : Program) (version : ℕ) → One (IsNote P version)
 one_note P version d x y (inl h) (inl g) = h.1 ∙ sym g.1

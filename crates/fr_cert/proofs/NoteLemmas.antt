@@ -1,11 +1,12 @@
 -- What the parts of a note say, beside what an object has to say for them.
 use Rattle.std.proofs.Common.{◌≡◌, ◌⊎◌, ◌||◌, ℕ, ℤ, ◌<◌, ◌≤ℤ◌, List, [], ◌∷◌, Bool, true, false, IsTrue, Option, Some, is_some, option_map, length, get_or, cond, find, map, nat_eq, T, All, Any, unwrap_or, refl, sym, ap, ◌∙◌, subst, arith, inl, inr}
-use Rattle.fr_cert.proofs.Terms.{range_with_len, cases_lt, get_or_default, get_or-map, length-map, All-map, Kind, Mutex, Recursive, Range, Program, variable_at, kind_of, Claim, HeldTimes, NoteParts}
+use Rattle.fr_cert.proofs.Terms.{range_with_len, cases_lt, get_or_default, All-map, Kind, Mutex, Recursive, Range, Program, variable_at, kind_of, Claim, HeldTimes, NoteParts}
 use Rattle.fr_cert.proofs.Terms.{NoteFault, Memory, Count, Lives, Span, Alternative, CanClaim, said, claim_said, count_in, names, is_live_said, range_in, range_by, range_said, IsCount, HasFault}
 use Rattle.fr_cert.proofs.Terms.{NoteTextFits, IsInside, count_for, has, claim_at, range_at, note_said, named_of, count_of, number_of, text_of}
 use Rattle.std.specs.Int.Signed.{le_z, le_z_yes}
 use Rattle.fr_program.specs.declared.ids.ObjId.{ObjId}
 use Rattle.fr_program.specs.declared.ids.VarId.{VarId}
+use Rattle.fr_program.proofs.ListLemmas.{All-unmapped}
 
 abbrev Given : Type 0
 Given = VarId × Range
@@ -109,10 +110,6 @@ count_or P h =
       | inr a ↦ inr (λ g. a g.0)
     ]
 
--- what holds of each thing that is meant holds of each in code
-all_of_map : {A B : Type 0} (Q : B → Type 0) (f : A → B) (xs : List A) → All Q (map f xs) → All (λ x. Q (f x)) xs
-all_of_map Q f xs h k d within = subst Q (get_or-map f xs k d (f d) within) (h k (f d) (omega (arith, length-map xs f, within)))
-
 -- what holds of each fails of none
 all_not_any : {A : Type 0} (Q : A → Type 0) (xs : List A) → All Q xs → Any (λ x. Q x → ⊥) xs → ⊥
 all_not_any Q xs all s = s.4 (subst Q s.3 (all s.0 s.1 s.2))
@@ -129,8 +126,8 @@ fits_from P parts free = record {
 -- parts with a fault are those of no note
 pub unfit : (P : Program) (parts : NoteParts) (f : NoteFault) → HasFault P parts f → NoteTextFits P (text_of parts) → ⊥
 unfit P parts Memory s fit = s
-unfit P parts Count s fit = all_not_any (IsCount P) parts.held.items (all_of_map (λ h. (h.0 < length P.objects) × CanClaim (kind_of P h.0) (HeldTimes h.1)) count_of parts.held.items fit.held) s
+unfit P parts Count s fit = all_not_any (IsCount P) parts.held.items (All-unmapped (λ h. (h.0 < length P.objects) × CanClaim (kind_of P h.0) (HeldTimes h.1)) count_of parts.held.items fit.held) s
 unfit P parts Lives s fit =
-    let free = all_of_map (λ o. IsTrue (has (text_of parts).live o || is_some (count_for (text_of parts).held o)) → ⊥) number_of parts.dead.items fit.apart s.0 s.1 s.2 in
+    let free = All-unmapped (λ o. IsTrue (has (text_of parts).live o || is_some (count_for (text_of parts).held o)) → ⊥) number_of parts.dead.items fit.apart s.0 s.1 s.2 in
     free (ap (λ o. has (text_of parts).live o.0 || is_some (count_for (text_of parts).held o.0)) s.3 ∙ (sym (live_same parts s.1.0) ∙ s.4))
-unfit P parts Span s fit = all_not_any (λ r. IsInside P (named_of r)) parts.range.items (all_of_map (IsInside P) named_of parts.range.items fit.ranges) s
+unfit P parts Span s fit = all_not_any (λ r. IsInside P (named_of r)) parts.range.items (All-unmapped (IsInside P) named_of parts.range.items fit.ranges) s

@@ -1,5 +1,5 @@
 -- What is written for a note means the note again.
-use Rattle.std.proofs.Common.{◌≡◌, ◌≢◌, ◌<◌, ◌≤◌, ◌≤ℤ◌, ◌+◌, ◌∙◌, ◌&&◌, ◌||◌, ℕ, zero, suc, ℤ, pos, negsuc, List, [], ◌∷◌, Bool, true, false, IsTrue, Option, Some, None, is_some, unwrap_or, Ordering, Less, Equal, Greater, nat_cmp, nat_eq, nat_le, cond, get_or, length, map, All, AllPairs, refl, sym, ap, subst, inl, inr, arith}
+use Rattle.std.proofs.Common.{◌≡◌, ◌≢◌, ◌<◌, ◌≤◌, ◌≤ℤ◌, ◌+◌, ◌∙◌, ◌||◌, ℕ, zero, suc, ℤ, pos, negsuc, List, [], ◌∷◌, Bool, true, false, IsTrue, Option, Some, None, is_some, unwrap_or, Ordering, Less, Equal, Greater, nat_cmp, nat_eq, nat_le, cond, get_or, length, map, All, AllPairs, refl, sym, ap, subst, inl, inr, arith}
 use Rattle.fr_cert.proofs.Terms.{tied_itself, slice_cmp, AllByRecursion, list_all, range_with_len, match_ordering, int_eq, false≢true, Decides-eqb, Decides-int_eq, leb_tells, nat_list_cmp_total}
 use Rattle.fr_cert.proofs.Terms.{get_or-map, length-map, All-head, All-tail, exact_bytes, same_Some, Data, number, unsigned, string, array, object, Items, no_items, item, Members, no_members, member}
 use Rattle.fr_cert.proofs.Terms.{put, of_integer, get_member, as_integer, get_member-put, get_member-put_other, Program, VariableOf, ObjectOf, no_variable, no_object, variable_at, IsFaultless, Kind}
@@ -8,6 +8,8 @@ use Rattle.fr_cert.proofs.Terms.{is_key_of, key_text, names_in, Key, Keyed, OrDe
 use Rattle.fr_cert.proofs.Terms.{IsInside, count_for, has, claim_at, range_at, IsPlainNote, IsNote, range_tree, is_declared, with_named, with_count, is_alive, is_gone, is_default, with_field}
 use Rattle.fr_cert.proofs.Terms.{note_tree, each_tree, version_of}
 use Rattle.std.proofs.lemmas.List.FromFn.{fill_by_all}
+use Rattle.std.proofs.lemmas.Bool.{and_parts, and_left, and_right, ne_eqb}
+use Rattle.std.proofs.lemmas.Option.{none-some}
 use Rattle.fr_cert.specs.Keys.{field}
 use Rattle.fr_cert.specs.declared.key.Key.TheVariants as key
 use Rattle.fr_cert.specs.declared.key.Keyed.TheVariants as place
@@ -27,9 +29,11 @@ span_again r order = (
   record { lo = integer_again r.0; hi = integer_again r.1; only = refl; order = order },
 )
 
-both_true : (a b : Bool) → (a && b) ≡ true → (a ≡ true) × (b ≡ true)
-both_true true b h = (refl, h)
-both_true false b h = absurd (false≢true h)
+at_zero : (k : ℕ) → k ≡ 0 + k
+at_zero k = omega arith
+
+at_suc : (i k : ℕ) → i + suc k ≡ suc i + k
+at_suc i k = omega arith
 
 whole_range : (lo hi : ℤ) (r : ℤ × ℤ) → lo ≡ r.0 → hi ≡ r.1 → (lo, hi) ≡ r
 whole_range lo hi r p q =
@@ -76,10 +80,7 @@ narrow_some : (v : VariableOf) (r a : ℤ × ℤ) → narrow v r ≡ Some a → 
 narrow_some v r a h = go (is_declared v r) h
   where
     go : (b : Bool) → cond b None (Some r) ≡ Some a → r ≡ a
-    go true e = absurd (none_some e)
-      where
-        none_some : None ≡ Some a → ⊥
-        none_some g = cc
+    go true e = absurd (none-some a e)
     go false e = same_Some r a e
 
 narrow_back : (v : VariableOf) (r : ℤ × ℤ) → unwrap_or (narrow v r) (v.lo, v.hi) ≡ r
@@ -87,7 +88,7 @@ narrow_back v r = go (is_declared v r) refl
   where
     go : (b : Bool) → is_declared v r ≡ b → unwrap_or (cond b None (Some r)) (v.lo, v.hi) ≡ r
     go true e =
-        let ends = both_true (int_eq v.lo r.0) (int_eq v.hi r.1) e in
+        let ends = and_parts (int_eq v.lo r.0) (int_eq v.hi r.1) e in
         whole_range v.lo v.hi r ((Decides-int_eq v.lo r.0).0 ends.0) ((Decides-int_eq v.hi r.1).0 ends.1)
     go false e = refl
 
@@ -118,9 +119,6 @@ ranges_back P n faultless fits =
           ap (λ o. unwrap_or o ((variable_at P k).lo, (variable_at P k).hi)) found ∙ narrow_back (variable_at P k) (get_or n.ranges k (pos 0, pos 0));
     }
   where
-    at_zero : (k : ℕ) → k ≡ 0 + k
-    at_zero k = omega arith
-
     fit : (k : ℕ) (a : ℤ × ℤ) → k < length P.variables → narrow (variable_at P k) (get_or n.ranges k (pos 0, pos 0)) ≡ Some a → IsSpan (range_tree a) a × IsInside P (0 + k, a)
     fit k a within is =
         let same : get_or n.ranges k (pos 0, pos 0) ≡ a = narrow_some (variable_at P k) (get_or n.ranges k (pos 0, pos 0)) a is in
@@ -155,18 +153,9 @@ counts_put (o ∷ os) (c ∷ cs) ms = counts_put os cs (with_count o c ms) ∙ a
 
 count_some : (c : Claim) (a : ℕ) → count_of c ≡ Some a → c ≡ HeldTimes a
 count_some (HeldTimes count) a h = ap HeldTimes (same_Some count a h)
-count_some NotHeld a h = absurd (none_some h)
-  where
-    none_some : None ≡ Some a → ⊥
-    none_some g = cc
-count_some Alive a h = absurd (none_some h)
-  where
-    none_some : None ≡ Some a → ⊥
-    none_some g = cc
-count_some Gone a h = absurd (none_some h)
-  where
-    none_some : None ≡ Some a → ⊥
-    none_some g = cc
+count_some NotHeld a h = absurd (none-some a h)
+count_some Alive a h = absurd (none-some a h)
+count_some Gone a h = absurd (none-some a h)
 
 count_small : (kind : Kind) (a : ℕ) → CanClaim kind (HeldTimes a) → a ≤ most_depth
 count_small Mutex a h = omega (arith, h)
@@ -201,9 +190,6 @@ counts_back P n faultless fits =
       back = λ k within. ap (given all.ys) (at_zero k) ∙ (all.all k (omega (arith, within, length-map n.claims count_of, fits.claims.0)) ∙ count_at k within);
     }
   where
-    at_zero : (k : ℕ) → k ≡ 0 + k
-    at_zero k = omega arith
-
     count_at : (k : ℕ) → k < length P.objects → get_or (map count_of n.claims) k None ≡ count_of (get_or n.claims k NotHeld)
     count_at k within = get_or-map count_of n.claims k NotHeld None (omega (arith, within, fits.claims.0))
 
@@ -226,11 +212,8 @@ names_again names test [] [] i size places = tt
 names_again names test [] (c ∷ cs) i size places = absurd (omega (arith, size))
 names_again names test (o ∷ os) [] i size places = absurd (omega (arith, size))
 names_again names test (o ∷ os) (c ∷ cs) i size places =
-    go (test c) (names_again names test os cs (suc i) (omega (arith, size)) (λ k within. subst (λ n. place_of names (get_or os k no_object).name ≡ Some n) (at_suc k) (places (suc k) (omega (arith, within)))))
+    go (test c) (names_again names test os cs (suc i) (omega (arith, size)) (λ k within. subst (λ n. place_of names (get_or os k no_object).name ≡ Some n) (at_suc i k) (places (suc k) (omega (arith, within)))))
   where
-    at_suc : (k : ℕ) → i + suc k ≡ suc i + k
-    at_suc k = omega arith
-
     here : place_of names o.name ≡ Some i
     here = subst (λ n. place_of names o.name ≡ Some n) (omega arith) (places 0 (omega arith))
 
@@ -282,27 +265,17 @@ numbers_have test i zero (c ∷ cs) within = go (test c)
     go : (b : Bool) → has (cond b (i ∷ numbers test (suc i) cs) (numbers test (suc i) cs)) (i + 0) ≡ b
     go true = ap (λ b. b || has (numbers test (suc i) cs) (i + 0)) ((Decides-eqb i (i + 0)).1 (omega arith))
     go false = none_below (numbers test (suc i) cs) (suc i) (i + 0) (numbers_rise test (suc i) cs) (omega arith)
-numbers_have test i (suc k) (c ∷ cs) within = go (test c) (ap (has (numbers test (suc i) cs)) at_suc ∙ numbers_have test (suc i) k cs (omega (arith, within)))
+numbers_have test i (suc k) (c ∷ cs) within = go (test c) (ap (has (numbers test (suc i) cs)) (at_suc i k) ∙ numbers_have test (suc i) k cs (omega (arith, within)))
   where
-    at_suc : i + suc k ≡ suc i + k
-    at_suc = omega arith
-
-    differ : (b : Bool) → nat_eq i (i + suc k) ≡ b → nat_eq i (i + suc k) ≡ false
-    differ true e = let same = (Decides-eqb i (i + suc k)).0 e in absurd (omega (arith, same))
-    differ false e = e
-
     go : (b : Bool) → has (numbers test (suc i) cs) (i + suc k) ≡ test (get_or cs k NotHeld) → has (cond b (i ∷ numbers test (suc i) cs) (numbers test (suc i) cs)) (i + suc k) ≡ test (get_or cs k NotHeld)
-    go true rest = ap (λ b. b || has (numbers test (suc i) cs) (i + suc k)) (differ (nat_eq i (i + suc k)) refl) ∙ rest
+    go true rest = ap (λ b. b || has (numbers test (suc i) cs) (i + suc k)) (ne_eqb i (i + suc k) (λ same. omega (arith, same))) ∙ rest
     go false rest = rest
 
 -- what holds of each object whose claim passes holds of each number
 numbers_each : (Q : ℕ → Type 0) (test : Claim → Bool) (i : ℕ) (cs : List Claim) → ((k : ℕ) → k < length cs → test (get_or cs k NotHeld) ≡ true → Q (i + k)) → AllByRecursion Q (numbers test i cs)
 numbers_each Q test i [] h = tt
-numbers_each Q test i (c ∷ cs) h = go (test c) refl (numbers_each Q test (suc i) cs (λ k within is. subst Q (at_suc k) (h (suc k) (omega (arith, within)) is)))
+numbers_each Q test i (c ∷ cs) h = go (test c) refl (numbers_each Q test (suc i) cs (λ k within is. subst Q (at_suc i k) (h (suc k) (omega (arith, within)) is)))
   where
-    at_suc : (k : ℕ) → i + suc k ≡ suc i + k
-    at_suc k = omega arith
-
     go : (b : Bool) → test c ≡ b → AllByRecursion Q (numbers test (suc i) cs) → AllByRecursion Q (cond b (i ∷ numbers test (suc i) cs) (numbers test (suc i) cs))
     go true is rest = (subst Q (omega arith) (h 0 (omega arith) is), rest)
     go false is rest = rest
@@ -312,9 +285,6 @@ lists_names P n test faultless fits = (
   names_again (names_in P).objects test P.objects n.claims 0 fits.claims.0 (λ k within. object_place P k faultless within ∙ ap Some (at_zero k)),
   rising_apart (numbers test 0 n.claims) 0 (numbers_rise test 0 n.claims),
 )
-  where
-    at_zero : (k : ℕ) → k ≡ 0 + k
-    at_zero k = omega arith
 
 -- ---- claims from their parts
 
@@ -492,9 +462,6 @@ alternative_again P n faultless fits =
         made_same n.critical n.suspended n.claims _ n.ranges _ claims spans,
       ),
     )
-  where
-    at_zero : (k : ℕ) → k ≡ 0 + k
-    at_zero k = omega arith
 
 -- ---- notes
 
@@ -521,16 +488,9 @@ note_again P version (n ∷ m ∷ more) faultless fits two =
 each_again : (P : Program) (version : ℕ) (notes : List Note) → IsFaultless P → All (λ note. NoteFits P note) notes → (list_all is_short notes ≡ false → version ≡ 2) → EachEntry (IsNote P version) (each_tree (note_tree P) notes) notes
 each_again P version [] faultless fits two = tt
 each_again P version (note ∷ notes) faultless fits two = (
-  note_again P version note faultless (All-head (λ m. NoteFits P m) note notes fits) (λ long. two (first (is_short note) (list_all is_short notes) long)),
-  each_again P version notes faultless (All-tail (λ m. NoteFits P m) note notes fits) (λ long. two (second (is_short note) (list_all is_short notes) long)),
+  note_again P version note faultless (All-head (λ m. NoteFits P m) note notes fits) (λ long. two (and_left (is_short note) (list_all is_short notes) long)),
+  each_again P version notes faultless (All-tail (λ m. NoteFits P m) note notes fits) (λ long. two (and_right (is_short note) (list_all is_short notes) long)),
 )
-  where
-    first : (a b : Bool) → a ≡ false → (a && b) ≡ false
-    first a b h = rw h refl
-
-    second : (a b : Bool) → b ≡ false → (a && b) ≡ false
-    second true b h = h
-    second false b h = refl
 
 pub notes_again : (P : Program) (notes : List Note) → IsFaultless P → All (λ note. NoteFits P note) notes → EachEntry (IsNote P (version_of notes)) (each_tree (note_tree P) notes) notes
 notes_again P notes faultless fits = each_again P (version_of notes) notes faultless fits (λ long. rw long refl)

@@ -1,5 +1,5 @@
 -- Notes that are read, each of them once for many entries.
-use Rattle.std.proofs.Common.{◌≡◌, ◌<◌, ◌+◌, ℕ, List, [], ◌∷◌, ◌++◌, Some, Any, All, length, get_or, map, refl, sym, ap, ◌∙◌, subst, arith}
+use Rattle.std.proofs.Common.{◌≡◌, ◌<◌, ◌+◌, ℕ, List, [], ◌∷◌, ◌++◌, Some, Any, All, length, get_or, refl, sym, ap, ◌∙◌, subst, arith}
 use Rattle.fr_cert.proofs.Terms.{get_or_append_left, get_or_push, length_push, length-map, map_push, All-nil, All-head, All-tail, All-map, All-push, All-weaker, get_item, items_view, view, Value}
 use Rattle.fr_cert.proofs.Terms.{items_len-items_view, Program, NoteFits, Note, EachEntry, IsNote, IsReadAt, AreRemembered, AreRead}
 use Rattle.fr_notes.specs.Places.{ArePlaces, notes_at}

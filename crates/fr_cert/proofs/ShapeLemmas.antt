@@ -1,10 +1,11 @@
 -- What is written has no float, and nests six deep at the most, so that its text is read again.
-use Rattle.std.proofs.Common.{◌≡◌, ◌≤◌, ◌||◌, ℕ, suc, max, ℤ, pos, negsuc, List, [], ◌∷◌, Bool, true, false, cond, Less, Equal, Greater, nat_cmp, codes, refl, sym, arith}
-use Rattle.fr_cert.proofs.Terms.{slice_cmp, match_ordering, false≢true, Data, number, unsigned, string, array, object, Items, no_items, item, Members, no_members, member, put, depth, items_depth}
+use Rattle.std.proofs.Common.{◌≡◌, ◌≤◌, ℕ, suc, max, ℤ, pos, negsuc, List, [], ◌∷◌, Bool, true, false, cond, Less, Equal, Greater, nat_cmp, codes, refl, arith}
+use Rattle.fr_cert.proofs.Terms.{slice_cmp, match_ordering, Data, number, unsigned, string, array, object, Items, no_items, item, Members, no_members, member, put, depth, items_depth}
 use Rattle.fr_cert.proofs.Terms.{members_depth, of_integer, max_depth, has_float, items_have_float, members_have_float, Program, VariableOf, ObjectOf, actor_at, object_at, variable_at, end_text}
 use Rattle.fr_cert.proofs.Terms.{Claim, NotHeld, Alive, Gone, HeldTimes, Alternative, Note, Guard, Sole, ByMutex, InCritical, Turn, EndGuard, Certificate, key_text, Key, range_tree, is_declared}
 use Rattle.fr_cert.proofs.Terms.{with_named, with_count, is_alive, is_gone, is_default, with_field, each_tree, note_tree, guard_tree, end_tree, version_of}
 use Rattle.std.proofs.Math.Nat.{max-le, le-max_left, le-max_right}
+use Rattle.std.proofs.lemmas.Bool.{or_parts, or_from}
 use Rattle.fr_cert.specs.declared.key.Key.TheVariants as key
 use Rattle.fr_cert.specs.Written.{with_each, names_where, alternative_tree, with_values, cert_tree}
 
@@ -21,13 +22,6 @@ record ItemsPlain (b : ℕ) (ds : Items) : Type 0 where
   floats : items_have_float ds ≡ false
   deep : items_depth ds ≤ b
 
-both_false : (a b : Bool) → (a || b) ≡ false → (a ≡ false) × (b ≡ false)
-both_false true b h = absurd (false≢true (sym h))
-both_false false b h = (refl, h)
-
-either : (a b : Bool) → a ≡ false → b ≡ false → (a || b) ≡ false
-either a b p q = rw (p, q) refl
-
 left_most : (x y b : ℕ) → max x y ≤ b → x ≤ b
 left_most x y b h = omega (arith, h, le-max_left x y)
 
@@ -37,10 +31,10 @@ right_most x y b h = omega (arith, h, le-max_right x y)
 -- ---- one member, one entry more
 
 plain_member : (b : ℕ) (k : List ℕ) (d : Data) (ms : Members) → IsPlain b d → ArePlain b ms → ArePlain b (member k d ms)
-plain_member b k d ms p q = record { floats = either (has_float d) (members_have_float ms) p.floats q.floats; deep = max-le p.deep q.deep }
+plain_member b k d ms p q = record { floats = or_from (has_float d) (members_have_float ms) p.floats q.floats; deep = max-le p.deep q.deep }
 
 plain_item : (b : ℕ) (d : Data) (ds : Items) → IsPlain b d → ItemsPlain b ds → ItemsPlain b (item d ds)
-plain_item b d ds p q = record { floats = either (has_float d) (items_have_float ds) p.floats q.floats; deep = max-le p.deep q.deep }
+plain_item b d ds p q = record { floats = or_from (has_float d) (items_have_float ds) p.floats q.floats; deep = max-le p.deep q.deep }
 
 no_more : (b : ℕ) → ArePlain b no_members
 no_more b = record { floats = refl; deep = omega arith }
@@ -67,7 +61,7 @@ plain_integer b (negsuc n) = record { floats = refl; deep = omega arith }
 plain_put : (b : ℕ) (k : List ℕ) (d : Data) (ms : Members) → IsPlain b d → ArePlain b ms → ArePlain b (put k d ms)
 plain_put b k d no_members p q = plain_member b k d no_members p q
 plain_put b k d (member l e ms) p q =
-    let floats = both_false (has_float e) (members_have_float ms) q.floats in
+    let floats = or_parts (has_float e) (members_have_float ms) q.floats in
     let first : IsPlain b e = record { floats = floats.0; deep = left_most (depth e) (members_depth ms) b q.deep } in
     let rest : ArePlain b ms = record { floats = floats.1; deep = right_most (depth e) (members_depth ms) b q.deep } in
     elim (slice_cmp nat_cmp k l) as (λ o. ArePlain b (match_ordering o (member k d (member l e ms)) (member l d ms) (member l e (put k d ms)))) [

@@ -3,7 +3,7 @@ pub use Rattle.std.specs.List.{AllByRecursion, position_or_len, range_with_len, 
 pub use Rattle.std.proofs.lemmas.Bool.{cases_lt, false≢true, le-leb, lt-leb}
 pub use Rattle.std.proofs.lemmas.Bool.Decides.{Decides-eqb, Decides-ltb, Decides-int_eq, leb_tells}
 pub use Rattle.std.proofs.lemmas.List.Elements.{All-head, All-tail, All-cons, All-nil, All-map, All-push, All-weaker}
-pub use Rattle.std.proofs.lemmas.List.{map-id, take_more, get_or-take, length-take-le, get_or_default, get_or-map, length-map, get_or_append_left, get_or-append-add, length-append, get_or_push}
+pub use Rattle.std.proofs.lemmas.List.{map-id, take_more, get_or-take, length-take-le, get_or_default, get_or-map, length-map, get_or_append_left, get_or_push}
 pub use Rattle.std.proofs.lemmas.List.{length_push, map_push, drop_all, nil_from_length, take_all}
 pub use Rattle.std.proofs.lemmas.Int.{ints}
 pub use Rattle.std.specs.Cmp.Lexicographic.{slice_cmp}

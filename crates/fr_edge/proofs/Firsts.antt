@@ -1,8 +1,9 @@
 -- The first own obligation that fails, from what is known of each alternative and each row.
-use Rattle.std.proofs.Common.{◌≡◌, ℕ, zero, suc, ◌<◌, List, [], ◌∷◌, length, Option, Some, None, sym, ap, ◌∙◌, subst, arith}
-use Rattle.std.specs.Prelude.{All, Contains, slice_get}
+use Rattle.std.proofs.Common.{◌≡◌, ℕ, ◌<◌, List, length, Option, Some, None, sym, ap, ◌∙◌, subst, arith}
+use Rattle.std.specs.Prelude.{Contains, slice_get}
+use Rattle.std.proofs.lemmas.Option.{slice_get_within}
 use Rattle.fr_edge.proofs.Terms.{same_Some, Instr, Point, Program, actor_at, instr_at, no_actor, IsPoint, points_of, point_number, IsFaultless, Place, At, Done, Rule, Alternative, Note, note_at}
-use Rattle.fr_edge.proofs.Terms.{AlternativeFits, NotesFit, KeepsRule, Goes, KeepsRuleBy, BreaksRuleBy, IsAmong, NoteOutcome, GoesOutcome, actor-there}
+use Rattle.fr_edge.proofs.Terms.{KeepsRule, Goes, KeepsRuleBy, BreaksRuleBy, IsAmong, NoteOutcome, GoesOutcome, actor-there}
 use Rattle.fr_program.specs.PointNumbers.{PointsAreNumbered}
 use Rattle.fr_program.specs.declared.ids.ActorId.{ActorId}
 use Rattle.fr_calls.specs.declared.way.Landing.TheVariants.{At as LandsAt}
@@ -10,15 +11,10 @@ use Rattle.fr_calls.specs.Landing.{landing_of}
 use Rattle.fr_edge.specs.declared.failure.Own.{Own}
 use Rattle.fr_edge.specs.FirstOwn.{KeepsRules, IsLeastRule, IsFirstOwn}
 
-below-get : {A : Type 0} (xs : List A) (k : ℕ) (x : A) → slice_get xs k ≡ Some x → k < length xs
-below-get [] k x e = cc
-below-get (y ∷ xs) zero x e = omega arith
-below-get (y ∷ xs) (suc k) x e = let r = below-get xs k x e in omega arith
-
 -- code is short
 pub pc-small : (P : Program) (a pc : ℕ) (i : Instr) → IsFaultless P → instr_at P a pc ≡ Some i → pc < 512
 pc-small P a pc i free e =
-    let l = below-get (actor_at P a).code pc i e in
+    let l = slice_get_within (actor_at P a).code pc i e in
     let s = free.small.code a no_actor (actor-there P a pc i e) in omega arith
 
 -- the first own obligation is the same of what is equal
@@ -50,7 +46,7 @@ module _ (P : Program) (notes : List Note) (p : Point) (note : Note) (is_note : 
       (listed.0, subst (λ q. Goes P notes p q → ⊥) same o.3, λ other at lt. o.4 other at (omega (arith, lt, listed.1)))
 
   pub missed-below : (k : ℕ) → PointsAreNumbered P → GoesOutcome P notes p (Some k) → k < length (points_of P)
-  missed-below k numbered o = let l = below-get (points_of P) (point_number P o.0) o.0 (numbered.at o.0 o.1) in omega (arith, o.2)
+  missed-below k numbered o = let l = slice_get_within (points_of P) (point_number P o.0) o.0 (numbered.at o.0 o.1) in omega (arith, o.2)
 
 -- where the code lands
 pub landed : (a : ActorId) (place : Place) (target : Point) → LandsAt target ≡ landing_of a place → (target.actor ≡ a) × (place ≡ At target.pc target.side)

@@ -4,6 +4,5 @@ pub mod Spans
 pub mod RuleLaws
 pub mod Lists
 pub mod StartLaws
-pub mod Landings
 pub mod Targets
 pub mod Firsts

@@ -1,19 +1,8 @@
 -- The first alternatives of a note, one more at a time.
-use Rattle.std.proofs.Common.{◌≡◌, ℕ, zero, suc, ◌+◌, ◌<◌, List, [], ◌∷◌, length, get_or, Option, Some, None, refl, sym, ap, ◌∙◌, subst, arith, ⊎_elim, Bool, true, false}
-use Rattle.fr_edge.proofs.Terms.{cases_lt, leb-true, leb-false, Point, Program, Rule, number_of, AlternativeFits, Alternative, Note, KeepsRuleBy, RuleOutcome, AnyRule, IsAmong, NoteOutcome, lesser_of}
+use Rattle.std.proofs.Common.{◌≡◌, ℕ, ◌+◌, ◌<◌, length, get_or, Option, Some, None, refl, sym, ap, subst, arith, Bool, true, false}
+use Rattle.fr_edge.proofs.Terms.{leb-true, leb-false, Point, Program, Rule, number_of, AlternativeFits, Alternative, Note, KeepsRuleBy, RuleOutcome, AnyRule, IsAmong, NoteOutcome, lesser_of}
 use Rattle.std.specs.Prelude.{All, Contains, nat_le, if◌then◌else◌}
-
--- an element of a list doesn't depend on what stands for one past its end
-pub same-element : {A : Type 0} (xs : List A) (k : ℕ) (d e : A) → k < length xs → get_or xs k d ≡ get_or xs k e
-same-element [] k d e l = absurd (omega arith)
-same-element (x ∷ xs) zero d e l = refl
-same-element (x ∷ xs) (suc k) d e l = same-element xs k d e (omega arith)
-
--- one of the first k + 1 is one of the first k, or the one at k
-pub among-case : (Q : Type 0) (note : Note) (k : ℕ) (x n : Alternative) → k < length note → x ≡ get_or note k x → IsAmong note (k + 1) n → (IsAmong note k n → Q) → (x ≡ n → Q) → Q
-among-case Q note k x n l e m old here =
-    ⊎_elim (λ lt. old (m.0, lt, m.2)) (λ ge. let s : m.0 ≡ k = (let lt = m.1 in omega arith) in
-    here (e ∙ same-element note k x n l ∙ subst (λ j. get_or note j n ≡ n) s m.2)) (cases_lt m.0 k)
+use Rattle.fr_notes.proofs.AlternativesLemmas.{among-case}
 
 pub among-more : (note : Note) (k : ℕ) (n : Alternative) → IsAmong note k n → IsAmong note (k + 1) n
 among-more note k n m = (m.0, (let lt = m.1 in omega arith), m.2)

@@ -1,6 +1,7 @@
 -- The start of an application, and what an alternative says of it.
 use Rattle.std.proofs.Common.{◌≡◌, ℕ, zero, suc, ◌<◌, ◌≤◌, List, [], ◌∷◌, length, get_or, map, Bool, true, false, refl, sym, ap, ◌∙◌, subst, arith, ⊎_elim}
 use Rattle.std.specs.Prelude.{pos, slice_index_or, IsTrue, if◌then◌else◌}
+use Rattle.std.proofs.lemmas.List.{get_or_default}
 use Rattle.fr_edge.proofs.Terms.{ints, get_or-map, get_or_past, length-map, cases_lt, false≢true, Range, Program, VariableOf, ObjectOf, Kind, variable_at, object_at, no_variable, no_object, Dead}
 use Rattle.fr_edge.proofs.Terms.{start, first_content, new_content, content_of, value_of, Alternative, Meets, Within, HoldsOne, claim_of, range_of, AlternativeFits, new-live, new-not_held, new-unheld}
 use Rattle.fr_edge.proofs.Terms.{BeginsWithin, BeginsAs, begins_as}
@@ -10,7 +11,6 @@ use Rattle.fr_program.specs.View.{variable_of, object_of}
 use Rattle.fr_notes.specs.View.{ends_of}
 use Rattle.fr_notes.specs.declared.claim.Claim.{Claim}
 use Rattle.fr_notes.specs.declared.claim.Claim.TheVariants.{NotHeld, Alive, Gone, HeldTimes}
-use Rattle.fr_edge.proofs.Lists.{same-element}
 
 module _ (rs : List Range) (vs : List Variable) (x : ℕ) (r : Range) (v : Variable) (l : x < length vs) (same : length rs ≡ length vs) (is : r ≡ get_or rs x r) (be : v ≡ get_or vs x v) where
   range-is : slice_index_or (map ends_of rs) x (pos 0, pos 0) ≡ ends_of r
@@ -30,7 +30,7 @@ module _ (cs : List Claim) (os : List Object) (o : ℕ) (d : Claim) (object : Ob
   object-is = get_or-map object_of os o object no_object l ∙ ap (λ z. object_of z) (sym be)
 
   as-is : begins_as (slice_index_or cs o NotHeld) (slice_index_or (map object_of os) o no_object).live ≡ begins_as (get_or cs o d) object.live
-  as-is = ap (λ c. begins_as c (slice_index_or (map object_of os) o no_object).live) (same-element cs o NotHeld d (omega arith)) ∙ ap (λ z. begins_as (get_or cs o d) z.live) object-is
+  as-is = ap (λ c. begins_as c (slice_index_or (map object_of os) o no_object).live) (get_or_default cs o NotHeld d (omega arith)) ∙ ap (λ z. begins_as (get_or cs o d) z.live) object-is
 
   pub claim-made : IsTrue (begins_as (get_or cs o d) object.live) → BeginsAs cs os o
   claim-made h = as-is ∙ h

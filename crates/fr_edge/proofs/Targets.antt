@@ -5,13 +5,17 @@ use Rattle.std.specs.Prelude.{ℤ, ◌↔◌, All, Contains}
 use Rattle.fr_edge.proofs.Terms.{cases_lt, Instr, Point, Program, instr_of, IsPoint, Way, Then, Else, State, At, place_of, StepBy, landing, CanStep, AlwaysLeaves, AlternativeFits, alone, Keeps}
 use Rattle.fr_edge.proofs.Terms.{IsLeft, Alternative, Note, HoldsOne, note_at, IsAt, NotedBy, Goes, GoesBy, GoesWell, WayOutcome, GoesOutcome}
 use Rattle.fr_notes.specs.declared.change.Change.{Change}
-use Rattle.fr_edge.proofs.Landings.{lands}
+use Rattle.fr_calls.proofs.Places.{own-place}
 use Rattle.fr_edge.proofs.Lists.{contained}
 
-module _ (P : Program) (notes : List Note) (p : Point) (i : Instr) (way : Way) (point : IsPoint P p) (is : instr_of P p ≡ Some i) where
+-- a step of the point's actor from a state in which it stands there lands where the table says
+lands : (P : Program) (p : Point) (i : Instr) (way : Way) → instr_of P p ≡ Some i → (n : Alternative) (S : State) (c : ℤ) (T : State) → NotedBy P p n S → StepBy P way S p.actor.0 c T → place_of T p.actor.0 ≡ landing p.pc p.side i way
+lands P p i way is n S c T noted t = own-place P S p.actor.0 p.pc p.side i way c T noted.at is t
+
+module _ (P : Program) (notes : List Note) (p : Point) (i : Instr) (way : Way) (is : instr_of P p ≡ Some i) where
   at-landing : (n : Alternative) (S : State) (c : ℤ) (T : State) (t : Point) → NotedBy P p n S → StepBy P way S p.actor.0 c T → IsAt T t → t.actor ≡ p.actor → landing p.pc p.side i way ≡ At t.pc t.side
   at-landing n S c T t noted step at same =
-      sym (lands P p i way point is n S c T noted step) ∙ ap (λ a. place_of T a) (sym (ap (λ a. a.0) same)) ∙ at
+      sym (lands P p i way is n S c T noted step) ∙ ap (λ a. place_of T a) (sym (ap (λ a. a.0) same)) ∙ at
 
   module _ (target : Point) (actor : target.actor ≡ p.actor) (to : landing p.pc p.side i way ≡ At target.pc target.side) where
     is-target : (n : Alternative) (S : State) (c : ℤ) (T : State) (t : Point) → NotedBy P p n S → StepBy P way S p.actor.0 c T → IsAt T t → t.actor ≡ p.actor → t ≡ target
@@ -23,7 +27,7 @@ module _ (P : Program) (notes : List Note) (p : Point) (i : Instr) (way : Way) (
         ap (λ a. record { actor = a; pc = t.pc; side = t.side }) one ∙ ap (λ k. record { actor = target.actor; pc = k; side = t.side }) pc ∙ ap (λ s. record { actor = target.actor; pc = target.pc; side = s }) side
 
     arrives : (n : Alternative) (S : State) (c : ℤ) (T : State) → NotedBy P p n S → StepBy P way S p.actor.0 c T → IsAt T target
-    arrives n S c T noted step = ap (λ a. place_of T a.0) actor ∙ lands P p i way point is n S c T noted step ∙ to
+    arrives n S c T noted step = ap (λ a. place_of T a.0) actor ∙ lands P p i way is n S c T noted step ∙ to
 
     pub no-target : (IsPoint P target → ⊥) → WayOutcome P notes p way None
     no-target none = λ t at_t same n k h.

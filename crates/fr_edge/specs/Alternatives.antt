@@ -11,14 +11,13 @@
 -- | gives_unheld, uses_dead,         | whether rule 3, 7, 8 is breached in some state, by what is known            |
 -- |   creates_live                   |                                                                             |
 -- | StaysIn, IsOutBy                 | numbers are put into their declared ranges; some number out of it           |
--- | IsAmong                          | an alternative is one of the first of a note                                |
 -- | NoteOutcome                      | the least rule that one of these alternatives breaks, or none               |
 -- | lesser_of                        | the rule with the lesser number, where there are two                        |
 -- | GoesBy                           | the part `Goes`, for steps by one row                                       |
 -- | WayOutcome                       | the point to which steps by one row lead without keeping its note, or none  |
 -- | GoesOutcome                      | the least such point of both rows, or none                                  |
 -- | GoesWell                         | where an alternative has a step by a row, one of the next note is left      |
-use Rattle.std.specs.Prelude.{◌≡◌, ◌<◌, ◌≤ℤ◌, ◌<ℤ◌, ◌⊎◌, ℕ, ℤ, List, Option, None, Some, Bool, true, false, slice_index_or, IsTrue, IsFalse, Contains, nat_le, if◌then◌else◌}
+use Rattle.std.specs.Prelude.{◌≡◌, ◌<◌, ◌≤ℤ◌, ◌<ℤ◌, ◌⊎◌, ℕ, ℤ, List, Option, None, Some, Bool, true, false, IsTrue, IsFalse, Contains, nat_le, if◌then◌else◌}
 use Rattle.fr_program.specs.declared.instr.Instr.{Instr}
 use Rattle.fr_program.specs.declared.instr.Instr.TheVariants.{Set, Call as Calls}
 use Rattle.fr_program.specs.declared.instr.Call.TheVariants.{Create, On}
@@ -47,6 +46,7 @@ use Rattle.fr_notes.specs.Implication.{IsPart}
 use Rattle.fr_notes.specs.Reckoning.{CanBeIn, operand_in}
 use Rattle.fr_notes.specs.declared.holding.Holding.{Holding}
 use Rattle.fr_notes.specs.declared.holding.Holding.TheVariants.{Lifeless}
+use Rattle.fr_notes.specs.Alternatives.{IsAmong}
 use Rattle.fr_edge.specs.Own.{is_own, Goes}
 
 -- no state with the alternative breaches the rule, if that is one for the point to keep by itself
@@ -142,10 +142,6 @@ IsOutBy P k Before (Set x l op r) =
     (u : ℤ) × (v : ℤ) × CanBeIn (joint_range k) l u × CanBeIn (joint_range k) r v × IsOutside (variable_at P x.0).lo (variable_at P x.0).hi (result_of op u v)
 IsOutBy P k Inside (Calls (On call)) = SendsOutBy k call.act (kind_of P call.object.0)
 IsOutBy P k side i = ⊥
-
--- the alternative is one of so many first ones
-abbrev pub IsAmong : Note → ℕ → Alternative → Type 0
-IsAmong note bound n = (k : ℕ) × (k < bound) × (slice_index_or note k n ≡ n)
 
 -- each of so many first alternatives keeps every rule, or one of them breaks this one, and all keep those with lesser
 -- numbers

@@ -35,12 +35,7 @@ others-unheld b (Lengths ls) h = refl
 
 others-live : (b : ℕ) (content : Content) → IsOthers b content → content ≢ Dead
 others-live b Dead h e = h
-others-live b (Held holder n) h e = cc
-others-live b (Values vs) h e = cc
-others-live b (Count n) h e = cc
-others-live b Free h e = cc
-others-live b (Bytes n) h e = cc
-others-live b (Lengths ls) h e = cc
+others-live b content h e = cc
 
 others-apart : (b : ℕ) (content : Content) (n : ℕ) → IsOthers b content → content ≡ Held b n → ⊥
 others-apart b content n h e = let k : IsOthers b (Held b n) = subst (λ c. IsOthers b c) e h in k refl
@@ -54,12 +49,7 @@ others-alike b old new o (HeldTimes n) m = absurd (others-apart b old n o.0 m)
 
 new-others : (b : ℕ) (kind : Kind) → IsOthers b (new_content kind)
 new-others b (Queue size lo hi) = tt
-new-others b Binary = tt
-new-others b (Counting size first) = tt
-new-others b Mutex = tt
-new-others b Recursive = tt
-new-others b (Stream size) = tt
-new-others b (Message size) = tt
+new-others b kind = tt
 
 module _ (a b : ℕ) (ne : b ≢ a) where
   taken-others : (kind : Kind) (content new : Content) → taken kind a content ≡ Some new → IsOthers b content × IsOthers b new

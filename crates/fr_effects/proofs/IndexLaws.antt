@@ -1,6 +1,7 @@
 -- The lists of the index: empty at first, then one point more at a time.
 use Rattle.std.proofs.Common.{◌≡◌, ℕ, zero, suc, ◌+◌, ◌<◌, List, [], ◌∷◌, ◌++◌, length, get_or, Some, None, true, false, refl, sym, ap, ◌∙◌, subst, arith, ⊎_elim, inl, inr}
 use Rattle.std.specs.Prelude.{◌⊎◌, ◌↔◌, ◌≤◌, ◌<ℤ◌, ◌≤ℤ◌, ℤ, pos, not, Bool, Option, Contains, AllPairs, All, IsTrue, map, replicate, slice_get, set}
+use Rattle.std.proofs.lemmas.Option.{slice_get_within}
 use Rattle.fr_effects.proofs.Terms.{range_with_len, cases_lt, cases_eq, ints, by_lt_z, same_Some, length_push, length-map, length-replicate, length-set, map-set, set_past, get_or_past, get_or_push}
 use Rattle.fr_effects.proofs.Terms.{get_or_append_left, get_or-map, get_or-replicate, get_or-set_same, get_or-set_other, get_or_default, length-map-range_with_len, get_or-map-range_with_len}
 use Rattle.fr_effects.proofs.Terms.{Contains-get_or, Contains-push, Contains-push_cases, Contains-append_left, Point, VarId, Operand, Number, Variable, Operator, Range, Program, IsPoint, no_variable}
@@ -8,7 +9,6 @@ use Rattle.fr_effects.proofs.Terms.{variable_at, points_of, point_number, Points
 use Rattle.fr_effects.proofs.Terms.{Sets, effect_at, target_of, made_of, declared_of, CanLeave, Lists, IsIndexBelow, IndexOf, list_at, enlisted}
 use Rattle.fr_notes.specs.declared.note.NoteParts.{NoteParts}
 use Rattle.fr_notes.specs.Parts.{said, range_said}
-use Rattle.fr_effects.proofs.Lists.{get-below}
 
 module _ (P : Program) (IsSuch : Effect → Type 0) where
   -- before the first point
@@ -262,7 +262,7 @@ pub listed-point : (P : Program) (IsSuch : Effect → Type 0) (items : List ℕ)
     (q : Point) → IsPoint P q → IsSuch (effect_at P q) → Contains items (point_number P q)
 listed-point P IsSuch items numbered lists q at such =
     let here = numbered.at q at in
-    (lists.exact (point_number P q)).1 (get-below (points_of P) (point_number P q) q here, (q, here, such))
+    (lists.exact (point_number P q)).1 (slice_get_within (points_of P) (point_number P q) q here, (q, here, such))
 
 -- a number is in a list or isn't
 pub in-list : (items : List ℕ) (n : ℕ) → Contains items n ⊎ (Contains items n → ⊥)

@@ -58,11 +58,12 @@ pub use Rattle.fr_program.specs.declared.instr.BufferKind.{BufferKind}
 pub use Rattle.fr_program.specs.declared.instr.BufferKind.TheVariants.{Stream as OfStream, Message as OfMessage}
 pub use Rattle.fr_calls.proofs.Contents.{set_case}
 pub use Rattle.fr_notes.specs.declared.claim.Claim.{Claim}
+pub use Rattle.fr_notes.specs.Alternatives.{IsAmong}
 pub use Rattle.fr_notes.proofs.Shown.{depth_for-other, held_at-other}
 pub use Rattle.fr_program.specs.View.{variable_of, object_of}
 pub use Rattle.fr_effects.specs.declared.effects.Effect.{Effect}
 pub use Rattle.fr_effects.specs.declared.effects.Effect.TheVariants.{Life, Gives, Sets, Nothing}
-pub use Rattle.fr_effects.specs.Disturbance.{IsSparedByRow, IsSparedByRows, SparesSome, IsAmong}
+pub use Rattle.fr_effects.specs.Disturbance.{IsSparedByRow, IsSparedByRows, SparesSome}
 pub use Rattle.fr_effects.specs.Effects.{effect_inside, effect_of, IsMade, IsWritten, IsSeen, Bears, EachBears, AllBear, IsComputable, effect_at, target_of, made_of, declared_of}
 pub use Rattle.fr_effects.specs.Effects.{HasTarget}
 pub use Rattle.fr_effects.specs.Undisturbed.{Undisturbed}

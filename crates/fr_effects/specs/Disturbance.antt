@@ -3,12 +3,11 @@
 --
 -- | word            | meaning                                                                            |
 -- |-----------------|------------------------------------------------------------------------------------|
--- | IsAmong         | an alternative is one of the first of a note                                       |
 -- | SparesSome      | some alternative of a note is one that a change spares                             |
 -- | IsSparedByRow   | of two alternatives: one of the note's is left by every step by this row           |
 -- | IsSparedByRows  | the same, of both rows                                                             |
 -- | IsSpoiler       | the least point that disturbs a point's note, or none                              |
-use Rattle.std.specs.Prelude.{◌≡◌, ◌<◌, ℕ, List, Option, None, Some, slice_index_or, Any}
+use Rattle.std.specs.Prelude.{◌≡◌, ◌<◌, ℕ, List, Option, None, Some, Any}
 use Rattle.fr_program.specs.declared.ids.Point.{Point}
 use Rattle.fr_program.specs.Program.{Program}
 use Rattle.fr_program.specs.Lookup.{IsPoint}
@@ -19,10 +18,6 @@ use Rattle.fr_notes.specs.declared.change.Change.{Change}
 use Rattle.fr_notes.specs.Note.{Alternative, Note}
 use Rattle.fr_notes.specs.Known.{Known, LeavesSome, Spares, beside}
 use Rattle.fr_effects.specs.Undisturbed.{Undisturbed}
-
--- the alternative is one of so many first ones
-abbrev pub IsAmong : Note → ℕ → Alternative → Type 0
-IsAmong note bound n = (k : ℕ) × (k < bound) × (slice_index_or note k n ≡ n)
 
 -- where the other actor had the alternative n: one of the note's holds of it after each step that makes this change
 abbrev pub SparesSome : Known → Alternative → Change → Note → Type 0

@@ -132,7 +132,7 @@ guard_for-fits P (f ∷ ends) buffer end g fit e = go (nat_eq f.buffer buffer &&
     go false is rest = rest is
 
 -- the instruction of a point that is inside a call
-called-instr : (side : Side) (i : Option Instr) (call : ObjectCall) → called_inside side i ≡ Some call → i ≡ Some (Calls (On call))
+pub called-instr : (side : Side) (i : Option Instr) (call : ObjectCall) → called_inside side i ≡ Some call → i ≡ Some (Calls (On call))
 called-instr Inside (Some (Calls (On other))) call found = ap (λ c. Some (Calls (On c))) (same_Some _ _ found)
 called-instr side i call found = cc
 

@@ -5,7 +5,7 @@ use Rattle.std.specs.List.Sorted.{IsStrictlySortedBy}
 use Rattle.std.specs.Map.{keys_of, lookup}
 use Rattle.std.specs.Ordering.{int_eq}
 use Rattle.std.specs.Int.Signed.{le_z, le_z_yes}
-use Rattle.std.proofs.lemmas.Bool.{false≢true}
+use Rattle.std.proofs.lemmas.Bool.{false≢true, and_parts}
 use Rattle.std.proofs.lemmas.Bool.Decides.{Decides-eqb, Decides-int_eq, Decides-ltb}
 use Rattle.std.proofs.lemmas.Int.{ints}
 use Rattle.std.proofs.lemmas.List.{get_or-map, length-map}
@@ -165,13 +165,9 @@ from_T : (b : Bool) → T b → b ≡ true
 from_T true t = refl
 from_T false t = absurd t
 
-both_true : (a b : Bool) → (a && b) ≡ true → (a ≡ true) × (b ≡ true)
-both_true true b h = (refl, h)
-both_true false b h = absurd (false≢true h)
-
 number_from : (z : ℤ) → is_number z ≡ true → IsNumber z
 number_from z e =
-    let parts = both_true (le_z (negsuc 9223372036854775807) z) (le_z z (pos 9223372036854775807)) e in
+    let parts = and_parts (le_z (negsuc 9223372036854775807) z) (le_z z (pos 9223372036854775807)) e in
     let low : negsuc 9223372036854775807 ≤ℤ z = le_z_yes (to_T _ parts.0) in
     let high : z ≤ℤ pos 9223372036854775807 = le_z_yes (to_T _ parts.1) in
     omega (arith, ints, low, high)
@@ -196,7 +192,7 @@ abbrev pub ValuesFit : ℕ → ℕ → List (ℕ × ℤ) → Type 0
 ValuesFit n x vs = All (λ v. (v.0 < n) × IsNumber v.1) vs × HasDistinctTurns (Turn x vs) × AreRising vs
 
 turn_value_from : (n : ℕ) (v : ActorId × ℤ) → is_turn_value n v ≡ true → (v.0.0 < n) × IsNumber v.1
-turn_value_from n v e = let parts = both_true (nat_lt v.0.0 n) (is_number v.1) e in ((Decides-ltb v.0.0 n).0 parts.0, number_from v.1 parts.1)
+turn_value_from n v e = let parts = and_parts (nat_lt v.0.0 n) (is_number v.1) e in ((Decides-ltb v.0.0 n).0 parts.0, number_from v.1 parts.1)
 
 turn_value_to : (n : ℕ) (v : ActorId × ℤ) → (v.0.0 < n) × IsNumber v.1 → is_turn_value n v ≡ true
 turn_value_to n v h = rw ((Decides-ltb v.0.0 n).1 h.0, number_to v.1 h.1) refl

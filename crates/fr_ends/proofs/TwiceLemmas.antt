@@ -9,8 +9,6 @@ use Rattle.fr_program.specs.declared.instr.End.{End}
 use Rattle.fr_ends.specs.declared.ends.EndName.{EndName}
 use Rattle.fr_ends.specs.declared.guard.EndGuard.{EndGuard}
 use Rattle.fr_ends.specs.declared.guard.Guard.TheVariants as guard
-use Rattle.fr_ends.specs.declared.fault.EndsFault.{EndsFault}
-use Rattle.fr_ends.specs.declared.fault.EndsFault.TheVariants as fault
 use Rattle.fr_ends.specs.Guard as listed
 use Rattle.fr_ends.specs.Fits.{EndFits, AreOfOneEnd}
 use Rattle.fr_ends.specs.View.{end_of}

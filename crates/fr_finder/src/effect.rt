@@ -31,20 +31,12 @@ pub enum Reach {
     Objects,
 }
 
-/// The least range that has both.
-fn hull(one: Range, other: Range) -> Range {
-    Range {
-        lo: one.lo.min(other.lo),
-        hi: one.hi.max(other.hi),
-    }
-}
-
 /// What either of two rows changes.
 fn either(one: Reach, other: Reach) -> Reach {
     match (one, other) {
         (Reach::Nothing, reach) | (reach, Reach::Nothing) => reach,
         (Reach::Writes(variable, range), Reach::Writes(_, other)) => {
-            Reach::Writes(variable, hull(range, other))
+            Reach::Writes(variable, range.hull(other))
         }
         (_, _) => Reach::Objects,
     }

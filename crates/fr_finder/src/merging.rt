@@ -13,20 +13,12 @@ pub enum Growth {
     Whole,
 }
 
-/// How often the actor holds the object, by this claim.
-fn count_of(claim: Claim) -> u32 {
-    match claim {
-        Claim::HeldTimes(count) => count,
-        Claim::NotHeld | Claim::Alive | Claim::Gone => 0,
-    }
-}
-
 /// Whether both alternatives have the same held mutexes.
 fn hold_the_same(claims: &[Claim], others: &[Claim]) -> bool {
     claims
         .iter()
         .zip(others)
-        .all(|(claim, other)| count_of(*claim) == count_of(*other))
+        .all(|(claim, other)| claim.count() == other.count())
 }
 
 /// Whether both alternatives have the same held mutexes and depths, so that they can be one.
@@ -34,15 +26,6 @@ fn can_be_one(alternative: &Alternative, other: &Alternative) -> bool {
     alternative.critical() == other.critical()
         && alternative.suspended() == other.suspended()
         && hold_the_same(alternative.claims(), other.claims())
-}
-
-/// What both claims say.
-fn common(claim: Claim, other: Claim) -> Claim {
-    if claim == other {
-        claim
-    } else {
-        Claim::NotHeld
-    }
 }
 
 /// The lower end, moved down at least to what is needed.
@@ -78,7 +61,7 @@ fn common_claims(
 ) -> Result<Vec<Claim>, AllocError> {
     let mut merged = Vec::with_capacity(alloc, claims.len())?;
     for (claim, other) in claims.iter().zip(others) {
-        merged.push(common(*claim, *other))?;
+        merged.push(claim.common(*other))?;
     }
     Ok(merged)
 }

@@ -1,7 +1,7 @@
 -- The loop over arguments: what was found is in front of what is left.
 use Rattle.std.proofs.Common.{◌≡◌, ℕ, ◌+◌, List, [], ◌∷◌, ◌++◌, drop, Bool, cond, true, false, Some, None, Option, option_map, refl, sym, ap, ◌∙◌, inl, inr, append_assoc}
 use Rattle.std.proofs.lemmas.List.{map-append, drop-drop, drop-map}
-use Rattle.std.proofs.lemmas.Option.{same_Some}
+use Rattle.std.proofs.lemmas.Option.{none-some, same_Some}
 use Rattle.fr_instr.specs.Tokens.{Tok, word, number, sign}
 use Rattle.fr_instr.specs.Shapes.{Word, name, numeral}
 use Rattle.fr_instr.specs.ShapeReading.{take_sign, behind_close, is_comma, is_close, with_arg, arg_then, arg_before_comma, arg_before_close, some_args, args_at, args_or}
@@ -9,7 +9,7 @@ use Rattle.fr_instr.specs.declared.token.Sign.{Sign}
 use Rattle.fr_instr.specs.declared.token.Token.{Token}
 use Rattle.fr_instr.specs.declared.shape.Value.{Value}
 use Rattle.fr_instr.specs.Views.{toks, tok, words, word_of}
-use Rattle.fr_instr.proofs.ShapeLaws.{never, chosen}
+use Rattle.fr_instr.proofs.TokenLaws.{chosen}
 
 abbrev Args : Type 0
 Args = List Word × List Tok
@@ -25,21 +25,14 @@ step_at : (b : Word) (s : Sign) (ts : List Tok) (a : Word) (rest : List Tok) →
 step_at b s ts a rest e =
     elim (chosen (is_comma s) _ _ _ e) [
       | inl w ↦ rw w.0 (ap (λ x. with_arg x (some_args ts)) (ap (λ (q : Word × List Tok). q.0) (same_Some (b, ts) (a, rest) w.1)))
-      | inr w ↦ absurd (never (a, rest) w.1)
+      | inr w ↦ absurd (none-some (a, rest) w.1)
     ]
 
 step : (ts : List Tok) (a : Word) (rest : List Tok) → arg_before_comma ts ≡ Some (a, rest) → some_args ts ≡ with_arg a (some_args (drop 2 ts))
 unfolding arg_before_comma
 step (word w ∷ sign s ∷ ts) a rest e = step_at (name w) s ts a rest e
 step (number d ∷ sign s ∷ ts) a rest e = step_at (numeral d) s ts a rest e
-step [] a rest e = absurd (never (a, rest) e)
-step (sign s ∷ ts) a rest e = absurd (never (a, rest) e)
-step (word w ∷ []) a rest e = absurd (never (a, rest) e)
-step (number d ∷ []) a rest e = absurd (never (a, rest) e)
-step (word w ∷ word v ∷ ts) a rest e = absurd (never (a, rest) e)
-step (word w ∷ number v ∷ ts) a rest e = absurd (never (a, rest) e)
-step (number d ∷ word v ∷ ts) a rest e = absurd (never (a, rest) e)
-step (number d ∷ number v ∷ ts) a rest e = absurd (never (a, rest) e)
+step ts a rest e = absurd (none-some (a, rest) e)
 
 abbrev lone : Word × List Tok → Args
 lone p = (p.0 ∷ [], p.1)
@@ -47,7 +40,7 @@ lone p = (p.0 ∷ [], p.1)
 stop_at : (b : Word) (s : Sign) (ts : List Tok) → cond {A = Option (Word × List Tok)} (is_comma s) (Some (b, ts)) None ≡ None → arg_then b s ts (some_args ts) ≡ option_map lone (cond {A = Option (Word × List Tok)} (is_close s) (Some (b, ts)) None)
 stop_at b s ts e =
     elim (chosen (is_comma s) _ _ _ e) [
-      | inl w ↦ absurd (never (b, ts) (sym w.1))
+      | inl w ↦ absurd (none-some (b, ts) (sym w.1))
       | inr w ↦ rw w.0 (by_close (is_close s))
     ]
   where
@@ -59,14 +52,7 @@ stop : (ts : List Tok) → arg_before_comma ts ≡ None → some_args ts ≡ opt
 unfolding arg_before_comma arg_before_close
 stop (word w ∷ sign s ∷ ts) e = stop_at (name w) s ts e
 stop (number d ∷ sign s ∷ ts) e = stop_at (numeral d) s ts e
-stop [] e = refl
-stop (sign s ∷ ts) e = refl
-stop (word w ∷ []) e = refl
-stop (number d ∷ []) e = refl
-stop (word w ∷ word v ∷ ts) e = refl
-stop (word w ∷ number v ∷ ts) e = refl
-stop (number d ∷ word v ∷ ts) e = refl
-stop (number d ∷ number v ∷ ts) e = refl
+stop ts e = refl
 
 map_drop_two : (i : ℕ) (ts : List Token) → toks (drop (i + 2) ts) ≡ drop 2 (toks (drop i ts))
 map_drop_two i ts = ap toks (sym (drop-drop 2 i ts)) ∙ sym (drop-map tok 2 (drop i ts))

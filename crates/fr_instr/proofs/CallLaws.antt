@@ -1,8 +1,8 @@
 -- The table of calls: a name is that of one row, a row has the places that its call needs, and each call that suits its
 -- timing has one. What is found in the table has what all its rows have, and that computes.
 use Rattle.std.proofs.Common.{◌≡◌, ◌++◌, ◌&&◌, ℕ, Bool, true, false, cond, ltb, List, [], ◌∷◌, map, length, get_or, Option, Some, None, option_map, position, refl, sym, ap, ◌∙◌, arith, rules}
-use Rattle.std.proofs.lemmas.Bool.{false≢true, ltb-true, ltb-false}
-use Rattle.std.proofs.lemmas.Option.{same_Some, slice_get-get_or, slice_get_past}
+use Rattle.std.proofs.lemmas.Bool.{and_parts, false≢true, ltb-true, ltb-false}
+use Rattle.std.proofs.lemmas.Option.{none-some, same_Some, slice_get-get_or, slice_get_past}
 use Rattle.std.proofs.lemmas.List.Folds.{find_at}
 use Rattle.std.specs.Option.{is_some}
 use Rattle.std.specs.List.{find, list_all, position_or_len}
@@ -36,9 +36,6 @@ use Rattle.fr_program.specs.declared.instr.Call.TheVariants as call
 
 -- ---- the search for a row
 
-none_some : {X : Type 0} (x : X) → None ≡ Some x → ⊥
-none_some x e = cc
-
 find-map : {X Y : Type 0} (p : Y → Bool) (f : X → Y) (xs : List X) → find p (map f xs) ≡ option_map f (find (λ x. p (f x)) xs)
 find-map p f [] = refl
 find-map p f (x ∷ xs) = by_test (p (f x)) (find-map p f xs)
@@ -54,13 +51,13 @@ find_at_place p xs i d e = by_test (ltb (position_or_len p xs) (length xs)) refl
     by_test : (b : Bool) → ltb (position_or_len p xs) (length xs) ≡ b → cond b (Some (position_or_len p xs)) None ≡ Some i → Some (get_or xs i d) ≡ find p xs
     by_test true within h =
         ap (λ k. Some (get_or xs k d)) (sym (same_Some (position_or_len p xs) i h)) ∙ sym (slice_get-get_or xs (position_or_len p xs) d (ltb-true (position_or_len p xs) (length xs) within)) ∙ sym (find_at p xs)
-    by_test false past h = absurd (none_some i h)
+    by_test false past h = absurd (none-some i h)
 
 find_no_place : {X : Type 0} (p : X → Bool) (xs : List X) → None ≡ position p xs → None ≡ find p xs
 find_no_place p xs e = by_test (ltb (position_or_len p xs) (length xs)) refl (sym e)
   where
     by_test : (b : Bool) → ltb (position_or_len p xs) (length xs) ≡ b → cond b (Some (position_or_len p xs)) None ≡ None → None ≡ find p xs
-    by_test true within h = absurd (none_some (position_or_len p xs) (sym h))
+    by_test true within h = absurd (none-some (position_or_len p xs) (sym h))
     by_test false past h = sym (find_at p xs ∙ slice_get_past xs (position_or_len p xs) (omega (arith, ltb-false (position_or_len p xs) (length xs) past)))
 
 abbrev RowInCode : Type 0
@@ -79,7 +76,7 @@ heads y z ys zs e = (cc, cc)
 
 -- what two functions agree on at each element of a list, they agree on at the one that is found
 found_same : {X Y : Type 0} (p : X → Bool) (f g : X → Y) (xs : List X) (r : X) → map f xs ≡ map g xs → find p xs ≡ Some r → f r ≡ g r
-found_same p f g [] r same e = absurd (none_some r e)
+found_same p f g [] r same e = absurd (none-some r e)
 found_same p f g (x ∷ xs) r same e =
     let both = heads (f x) (g x) (map f xs) (map g xs) same in
     by_test (p x) both.0 (λ h. found_same p f g xs r both.1 h) e
@@ -89,7 +86,7 @@ found_same p f g (x ∷ xs) r same e =
     by_test false here later h = later h
 
 found_passes : {X : Type 0} (p : X → Bool) (xs : List X) (r : X) → find p xs ≡ Some r → p r ≡ true
-found_passes p [] r e = absurd (none_some r e)
+found_passes p [] r e = absurd (none-some r e)
 found_passes p (x ∷ xs) r e = by_test (p x) refl (λ h. found_passes p xs r h) e
   where
     by_test : (b : Bool) → p x ≡ b → (find p xs ≡ Some r → p r ≡ true) → cond b (Some x) (find p xs) ≡ Some r → p r ≡ true
@@ -165,12 +162,8 @@ tail_fits p r e = found_same p (λ s. s.tail) (λ s. tail_of s.verb) table r all
 
 pub name_token : (v : Verb) (r : Row) → row_for v ≡ Some r → IsTok (word r.name)
 name_token v r e =
-    both (is_letter (first r.name)) (list_all is_word_byte r.name)
+    and_parts (is_letter (first r.name)) (list_all is_word_byte r.name)
     (found_same (λ s. is_same s.verb v) (λ s. is_letter (first s.name) && list_all is_word_byte s.name) (λ s. true) table r names_are_words e)
-  where
-    both : (a b : Bool) → (a && b) ≡ true → (a ≡ true) × (b ≡ true)
-    both true b h = (refl, h)
-    both false b h = (h, absurd (false≢true h))
 
 -- ---- each call has a row
 
@@ -211,9 +204,6 @@ call_listed c = refl
 pub listed : (c : Call) → is_timely c ≡ true → (r : Row) × (row_for (verb_of c) ≡ Some r)
 listed c timely = found (row_for (verb_of c)) refl (call_listed c ∙ timely)
   where
-    no_row : false ≡ true → ⊥
-    no_row e = cc
-
     found : (o : Option Row) → row_for (verb_of c) ≡ o → is_some (row_for (verb_of c)) ≡ true → (r : Row) × (row_for (verb_of c) ≡ Some r)
-    found None e some = absurd (no_row (sym (ap is_some e) ∙ some))
+    found None e some = absurd (false≢true (sym (ap is_some e) ∙ some))
     found (Some r) e some = (r, e)

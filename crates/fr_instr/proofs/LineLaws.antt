@@ -25,7 +25,7 @@ use Rattle.fr_program.specs.declared.instr.Instr.TheVariants as line
 use Rattle.fr_program.specs.declared.instr.Operator.{Operator}
 use Rattle.fr_program.specs.declared.instr.Operator.TheVariants.{Plus}
 use Rattle.fr_program.specs.declared.instr.Comparison.{Comparison}
-use Rattle.fr_instr.proofs.TokenLaws.{spells_once}
+use Rattle.fr_instr.proofs.TokenLaws.{apart, spells_once}
 use Rattle.fr_instr.proofs.ShapeLaws.{shape_found, shape_again}
 use Rattle.fr_instr.proofs.NumberLaws.{only_number, natural_fits}
 use Rattle.fr_instr.proofs.CallLaws.{verb_again, places_fit}
@@ -44,9 +44,6 @@ use Rattle.fr_program.specs.declared.instr.Operand.TheVariants.{Number, Variable
 use Rattle.fr_program.specs.declared.instr.Call.{Call}
 
 -- ---- a text has one shape at the most
-
-apart : {A : Type 0} (o : Option A) (x : A) → o ≡ None → o ≡ Some x → ⊥
-apart o x p q = cc
 
 shape_spells : (text : List ℕ) (ts : List Tok) (s : Shape) → Spells text ts → Some s ≡ shape_at ts → Spells text (shape_toks s)
 shape_spells text ts s h e = let P : List Tok → Type 0 = Spells text in subst P (shape_found ts s (sym e)) h
@@ -68,7 +65,7 @@ one_variable N w x y h k = let f : ℕ → VarId = λ i. record { 0 = i } in ap 
 one_object : (N : NamesOf) (w : List ℕ) (x y : ObjId) → IsObject N w x → IsObject N w y → x ≡ y
 one_object N w x y h k = let f : ℕ → ObjId = λ i. record { 0 = i } in ap f (one_place N.objects w x.0 y.0 h k)
 
-one_integer : (d : List ℕ) (y z : ℤ) → IsInteger d y → IsInteger d z → y ≡ z
+pub one_integer : (d : List ℕ) (y z : ℤ) → IsInteger d y → IsInteger d z → y ≡ z
 one_integer d y z h k = only_number d y z h.0 h.1 k.0 k.1
 
 same_pos : (m n : ℕ) → pos m ≡ pos n → m ≡ n
@@ -175,9 +172,6 @@ one_line N text l m (s, h, i) (t, j, k) =
 
 -- ---- a line has no fault
 
-none_some : {A : Type 0} (o : Option A) (x : A) → o ≡ None → o ≡ Some x → ⊥
-none_some o x p q = cc
-
 in_plain : (p : Slot) (w : Word) (f : LineFault) → (IsWrongKind p w → ⊥) → (IsBadNumber p w → ⊥) → InPlain p w f → ⊥
 in_plain p w Syntax a b h = a h
 in_plain p w BadNumber a b h = b h
@@ -195,7 +189,7 @@ in_naming N p w UnknownCall a n b h = absurd h
 in_naming N p w ArgCount a n b h = absurd h
 
 operand_clash : (N : NamesOf) (w : Word) (a : Operand) (f : LineFault) → InPlace N Operands w f → IsOperand N w a → ⊥
-operand_clash N (name w) (Variable x) f h k = in_naming N Operands (name w) f (λ z. z) (λ z. none_some (place_of N.variables w) x.0 z k) (λ z. z) h
+operand_clash N (name w) (Variable x) f h k = in_naming N Operands (name w) f (λ z. z) (λ z. apart (place_of N.variables w) x.0 z k) (λ z. z) h
 operand_clash N (numeral d) (Number z) f h k = in_naming N Operands (numeral d) f (λ y. y) (λ y. y) (λ y. y z k) h
 operand_clash N (name w) (Number z) f h k = absurd k
 operand_clash N (numeral d) (Variable x) f h k = absurd k
@@ -207,10 +201,10 @@ time_clash (name w) (Ticks n) f h k = absurd k
 time_clash (numeral d) MaxDelay f h k = absurd k
 
 place_clash : (N : NamesOf) (p : Slot) (w : Word) (g : Given) (f : LineFault) → InPlace N p w f → Says N p w g → ⊥
-place_clash N Object (name w) g f h k = in_naming N Object (name w) f (λ z. z) (λ z. none_some (place_of N.objects w) g.object.0 z k) (λ z. z) h
+place_clash N Object (name w) g f h k = in_naming N Object (name w) f (λ z. z) (λ z. apart (place_of N.objects w) g.object.0 z k) (λ z. z) h
 place_clash N Object (numeral d) g f h k = absurd k
 place_clash N Operands w g f h k = operand_clash N w g.operand f h k
-place_clash N Variables (name w) g f h k = in_naming N Variables (name w) f (λ z. z) (λ z. none_some (place_of N.variables w) g.variable.0 z k) (λ z. z) h
+place_clash N Variables (name w) g f h k = in_naming N Variables (name w) f (λ z. z) (λ z. apart (place_of N.variables w) g.variable.0 z k) (λ z. z) h
 place_clash N Variables (numeral d) g f h k = absurd k
 place_clash N Length (name w) g f h k = absurd k
 place_clash N Length (numeral d) g f h k = in_plain Length (numeral d) f (λ z. z) (λ z. z g.bytes k) h
@@ -247,7 +241,7 @@ into_clash : (N : NamesOf) (t : Tail) (w : Option (List ℕ)) (v : Option VarId)
 into_clash N t None v f h k = absurd h
 into_clash N t (Some w) None f h k = absurd k
 into_clash N t (Some w) (Some x) f (inl h) k = false≢true (sym h.1 ∙ k.0)
-into_clash N t (Some w) (Some x) f (inr h) k = none_some (place_of N.variables w) x.0 h.1 k.1
+into_clash N t (Some w) (Some x) f (inr h) k = apart (place_of N.variables w) x.0 h.1 k.1
 
 named_clash : (N : NamesOf) (v : Option (List ℕ)) (k : List ℕ) (ws : List Word) (e : Option (List ℕ)) (f : LineFault) (c : Call) (i : IsCall N v k ws e c) → InNamed N i.row v ws e f → ⊥
 named_clash N v k ws e f c i (inl h) = else_clash i.row.tail e i.target f h i.behind
@@ -255,13 +249,13 @@ named_clash N v k ws e f c i (inr (inl h)) = into_clash N i.row.tail v i.variabl
 named_clash N v k ws e f c i (inr (inr h)) = places_clash N i.row.places ws NOTHING i.given f h i.args
 
 call_clash : (N : NamesOf) (v : Option (List ℕ)) (k : List ℕ) (ws : List Word) (e : Option (List ℕ)) (f : LineFault) (c : Call) → InCall N v k ws e f → IsCall N v k ws e c → ⊥
-call_clash N v k ws e f c (inl h) i = none_some (row_named k) i.row h.1 i.named
+call_clash N v k ws e f c (inl h) i = apart (row_named k) i.row h.1 i.named
 call_clash N v k ws e f c (inr (r, at, h)) i =
     let P : Row → Type 0 = λ x. InNamed N x v ws e f in
     named_clash N v k ws e f c i (subst P (same_Some r i.row (sym at ∙ i.named)) h)
 
 variable_clash : (N : NamesOf) (w : List ℕ) (x : VarId) (f : LineFault) → InVariable N w f → IsVariable N w x → ⊥
-variable_clash N w x f h k = none_some (place_of N.variables w) x.0 h.1 k
+variable_clash N w x f h k = apart (place_of N.variables w) x.0 h.1 k
 
 no_line_of : (N : NamesOf) (s : Shape) (f : LineFault) (l : Instr) → InShape N s f → IsLineOf N s l → ⊥
 no_line_of N (set x a) f l (inl h) (t, o, i, j, e) = variable_clash N x t f h i

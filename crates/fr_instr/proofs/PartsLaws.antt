@@ -1,5 +1,6 @@
 -- A call is made of what it is and what its line gives, and both are found in it again.
-use Rattle.std.proofs.Common.{◌≡◌, ℕ, List, [], ◌∷◌, true, Some, None, refl}
+use Rattle.std.proofs.Common.{◌≡◌, ℕ, List, [], ◌∷◌, true, Some, refl}
+use Rattle.std.proofs.lemmas.Option.{none-some}
 use Rattle.fr_instr.specs.Calls.{made, verb_of, given_of, put, may_fail, may_answer}
 use Rattle.fr_instr.specs.Lines.{AreGivenIn, ElseIn, IntoIn}
 use Rattle.fr_instr.specs.Names.{NamesOf}
@@ -67,24 +68,21 @@ into_kept N (On when (Move side kind)) g h = h
 into_kept N v g h = tt
 
 -- only a call that may fail has a target, and only one that answers a number has a variable
-none_some : {A : Type 0} (x : A) → None ≡ Some x → ⊥
-none_some x e = cc
-
 object_may_fail : (o : ObjId) (t : Timing) (a : Act) (k : ℕ) → (given_of (on o t a)).or_else ≡ Some k → may_fail (tail_of (verb_of (on o t a))) ≡ true
-object_may_fail o t (act.Move side kind n v) k e = absurd (none_some k e)
+object_may_fail o t (act.Move side kind n v) k e = absurd (none-some k e)
 object_may_fail o t (act.Try (attempt.QueueSend x) g) k e = refl
 object_may_fail o t a k e = refl
 
 pub else_may_fail : (c : Call) (k : ℕ) → (given_of c).or_else ≡ Some k → may_fail (tail_of (verb_of c)) ≡ true
 else_may_fail (call.Create kind o g) k e = refl
 else_may_fail (call.On c) k e = object_may_fail c.object c.timing c.act k e
-else_may_fail c k e = absurd (none_some k e)
+else_may_fail c k e = absurd (none-some k e)
 
 object_may_answer : (o : ObjId) (t : Timing) (a : Act) (x : VarId) → (given_of (on o t a)).into ≡ Some x → may_answer (tail_of (verb_of (on o t a))) ≡ true
 object_may_answer o t (act.Move side kind n v) x e = refl
-object_may_answer o t (act.Try (attempt.QueueSend y) g) x e = absurd (none_some x e)
-object_may_answer o t a x e = absurd (none_some x e)
+object_may_answer o t (act.Try (attempt.QueueSend y) g) x e = absurd (none-some x e)
+object_may_answer o t a x e = absurd (none-some x e)
 
 pub into_may_answer : (c : Call) (x : VarId) → (given_of c).into ≡ Some x → may_answer (tail_of (verb_of c)) ≡ true
 into_may_answer (call.On c) x e = object_may_answer c.object c.timing c.act x e
-into_may_answer c x e = absurd (none_some x e)
+into_may_answer c x e = absurd (none-some x e)

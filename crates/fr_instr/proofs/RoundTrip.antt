@@ -58,15 +58,12 @@ operand_again : (N : NamesOf) (a : Operand) → AllPairs (λ x y. x ≢ y) N.var
 operand_again N (Number z) once h = (refl, h)
 operand_again N (Variable x) once h = place_again N.variables x.0 once h
 
-time_again : (t : BlockTime) → limits.BlockTimeInLimits t → IsBlockTime (time_word t) t
-time_again (Ticks n) h = (refl, zero_least n, h)
-  where
-    zero_least : (n : ℕ) → 0 ≤ n
-    zero_least n = omega arith
-time_again MaxDelay h = refl
-
 least : (n : ℕ) → 0 ≤ n
 least n = omega arith
+
+time_again : (t : BlockTime) → limits.BlockTimeInLimits t → IsBlockTime (time_word t) t
+time_again (Ticks n) h = (refl, least n, h)
+time_again MaxDelay h = refl
 
 said_again : (N : NamesOf) (p : Slot) (g h : Given) → AllPairs (λ x y. x ≢ y) N.variables → AllPairs (λ x y. x ≢ y) N.objects → GivenIn N p g → Says N p (place_word N g p) (put p g h)
 said_again N Object g h vs os i = place_again N.objects g.object.0 os i

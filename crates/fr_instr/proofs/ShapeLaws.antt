@@ -1,15 +1,16 @@
 -- The shape that is read from tokens is the one that has these tokens: the tokens of a shape give it, and what is
 -- found has the tokens, step by step as the reading functions go.
-use Rattle.std.proofs.Common.{◌≡◌, ◌⊎◌, ℕ, cond, List, [], ◌∷◌, ◌++◌, Bool, true, false, Some, None, Option, option_map, option_and_then, codes, refl, sym, ap, ◌∙◌, subst, inl, inr}
-use Rattle.std.proofs.lemmas.Option.{same_Some}
+use Rattle.std.proofs.Common.{◌≡◌, ℕ, List, [], ◌∷◌, ◌++◌, true, Some, None, Option, option_map, option_and_then, codes, refl, sym, ap, ◌∙◌, subst, inl, inr}
+use Rattle.std.proofs.lemmas.Option.{none-some, same_Some}
 use Rattle.std.proofs.lemmas.Bool.{false≢true}
 use Rattle.std.proofs.lemmas.Slice.Eq.{bytes_eq-Decides}
 use Rattle.std.specs.Str.{bytes_eq}
 use Rattle.fr_instr.specs.Tokens.{Tok, word, number, sign}
 use Rattle.fr_instr.specs.Shapes.{Word, name, numeral, Shape, set, set_to, branch, jump, pick, leave, call, word_tok, operator_sign, comparison_sign, more_toks, args_toks, else_toks, into_toks, shape_toks}
 use Rattle.fr_instr.specs.ShapeReading.{operator_of, comparison_of, is_open, is_close, is_comma, is_assign, take_word, take_number, take_value, take_sign, at_end, number_behind, set_tail, set_at, branch_at, jump_at, pick_at, keyword_at, behind_open, behind_close, with_arg, arg_then, some_args, args_or, args_at, target_end, else_tail, else_at, call_at, head_at, counted_at, shape_behind, shape_at}
+use Rattle.fr_instr.proofs.TokenLaws.{chosen}
 use Rattle.fr_instr.specs.declared.token.Sign.{Sign}
-use Rattle.fr_instr.specs.declared.token.Sign.TheVariants.{Open, Close, Comma, Assign, Plus, Minus, Times, Less, LessEqual, Greater, GreaterEqual, Equal, NotEqual, Question}
+use Rattle.fr_instr.specs.declared.token.Sign.TheVariants.{Open, Close, Comma, Assign, Plus, Minus, Times, Less, LessEqual, Greater, GreaterEqual, Equal, NotEqual}
 use Rattle.fr_program.specs.declared.instr.Operator.{Operator}
 use Rattle.fr_program.specs.declared.instr.Operator.TheVariants as operator
 use Rattle.fr_program.specs.declared.instr.Comparison.{Comparison}
@@ -74,62 +75,35 @@ shape_again (call (Some x) k bs e) = call_again (Some x) k bs e
 -- ---- the shape that is found has the tokens
 
 bound : {A B : Type 0} (o : Option A) (f : A → Option B) (y : B) → option_and_then f o ≡ Some y → (x : A) × (o ≡ Some x) × (f x ≡ Some y)
-bound None f y e = absurd (no_value y e)
-  where
-    no_value : {B : Type 0} (y : B) → None ≡ Some y → ⊥
-    no_value y e = cc
+bound None f y e = absurd (none-some y e)
 bound (Some x) f y e = (x, refl, e)
 
-pub never : {A : Type 0} (y : A) → None ≡ Some y → ⊥
-never y e = cc
-
-pub chosen : {A : Type 0} (b : Bool) (x : A) (y z : A) → cond b x y ≡ z → ((b ≡ true) × (x ≡ z)) ⊎ ((b ≡ false) × (y ≡ z))
-chosen true x y z e = inl (refl, e)
-chosen false x y z e = inr (refl, e)
-
 word_found : (ts : List Tok) (p : List ℕ × List Tok) → take_word ts ≡ Some p → ts ≡ word p.0 ∷ p.1
-word_found [] p e = absurd (never p e)
 word_found (word w ∷ ts) p e = let same : (w, ts) ≡ p = same_Some (w, ts) p e in ap (λ (q : List ℕ × List Tok). word q.0 ∷ q.1) same
-word_found (number d ∷ ts) p e = absurd (never p e)
-word_found (sign s ∷ ts) p e = absurd (never p e)
+word_found ts p e = absurd (none-some p e)
 
 number_found : (ts : List Tok) (p : List ℕ × List Tok) → take_number ts ≡ Some p → ts ≡ number p.0 ∷ p.1
-number_found [] p e = absurd (never p e)
 number_found (number w ∷ ts) p e = let same : (w, ts) ≡ p = same_Some (w, ts) p e in ap (λ (q : List ℕ × List Tok). number q.0 ∷ q.1) same
-number_found (word d ∷ ts) p e = absurd (never p e)
-number_found (sign s ∷ ts) p e = absurd (never p e)
+number_found ts p e = absurd (none-some p e)
 
 sign_found : (ts : List Tok) (p : Sign × List Tok) → take_sign ts ≡ Some p → ts ≡ sign p.0 ∷ p.1
-sign_found [] p e = absurd (never p e)
 sign_found (sign w ∷ ts) p e = let same : (w, ts) ≡ p = same_Some (w, ts) p e in ap (λ (q : Sign × List Tok). sign q.0 ∷ q.1) same
-sign_found (word d ∷ ts) p e = absurd (never p e)
-sign_found (number s ∷ ts) p e = absurd (never p e)
+sign_found ts p e = absurd (none-some p e)
 
 value_found : (ts : List Tok) (p : Word × List Tok) → take_value ts ≡ Some p → ts ≡ word_tok p.0 ∷ p.1
-value_found [] p e = absurd (never p e)
 value_found (word w ∷ ts) p e = let same : (name w, ts) ≡ p = same_Some (name w, ts) p e in ap (λ (q : Word × List Tok). word_tok q.0 ∷ q.1) same
 value_found (number w ∷ ts) p e = let same : (numeral w, ts) ≡ p = same_Some (numeral w, ts) p e in ap (λ (q : Word × List Tok). word_tok q.0 ∷ q.1) same
-value_found (sign s ∷ ts) p e = absurd (never p e)
+value_found ts p e = absurd (none-some p e)
 
 end_found : (g : Shape) (ts : List Tok) (f : Shape) → at_end g ts ≡ Some f → (ts ≡ []) × (g ≡ f)
 end_found g [] f e = (refl, same_Some g f e)
-end_found g (t ∷ ts) f e = absurd (never f e)
+end_found g (t ∷ ts) f e = absurd (none-some f e)
 
 operator_found : (s : Sign) (x : Operator) → operator_of s ≡ Some x → s ≡ operator_sign x
 operator_found Plus x e = ap operator_sign (same_Some operator.Plus x e)
 operator_found Minus x e = ap operator_sign (same_Some operator.Minus x e)
 operator_found Times x e = ap operator_sign (same_Some operator.Times x e)
-operator_found Open x e = absurd (never x e)
-operator_found Close x e = absurd (never x e)
-operator_found Comma x e = absurd (never x e)
-operator_found Assign x e = absurd (never x e)
-operator_found Less x e = absurd (never x e)
-operator_found LessEqual x e = absurd (never x e)
-operator_found Greater x e = absurd (never x e)
-operator_found GreaterEqual x e = absurd (never x e)
-operator_found Equal x e = absurd (never x e)
-operator_found NotEqual x e = absurd (never x e)
-operator_found Question x e = absurd (never x e)
+operator_found s x e = absurd (none-some x e)
 
 comparison_found : (s : Sign) (x : Comparison) → comparison_of s ≡ Some x → s ≡ comparison_sign x
 comparison_found Less x e = ap comparison_sign (same_Some comparison.Less x e)
@@ -138,85 +112,30 @@ comparison_found Greater x e = ap comparison_sign (same_Some comparison.Greater 
 comparison_found GreaterEqual x e = ap comparison_sign (same_Some comparison.AtLeast x e)
 comparison_found Equal x e = ap comparison_sign (same_Some comparison.Equal x e)
 comparison_found NotEqual x e = ap comparison_sign (same_Some comparison.NotEqual x e)
-comparison_found Question x e = absurd (never x e)
-comparison_found Open x e = absurd (never x e)
-comparison_found Close x e = absurd (never x e)
-comparison_found Comma x e = absurd (never x e)
-comparison_found Assign x e = absurd (never x e)
-comparison_found Plus x e = absurd (never x e)
-comparison_found Minus x e = absurd (never x e)
-comparison_found Times x e = absurd (never x e)
+comparison_found s x e = absurd (none-some x e)
 
 open_found : (s : Sign) → is_open s ≡ true → s ≡ Open
 open_found Open e = refl
-open_found Close e = absurd (false≢true e)
-open_found Comma e = absurd (false≢true e)
-open_found Assign e = absurd (false≢true e)
-open_found Plus e = absurd (false≢true e)
-open_found Minus e = absurd (false≢true e)
-open_found Times e = absurd (false≢true e)
-open_found Less e = absurd (false≢true e)
-open_found LessEqual e = absurd (false≢true e)
-open_found Greater e = absurd (false≢true e)
-open_found GreaterEqual e = absurd (false≢true e)
-open_found Equal e = absurd (false≢true e)
-open_found NotEqual e = absurd (false≢true e)
-open_found Question e = absurd (false≢true e)
+open_found s e = absurd (false≢true e)
 
 close_found : (s : Sign) → is_close s ≡ true → s ≡ Close
 close_found Close e = refl
-close_found Open e = absurd (false≢true e)
-close_found Comma e = absurd (false≢true e)
-close_found Assign e = absurd (false≢true e)
-close_found Plus e = absurd (false≢true e)
-close_found Minus e = absurd (false≢true e)
-close_found Times e = absurd (false≢true e)
-close_found Less e = absurd (false≢true e)
-close_found LessEqual e = absurd (false≢true e)
-close_found Greater e = absurd (false≢true e)
-close_found GreaterEqual e = absurd (false≢true e)
-close_found Equal e = absurd (false≢true e)
-close_found NotEqual e = absurd (false≢true e)
-close_found Question e = absurd (false≢true e)
+close_found s e = absurd (false≢true e)
 
 comma_found : (s : Sign) → is_comma s ≡ true → s ≡ Comma
 comma_found Comma e = refl
-comma_found Open e = absurd (false≢true e)
-comma_found Close e = absurd (false≢true e)
-comma_found Assign e = absurd (false≢true e)
-comma_found Plus e = absurd (false≢true e)
-comma_found Minus e = absurd (false≢true e)
-comma_found Times e = absurd (false≢true e)
-comma_found Less e = absurd (false≢true e)
-comma_found LessEqual e = absurd (false≢true e)
-comma_found Greater e = absurd (false≢true e)
-comma_found GreaterEqual e = absurd (false≢true e)
-comma_found Equal e = absurd (false≢true e)
-comma_found NotEqual e = absurd (false≢true e)
-comma_found Question e = absurd (false≢true e)
+comma_found s e = absurd (false≢true e)
 
 assign_found : (s : Sign) → is_assign s ≡ true → s ≡ Assign
 assign_found Assign e = refl
-assign_found Open e = absurd (false≢true e)
-assign_found Close e = absurd (false≢true e)
-assign_found Comma e = absurd (false≢true e)
-assign_found Plus e = absurd (false≢true e)
-assign_found Minus e = absurd (false≢true e)
-assign_found Times e = absurd (false≢true e)
-assign_found Less e = absurd (false≢true e)
-assign_found LessEqual e = absurd (false≢true e)
-assign_found Greater e = absurd (false≢true e)
-assign_found GreaterEqual e = absurd (false≢true e)
-assign_found Equal e = absurd (false≢true e)
-assign_found NotEqual e = absurd (false≢true e)
-assign_found Question e = absurd (false≢true e)
+assign_found s e = absurd (false≢true e)
 
 number_behind_found : (k : List ℕ) (ts : List Tok) (p : List ℕ × List Tok) → number_behind k ts ≡ Some p → ts ≡ word k ∷ number p.0 ∷ p.1
 unfolding number_behind
 number_behind_found k ts p e =
     let w = bound (take_word ts) _ p e in
     elim (chosen (bytes_eq w.0.0 k) _ _ _ w.2) [
-      | inr other ↦ absurd (never p other.1)
+      | inr other ↦ absurd (none-some p other.1)
       | inl is ↦ word_found ts w.0 w.1 ∙ ap (λ x. word x ∷ w.0.1) ((bytes_eq-Decides w.0.0 k).0 is.0) ∙ ap (λ x. word k ∷ x) (number_found w.0.1 p is.1)
     ]
 
@@ -267,7 +186,7 @@ set_found ts f e =
     let x = bound (take_word ts) _ f e in
     let s = bound (take_sign x.0.1) _ f x.2 in
     elim (chosen (is_assign s.0.0) _ _ _ s.2) [
-      | inr other ↦ absurd (never f other.1)
+      | inr other ↦ absurd (none-some f other.1)
       | inl assign ↦ let a = bound (take_value s.0.1) _ f assign.1 in
           set_whole ts x.0.1 s.0.1 a.0.1 (shape_toks f) x.0.0 s.0.0 a.0.0 (word_found ts x.0 x.1) (sign_found x.0.1 s.0 s.1) (assign_found s.0.0 assign.0) (value_found s.0.1 a.0 a.1)
           (tail_found x.0.0 a.0.0 a.0.1 f a.2)
@@ -296,10 +215,7 @@ pub record ArgsFound (ts : List Tok) (p : List Word × List Tok) : Type 0 where
   pub whole : ts ≡ word_tok first ∷ (more_toks more ++ p.1)
 
 mapped : {A B : Type 0} (f : A → B) (o : Option A) (y : B) → option_map f o ≡ Some y → (x : A) × (o ≡ Some x) × (f x ≡ y)
-mapped f None y e = absurd (none_some y e)
-  where
-    none_some : {B : Type 0} (y : B) → None ≡ Some y → ⊥
-    none_some y e = cc
+mapped f None y e = absurd (none-some y e)
 mapped f (Some x) y e = (x, refl, same_Some (f x) y e)
 
 comma_whole : (a b : Word) (bs cs : List Word) (ts rest : List Tok) (p : List Word × List Tok) → cs ≡ b ∷ bs → ts ≡ word_tok b ∷ (more_toks bs ++ rest) → (a ∷ cs, rest) ≡ p
@@ -321,31 +237,24 @@ some_step a s ts more found p e =
           subst P (sym (comma_found s w.0)) (comma_whole a f.first f.more q.0.0 ts q.0.1 p f.both f.whole q.2)
       | inr r ↦ elim (chosen (is_close s) _ _ _ r.1) [
         | inl w ↦ subst P (sym (close_found s w.0)) (close_whole a ts p (same_Some (a ∷ [], ts) p w.1))
-        | inr w ↦ absurd (never p w.1)
+        | inr w ↦ absurd (none-some p w.1)
       ]
     ]
 
 some_found : (ts : List Tok) (p : List Word × List Tok) → some_args ts ≡ Some p → ArgsFound ts p
 some_found (word w ∷ sign s ∷ ts) p e = some_step (name w) s ts (some_args ts) (some_found ts) p e
 some_found (number d ∷ sign s ∷ ts) p e = some_step (numeral d) s ts (some_args ts) (some_found ts) p e
-some_found [] p e = absurd (never p e)
-some_found (sign s ∷ ts) p e = absurd (never p e)
-some_found (word w ∷ []) p e = absurd (never p e)
-some_found (number d ∷ []) p e = absurd (never p e)
-some_found (word w ∷ word v ∷ ts) p e = absurd (never p e)
-some_found (word w ∷ number v ∷ ts) p e = absurd (never p e)
-some_found (number d ∷ word v ∷ ts) p e = absurd (never p e)
-some_found (number d ∷ number v ∷ ts) p e = absurd (never p e)
+some_found ts p e = absurd (none-some p e)
 
 args_whole : (ts : List Tok) (p : List Word × List Tok) → ArgsFound ts p → ts ≡ args_toks p.0 ++ p.1
 args_whole ts p f = rw f.both f.whole
 
 closed_found : (ts : List Tok) (o : Option (Sign × List Tok)) (rest : List Tok) → take_sign ts ≡ o → behind_close o ≡ Some rest → ts ≡ sign Close ∷ rest
-closed_found ts None rest same e = absurd (never rest e)
+closed_found ts None rest same e = absurd (none-some rest e)
 closed_found ts (Some p) rest same e =
     elim (chosen (is_close p.0) _ _ _ e) [
       | inl w ↦ sign_found ts p same ∙ ap (λ x. sign x ∷ p.1) (close_found p.0 w.0) ∙ ap (λ x. sign Close ∷ x) (same_Some p.1 rest w.1)
-      | inr w ↦ absurd (never rest w.1)
+      | inr w ↦ absurd (none-some rest w.1)
     ]
 
 args_found : (ts : List Tok) (p : List Word × List Tok) → args_at ts ≡ Some p → ts ≡ args_toks p.0 ++ p.1
@@ -360,7 +269,7 @@ args_found ts p e = by_close (behind_close (take_sign ts)) refl e
 
 target_found : (l : List ℕ) (ts : List Tok) (d : List ℕ) → target_end l ts ≡ Some d → (ts ≡ []) × (l ≡ d)
 target_found l [] d e = (refl, same_Some l d e)
-target_found l (t ∷ ts) d e = absurd (never d e)
+target_found l (t ∷ ts) d e = absurd (none-some d e)
 
 else_whole : (ts s : List Tok) (l d : List ℕ) → ts ≡ word (codes "else") ∷ number l ∷ s → s ≡ [] → l ≡ d → ts ≡ else_toks (Some d)
 else_whole ts s l d e1 e2 e3 = rw (e1, e2, e3) refl
@@ -388,11 +297,11 @@ call_found v k ts s h =
     call_whole v k ts p.0.1 p.0.0 e.0 s (args_found ts p.0 p.1) (else_found p.0.1 e.0 e.1) (same_Some (call v k p.0.0 e.0) s e.2)
 
 opened_found : (ts : List Tok) (o : Option (Sign × List Tok)) (rest : List Tok) → take_sign ts ≡ o → behind_open o ≡ Some rest → ts ≡ sign Open ∷ rest
-opened_found ts None rest same e = absurd (never rest e)
+opened_found ts None rest same e = absurd (none-some rest e)
 opened_found ts (Some p) rest same e =
     elim (chosen (is_open p.0) _ _ _ e) [
       | inl w ↦ sign_found ts p same ∙ ap (λ x. sign x ∷ p.1) (open_found p.0 w.0) ∙ ap (λ x. sign Open ∷ x) (same_Some p.1 rest w.1)
-      | inr w ↦ absurd (never rest w.1)
+      | inr w ↦ absurd (none-some rest w.1)
     ]
 
 head_whole : (ts r inside : List Tok) (k : List ℕ) (p : List ℕ × List Tok) → ts ≡ word k ∷ r → r ≡ sign Open ∷ inside → (k, inside) ≡ p → ts ≡ word p.0 ∷ sign Open ∷ p.1
@@ -425,7 +334,7 @@ keyword_found k ts f e =
             | inl w ↦ is (codes "pick") w.0 (pick_found ts f w.1)
             | inr o ↦ elim (chosen (bytes_eq k (codes "return")) _ _ _ o.1) [
               | inl w ↦ is (codes "return") w.0 (leave_found ts f w.1)
-              | inr w ↦ absurd (never f w.1)
+              | inr w ↦ absurd (none-some f w.1)
             ]
           ]
         ]

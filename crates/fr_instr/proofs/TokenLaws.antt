@@ -1,7 +1,7 @@
 -- The token at the front is the one that the text begins with, and there is one at most.
 use Rattle.std.proofs.Common.{◌≡◌, ◌⊎◌, ℕ, suc, ◌+◌, ◌<◌, cond, eqb, ◌&&◌, List, [], ◌∷◌, ◌++◌, length, take, drop, Bool, true, false, Some, None, Option, option_map, refl, sym, ap, ◌∙◌, subst, add-one, append_assoc, append-nil, arith, Bor, length-append, inl, inr, slice_index}
 use Rattle.std.proofs.lemmas.List.{take_at, drop_at}
-use Rattle.std.proofs.lemmas.Option.{same_Some}
+use Rattle.std.proofs.lemmas.Option.{none-some, same_Some}
 use Rattle.std.proofs.lemmas.Bool.{and_parts, false≢true, eqb-true}
 use Rattle.std.proofs.lemmas.Bool.Decides.{nat_tests}
 use Rattle.std.specs.List.{list_all}
@@ -16,7 +16,7 @@ use Rattle.fr_instr.specs.declared.token.Sign.TheVariants.{Open, Close, Comma, A
 use Rattle.fr_instr.proofs.RunLemmas.{front_after, front_passes, after_stops, front_of, after_of}
 
 -- which way a test went
-chosen : {A : Type 0} (b : Bool) (x y z : A) → cond b x y ≡ z → ((b ≡ true) × (x ≡ z)) ⊎ ((b ≡ false) × (y ≡ z))
+pub chosen : {A : Type 0} (b : Bool) (x y z : A) → cond b x y ≡ z → ((b ≡ true) × (x ≡ z)) ⊎ ((b ≡ false) × (y ≡ z))
 chosen true x y z e = inl (refl, e)
 chosen false x y z e = inr (refl, e)
 
@@ -149,10 +149,7 @@ second_no_digit false b t e = absurd (false≢true t)
 
 from_sign : (text : List ℕ) (p : Tok × List ℕ) → (eqb (first text) 45 ≡ true → is_ascii_digit (slice_index text 1) ≡ false)
     → (o : Option (Sign × ℕ)) → sign_at (first text) (slice_index text 1) ≡ o → option_map (λ q. (sign q.0, drop q.1 text)) o ≡ Some p → IsAt text p.0 p.1
-from_sign text p no_number None same e = absurd (no_pair p e)
-  where
-    no_pair : (p : Tok × List ℕ) → None ≡ Some p → ⊥
-    no_pair p e = cc
+from_sign text p no_number None same e = absurd (none-some p e)
 from_sign text p no_number (Some q) same e =
     let P : Tok × List ℕ → Type 0 = λ x. IsAt text x.0 x.1 in
     subst P (same_Some _ p e) (sign_found text q same no_number)
@@ -212,20 +209,11 @@ again_negative d rest h stop =
 
 again_sign : (s : Sign) (rest : List ℕ) → sign_goes_on s (first rest) ≡ false → token_at (sign_bytes s ++ rest) ≡ Some (sign s, rest)
 unfolding token_at
-again_sign Open rest stop = refl
-again_sign Close rest stop = refl
-again_sign Comma rest stop = refl
 again_sign Assign rest stop = rw stop refl
-again_sign Plus rest stop = refl
 again_sign Minus rest stop = rw stop refl
-again_sign Times rest stop = refl
 again_sign Less rest stop = rw stop refl
-again_sign LessEqual rest stop = refl
 again_sign Greater rest stop = rw stop refl
-again_sign GreaterEqual rest stop = refl
-again_sign Equal rest stop = refl
-again_sign NotEqual rest stop = refl
-again_sign Question rest stop = refl
+again_sign s rest stop = refl
 
 pub token_again : (t : Tok) (rest : List ℕ) → IsTok t → goes_on t (first rest) ≡ false → token_at (tok_bytes t ++ rest) ≡ Some (t, rest)
 token_again (word w) rest h stop = again_word w rest h stop
@@ -243,19 +231,7 @@ digits_no_space (c ∷ d) rest h = digit_no_space c h.0
 
 sign_no_space : (s : Sign) (rest : List ℕ) → is_space (first (sign_bytes s ++ rest)) ≡ false
 sign_no_space Open rest = refl
-sign_no_space Close rest = refl
-sign_no_space Comma rest = refl
-sign_no_space Assign rest = refl
-sign_no_space Plus rest = refl
-sign_no_space Minus rest = refl
-sign_no_space Times rest = refl
-sign_no_space Less rest = refl
-sign_no_space LessEqual rest = refl
-sign_no_space Greater rest = refl
-sign_no_space GreaterEqual rest = refl
-sign_no_space Equal rest = refl
-sign_no_space NotEqual rest = refl
-sign_no_space Question rest = refl
+sign_no_space s rest = refl
 
 no_space : (t : Tok) (rest : List ℕ) → IsTok t → is_space (first (tok_bytes t ++ rest)) ≡ false
 no_space (word w) rest h = word_no_space w rest h
@@ -286,7 +262,7 @@ none_at_end : token_at [] ≡ None
 unfolding token_at
 none_at_end = refl
 
-apart : {A : Type 0} (o : Option A) (x : A) → o ≡ None → o ≡ Some x → ⊥
+pub apart : {A : Type 0} (o : Option A) (x : A) → o ≡ None → o ≡ Some x → ⊥
 apart o x p q = cc
 
 pub blank_begins : (text : List ℕ) (t : Tok) (rest : List ℕ) → IsBlank text → Begins text t rest → ⊥
@@ -323,19 +299,7 @@ none_by (Some p) text e = tt
 
 sign_byte : (s : Sign) → 0 < length (sign_bytes s)
 sign_byte Open = omega arith
-sign_byte Close = omega arith
-sign_byte Comma = omega arith
-sign_byte Assign = omega arith
-sign_byte Plus = omega arith
-sign_byte Minus = omega arith
-sign_byte Times = omega arith
-sign_byte Less = omega arith
-sign_byte LessEqual = omega arith
-sign_byte Greater = omega arith
-sign_byte GreaterEqual = omega arith
-sign_byte Equal = omega arith
-sign_byte NotEqual = omega arith
-sign_byte Question = omega arith
+sign_byte s = omega arith
 
 some_byte : (t : Tok) → IsTok t → 0 < length (tok_bytes t)
 some_byte (word []) h = absurd (false≢true h.0)

@@ -1,182 +1,42 @@
 -- What is written for tokens spells them.
 use Rattle.std.proofs.Common.{◌≡◌, ℕ, List, [], ◌∷◌, ◌++◌, Bool, true, false, cond, ◌||◌, refl, sym, ap, subst, append-nil}
 use Rattle.std.specs.List.{AllByRecursion}
-use Rattle.fr_instr.specs.Tokens.{Tok, word, number, sign, tok_bytes, IsTok, Spells, goes_on, first}
+use Rattle.std.proofs.lemmas.Bool.{false≢true}
+use Rattle.fr_instr.specs.Tokens.{Tok, sign, tok_bytes, IsTok, Spells, goes_on, first}
 use Rattle.fr_instr.specs.Written.{is_open, leans, gap, written}
-use Rattle.fr_instr.specs.declared.token.Sign.TheVariants.{Open, Close, Comma, Assign, Plus, Minus, Times, Less, LessEqual, Greater, GreaterEqual, Equal, NotEqual, Question}
+use Rattle.fr_instr.specs.declared.token.Sign.TheVariants.{Open, Close, Comma}
 
 -- bytes with which no token goes on
 stops_space : (t : Tok) → goes_on t 32 ≡ false
-stops_space (word w) = refl
-stops_space (number d) = refl
 stops_space (sign Open) = refl
-stops_space (sign Close) = refl
-stops_space (sign Comma) = refl
-stops_space (sign Assign) = refl
-stops_space (sign Plus) = refl
-stops_space (sign Minus) = refl
-stops_space (sign Times) = refl
-stops_space (sign Less) = refl
-stops_space (sign LessEqual) = refl
-stops_space (sign Greater) = refl
-stops_space (sign GreaterEqual) = refl
-stops_space (sign Equal) = refl
-stops_space (sign NotEqual) = refl
-stops_space (sign Question) = refl
+stops_space t = refl
 
 stops_open : (t : Tok) → goes_on t 40 ≡ false
-stops_open (word w) = refl
-stops_open (number d) = refl
 stops_open (sign Open) = refl
-stops_open (sign Close) = refl
-stops_open (sign Comma) = refl
-stops_open (sign Assign) = refl
-stops_open (sign Plus) = refl
-stops_open (sign Minus) = refl
-stops_open (sign Times) = refl
-stops_open (sign Less) = refl
-stops_open (sign LessEqual) = refl
-stops_open (sign Greater) = refl
-stops_open (sign GreaterEqual) = refl
-stops_open (sign Equal) = refl
-stops_open (sign NotEqual) = refl
-stops_open (sign Question) = refl
+stops_open t = refl
 
 stops_close : (t : Tok) → goes_on t 41 ≡ false
-stops_close (word w) = refl
-stops_close (number d) = refl
 stops_close (sign Open) = refl
-stops_close (sign Close) = refl
-stops_close (sign Comma) = refl
-stops_close (sign Assign) = refl
-stops_close (sign Plus) = refl
-stops_close (sign Minus) = refl
-stops_close (sign Times) = refl
-stops_close (sign Less) = refl
-stops_close (sign LessEqual) = refl
-stops_close (sign Greater) = refl
-stops_close (sign GreaterEqual) = refl
-stops_close (sign Equal) = refl
-stops_close (sign NotEqual) = refl
-stops_close (sign Question) = refl
+stops_close t = refl
 
 stops_comma : (t : Tok) → goes_on t 44 ≡ false
-stops_comma (word w) = refl
-stops_comma (number d) = refl
 stops_comma (sign Open) = refl
-stops_comma (sign Close) = refl
-stops_comma (sign Comma) = refl
-stops_comma (sign Assign) = refl
-stops_comma (sign Plus) = refl
-stops_comma (sign Minus) = refl
-stops_comma (sign Times) = refl
-stops_comma (sign Less) = refl
-stops_comma (sign LessEqual) = refl
-stops_comma (sign Greater) = refl
-stops_comma (sign GreaterEqual) = refl
-stops_comma (sign Equal) = refl
-stops_comma (sign NotEqual) = refl
-stops_comma (sign Question) = refl
+stops_comma t = refl
 
 stops_end : (t : Tok) → goes_on t 0 ≡ false
-stops_end (word w) = refl
-stops_end (number d) = refl
 stops_end (sign Open) = refl
-stops_end (sign Close) = refl
-stops_end (sign Comma) = refl
-stops_end (sign Assign) = refl
-stops_end (sign Plus) = refl
-stops_end (sign Minus) = refl
-stops_end (sign Times) = refl
-stops_end (sign Less) = refl
-stops_end (sign LessEqual) = refl
-stops_end (sign Greater) = refl
-stops_end (sign GreaterEqual) = refl
-stops_end (sign Equal) = refl
-stops_end (sign NotEqual) = refl
-stops_end (sign Question) = refl
+stops_end t = refl
 
 stops_open_sign : (t : Tok) (b : ℕ) → is_open t ≡ true → goes_on t b ≡ false
-stops_open_sign (word w) b h = absurd (no_true h)
-  where
-    no_true : false ≡ true → ⊥
-    no_true e = cc
-stops_open_sign (number d) b h = absurd (no_true h)
-  where
-    no_true : false ≡ true → ⊥
-    no_true e = cc
 stops_open_sign (sign Open) b h = refl
-stops_open_sign (sign Close) b h = absurd (no_true h)
-  where
-    no_true : false ≡ true → ⊥
-    no_true e = cc
-stops_open_sign (sign Comma) b h = absurd (no_true h)
-  where
-    no_true : false ≡ true → ⊥
-    no_true e = cc
-stops_open_sign (sign Assign) b h = absurd (no_true h)
-  where
-    no_true : false ≡ true → ⊥
-    no_true e = cc
-stops_open_sign (sign Plus) b h = absurd (no_true h)
-  where
-    no_true : false ≡ true → ⊥
-    no_true e = cc
-stops_open_sign (sign Minus) b h = absurd (no_true h)
-  where
-    no_true : false ≡ true → ⊥
-    no_true e = cc
-stops_open_sign (sign Times) b h = absurd (no_true h)
-  where
-    no_true : false ≡ true → ⊥
-    no_true e = cc
-stops_open_sign (sign Less) b h = absurd (no_true h)
-  where
-    no_true : false ≡ true → ⊥
-    no_true e = cc
-stops_open_sign (sign LessEqual) b h = absurd (no_true h)
-  where
-    no_true : false ≡ true → ⊥
-    no_true e = cc
-stops_open_sign (sign Greater) b h = absurd (no_true h)
-  where
-    no_true : false ≡ true → ⊥
-    no_true e = cc
-stops_open_sign (sign GreaterEqual) b h = absurd (no_true h)
-  where
-    no_true : false ≡ true → ⊥
-    no_true e = cc
-stops_open_sign (sign Equal) b h = absurd (no_true h)
-  where
-    no_true : false ≡ true → ⊥
-    no_true e = cc
-stops_open_sign (sign NotEqual) b h = absurd (no_true h)
-  where
-    no_true : false ≡ true → ⊥
-    no_true e = cc
-stops_open_sign (sign Question) b h = absurd (no_true h)
-  where
-    no_true : false ≡ true → ⊥
-    no_true e = cc
+stops_open_sign t b h = absurd (false≢true h)
 
 -- a token that leans begins with a byte that ends every token
 leaning : (t u : Tok) (rest : List ℕ) → leans u ≡ true → goes_on t (first (tok_bytes u ++ rest)) ≡ false
 leaning t (sign Open) rest h = stops_open t
 leaning t (sign Close) rest h = stops_close t
 leaning t (sign Comma) rest h = stops_comma t
-leaning t (word w) rest h = let e : false ≡ true = h in cc
-leaning t (number d) rest h = let e : false ≡ true = h in cc
-leaning t (sign Assign) rest h = let e : false ≡ true = h in cc
-leaning t (sign Plus) rest h = let e : false ≡ true = h in cc
-leaning t (sign Minus) rest h = let e : false ≡ true = h in cc
-leaning t (sign Times) rest h = let e : false ≡ true = h in cc
-leaning t (sign Less) rest h = let e : false ≡ true = h in cc
-leaning t (sign LessEqual) rest h = let e : false ≡ true = h in cc
-leaning t (sign Greater) rest h = let e : false ≡ true = h in cc
-leaning t (sign GreaterEqual) rest h = let e : false ≡ true = h in cc
-leaning t (sign Equal) rest h = let e : false ≡ true = h in cc
-leaning t (sign NotEqual) rest h = let e : false ≡ true = h in cc
-leaning t (sign Question) rest h = let e : false ≡ true = h in cc
+leaning t u rest h = absurd (false≢true h)
 
 -- a space before a text changes nothing
 spaced : (ts : List Tok) (text : List ℕ) → Spells text ts → Spells (32 ∷ text) ts

@@ -1,25 +1,26 @@
 -- The lists of an index against the step table: what a row changes is listed, and for what is listed there is a state from which a
 -- row changes it.
-use Rattle.std.proofs.Common.{◌≡◌, ◌≢◌, ℕ, zero, suc, ◌+◌, ◌-◌, ◌<◌, ◌≤◌, List, [], ◌∷◌, ◌++◌, length, Option, Some, None, Bool, true, false, refl, sym, ap, ◌∙◌, subst, arith, ⊎_elim, inl, inr}
+use Rattle.std.proofs.Common.{◌≡◌, ◌≢◌, ℕ, suc, ◌+◌, ◌-◌, ◌<◌, ◌≤◌, List, [], ◌∷◌, ◌++◌, length, Option, Some, None, Bool, true, false, refl, sym, ap, ◌∙◌, subst, arith, ⊎_elim, inl, inr}
 use Rattle.std.specs.Prelude.{ℤ, pos, ◌≤ℤ◌, ◌+ℤ◌, ◌*ℤ◌, ◌⊎◌, ◌↔◌, IsTrue, Contains, nat_eq, int_lt, int_le, nat_lt, if◌then◌else◌, slice_get, sum}
 use Rattle.std.specs.Ordering.{int_eq}
 use Rattle.fr_interfere.proofs.Terms.{ints, cases_eq, eqb-true, same_Some, cond_some, get_or-set_same, get_or-set_other, length-map-range_with_len, get_or-map-range_with_len, ObjId, VarId, Point}
-use Rattle.fr_interfere.proofs.Terms.{Side, Before, Inside, Instr, Set, If, Goto, Pick, Calls, Return, Call, EnterCritical, ExitCritical, SuspendAll, ResumeAll, Yield, Delay, DeleteSelf, Create}
+use Rattle.fr_interfere.proofs.Terms.{Side, Before, Inside, Instr, Set, If, Goto, Pick, Calls, Return, Call, EnterCritical, Create}
 use Rattle.fr_interfere.proofs.Terms.{Delete, On, ObjectCall, Act, Try, Move, Attempt, QueueSend, QueueReceive, Take, Give, Reset, BufferKind, OfStream, OfMessage, End, Writer, Reader, Operand}
 use Rattle.fr_interfere.proofs.Terms.{Number, Variable, Operator, Plus, Minus, Times, Timing, Kind, Queue, Binary, Counting, Mutex, Recursive, Stream, Message, Program, InstrInLimits, instr_of}
 use Rattle.fr_interfere.proofs.Terms.{IsFaultless, points_of, attempts_on, acts_on, State, Content, Dead, Values, Count, Free, Held, Bytes, Lengths, content_of, value_of, kind_of, new_content, write}
-use Rattle.fr_interfere.proofs.Terms.{becomes, UsesDead, operand_of, result_of, Way, Then, Else, Row, Does, Works, Completes, Puts, Moves, with_result, transition, taken, given, queued, moved_bytes}
+use Rattle.fr_interfere.proofs.Terms.{becomes, UsesDead, operand_of, result_of, Way, Then, Else, Row, Does, Works, Completes, Puts, with_result, transition, taken, given, queued, moved_bytes}
 use Rattle.fr_interfere.proofs.Terms.{sent_message, received_message, set_case, listed, instead, instead-same, Effect, effect_inside, effect_of, effect_by, effect_at, target_of, made_of, IndexOf}
 use Rattle.fr_interfere.proofs.Terms.{IsIndexOf, Lists, list_at}
 use Rattle.std.proofs.Math.IntN.{*ℤ_comm, *ℤ-one}
 use Rattle.std.proofs.lemmas.Bool.Decides.{Decides-int_eq}
+use Rattle.std.proofs.lemmas.Option.{slice_get_within}
 use Rattle.fr_program.specs.declared.instr.CreatedKind.{CreatedKind}
 use Rattle.fr_program.specs.declared.instr.DeletedKind.{DeletedKind}
 use Rattle.fr_calls.proofs.Built.{HasSizes, is-built}
 use Rattle.fr_interfere.specs.IndexLaw.{ChangesNumber, KeepsNumber, IsTurned, ChangesLife, IsAt, IsExact}
 use Rattle.fr_effects.proofs.BearLaws.{call-suits}
 use Rattle.fr_effects.proofs.EffectLaws.{Suits}
-use Rattle.fr_effects.proofs.Lists.{get-below}
+use Rattle.fr_notes.proofs.Shown.{new-live}
 
 -- ---- what a row changes is listed
 
@@ -41,17 +42,10 @@ module _ (P : Program) (S T : State) (a : ℕ) (c : ℤ) (x : ℕ) (other : valu
 
   does-none : (call : Call) (way : Way) → Does P (transition S a c T) call way → ⊥
   does-none (EnterCritical form) Then h = moved _ refl h.2
-  does-none (ExitCritical form) Then h = moved _ refl h.1
-  does-none SuspendAll Then h = moved _ refl h.1
-  does-none ResumeAll Then h = moved _ refl h.1
-  does-none Yield Then h = moved _ refl h.1
-  does-none (Delay ticks) Then h = moved _ refl h.1
-  does-none DeleteSelf Then h = moved _ refl h.1
   does-none (Create kind o e) Then h = moved _ refl h.2
   does-none (Create kind o e) Else h = moved _ refl h.2
-  does-none (Delete kind o) Then h = moved _ refl h.1
-  does-none (On call) Then h = moved _ refl h.1
   does-none call Else h = elim h [ ]
+  does-none call Then h = moved _ refl h.1
 
   move-target : (end : End) (buffer : BufferKind) (n : ℕ) (kind : Kind) (result : Option VarId) → (y : VarId) × (result ≡ Some y) × (x ≡ y.0) → target_of (effect_inside (Move end buffer n result) kind) ≡ Some x
   move-target end buffer n kind result h =
@@ -384,15 +378,6 @@ module _ where
   received-live k (Lengths (l ∷ ls)) e = let f = (cond_some (nat_eq l k) (Lengths ls) Dead e).1 in cc
   received-live k content e = cc
 
-  new-live : (kind : Kind) → new_content kind ≢ Dead
-  new-live (Queue size lo hi) e = cc
-  new-live Binary e = cc
-  new-live (Counting size first) e = cc
-  new-live Mutex e = cc
-  new-live Recursive e = cc
-  new-live (Stream size) e = cc
-  new-live (Message size) e = cc
-
 -- the object that becomes live or dead by a row is the one that is created or deleted
 module _ (P : Program) (S T : State) (a : ℕ) (c : ℤ) (k : ℕ) (turned : IsTurned (content_of S k) (content_of T k)) where
   same-life : (d : Content) → IsTurned d d → ⊥
@@ -416,17 +401,11 @@ module _ (P : Program) (S T : State) (a : ℕ) (c : ℤ) (k : ℕ) (turned : IsT
 
   does-made : (call : Call) (way : Way) → Does P (transition S a c T) call way → made_of (effect_of P Before (Calls call)) ≡ Some k
   does-made (EnterCritical form) Then h = absurd (stays _ refl h.2)
-  does-made (ExitCritical form) Then h = absurd (stays _ refl h.1)
-  does-made SuspendAll Then h = absurd (stays _ refl h.1)
-  does-made ResumeAll Then h = absurd (stays _ refl h.1)
-  does-made Yield Then h = absurd (stays _ refl h.1)
-  does-made (Delay ticks) Then h = absurd (stays _ refl h.1)
-  does-made DeleteSelf Then h = absurd (stays _ refl h.1)
   does-made (Create kind o e) Then h = ap (λ j. Some j) (made o.0 _ h.2)
   does-made (Create kind o e) Else h = absurd (stays _ refl h.2)
   does-made (Delete kind o) Then h = ap (λ j. Some j) (made o.0 _ h.1)
-  does-made (On call) Then h = absurd (stays _ refl h.1)
   does-made call Else h = elim h [ ]
+  does-made call Then h = absurd (stays _ refl h.1)
 
   put-live : (o : ℕ) (new : Option Content) (U V : State) → content_of S o ≢ Dead → (new ≡ Some Dead → ⊥) → Puts o new S U → content_of V k ≡ content_of U k → T ≢ V
   put-live o new U V was is h same e =
@@ -581,7 +560,7 @@ module _ (P : Program) (free : IsFaultless P) where
       to c = let one = ((lists.exact k).0 c).1 in at one.0 one.1 (instr_of P one.0) refl one.2
 
       from : IsAt P Is k → Contains numbers k
-      from (q, i, here, is, h) = (lists.exact k).1 (get-below (points_of P) k q here, (q, here, (exact q i is).1 h))
+      from (q, i, here, is, h) = (lists.exact k).1 (slice_get_within (points_of P) k q here, (q, here, (exact q i is).1 h))
 
 pub indexes-exact : (P : Program) (I : IndexOf) → IsFaultless P → IsIndexOf P I → IsExact P I
 indexes-exact P I free index = record {

@@ -6,11 +6,12 @@ use Rattle.fr_interfere.proofs.Terms.{get_or-drop, get_or_default, same_Some, sl
 use Rattle.fr_interfere.proofs.Terms.{PointsAreNumbered, point_number, points_of, NotesFit, Note, note_at, Hull, Block, Effect, Run, AreUnder, Spares, IndexOf, Lists, list_at, AreHullsOf, AreListed}
 use Rattle.fr_interfere.proofs.Terms.{AreRows, IsBlock, IsBlockAt, HasRun, IsInRun, IsInSome, IsRow, IsRun, WritesOne, IsFirstOf, IsListed}
 use Rattle.std.proofs.lemmas.Slice.Zip.{AllZip-long}
+use Rattle.std.proofs.lemmas.Option.{slice_get_within, slice_get_read, get_or_from_slice_get}
 use Rattle.fr_interfere.specs.declared.rows.Hulls.{Hulls}
 use Rattle.fr_interfere.specs.declared.rows.Row.{Row}
 use Rattle.fr_interfere.proofs.HullLaws.{spared-undisturbed}
 use Rattle.fr_effects.proofs.IndexLaws.{listed-point, numbers-below}
-use Rattle.fr_effects.proofs.Lists.{get-below, get-there, get-at, at-get}
+use Rattle.fr_effects.proofs.Lists.{get-there}
 use Rattle.fr_interfere.proofs.SpoilerLaws.{each-fits}
 
 module _ (numbers : List ℕ) (from behind : ℕ) (above : from < behind) (most : behind ≤ length numbers) where
@@ -70,9 +71,9 @@ module _ (P : Program) (notes : List Note) (numbers : List ℕ) (runs : List Run
   blocks-found found q (i, l, is) =
       let (k, r, inside, one, within) = found i l in
       let (b, there) = get-there blocks k (omega (arith, inside, long)) in
-      let has = made k b there r (at-get runs k r inside (sym one)) in
+      let has = made k b there r (slice_get_read runs (length runs) k r refl inside (sym one)) in
       let same = get_or_default numbers i 0 (point_number P q) l ∙ is in
-      (k, b, omega (arith, inside, long), get-at blocks k b b there, subst (Contains b.numbers.items) same (has.each i within.0 within.1))
+      (k, b, omega (arith, inside, long), get_or_from_slice_get blocks k b b there, subst (Contains b.numbers.items) same (has.each i within.0 within.1))
 
 -- one element more
 pub any-before : {E : Type 0} (IsSo : E → Type 0) (xs : List E) (y : E) → Any IsSo xs → Any IsSo (xs ++ y ∷ [])
@@ -123,13 +124,13 @@ module _ (P : Program) (notes : List Note) (lists : List (List ℕ)) where
     many = ap (λ xs. length xs) is ∙ length_push rows one ∙ ap (λ n. n + 1) many;
     rows = λ j r there.
         let here : slice_get (rows ++ one ∷ []) j ≡ Some (Some r) = subst (λ xs. slice_get xs j ≡ Some (Some r)) is there in
-        let below = get-below (rows ++ one ∷ []) j (Some r) here in
-        let read = get-at (rows ++ one ∷ []) j (Some r) (Some r) here in
+        let below = slice_get_within (rows ++ one ∷ []) j (Some r) here in
+        let read = get_or_from_slice_get (rows ++ one ∷ []) j (Some r) (Some r) here in
         let count = length_push rows one in
         ⊎_elim
         (λ before.
         let same = sym (get_or_append_left rows (one ∷ []) (Some r) j before) ∙ read in
-        so_far j r (at-get rows j (Some r) before (sym same)))
+        so_far j r (slice_get_read rows (length rows) j (Some r) refl before (sym same)))
         (λ last.
         let end : length rows ≡ j = omega (arith, below, count, last) in
         let same = sym (get_or_push rows one (Some r) j end) ∙ read in

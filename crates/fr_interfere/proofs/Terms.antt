@@ -2,10 +2,10 @@
 pub use Rattle.fr_effects.proofs.Terms.{ints, by_lt_z, slice_get-get_or, same_Some, cond_some, All-contains, Contains-get_or, Contains-push, Contains-append_left, cases_lt, cases_eq, eqb-true}
 pub use Rattle.fr_effects.proofs.Terms.{length-replicate, get_or-replicate, get_or_past, get_or-set_same, get_or-set_other, set_past, length-set, get_or_default, length_push, length-map, get_or_push}
 pub use Rattle.fr_effects.proofs.Terms.{get_or_append_left, length-map-range_with_len, get_or-map-range_with_len, range_with_len, Point, Side, Before, Inside, Instr, Set, Pick, Calls, If, Goto}
-pub use Rattle.fr_effects.proofs.Terms.{Return, Call, Create, Delete, On, EnterCritical, ExitCritical, SuspendAll, ResumeAll, Yield, Delay, DeleteSelf, ObjectCall, Act, Try, Move, QueueReceive}
+pub use Rattle.fr_effects.proofs.Terms.{Return, Call, Create, Delete, On, EnterCritical, ObjectCall, Act, Try, Move, QueueReceive}
 pub use Rattle.fr_effects.proofs.Terms.{QueueSend, Take, Give, Reset, Operand, Number, Variable, Operator, Times, Kind, Queue, Binary, Counting, Mutex, Recursive, Stream, Message, Range, Program}
 pub use Rattle.fr_effects.proofs.Terms.{instr_of, no_object, IsPoint, no_variable, variable_at, acts_on, act_variables, IsFaultless, NamesThings, State, kind_of, Content, Dead, Values, Count, Free}
-pub use Rattle.fr_effects.proofs.Terms.{Held, Bytes, Lengths, content_of, value_of, new_content, write, becomes, operand_of, result_of, Way, Then, Else, Row, Does, Works, Puts, Moves, with_result}
+pub use Rattle.fr_effects.proofs.Terms.{Held, Bytes, Lengths, content_of, value_of, new_content, write, becomes, operand_of, result_of, Way, Then, Else, Row, Does, Works, Puts, with_result}
 pub use Rattle.fr_effects.proofs.Terms.{transition, taken, given, queued, moved_bytes, sent_message, received_message, NotHeld, Alternative, Note, Within, claim_of, range_of, CanBeIn, IsSpanIn}
 pub use Rattle.fr_effects.proofs.Terms.{ends_of, joint_range, ActorId, points_of, point_number, PointsAreNumbered, note_at, AlternativeFits, NoteFits, CanMeet, ObjId, VarId, Attempt, End, Writer}
 pub use Rattle.fr_effects.proofs.Terms.{Reader, Timing, BufferKind, OfStream, OfMessage, set_case, Claim, variable_of, object_of, effect_inside, effect_of, Bears}

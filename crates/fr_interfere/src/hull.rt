@@ -1,6 +1,5 @@
 // What some points have in common: where that keeps them from disturbing a note, none of them is looked at alone.
 ghost use Rattle.std.specs.Prelude.{◌≡◌, ◌≢◌, ◌<◌, ◌↔◌, ℤ, true, false, IsTrue, List, All, Any, Some, IfOk, length, slice_get, slice_index_or};
-ghost use Rattle.std.specs.Int.{int_min, int_max};
 ghost use Rattle.fr_program.specs.declared.ids.Point.{Point};
 ghost use Rattle.fr_program.specs.Points.{points_of};
 ghost use Rattle.fr_program.specs.Program.{Program};
@@ -64,24 +63,13 @@ fn common_claim(claim: Claim, other: Claim) -> Claim
     }
 }
 
-/// The least range that has all numbers of both.
-fn common_range(range: Range, other: Range) -> Range
-    ensures lo { result.lo ≡ int_min range.lo other.lo }
-    ensures hi { result.hi ≡ int_max range.hi other.hi }
-{
-    Range {
-        lo: range.lo.min(other.lo),
-        hi: range.hi.max(other.hi),
-    }
-}
-
 /// The least range that has all numbers of both, where there are two.
 fn common_written(written: Option<Range>, more: Option<Range>) -> Option<Range>
     ensures one { (v : ℤ) → Has written v → Has result v }
     ensures other { (v : ℤ) → Has more v → Has result v }
 {
     match (written, more) {
-        (Some(range), Some(other)) => Some(common_range(range, other)),
+        (Some(range), Some(other)) => Some(range.hull(other)),
         (None, other) => other,
         (one, None) => one,
     }
@@ -97,7 +85,7 @@ fn written_by(app: &App, effect: Effect, alternative: &Alternative) -> Option<Ra
     app.recall_faultless();
     match effect {
         Effect::Nothing | Effect::Life(_) => None,
-        Effect::Gives { lo, hi, .. } => Some(common_range(Range::only(lo), Range::only(hi))),
+        Effect::Gives { lo, hi, .. } => Some(Range::only(lo).hull(Range::only(hi))),
         Effect::Sets {
             left,
             operator,
@@ -132,7 +120,7 @@ fn cover_ranges(ranges: &mut [(VarId, Range)], alternative: &Alternative)
 {
     for entry in ranges.iter_mut() {
         let (variable, range) = *entry;
-        *entry = (variable, common_range(range, alternative.range(variable)));
+        *entry = (variable, range.hull(alternative.range(variable)));
     }
 }
 

@@ -1,21 +1,17 @@
 -- What is told of a point is of the application.
-use Rattle.std.proofs.Common.{◌≡◌, ◌<◌, ◌≤◌, List, length, Option, Some, ap, subst, arith}
-use Rattle.fr_judge.proofs.Terms.{same_Some, Instr, Calls, On, ObjectCall, Point, Side, Inside, instr_of, Program, IsFaultless, Rule, OneWriter, OneReader, number_of, is_own, EndGuard, Guard, Sole}
-use Rattle.fr_judge.proofs.Terms.{ByMutex, InCritical, Turn, Certificate, HasDistinctTurns, AllHaveDistinctTurns, GuardFits, EndFits, called_inside, Part, EntryPart, RulePart, GoesPart, GuardPart}
+use Rattle.std.proofs.Common.{◌<◌, ◌≤◌, List, length, subst, arith}
+use Rattle.fr_judge.proofs.Terms.{Point, instr_of, Program, IsFaultless, Rule, OneWriter, OneReader, number_of, is_own, EndGuard, Guard, Sole}
+use Rattle.fr_judge.proofs.Terms.{ByMutex, InCritical, Turn, Certificate, HasDistinctTurns, AllHaveDistinctTurns, GuardFits, EndFits, Part, EntryPart, RulePart, GoesPart, GuardPart}
 use Rattle.fr_judge.proofs.Terms.{NearPart, SpoiledPart, IsKept, told_part, IsPartOf}
 use Rattle.std.specs.Prelude.{IsTrue, All}
 use Rattle.fr_judge.proofs.Failing.{failing-owed}
+use Rattle.fr_ends.proofs.GuardLaws.{called-instr}
 
 -- a rule that a point owes by itself is none of 1 and 2
 own-number : (i : _) (rule : Rule) → IsTrue (is_own i rule) → 3 ≤ number_of rule
 own-number i OneWriter h = cc
 own-number i OneReader h = cc
 own-number i rule h = omega arith
-
--- a call that a point is inside is its instruction
-called-instr : (side : Side) (i : Option Instr) (call : ObjectCall) → called_inside side i ≡ Some call → i ≡ Some (Calls (On call))
-called-instr Inside (Some (Calls (On done))) call e = ap (λ c. Some (Calls (On c))) (same_Some done call e)
-called-instr side i call e = cc
 
 module _ (P : Program) (faultless : IsFaultless P) (C : Certificate) (p : Point) where
   -- a part that isn't kept names what the application has

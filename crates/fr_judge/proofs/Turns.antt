@@ -1,22 +1,19 @@
 -- In no state do two actors have one guard.
-use Rattle.std.proofs.Common.{◌≡◌, ℕ, ◌<◌, List, [], ◌∷◌, Option, Some, None, Bool, true, false, refl, sym, ◌∙◌, subst, arith}
+use Rattle.std.proofs.Common.{◌≡◌, ℕ, ◌<◌, List, [], ◌∷◌, Option, Some, None, Bool, true, false, sym, ◌∙◌, subst, arith}
 use Rattle.std.specs.Prelude.{nat_eq, if◌then◌else◌, ◌&&◌}
 use Rattle.fr_judge.proofs.Terms.{same_Some, eqb-true, All-head, All-tail, State, Content, Held, content_of, depth_in, count_held, End, Guard, Sole, ByMutex, InCritical, Turn, EndGuard, HasGuard}
 use Rattle.fr_judge.proofs.Terms.{HasDistinctTurns, AllHaveDistinctTurns, same_end, guard_for}
-
-positive_if : (b : Bool) (n : ℕ) → 0 < (if b then n else 0) → b ≡ true
-positive_if true n h = refl
-positive_if false n h = absurd (omega arith)
+use Rattle.fr_notes.proofs.PairLaws.{inside-is}
 
 held-alone : (c : Content) (a b : ℕ) → 0 < count_held a c → 0 < count_held b c → a ≡ b
 held-alone (Held holder n) a b h k =
-    sym (eqb-true holder a (positive_if (nat_eq holder a) n h)) ∙ eqb-true holder b (positive_if (nat_eq holder b) n k)
+    sym (eqb-true holder a (inside-is (nat_eq holder a) n h)) ∙ eqb-true holder b (inside-is (nat_eq holder b) n k)
 held-alone c a b h k = absurd (omega arith)
 
 pub depth-alone : (c : Option (ℕ × ℕ)) (a b : ℕ) → 0 < depth_in c a → 0 < depth_in c b → a ≡ b
 depth-alone None a b h k = absurd (omega arith)
 depth-alone (Some c) a b h k =
-    sym (eqb-true c.0 a (positive_if (nat_eq c.0 a) c.1 h)) ∙ eqb-true c.0 b (positive_if (nat_eq c.0 b) c.1 k)
+    sym (eqb-true c.0 a (inside-is (nat_eq c.0 a) c.1 h)) ∙ eqb-true c.0 b (inside-is (nat_eq c.0 b) c.1 k)
 
 pub guard-alone : (g : Guard) (S : State) (a b : ℕ) → HasDistinctTurns g → HasGuard g a S → HasGuard g b S → a ≡ b
 guard-alone (Sole actor) S a b d h k = h ∙ sym k

@@ -1,6 +1,12 @@
--- The alternatives of notes, joined one note after another.
-use Rattle.std.proofs.Common.{◌≡◌, ◌<◌, ◌≤◌, ◌+◌, ℕ, List, [], ◌∷◌, ◌++◌, All, IsTrue, false, take, drop, length, get_or, refl, sym, ap, ◌∙◌, subst, append_assoc, append-nil, arith, length-append}
-use Rattle.fr_notes.proofs.Terms.{false≢true, take_more, take-append-drop, All-head, All-tail, All-nil, All-append, Program, Note, AlternativeFits, NoteFits, joined}
+-- The first alternatives of a note, one more at a time; and the alternatives of notes, joined one note after another.
+use Rattle.std.proofs.Common.{◌≡◌, ◌<◌, ◌≤◌, ◌+◌, ℕ, List, [], ◌∷◌, ◌++◌, All, IsTrue, false, take, drop, length, get_or, refl, sym, ap, ◌∙◌, subst, ⊎_elim, append_assoc, append-nil, arith, length-append}
+use Rattle.fr_notes.proofs.Terms.{cases_lt, false≢true, get_or_default, take_more, take-append-drop, All-head, All-tail, All-nil, All-append, Program, Alternative, Note, AlternativeFits, NoteFits, IsAmong, joined}
+
+-- one of the first k + 1 is one of the first k, or the one at k
+pub among-case : (Q : Type 0) (note : Note) (k : ℕ) (x n : Alternative) → k < length note → x ≡ get_or note k x → IsAmong note (k + 1) n → (IsAmong note k n → Q) → (x ≡ n → Q) → Q
+among-case Q note k x n l e m old here =
+    ⊎_elim (λ lt. old (m.0, lt, m.2)) (λ ge. let s : m.0 ≡ k = (let lt = m.1 in omega arith) in
+    here (e ∙ get_or_default note k x n l ∙ subst (λ j. get_or note j n ≡ n) s m.2)) (cases_lt m.0 k)
 
 joined_append : (xs ys : List Note) → joined (xs ++ ys) ≡ joined xs ++ joined ys
 joined_append [] ys = refl

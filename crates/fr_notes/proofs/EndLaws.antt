@@ -2,7 +2,7 @@
 use Rattle.std.proofs.Common.{◌≡◌, ℕ, ◌-◌, ◌<◌, [], length, Option, Some, None, Bool, true, false, refl, sym, ap, ◌∙◌, subst, arith}
 use Rattle.std.specs.Prelude.{ℤ, pos, ◌<ℤ◌, IsTrue, IfSome, All, nat_le, if◌then◌else◌}
 use Rattle.fr_notes.proofs.Terms.{ints, same_Some, All-head, ObjId, VarId, Point, ObjectCall, Act, Try, Move, Attempt, QueueSend, QueueReceive, Take, Give, Reset, OfStream, OfMessage, Timing, Kind}
-use Rattle.fr_notes.proofs.Terms.{Queue, Binary, Counting, Mutex, Recursive, Stream, Message, Range, Program, KindInLimits, ActInLimits, suits_timing, acts_on, act_variables, written_by, option_list}
+use Rattle.fr_notes.proofs.Terms.{Queue, Binary, Counting, Mutex, Recursive, Range, Program, KindInLimits, ActInLimits, suits_timing, acts_on, act_variables, written_by, option_list}
 use Rattle.fr_notes.proofs.Terms.{Then, Else, State, kind_of, content_of, is_unsuited, Completes, transition, Change, ends_of, Known, IsLeft, Holding, Living, Own, holding, living, mover_claim}
 use Rattle.fr_notes.proofs.Terms.{taken_by, given_by, worked_by, can_fail_on, is_mutex, is_given_unheld, results_of, failed_into, IsEnd, EndLeaves, resulting}
 use Rattle.fr_notes.proofs.Holdings.{IsIn}
@@ -56,12 +56,7 @@ failed-there (Move end buffer k result) n h = option-there result n h
 -- a queue has values, and a range from 0 to 0 is one
 values-there : (kind : Kind) (attempt : Attempt) (e : Option ℕ) → KindInLimits kind → (results_of kind (Try attempt e)).1 <ℤ (results_of kind (Try attempt e)).0 → ⊥
 values-there (Queue size lo hi) attempt e h none = absurd (omega (arith, ints, none, h.1))
-values-there Binary attempt e h none = absurd (omega (arith, ints, none))
-values-there (Counting size first) attempt e h none = absurd (omega (arith, ints, none))
-values-there Mutex attempt e h none = absurd (omega (arith, ints, none))
-values-there Recursive attempt e h none = absurd (omega (arith, ints, none))
-values-there (Stream size) attempt e h none = absurd (omega (arith, ints, none))
-values-there (Message size) attempt e h none = absurd (omega (arith, ints, none))
+values-there kind attempt e h none = absurd (omega (arith, ints, none))
 
 -- the row of an act that works, of one that can't, and of one that gives no number
 module _ (s : Site) (o : ObjId) (known : Holding) (t : IsTarget s.app (mover s) (other s) (kind_of s.app o.0) known) (timing : Timing) where

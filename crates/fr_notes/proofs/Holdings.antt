@@ -2,7 +2,7 @@
 -- content there meets both claims, and one content there shows each claim that follows.
 use Rattle.std.proofs.Common.{◌≡◌, ◌≢◌, ℕ, ◌<◌, ◌≤◌, length, Bool, true, false, refl, sym, ap, ◌∙◌, subst, arith, inl, inr}
 use Rattle.std.specs.Prelude.{◌⊎◌, nat_eq, if◌then◌else◌}
-use Rattle.fr_notes.proofs.Terms.{eqb-true, Kind, Queue, Binary, Counting, Mutex, Recursive, Stream, Message, Program, Content, Dead, Values, Count, Free, Held, Bytes, Lengths, CanHave, count_held}
+use Rattle.fr_notes.proofs.Terms.{eqb-true, Kind, Queue, Binary, Counting, Mutex, Recursive, Stream, Message, Program, Content, Dead, Held, CanHave, count_held}
 use Rattle.fr_notes.proofs.Terms.{new_content, HasSizes, new-fits, Claim, NotHeld, Alive, Gone, HeldTimes, Meets, CanClaim, ClaimImplies, ClaimsMeet, Holding, Unheld, Living, Lifeless, Own, Others}
 use Rattle.fr_notes.proofs.Terms.{holding_of, mover_claim, other_claim}
 use Rattle.fr_notes.specs.Known.{joined}
@@ -24,21 +24,13 @@ IsIn a b (Others count) content = (content ≡ Held b count) × (1 ≤ count)
 pub held-once : (kind : Kind) (count : ℕ) → CanClaim kind (HeldTimes count) → 1 ≤ count
 held-once Mutex count c = omega (arith, c)
 held-once Recursive count c = c.0
-held-once (Queue size lo hi) count c = absurd c
-held-once Binary count c = absurd c
-held-once (Counting size first) count c = absurd c
-held-once (Stream size) count c = absurd c
-held-once (Message size) count c = absurd c
+held-once kind count c = absurd c
 
 -- an object that has a content in which an actor holds it so often is held at least once
 held-count : (P : Program) (kind : Kind) (a count : ℕ) → CanHave P kind (Held a count) → 1 ≤ count
 held-count P Mutex a count c = omega (arith, c.1)
 held-count P Recursive a count c = c.1
-held-count P (Queue size lo hi) a count c = absurd c
-held-count P Binary a count c = absurd c
-held-count P (Counting size first) a count c = absurd c
-held-count P (Stream size) a count c = absurd c
-held-count P (Message size) a count c = absurd c
+held-count P kind a count c = absurd c
 
 pub not-held : (P : Program) (kind : Kind) (a : ℕ) (content : Content) → CanHave P kind content → count_held a content ≡ 0 → IsUnheldBy a content
 not-held P kind a content can none count e =
@@ -52,12 +44,7 @@ unheld-count a (Held holder count) free = go (nat_eq holder a) (λ e. eqb-true h
     go : (t : Bool) → (t ≡ true → holder ≡ a) → (if t then count else 0) ≡ 0
     go true h = absurd (free count (ap (λ k. Held k count) (h refl)))
     go false h = refl
-unheld-count a Dead free = refl
-unheld-count a (Values vs) free = refl
-unheld-count a (Count n) free = refl
-unheld-count a Free free = refl
-unheld-count a (Bytes n) free = refl
-unheld-count a (Lengths ls) free = refl
+unheld-count a content free = refl
 
 pub live-count : (a count : ℕ) (content : Content) → content ≡ Held a count → content ≢ Dead
 live-count a count content e dead = let f = sym e ∙ dead in cc
@@ -232,15 +219,7 @@ holding-fits P a b kind Gone (HeldTimes n) fits_c fits_d la (inl e) = cc
 holding-fits P a b kind NotHeld (HeldTimes n) fits_c fits_d la (inr lb) = (fits_d, lb)
 holding-fits P a b kind Alive (HeldTimes n) fits_c fits_d la (inr lb) = (fits_d, lb)
 holding-fits P a b kind Gone (HeldTimes n) fits_c fits_d la (inr lb) = (fits_d, lb)
-holding-fits P a b kind Gone NotHeld fits_c fits_d la lb = tt
-holding-fits P a b kind Gone Alive fits_c fits_d la lb = tt
-holding-fits P a b kind Gone Gone fits_c fits_d la lb = tt
-holding-fits P a b kind NotHeld Gone fits_c fits_d la lb = tt
-holding-fits P a b kind Alive Gone fits_c fits_d la lb = tt
-holding-fits P a b kind Alive NotHeld fits_c fits_d la lb = tt
-holding-fits P a b kind Alive Alive fits_c fits_d la lb = tt
-holding-fits P a b kind NotHeld Alive fits_c fits_d la lb = tt
-holding-fits P a b kind NotHeld NotHeld fits_c fits_d la lb = tt
+holding-fits P a b kind c d fits_c fits_d la lb = tt
 
 -- a content that the object can have
 abbrev pub content_in : ℕ → ℕ → Kind → Holding → Content
@@ -252,12 +231,7 @@ content_in a b kind (Others count) = Held b count
 
 pub new-unheld : (a count : ℕ) (kind : Kind) → new_content kind ≡ Held a count → ⊥
 new-unheld a count (Queue size lo hi) e = cc
-new-unheld a count Binary e = cc
-new-unheld a count (Counting size first) e = cc
-new-unheld a count Mutex e = cc
-new-unheld a count Recursive e = cc
-new-unheld a count (Stream size) e = cc
-new-unheld a count (Message size) e = cc
+new-unheld a count kind e = cc
 
 pub content-in : (P : Program) (a b : ℕ) (kind : Kind) (known : Holding) → HoldingFits P a b kind known → IsIn a b known (content_in a b kind known)
 content-in P a b kind Unheld f = (λ k e. cc, λ k e. cc)

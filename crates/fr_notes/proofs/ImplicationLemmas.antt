@@ -3,10 +3,11 @@
 use Rattle.std.proofs.Common.{◌≡◌, ℕ, zero, suc, ◌<◌, ◌≤◌, List, [], ◌∷◌, length, get_or, map, Bool, true, false, refl, sym, ap, ◌∙◌, subst, arith, ⊎_elim}
 use Rattle.std.specs.Prelude.{ℤ, pos, All, Any}
 use Rattle.std.specs.Bool.{OnTrue, OnFalse}
-use Rattle.fr_notes.proofs.Terms.{ints, get_or_past, get_or-map, cases_lt, Kind, Queue, Binary, Counting, Mutex, Recursive, Stream, Message, Range, Program, IsFaultless, State, Content, Held, CanHave}
+use Rattle.fr_notes.proofs.Terms.{ints, get_or_past, get_or-map, cases_lt, Kind, Range, Program, IsFaultless, State, Content, Held, CanHave}
 use Rattle.fr_notes.proofs.Terms.{IsWellFormed, kind_of, content_of, value_of, count_held, new_content, HasSizes, is-built, new-fits, Alternative, Note, Claim, NotHeld, Alive, Gone, HeldTimes, Meets}
 use Rattle.fr_notes.proofs.Terms.{Within, HoldsOne, Holds, claim_of, range_of, CanClaim, AlternativeFits, NoteFits, Implies, ClaimImplies, IsPart, IsStronger, ImpliesSome, ends_of}
 use Rattle.fr_notes.proofs.Shown.{shown, Shows, instead, instead-case, instead-same, done, least, content_for, usual, least-within, new-live, new-not_held, content_for-meets, content_for-fits, usual-shows, shown-value, shown-content, shown-formed, shown-holds, depth_for-same}
+use Rattle.fr_notes.proofs.Holdings.{held-once, new-unheld}
 
 pub on_true_weaker : {P Q : Type 0} (b : Bool) → (P → Q) → OnTrue b P → OnTrue b Q
 on_true_weaker true f h = f h
@@ -23,21 +24,12 @@ ends-at ranges k r below is = get_or-map ends_of ranges k r (pos 0, pos 0) below
 -- a claim that implies another brings it
 pub implied-meets : (a : ℕ) (claim other : Claim) (content : Content) → ClaimImplies claim other → Meets a claim content → Meets a other content
 implied-meets a (HeldTimes count) (HeldTimes other) content e m = m ∙ ap (λ n. Held a n) e
-implied-meets a (HeldTimes count) NotHeld content e m = absurd e
-implied-meets a (HeldTimes count) Alive content e m = absurd e
-implied-meets a (HeldTimes count) Gone content e m = absurd e
-implied-meets a NotHeld (HeldTimes other) content e m = absurd e
-implied-meets a Alive (HeldTimes other) content e m = absurd e
-implied-meets a Gone (HeldTimes other) content e m = absurd e
 implied-meets a NotHeld NotHeld content e m = m
 implied-meets a Alive NotHeld content e m = m.1
 implied-meets a Gone NotHeld content e m = ap (count_held a) m
-implied-meets a NotHeld Alive content e m = absurd e
 implied-meets a Alive Alive content e m = m
-implied-meets a Gone Alive content e m = absurd e
-implied-meets a NotHeld Gone content e m = absurd e
-implied-meets a Alive Gone content e m = absurd e
 implied-meets a Gone Gone content e m = m
+implied-meets a claim other content e m = absurd e
 
 -- a number in a part of a range is in the range
 pub part-within : (range other : ℤ × ℤ) (v : ℤ) → IsPart range other → Within range v → Within other v
@@ -58,28 +50,9 @@ implies-from_each P note other each = λ a l S w holds.
     let some = subst (ImpliesSome other) k.2 (each k.0 holds.0 k.1) in
     (some.1, (some.0, some.2, some.3), stronger-holds holds.0 some.1 a S some.4 holds.2)
 
--- a mutex that is claimed held is held at least once
-held-once : (kind : Kind) (count : ℕ) → CanClaim kind (HeldTimes count) → 1 ≤ count
-held-once Mutex count c = omega (arith, c)
-held-once Recursive count c = c.0
-held-once (Queue size lo hi) count c = absurd c
-held-once Binary count c = absurd c
-held-once (Counting size first) count c = absurd c
-held-once (Stream size) count c = absurd c
-held-once (Message size) count c = absurd c
-
 -- who holds it holds it so often
 own-count : (a count : ℕ) → 1 ≤ count → count_held a (Held a count) ≡ 0 → ⊥
 own-count a count l e = let same = depth_for-same a count in absurd (omega (arith, same, e))
-
-new-unheld : (a count : ℕ) (kind : Kind) → new_content kind ≡ Held a count → ⊥
-new-unheld a count (Queue size lo hi) e = cc
-new-unheld a count Binary e = cc
-new-unheld a count (Counting size first) e = cc
-new-unheld a count Mutex e = cc
-new-unheld a count Recursive e = cc
-new-unheld a count (Stream size) e = cc
-new-unheld a count (Message size) e = cc
 
 module _ (P : Program) (a : ℕ) (l : a < length P.actors) where
   -- a claim that is true of each content of which another one is, is implied by it

@@ -1,14 +1,14 @@
 -- Two alternatives, of two actors, hold in one state exactly where they exclude each other in no part.
 use Rattle.std.proofs.Common.{◌≡◌, ◌≢◌, ℕ, zero, suc, ◌<◌, length, Option, Some, None, Bool, true, false, refl, sym, ap, ◌∙◌, subst, arith, inl, inr}
 use Rattle.std.specs.Prelude.{◌⊎◌, ◌↔◌, Any, Contains, if◌then◌else◌, nat_eq}
-use Rattle.fr_notes.proofs.Terms.{ints, clamps, eqb-true, ActorId, Point, Before, Program, IsPoint, IsFaultless, State, Content, content_of, depth_in, is-built, Alternative, Note, Claim, NotHeld}
+use Rattle.fr_notes.proofs.Terms.{ints, clamps, eqb-true, ActorId, Point, Before, Program, IsPoint, IsFaultless, State, Content, content_of, depth_in, is-built, Alternative, Note, Claim}
 use Rattle.fr_notes.proofs.Terms.{Alive, Gone, HeldTimes, Meets, HoldsOne, claim_of, NotedBy, AreTogether, AlternativeFits, NoteFits, ClaimsMeet, AreCompatible, beside, CanMeet, MeetsSome}
 use Rattle.fr_calls.proofs.Formed.{point_before}
 use Rattle.fr_notes.proofs.Shown.{depth_for-other}
 use Rattle.fr_notes.proofs.Seen.{Site, drawn, drawn-known, usual, usual-chosen}
 
 -- an actor with a depth is the one in the critical section
-inside-is : (b : Bool) (depth : ℕ) → 0 < (if b then depth else 0) → b ≡ true
+pub inside-is : (b : Bool) (depth : ℕ) → 0 < (if b then depth else 0) → b ≡ true
 inside-is true depth h = refl
 inside-is false depth h = absurd (omega arith)
 
@@ -25,20 +25,10 @@ module _ (a b : ℕ) (ne : b ≢ a) where
   both-meet : (content : Content) (c d : Claim) → Meets a c content → Meets b d content → ClaimsMeet c d
   both-meet content (HeldTimes n) (HeldTimes k) h g = let e = sym g ∙ h in ne cc
   both-meet content (HeldTimes n) Gone h g = let e = sym g ∙ h in cc
-  both-meet content (HeldTimes n) NotHeld h g = tt
-  both-meet content (HeldTimes n) Alive h g = tt
   both-meet content Gone (HeldTimes k) h g = let e = sym g ∙ h in cc
-  both-meet content Gone NotHeld h g = tt
   both-meet content Gone Alive h g = g.0 h
-  both-meet content Gone Gone h g = tt
-  both-meet content Alive (HeldTimes k) h g = tt
-  both-meet content Alive NotHeld h g = tt
-  both-meet content Alive Alive h g = tt
   both-meet content Alive Gone h g = h.0 g
-  both-meet content NotHeld (HeldTimes k) h g = tt
-  both-meet content NotHeld NotHeld h g = tt
-  both-meet content NotHeld Alive h g = tt
-  both-meet content NotHeld Gone h g = tt
+  both-meet content c d h g = tt
 
   -- alternatives of two actors that hold in one state are compatible
   pub compatible-from : (n m : Alternative) (S : State) → HoldsOne n a S → HoldsOne m b S → AreCompatible n m

@@ -1,7 +1,7 @@
 -- The alternative that parts say fits the application, where no fault stands in them.
 use Rattle.std.proofs.Common.{◌≡◌, ℕ, ◌≤◌, List, [], ◌∷◌, length, Option, Some, None, Bool, true, false, refl, sym, subst, arith, ⊎_elim}
 use Rattle.std.specs.Prelude.{ℤ, pos, ◌≤ℤ◌, IfSome, nat_eq, if◌then◌else◌, All}
-use Rattle.fr_notes.proofs.Terms.{ints, get_or_past, length-map-range_with_len, All-head, All-tail, cases_lt, eqb-true, Kind, Queue, Binary, Counting, Mutex, Recursive, Stream, Message, ObjId, VarId}
+use Rattle.fr_notes.proofs.Terms.{ints, get_or_past, length-map-range_with_len, All-head, All-tail, cases_lt, eqb-true, Kind, Queue, ObjId, VarId}
 use Rattle.fr_notes.proofs.Terms.{Range, Program, VariableOf, variable_at, no_variable, IsFaultless, kind_of, NotHeld, Alive, Gone, HeldTimes, range_of, CanClaim, AlternativeFits, most_depth, names}
 use Rattle.fr_notes.proofs.Terms.{count_in, count_said, unheld_said, claim_by, claim_said, range_in, range_by, range_said, said, IsCount, IsNarrowing}
 use Rattle.fr_notes.specs.declared.note.NoteParts.{NoteParts}
@@ -13,12 +13,7 @@ can-unheld kind dead live = go kind dead live
   where
     plain : (kind : Kind) → CanClaim kind NotHeld × CanClaim kind Alive × CanClaim kind Gone
     plain (Queue size lo hi) = (tt, tt, tt)
-    plain Binary = (tt, tt, tt)
-    plain (Counting size first) = (tt, tt, tt)
-    plain Mutex = (tt, tt, tt)
-    plain Recursive = (tt, tt, tt)
-    plain (Stream size) = (tt, tt, tt)
-    plain (Message size) = (tt, tt, tt)
+    plain kind = (tt, tt, tt)
 
     go : (kind : Kind) (dead live : Bool) → CanClaim kind (if dead then Gone else (if live then Alive else NotHeld))
     go kind true live = (plain kind).2

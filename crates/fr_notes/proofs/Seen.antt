@@ -11,8 +11,8 @@
 use Rattle.std.proofs.Common.{◌≡◌, ◌≢◌, ℕ, zero, suc, ◌<◌, ◌≤◌, length, get_or, Option, Some, None, List, [], ◌∷◌, refl, sym, ap, ◌∙◌, subst, arith, ⊎_elim, inl, inr}
 use Rattle.std.specs.Prelude.{ℤ, pos, IfSome, ◌⊎◌, ◌≤ℤ◌, nat_lt, slice_get}
 use Rattle.fr_notes.proofs.Terms.{list_any, ints, clamps, cases_lt, get_or_past, length-map-range_with_len, get_or-map-range_with_len, common_steps, ActorId, Point, Instr, Kind, Queue, Binary}
-use Rattle.fr_notes.proofs.Terms.{Counting, Mutex, Recursive, Stream, Message, Program, IsPoint, instr_at, no_actor, IsFaultless, State, Place, At, Done, Content, Dead, Values, Count, Free, Held}
-use Rattle.fr_notes.proofs.Terms.{Bytes, Lengths, CanHave, Exists, IsWellFormed, kind_of, content_of, value_of, count_held, depth_in, depth_of, suspension_of, held_at, holds_some, is-built}
+use Rattle.fr_notes.proofs.Terms.{Counting, Mutex, Recursive, Stream, Message, Program, IsPoint, instr_at, no_actor, IsFaultless, State, Place, At, Done, Content, Dead, Held}
+use Rattle.fr_notes.proofs.Terms.{CanHave, Exists, IsWellFormed, kind_of, content_of, value_of, count_held, depth_in, depth_of, suspension_of, held_at, holds_some, is-built}
 use Rattle.fr_notes.proofs.Terms.{Alternative, Claim, NotHeld, Alive, Gone, HeldTimes, Meets, Within, HoldsOne, claim_of, range_of, NotedBy, CanClaim, AlternativeFits, Known, KnownFits, ClaimsMeet}
 use Rattle.fr_notes.proofs.Terms.{IsOther, HasKnown, joint_range, meet_of, is_held, claims_some, holding, others_claim}
 use Rattle.fr_notes.proofs.Shown.{listed, listed-case, instead, instead-case, instead-same, instead-other, held_at-same, held_at-other, depth_for-same, depth_for-other}
@@ -77,27 +77,15 @@ nobody-holds : (P : Program) (kind : Kind) (content : Content) → CanHave P kin
 nobody-holds P kind (Held holder count) c =
     let below = holder-below P kind holder count c in
     depth_for-other holder count (length P.actors) (λ e. absurd (omega (arith, below, e)))
-nobody-holds P kind Dead c = refl
-nobody-holds P kind (Values vs) c = refl
-nobody-holds P kind (Count n) c = refl
-nobody-holds P kind Free c = refl
-nobody-holds P kind (Bytes n) c = refl
-nobody-holds P kind (Lengths ls) c = refl
+nobody-holds P kind content c = refl
 
 can-unheld : (kind : Kind) → CanClaim kind NotHeld
 can-unheld Mutex = tt
-can-unheld Recursive = tt
-can-unheld (Queue size lo hi) = tt
-can-unheld Binary = tt
-can-unheld (Counting size first) = tt
-can-unheld (Stream size) = tt
-can-unheld (Message size) = tt
+can-unheld kind = tt
 
 meet-unheld : (c : Claim) → ClaimsMeet c NotHeld
 meet-unheld NotHeld = tt
-meet-unheld Alive = tt
-meet-unheld Gone = tt
-meet-unheld (HeldTimes n) = tt
+meet-unheld c = tt
 
 within-meet : (r t : ℤ × ℤ) (v : ℤ) → Within (meet_of r t) v → Within r v × Within t v
 within-meet r t v w = ((omega (arith, ints, clamps, w.0, w.1), omega (arith, ints, clamps, w.0, w.1)), (omega (arith, ints, clamps, w.0, w.1), omega (arith, ints, clamps, w.0, w.1)))

@@ -156,21 +156,11 @@ least-within P n f x = (omega (arith, ints), f.order x)
 -- a new object is live, and nobody holds it
 pub new-live : (kind : Kind) → new_content kind ≢ Dead
 new-live (Queue size lo hi) e = cc
-new-live Binary e = cc
-new-live (Counting size first) e = cc
-new-live Mutex e = cc
-new-live Recursive e = cc
-new-live (Stream size) e = cc
-new-live (Message size) e = cc
+new-live kind e = cc
 
 pub new-not_held : (a : ℕ) (kind : Kind) → count_held a (new_content kind) ≡ 0
 new-not_held a (Queue size lo hi) = refl
-new-not_held a Binary = refl
-new-not_held a (Counting size first) = refl
-new-not_held a Mutex = refl
-new-not_held a Recursive = refl
-new-not_held a (Stream size) = refl
-new-not_held a (Message size) = refl
+new-not_held a kind = refl
 
 pub content_for-meets : (a : ℕ) (kind : Kind) (claim : Claim) → Meets a claim (content_for a kind claim)
 content_for-meets a kind NotHeld = refl

@@ -59,7 +59,7 @@ pub use Rattle.fr_program.specs.declared.ids.ActorId.{ActorId}
 pub use Rattle.fr_program.proofs.FaultLemmas.{refuted}
 pub use Rattle.fr_notes.specs.Note.{Note, Within, HeldTimes, Claim, NotHeld, Alive, Gone, claim_of, Meets, Alternative, HoldsOne, Holds, range_of}
 pub use Rattle.fr_notes.specs.Fits.{AlternativeFits, NoteFits, CanClaim, ClaimsFit, RangesFit, most_depth, IsWithinDeclared}
-pub use Rattle.fr_notes.specs.Alternatives.{joined}
+pub use Rattle.fr_notes.specs.Alternatives.{IsAmong, joined}
 pub use Rattle.fr_notes.specs.View.{ends_of, alternative_of}
 pub use Rattle.fr_notes.specs.Holding.{Holding, Living, Own, worked_by, can_fail_on, is_mutex, is_given_unheld, holding, holding_of, others_claim, living, mover_claim, taken_by, given_by, Unheld}
 pub use Rattle.fr_notes.specs.Holding.{Lifeless, Others, other_claim, can_be_dead, can_be_full}

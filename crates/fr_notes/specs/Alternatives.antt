@@ -1,9 +1,13 @@
--- Plain notes as the alternatives of one note.
-use Rattle.std.specs.Prelude.{◌≡◌, ◌<◌, ◌++◌, List, [], ◌∷◌, Any, length}
-use Rattle.fr_notes.specs.Note.{Note}
+-- The alternatives of one note: the first of them, and those of several notes.
+use Rattle.std.specs.Prelude.{◌≡◌, ◌<◌, ◌++◌, ℕ, List, [], ◌∷◌, Any, length, slice_index_or}
+use Rattle.fr_notes.specs.Note.{Alternative, Note}
 use Rattle.fr_notes.specs.Fits.{most_alternatives}
 use Rattle.fr_notes.specs.declared.alternatives.AltsFault.{AltsFault}
 use Rattle.fr_notes.specs.declared.alternatives.AltsFault.TheVariants.{Memory, TooMany, HasNever}
+
+-- the alternative is one of so many first ones
+abbrev pub IsAmong : Note → ℕ → Alternative → Type 0
+IsAmong note bound n = (k : ℕ) × (k < bound) × (slice_index_or note k n ≡ n)
 
 -- the alternatives of all notes, in their order
 abbrev pub joined : List Note → Note

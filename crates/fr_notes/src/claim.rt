@@ -1,5 +1,5 @@
 // What a note says of an object.
-ghost use Rattle.std.specs.Prelude.{◌↔◌, IsTrue};
+ghost use Rattle.std.specs.Prelude.{◌≡◌, ◌≢◌, ◌↔◌, ℕ, IsTrue};
 
 /// What an alternative of a note says of one object.
 #[derive(Clone, Copy, PartialEq, Eq)]
@@ -17,6 +17,26 @@ pub enum Claim {
 impl Claim {
     ghost use Rattle.fr_notes.specs.Implication.{ClaimImplies};
     ghost use Rattle.fr_notes.specs.Known.{ClaimsMeet};
+    ghost use Rattle.fr_notes.specs.declared.claim.Claim.TheVariants.{NotHeld, HeldTimes};
+
+    /// How often the actor holds the object by this claim; 0 where it says that it doesn't, or that the object is dead.
+    pub fn count(self) -> u32
+        ensures held { (count : ℕ) → self ≡ HeldTimes count → result ≡ count }
+        ensures free { ((count : ℕ) → self ≢ HeldTimes count) → result ≡ 0 }
+    {
+        match self {
+            Claim::HeldTimes(count) => count,
+            Claim::NotHeld | Claim::Alive | Claim::Gone => 0,
+        }
+    }
+
+    /// The claim, where the other one is the same; otherwise the one that says nothing.
+    pub fn common(self, other: Claim) -> Claim
+        ensures same { self ≡ other → result ≡ self }
+        ensures apart { self ≢ other → result ≡ NotHeld }
+    {
+        if self == other { self } else { Claim::NotHeld }
+    }
 
     /// Whether the other claim is true of an actor and an object wherever this one is.
     pub fn implies(self, other: Claim) -> bool

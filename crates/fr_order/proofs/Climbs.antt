@@ -2,12 +2,12 @@
 -- holds. So an edge leads from each mutex of the cycle to the next one, and along the cycle the places of the mutexes rise for ever.
 use Rattle.std.proofs.Common.{◌≡◌, ◌<◌, ◌≤◌, ◌+◌, ℕ, List, [], ◌∷◌, None, Some, refl, sym, ap, ◌∙◌, subst, arith}
 use Rattle.std.specs.Prelude.{IsTrue, if◌then◌else◌}
+use Rattle.std.proofs.lemmas.Bool.{eq-eqb}
 use Rattle.fr_order.proofs.Terms.{ObjId, Point, Inside, Kind, Mutex, Recursive, Program, State, Content, Held, content_of, kind_of, CanHave, IsWellFormed, Claim, NotHeld, Alive, Gone, HeldTimes, Note}
 use Rattle.fr_order.proofs.Terms.{Meets, Holds, claim_of, note_at, IsAt, is_any_mutex, place_in, ComesBefore, IsEdge}
 use Rattle.fr_calls.specs.Step.{taken}
 use Rattle.fr_waits.specs.declared.wait.Wait.{Wait}
 use Rattle.fr_waits.specs.Waits.{WaitsFor, WaitInTurn, IsDeadlocked}
-use Rattle.fr_order.proofs.GraphLemmas.{nat_eq-same}
 
 -- what is held is a mutex, and held at least once
 held-mutex : (P : Program) (kind : Kind) (a count : ℕ) → CanHave P kind (Held a count) → (1 ≤ count) × IsTrue (is_any_mutex kind)
@@ -17,15 +17,15 @@ held-mutex P kind a count can = absurd can
 
 -- a claim that is true of a mutex that the actor holds says so
 claimed : (claim : Claim) (a count : ℕ) → 1 ≤ count → Meets a claim (Held a count) → (k : ℕ) × (claim ≡ HeldTimes k)
-claimed NotHeld a count some m = let e = sym (ap (λ b. if b then count else 0) (nat_eq-same a)) ∙ m in absurd (omega (arith, e, some))
-claimed Alive a count some m = let e = sym (ap (λ b. if b then count else 0) (nat_eq-same a)) ∙ m.1 in absurd (omega (arith, e, some))
+claimed NotHeld a count some m = let e = sym (ap (λ b. if b then count else 0) (eq-eqb a a refl)) ∙ m in absurd (omega (arith, e, some))
+claimed Alive a count some m = let e = sym (ap (λ b. if b then count else 0) (eq-eqb a a refl)) ∙ m.1 in absurd (omega (arith, e, some))
 claimed Gone a count some m = absurd (cc)
 claimed (HeldTimes k) a count some m = (k, refl)
 
 -- its holder can take a recursive mutex again
 again-taken : (kind : Kind) (a count : ℕ) (content : Content) → kind ≡ Recursive → content ≡ Held a count → taken kind a content ≡ None → ⊥
 again-taken kind a count content k c none =
-    let there : taken Recursive a (Held a count) ≡ Some (Held a (count + 1)) = ap (λ b. if b then Some (Held a (count + 1)) else None) (nat_eq-same a) in
+    let there : taken Recursive a (Held a count) ≡ Some (Held a (count + 1)) = ap (λ b. if b then Some (Held a (count + 1)) else None) (eq-eqb a a refl) in
     let e : taken kind a content ≡ Some (Held a (count + 1)) = ap (λ x. taken x a content) k ∙ ap (λ x. taken Recursive a x) c ∙ there in
     cc
 

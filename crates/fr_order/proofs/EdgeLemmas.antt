@@ -1,7 +1,8 @@
 -- Edges, as they are looked for point by point.
-use Rattle.std.proofs.Common.{◌≡◌, ◌<◌, ◌≤◌, ◌+◌, ℕ, zero, suc, List, [], ◌∷◌, ◌++◌, length, get_or, Option, Some, Bool, true, false, refl, sym, ap, ◌∙◌, subst, ⊎_elim, arith}
+use Rattle.std.proofs.Common.{◌≡◌, ◌<◌, ◌≤◌, ◌+◌, ℕ, zero, suc, List, [], ◌∷◌, ◌++◌, length, get_or, Option, Some, true, false, refl, sym, ap, ◌∙◌, subst, ⊎_elim, arith}
 use Rattle.std.specs.Prelude.{Contains, slice_get, nat_eq, not, ◌&&◌}
 use Rattle.std.proofs.lemmas.Option.{same_Some, slice_get_within}
+use Rattle.std.proofs.lemmas.Bool.{and_parts, and_right, eqb-true, eq-eqb}
 use Rattle.fr_order.proofs.Terms.{cases_lt, eqb_tells, All-contains, All-push, All-weaker, Contains-append_left, Contains-push, Point, Inside, Kind, Mutex, Recursive, Program, IsPoint, HasSide}
 use Rattle.fr_order.proofs.Terms.{instr_of, kind_of, Claim, NotHeld, HeldTimes, Note, note_at, is_any_mutex, Edge, ComesBefore, IsEnd, IsInsideTake, IsEdge, IsOrderOf, NamesThings}
 use Rattle.fr_order.proofs.Terms.{waits_to_take, inside_take, inside_any_take, can_be_edge, AreInside, HasTakesBelow, AreTakes, ArePoints, AreAllTakes, CanBeEdge, IsEdgeOf, AreEdges, HasEdge}
@@ -32,28 +33,18 @@ by-parts : (act : Act) (timing : Timing) → waits_to_take act timing ≡ true �
 by-parts (Try (Take form) or_else) (Waits MaxDelay) e = (form, or_else, refl, refl)
 by-parts act timing e = absurd (cc)
 
-and-both : (a b : Bool) → (a && b) ≡ true → (a ≡ true) × (b ≡ true)
-and-both true true e = (refl, refl)
-and-both a b e = absurd (cc)
-
-nat_eq-tells : (n m : ℕ) → nat_eq n m ≡ true → n ≡ m
-nat_eq-tells n m e = ⊎_elim (λ h. h.1) (λ h. absurd (let f = h.0 in cc)) (eqb_tells n m)
-
-nat_eq-says : (n m : ℕ) → n ≡ m → nat_eq n m ≡ true
-nat_eq-says n m e = ⊎_elim (λ h. h.0) (λ h. absurd (h.1 e)) (eqb_tells n m)
-
 pub inside-yes : (P : Program) (p : Point) (m : ℕ) → inside_take p.side (instr_of P p) m ≡ true → IsInsideTake P p m
 inside-yes P p m = go p.side (instr_of P p) refl refl
   where
     go : (s : Side) (i : Option Instr) → p.side ≡ s → instr_of P p ≡ i → inside_take s i m ≡ true → IsInsideTake P p m
     go Inside (Some (Calls (On call))) at is e =
-        let both = and-both (nat_eq call.object.0 m) (waits_to_take call.act call.timing) e in
+        let both = and_parts (nat_eq call.object.0 m) (waits_to_take call.act call.timing) e in
         let parts = by-parts call.act call.timing both.1 in
         record {
           side = at;
           call = call;
           is = is;
-          takes = record { form = parts.0; or_else = parts.1; object = nat_eq-tells _ _ both.0; act = parts.2; timing = parts.3 };
+          takes = record { form = parts.0; or_else = parts.1; object = eqb-true _ _ both.0; act = parts.2; timing = parts.3 };
         }
     go s i at is e = absurd (cc)
 
@@ -61,7 +52,7 @@ pub inside-says : (P : Program) (p : Point) (m : ℕ) → IsInsideTake P p m →
 inside-says P p m t =
     let k = t.takes in
     let waits : waits_to_take t.call.act t.call.timing ≡ true = ap (λ a. waits_to_take a t.call.timing) k.act ∙ ap (λ x. waits_to_take (Try (Take k.form) k.or_else) x) k.timing in
-    let same : nat_eq t.call.object.0 m ≡ true = nat_eq-says _ _ k.object in
+    let same : nat_eq t.call.object.0 m ≡ true = eq-eqb _ _ k.object in
     ap (λ s. inside_take s (instr_of P p) m) t.side ∙ ap (λ i. inside_take Inside i m) t.is ∙ ap (λ b. b && waits_to_take t.call.act t.call.timing) same ∙ waits
 
 pub takes-more : (P : Program) (m : ℕ) (takes : List ℕ) (n : ℕ) (p : Point) → n < length (points_of P) → slice_get (points_of P) n ≡ Some p → IsInsideTake P p m → AreInside P m takes → AreInside P m (takes ++ n ∷ [])
@@ -90,11 +81,7 @@ below-all P m takes n more le below = λ k l. below k (omega (arith, l, le))
 
 -- where the actor is inside no take at all, it is inside none of this object
 pub not-inside : (s : Side) (i : Option Instr) (m : ℕ) → inside_any_take s i ≡ false → inside_take s i m ≡ false
-not-inside Inside (Some (Calls (On call))) m e = ap (λ b. nat_eq call.object.0 m && b) e ∙ and-false (nat_eq call.object.0 m)
-  where
-    and-false : (b : Bool) → (b && false) ≡ false
-    and-false true = refl
-    and-false false = refl
+not-inside Inside (Some (Calls (On call))) m e = ap (λ b. nat_eq call.object.0 m && b) e ∙ and_right (nat_eq call.object.0 m) false refl
 not-inside s i m e = refl
 
 pub points-more : (P : Program) (takes : List ℕ) (n : ℕ) → n < length (points_of P) → ArePoints P takes → ArePoints P (takes ++ n ∷ [])

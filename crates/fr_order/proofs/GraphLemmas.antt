@@ -6,6 +6,7 @@ use Rattle.fr_order.proofs.Terms.{remove, cases_lt, eqb_tells, ObjId, Edge, plac
 use Rattle.std.proofs.lemmas.List.Sums.{prefix_len-le-length, position_or_len_is}
 use Rattle.std.proofs.lemmas.List.Folds.{position_or_len_push}
 use Rattle.std.proofs.lemmas.List.Edits.{length-remove, get_or-remove_below, get_or-remove_above}
+use Rattle.std.proofs.lemmas.Bool.{eq-eqb}
 
 -- ---- elements
 
@@ -59,14 +60,11 @@ listed-kept order x m l = omega (arith, length-more order x, place-kept order x 
 pub listed-cases : (order : List ObjId) (m : ℕ) → IsListed order m ⊎ (IsListed order m → ⊥)
 listed-cases order m = ⊎_elim (λ l. inl l) (λ h. inr (λ l. omega (arith, l, h))) (cases_lt (place_in order m) (length order))
 
-pub nat_eq-same : (m : ℕ) → nat_eq m m ≡ true
-nat_eq-same m = ⊎_elim (λ h. h.0) (λ h. absurd (h.1 refl)) (eqb_tells m m)
-
 pub listed-new : (order : List ObjId) (x : ObjId) → IsListed (order ++ x ∷ []) x.0
 listed-new order x =
     ⊎_elim
     (λ l. listed-kept order x x.0 l)
-    (λ un. let e = place-more order x x.0 un ∙ ap (λ b. length order + cond b 0 1) (nat_eq-same x.0) in omega (arith, e, length-more order x))
+    (λ un. let e = place-more order x x.0 un ∙ ap (λ b. length order + cond b 0 1) (eq-eqb x.0 x.0 refl) in omega (arith, e, length-more order x))
     (listed-cases order x.0)
 
 -- ---- edges in turn
@@ -86,16 +84,6 @@ closes-taken from to (e ∷ path) j d leads l back =
 pub closes-all : (from : ℕ) (path : List Edge) → LeadsFrom from path from → 0 < length path → ClosesUp path
 closes-all from [] leads l = absurd (omega arith)
 closes-all from (e ∷ path) leads l = (refl, subst (λ t. LeadsFrom e.taken.0 path t) (sym leads.0) leads.1)
-
--- ---- elements, whatever is read past the end
-
-pub any-default : {X : Type 0} (xs : List X) (i : ℕ) (d e : X) → i < length xs → get_or xs i d ≡ get_or xs i e
-any-default [] i d e l = absurd (omega arith)
-any-default (x ∷ xs) zero d e l = refl
-any-default (x ∷ xs) (suc i) d e l = any-default xs i d e (omega arith)
-
-pub nat_eq-true : (n m : ℕ) → n ≡ m → nat_eq n m ≡ true
-nat_eq-true n m e = subst (λ k. nat_eq n k ≡ true) e (nat_eq-same n)
 
 pub some-there : {X : Type 0} (P : X → Type 0) (o : Option X) → IfSome o P → is_some o ≡ true → (x : X) × P x
 some-there P None h is = absurd (cc)

@@ -1,9 +1,10 @@
 -- A free mutex that goes from the rest to the end of the order, and a mutex of the rest that is visited.
 use Rattle.std.proofs.Common.{◌≡◌, ◌<◌, ◌+◌, ℕ, suc, List, [], ◌∷◌, ◌++◌, length, get_or, take, drop, cond, refl, sym, ap, ◌∙◌, subst, inl, inr, ⊎_elim, arith}
 use Rattle.std.specs.Prelude.{All}
+use Rattle.std.proofs.lemmas.List.{get_or_default}
 use Rattle.fr_order.proofs.Terms.{remove, HoldsAt, eqb_tells, All-push, All-append, All-take, All-drop, ObjId, Edge, place_in, IsListed, IsEnd, Blocks, IsFree, IsSorted, AreEnds, AreRest, IsUpward}
 use Rattle.fr_order.proofs.Terms.{IsPeeled, IsVisited}
-use Rattle.fr_order.proofs.GraphLemmas.{any-default, kept, place-kept, place-more, length-more, listed-kept, listed-cases, listed-new}
+use Rattle.fr_order.proofs.GraphLemmas.{kept, place-kept, place-more, length-more, listed-kept, listed-cases, listed-new}
 
 upward-step : (order : List ObjId) (x : ObjId) (h m : ℕ) → (IsListed order m → place_in order h < place_in order m) → (m ≡ x.0 → IsListed order h) → IsListed (order ++ x ∷ []) m → place_in (order ++ x ∷ []) h < place_in (order ++ x ∷ []) m
 upward-step order x h m up free l =
@@ -28,7 +29,7 @@ sorted-step order rest i x m l is s =
     (λ among. ⊎_elim
     (λ still. inr still)
     (λ same.
-    let e : x ≡ m = is ∙ any-default rest i x m l ∙ same in
+    let e : x ≡ m = is ∙ get_or_default rest i x m l ∙ same in
     inl (subst (λ y. IsListed (order ++ x ∷ []) y.0) e (listed-new order x)))
     (kept rest i m x l among))
     s

@@ -1,7 +1,7 @@
 -- Answers one after the other: each of two lists with one more, and the greatest exit status.
 use Rattle.std.proofs.Common.{◌≤◌, ◌++◌, List, [], ◌∷◌, arith}
 use Rattle.fr_formats.specs.declared.answer.AnswerKind.{AnswerKind}
-use Rattle.fr_formats.specs.declared.answer.AnswerKind.TheVariants.{Yes, No, MayDeadlock, Breach, Deadlock, NoBreach, StatesLeft, Followed, FollowedApart, NotFollowed, NotListed, GaveUp, Refused, Machine}
+use Rattle.fr_formats.specs.declared.answer.AnswerKind.TheVariants.{Yes}
 use Rattle.fr_formats.specs.Answers.{status_of as kind_status}
 use Rattle.fr_outcome.specs.Each.{Each}
 
@@ -15,16 +15,4 @@ each-more Is (a ∷ xs) (b ∷ ys) x y h own = (h.0, each-more Is xs ys x y h.1 
 -- an exit status is 3 at the most
 pub status-most : (kind : AnswerKind) → kind_status kind ≤ 3
 status-most Yes = omega arith
-status-most No = omega arith
-status-most MayDeadlock = omega arith
-status-most Breach = omega arith
-status-most Deadlock = omega arith
-status-most NoBreach = omega arith
-status-most StatesLeft = omega arith
-status-most Followed = omega arith
-status-most FollowedApart = omega arith
-status-most NotFollowed = omega arith
-status-most NotListed = omega arith
-status-most GaveUp = omega arith
-status-most Refused = omega arith
-status-most Machine = omega arith
+status-most kind = omega arith

@@ -10,6 +10,7 @@ pub struct Range {
 }
 
 impl Range {
+    ghost use Rattle.std.specs.Int.{int_min, int_max};
     ghost use Rattle.fr_program.specs.Spans.{IsIn, IsNarrow, IsSpan, IsScaled};
 
     /// The numbers from `lo` to `hi`, or None where `lo` is above `hi`.
@@ -57,6 +58,17 @@ impl Range {
         ensures none { IfNone result ((z : ℤ) → IsIn self z → IsIn other z → ⊥) }
     {
         Range::new(self.lo.max(other.lo), self.hi.min(other.hi))
+    }
+
+    /// The least range that has all numbers of both.
+    pub fn hull(self, other: Range) -> Range
+        ensures lo { result.lo ≡ int_min self.lo other.lo }
+        ensures hi { result.hi ≡ int_max self.hi other.hi }
+    {
+        Range {
+            lo: self.lo.min(other.lo),
+            hi: self.hi.max(other.hi),
+        }
     }
 
     /// Whether each number of this range is in the other one.

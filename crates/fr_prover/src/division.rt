@@ -21,14 +21,6 @@ pub struct Division {
     pub actors: Vec<bool>,
 }
 
-/// How often the actor holds the object, by this claim.
-pub fn count_of(claim: Claim) -> u32 {
-    match claim {
-        Claim::HeldTimes(count) => count,
-        Claim::NotHeld | Claim::Alive | Claim::Gone => 0,
-    }
-}
-
 /// How many of the cuts are at most this number.
 fn part_of(cuts: &[i128], number: i128) -> usize {
     let mut part: usize = 0;
@@ -108,7 +100,7 @@ pub fn copied_all(alloc: Global, divisions: &[Division]) -> Result<Vec<Division>
 /// Whether both alternatives have the same held mutexes.
 fn hold_the_same(one: &Alternative, other: &Alternative) -> bool {
     for (object, claim) in one.claims().iter().enumerate() {
-        if count_of(*claim) != count_of(other.claim(ObjId(object))) {
+        if claim.count() != other.claim(ObjId(object)).count() {
             return false;
         }
     }
@@ -147,7 +139,7 @@ pub fn part_print(divisions: &[Division], actor: usize, number: usize, facts: &A
     facts.critical().hash(&mut hasher);
     facts.suspended().hash(&mut hasher);
     for claim in facts.claims() {
-        count_of(*claim).hash(&mut hasher);
+        claim.count().hash(&mut hasher);
     }
     for division in divisions {
         if division.is_of(actor) {

@@ -54,14 +54,6 @@ struct Common {
     ranges: Vec<(VarId, Range)>,
 }
 
-/// The least range that has both.
-fn hull(one: Range, other: Range) -> Range {
-    Range {
-        lo: one.lo.min(other.lo),
-        hi: one.hi.max(other.hi),
-    }
-}
-
 /// What the alternative says of objects, but for those of which it says nothing.
 fn telling_claims(alloc: Global, facts: &Alternative) -> Result<Vec<(ObjId, Claim)>, AllocError> {
     let mut telling = Vec::new(alloc);
@@ -101,7 +93,7 @@ fn weaken(claims: &mut Vec<(ObjId, Claim)>, facts: &Alternative) {
 /// Grows the ranges so that they have the alternative's numbers, too.
 fn widen(ranges: &mut Vec<(VarId, Range)>, facts: &Alternative) {
     for (variable, range) in ranges.iter_mut() {
-        *range = hull(*range, facts.range(*variable));
+        *range = range.hull(facts.range(*variable));
     }
 }
 
@@ -168,7 +160,7 @@ fn take_into(
 /// The least range that has both, if there is another one.
 fn grown_reach(reach: Option<Range>, range: Range) -> Option<Range> {
     match reach {
-        Some(reach) => Some(hull(reach, range)),
+        Some(reach) => Some(reach.hull(range)),
         None => Some(range),
     }
 }

@@ -66,15 +66,6 @@ fn felt_in(alloc: Global, app: &App, kept: &TruthTable) -> Result<Vec<bool>, All
     Ok(felt)
 }
 
-/// What both claims say.
-fn common_claim(claim: Claim, other: Claim) -> Claim {
-    if claim == other {
-        claim
-    } else {
-        Claim::NotHeld
-    }
-}
-
 /// What both alternatives say of the objects.
 fn common_claims(
     alloc: Global,
@@ -83,7 +74,7 @@ fn common_claims(
 ) -> Result<Vec<Claim>, AllocError> {
     let mut claims = Vec::with_capacity(alloc, one.claims().len())?;
     for (object, claim) in one.claims().iter().enumerate() {
-        claims.push(common_claim(*claim, other.claim(ObjId(object))))?;
+        claims.push(claim.common(other.claim(ObjId(object))))?;
     }
     Ok(claims)
 }

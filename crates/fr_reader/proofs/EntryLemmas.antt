@@ -1,6 +1,6 @@
 -- One more entry of an array, and one more thing that it means.
-use Rattle.std.proofs.Common.{◌≡◌, ℕ, ◌+◌, ◌<◌, ◌≤◌, List, [], ◌∷◌, ◌++◌, length, get_or, take, refl, sym, ap, ◌∙◌, subst, map}
-use Rattle.std.proofs.lemmas.List.{take_more, take_all}
+use Rattle.std.proofs.Common.{◌≡◌, ℕ, ◌+◌, ◌<◌, ◌≤◌, List, [], ◌∷◌, ◌++◌, length, get_or, take, sym, ap, ◌∙◌, subst, map}
+use Rattle.std.proofs.lemmas.List.{take_more, take_all, map_push}
 use Rattle.toml.specs.Data.{Data}
 use Rattle.toml.specs.View.{items_view, view}
 use Rattle.toml.specs.declared.value.Value.{Value}
@@ -16,10 +16,6 @@ each_push R [] x (w ∷ vs) v h p = absurd h
 each_push R (y ∷ xs) x [] v h p = absurd h
 each_push R (y ∷ xs) x (w ∷ vs) v h p = (h.0, each_push R xs x vs v h.1 p)
 
-map-push : {A B : Type 0} (f : B → A) (vs : List B) (v : B) → map f (vs ++ v ∷ []) ≡ map f vs ++ f v ∷ []
-map-push f [] v = refl
-map-push f (w ∷ vs) v = ap (λ t. f w ∷ t) (map-push f vs v)
-
 -- the turn of a loop that reads the entries one after another
 pub each_more : {A B : Type 0} (R : Data → A → Type 0) (f : B → A) (xs ys : List Value) (i : ℕ) (d : Value) (vs ws : List B) (v : B) → ys ≡ xs → i < length ys
     → Each R (items_view (take i xs)) (map f vs) → d ≡ get_or ys i d → R (view d) (f v) → ws ≡ vs ++ v ∷ []
@@ -27,7 +23,7 @@ pub each_more : {A B : Type 0} (R : Data → A → Type 0) (f : B → A) (xs ys 
 each_more R f xs ys i d vs ws v same within h is p e =
     let P : Value → Type 0 = λ x. R (view x) (f v) in
     let here : d ≡ get_or xs i d = is ∙ ap (λ zs. get_or zs i d) same in
-    rw (take_more xs i d (subst (λ zs. i < length zs) same within), e, map-push f vs v)
+    rw (take_more xs i d (subst (λ zs. i < length zs) same within), e, map_push f vs v)
     (each_push R (take i xs) (get_or xs i d) (map f vs) (f v) h (subst P here p))
 
 -- an entry that has a fault

@@ -19,6 +19,7 @@ use Rattle.fr_program.proofs.FaultLemmas.{free_of}
 use Rattle.fr_instr.specs.Names.{NamesOf}
 use Rattle.fr_instr.specs.Lines.{IsLine}
 use Rattle.fr_instr.proofs.LineLaws.{no_line}
+use Rattle.fr_instr.proofs.TokenLaws.{apart}
 use Rattle.fr_reader.specs.Keys.{key_text, field, suits, is_own_key, IsKeyOf, IsRequired, kind_word, kind_named, actor_word}
 use Rattle.fr_reader.specs.Texts.{VariableText, ActorText, Texts, AreKnown, IsVariable, IsObject, IsActor, HasKind, IsTableOf, IsText, Each, EachAt, AreTexts}
 use Rattle.fr_reader.specs.Faults.{is_memory, InTable, InVariable, InKind, InObject, InActor, InEntry, InEntryAt, InLine as InLineOf, InEach, InEachAt, InApplication}
@@ -32,7 +33,7 @@ use Rattle.fr_reader.specs.declared.key.TableName.{TableName}
 use Rattle.fr_reader.specs.declared.key.TableName.TheVariants as name
 use Rattle.fr_reader.specs.declared.fault.ReadFault.{ReadFault}
 use Rattle.fr_reader.specs.declared.fault.ReadFault.TheVariants as fault
-use Rattle.fr_reader.proofs.Laws.{both, never, same_array, same_table, same_kind, text_at, at_get, one_texts, one_program}
+use Rattle.fr_reader.proofs.Laws.{both, same_array, same_table, same_kind, text_at, at_get, one_texts, one_program}
 
 -- what is at a key suits it, and only a key that is not required may be missing
 abbrev Fits : Key → Option Data → Type 0
@@ -88,7 +89,7 @@ object_fits ms o h k known = own_fits o.kind ms h.own k known
 
 -- a table whose `kind` is a known word has no fault there
 in_no_kind : {K : Type 0} (word : K → List ℕ) (n : TableName) (ms : Members) (j : K) (f : ReadFault) → field key.Kind ms ≡ Some (string (word j)) → InKind word n ms f → ⊥
-in_no_kind word n ms j (fault.Missing t key.Kind) e (at, none) = never (field key.Kind ms) (string (word j)) none e
+in_no_kind word n ms j (fault.Missing t key.Kind) e (at, none) = apart (field key.Kind ms) (string (word j)) none e
 in_no_kind word n ms j (fault.WrongType t key.Kind) e (at, d, is, other) = other j (ap as_str (both (field key.Kind ms) d (string (word j)) is e))
 in_no_kind word n ms j f e s = absurd s
 
@@ -100,7 +101,7 @@ in_no_object n ms o f h (inr s) =
 
 -- an entry that has a fault means nothing, so neither does its list
 thing_at : {A : Type 0} (R : Data → A → Type 0) (ds : Items) (xs : List A) (i : ℕ) (d : Data) → Each R ds xs → get_item i ds ≡ Some d → (x : A) × R d x
-thing_at R no_items xs i d h e = absurd (never None d refl e)
+thing_at R no_items xs i d h e = absurd (apart None d refl e)
 thing_at R (item y ds) [] i d h e = absurd h
 thing_at R (item y ds) (x ∷ xs) zero d h e = (x, subst (λ z. R z x) (same_Some y d e) h.0)
 thing_at R (item y ds) (x ∷ xs) (suc i) d h e = thing_at R ds xs i d h.1 e
@@ -125,7 +126,7 @@ in_no_list : {A : Type 0} (list : Key) (named : ℕ → TableName) (R : Members 
 in_no_list list named R F f none = in_no_at (IsTableOf R) (InEntryAt list named F) f (λ i. in_no_entry list (named i) R (F (named i)) f (none (named i)))
 
 in_no_line : (n : TableName) (f : ReadFault) (d : Data) (t : List ℕ) → IsText d t → InLineOf n d f → ⊥
-in_no_line n f d t h s = never (as_str d) t s.1 (ap as_str h)
+in_no_line n f d t h s = apart (as_str d) t s.1 (ap as_str h)
 
 actor_fits : (ms : Members) (a : ActorText) → IsActor ms a → (k : Key) → IsKeyOf table_kind.Actor k → Fits k (field k ms)
 actor_fits ms a h key.Name known = fits_some key.Name (field key.Name ms) (string a.name) h.name refl
@@ -171,7 +172,7 @@ in_no_names names (fault.Twice t) h s = not_twice names (string_bytes t) h.once 
 in_no_names names f h s = absurd s
 
 pair_at : {A B : Type 0} (R : A → B → Type 0) (xs : List A) (ys : List B) (i : ℕ) (x : A) → AllZip R xs ys → slice_get xs i ≡ Some x → (y : B) × R x y
-pair_at R [] ys i x h e = absurd (never None x refl e)
+pair_at R [] ys i x h e = absurd (apart None x refl e)
 pair_at R (z ∷ xs) [] i x h e = absurd h
 pair_at R (z ∷ xs) (y ∷ ys) zero x h e = (y, subst (λ u. R u y) (same_Some z x e) h.0)
 pair_at R (z ∷ xs) (y ∷ ys) (suc i) x h e = pair_at R xs ys i x h.1 e
@@ -216,7 +217,7 @@ not_built bytes P f m s = absurd s
 
 in_no_bytes : (bytes : List ℕ) (P : Program) (f : ReadFault) → Means bytes P → InBytes bytes f → ⊥
 in_no_bytes bytes P fault.TooLong m s = omega (arith, s, m.text.size)
-in_no_bytes bytes P fault.Toml m s = never (parse_document bytes) m.root (s m.text.utf8) m.text.parsed
+in_no_bytes bytes P fault.Toml m s = apart (parse_document bytes) m.root (s m.text.utf8) m.text.parsed
 in_no_bytes bytes P f m s = absurd s
 
 pub no_meaning : (bytes : List ℕ) (f : ReadFault) (P : Program) → is_memory f ≡ false → Stands bytes f → Means bytes P → ⊥

@@ -28,9 +28,6 @@ use Rattle.fr_reader.specs.declared.key.ObjectKind.TheVariants.{Queue, Binary, C
 pub both : {A : Type 0} (o : Option A) (x y : A) → o ≡ Some x → o ≡ Some y → x ≡ y
 both o x y p q = same_Some x y (sym p ∙ q)
 
-pub never : {A : Type 0} (o : Option A) (x : A) → o ≡ None → o ≡ Some x → ⊥
-never o x p q = cc
-
 same_string : (s t : List ℕ) → string s ≡ string t → s ≡ t
 same_string s t e = cc
 
@@ -78,12 +75,7 @@ kind_of t =
 kind_of-word : (k : ObjectKind) → kind_of (kind_word k) ≡ k
 unfolding kind_of
 kind_of-word Queue = refl
-kind_of-word Binary = refl
-kind_of-word Counting = refl
-kind_of-word Mutex = refl
-kind_of-word Recursive = refl
-kind_of-word Stream = refl
-kind_of-word Message = refl
+kind_of-word k = refl
 
 pub same_kind : (j k : ObjectKind) → kind_word j ≡ kind_word k → j ≡ k
 same_kind j k e = sym (kind_of-word j) ∙ ap kind_of e ∙ kind_of-word k

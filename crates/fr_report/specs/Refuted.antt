@@ -12,7 +12,7 @@
 -- | shorter_text     | the line that says that a shorter run may exist, where it may and this is asked for |
 -- | AreRunLines      | the lines of steps, where actors are then, and that line                            |
 -- | IsRunText        | those lines of a breach or a deadlock, and otherwise none                           |
-use Rattle.std.specs.Prelude.{◌≡◌, ◌++◌, ℕ, Bool, true, false, not, ◌&&◌, if◌then◌else◌, List, [], ◌∷◌, All, Option, None, Some, codes, decimal, encode_utf8_all, flat_map, length, map, String, string_bytes}
+use Rattle.std.specs.Prelude.{◌≡◌, ◌++◌, ℕ, Bool, true, false, not, ◌&&◌, if◌then◌else◌, List, [], ◌∷◌, All, Option, None, Some, codes, decimal, encode_utf8_all, length, map, String, string_bytes}
 use Rattle.std.specs.declared.alloc.Global.{Global}
 use Rattle.fr_escape.specs.Plain.{plain}
 use Rattle.fr_program.specs.declared.ids.ActorId.{ActorId}

@@ -10,6 +10,7 @@ use Rattle.fr_instr.specs.Names.{NamesOf, place_of}
 use Rattle.fr_instr.specs.Tokens.{Tok, Spells}
 use Rattle.fr_instr.specs.declared.call.Slot.{Slot}
 use Rattle.fr_instr.specs.declared.call.Verb.{Verb}
+use Rattle.fr_instr.proofs.LineLaws.{one_integer}
 use Rattle.fr_trace.specs.Args.{unseen_parts}
 use Rattle.fr_trace.specs.Means.{IsPresent, TraceMeans, TraceOf, trace_of}
 use Rattle.fr_trace.specs.Reads.{ActorDoes, Does, HasReturned, HasSet, Hides, IsEnter, IsEnterOf, LineReads, OwnDoes, ReadsAt, ReadsLines, Returned, SaidReads, Sofar, TokensRead, after, is_open, start}
@@ -21,7 +22,7 @@ use Rattle.fr_trace.specs.declared.no_trace.TraceFault.{TraceFault}
 use Rattle.fr_events.specs.declared.recorded.Recorded.{Recorded}
 use Rattle.fr_events.specs.declared.trace.Event.{Event}
 use Rattle.fr_events.specs.declared.trace.Happening.TheVariants.{Enter, Set}
-use Rattle.fr_trace.proofs.Once.{all-once, integer-once, number-once}
+use Rattle.fr_trace.proofs.Once.{all-once, number-once}
 
 enter-of-once : (N : NamesOf) (n : ℕ) (s : Sofar) (a : ActorId) (v : Verb) (ps : List Slot) (ts : List Tok) (e f : Event)
     → IsEnterOf N n s a v ps ts e → IsEnterOf N n s a v ps ts f → e ≡ f
@@ -51,7 +52,7 @@ variable-id x y e = ap (λ n. record { 0 = n }) e
 set-once : (N : NamesOf) (n : ℕ) (a : ActorId) (x d : List ℕ) (e f : Addition) → HasSet N n a x d e → HasSet N n a x d f → e ≡ f
 set-once N n a x d e f (v, z, p, q, h) (w, y, i, j, k) =
     let one = variable-id v w (same_Some v.0 w.0 (sym p ∙ i)) in
-    let two = integer-once d z y q j in
+    let two = one_integer d z y q j in
     h ∙ ap (λ m. Add (record { actor = a; line = n; what = Set m z })) one ∙ ap (λ m. Add (record { actor = a; line = n; what = Set w m })) two ∙ sym k
 
 own-once : (N : NamesOf) (n : ℕ) (s : Sofar) (a : ActorId) (said : Said) (e f : Addition) → OwnDoes N n s a said e → OwnDoes N n s a said f → e ≡ f

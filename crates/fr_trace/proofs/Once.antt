@@ -1,14 +1,13 @@
 -- Each line means one thing at most: what its tokens say in their places is one call.
-use Rattle.std.proofs.Common.{◌≡◌, ◌∙◌, ℕ, ℤ, List, [], ◌∷◌, ap, refl, subst, sym}
+use Rattle.std.proofs.Common.{◌≡◌, ◌∙◌, ℤ, List, [], ◌∷◌, ap, refl, subst, sym}
 use Rattle.std.proofs.lemmas.Option.{same_Some}
 use Rattle.fr_program.specs.declared.ids.ObjId.{ObjId}
-use Rattle.fr_instr.proofs.NumberLaws.{only_number}
 use Rattle.fr_instr.specs.Names.{NamesOf}
-use Rattle.fr_instr.specs.Numbers.{IsInteger}
 use Rattle.fr_instr.specs.Tokens.{Tok, word, number, sign}
 use Rattle.fr_instr.specs.declared.call.Slot.{Slot}
 use Rattle.fr_instr.specs.declared.call.Slot.TheVariants.{Object, Operand, Variable, Length, Time, Ticks, Null}
 use Rattle.fr_instr.specs.declared.token.Sign.TheVariants.{Comma, Question}
+use Rattle.fr_instr.proofs.LineLaws.{one_integer}
 use Rattle.fr_trace.specs.Args.{IsNumber, IsObjectAt, IsTimeAt, Puts, PutsFirst, PutsMore, PutsAll}
 use Rattle.fr_events.specs.declared.recorded.Recorded.{Recorded}
 use Rattle.fr_events.specs.declared.recorded.Recorded.TheVariants.{Unknown, Known}
@@ -16,11 +15,8 @@ use Rattle.fr_events.specs.declared.seen_call.SeenCall.{SeenCall}
 use Rattle.fr_events.specs.declared.seen_call.SeenTime.{SeenTime}
 use Rattle.fr_events.specs.declared.seen_call.SeenTime.TheVariants as seen_time
 
-pub integer-once : (d : List ℕ) (z y : ℤ) → IsInteger d z → IsInteger d y → z ≡ y
-integer-once d z y h k = only_number d z y h.0 h.1 k.0 k.1
-
 pub number-once : (t : Tok) (r v : Recorded ℤ) → IsNumber t r → IsNumber t v → r ≡ v
-number-once (number d) (Known z) (Known y) h k = ap Known (integer-once d z y h k)
+number-once (number d) (Known z) (Known y) h k = ap Known (one_integer d z y h k)
 number-once (number d) (Known z) Unknown h k = absurd k
 number-once (sign Question) Unknown Unknown h k = refl
 number-once (sign Question) Unknown (Known y) h k = absurd k
@@ -40,7 +36,7 @@ time-once : (t : Tok) (r v : Recorded SeenTime) → IsTimeAt t r → IsTimeAt t 
 time-once (word w) (Known seen_time.MaxDelay) (Known seen_time.MaxDelay) h k = refl
 time-once (word w) (Known seen_time.MaxDelay) (Known (seen_time.Ticks z)) h k = absurd k
 time-once (word w) (Known seen_time.MaxDelay) Unknown h k = absurd k
-time-once (number d) (Known (seen_time.Ticks z)) (Known (seen_time.Ticks y)) h k = ap (λ x. Known (seen_time.Ticks x)) (integer-once d z y h k)
+time-once (number d) (Known (seen_time.Ticks z)) (Known (seen_time.Ticks y)) h k = ap (λ x. Known (seen_time.Ticks x)) (one_integer d z y h k)
 time-once (number d) (Known (seen_time.Ticks z)) (Known seen_time.MaxDelay) h k = absurd k
 time-once (number d) (Known (seen_time.Ticks z)) Unknown h k = absurd k
 time-once (sign Question) Unknown Unknown h k = refl

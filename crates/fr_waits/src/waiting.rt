@@ -1,46 +1,17 @@
 // Whom an actor waits for: the holder of a mutex that it takes without limit.
-ghost use Rattle.std.specs.Prelude.{◌≡◌, ◌<◌, ◌↔◌, ℕ, length, Some, None, IsTrue, IfSome, IfNone};
-ghost use Rattle.fr_program.specs.declared.instr.ObjectCall.{ObjectCall as ObjectCallOf};
-ghost use Rattle.fr_program.specs.declared.instr.Instr.TheVariants.{Call as Calls};
-ghost use Rattle.fr_program.specs.declared.instr.Call.TheVariants.{On};
-ghost use Rattle.fr_program.specs.declared.ids.Side.TheVariants.{Inside};
+ghost use Rattle.std.specs.Prelude.{◌≡◌, ◌<◌, ◌↔◌, ℕ, length, None, IsTrue, IfSome, IfNone};
 ghost use Rattle.fr_calls.specs.State.{IsWellFormed, Held, kind_of, content_of};
-ghost use Rattle.fr_calls.specs.Rule.{Stands};
 ghost use Rattle.fr_calls.specs.Step.{taken};
 ghost use Rattle.fr_waits.specs.Waits.{TakesWithoutLimit, WaitsFor};
 
-use fr_calls::{Place, State, Stock};
-use fr_program::{
-    Act, ActorId, App, Attempt, BlockTime, Call, Instr, Kind, ObjId, ObjectCall, Point, Side,
-    Timing,
-};
+use fr_calls::{State, Stock};
+use fr_program::{Act, ActorId, App, Attempt, BlockTime, Kind, ObjId, ObjectCall, Timing};
 
 /// What an actor waits for: a mutex, and the actor that holds it.
 #[derive(Clone, Copy, Debug, PartialEq, Eq)]
 pub struct Awaited {
     pub mutex: ObjId,
     pub holder: ActorId,
-}
-
-/// The object call that the actor is inside, or None where it is inside none.
-fn call_inside(app: &App, state: &State, actor: ActorId) -> Option<ObjectCall>
-    requires formed { IsWellFormed app.now state.now }
-    requires actor { actor.0 < length app.now.actors }
-    ensures { (call : ObjectCallOf) →
-        ((result ≡ Some call) ↔ Stands app.now state.now actor.0 Inside (Calls (On call))) }
-{
-    let Place::At {
-        pc,
-        side: Side::Inside,
-    } = state.place(actor)
-    else {
-        return None;
-    };
-    let side = Side::Inside;
-    match app.instr(Point { actor, pc, side }) {
-        Some(Instr::Call(Call::On(call))) => Some(*call),
-        _ => None,
-    }
 }
 
 /// Whether the call is a take that waits without limit.
@@ -104,7 +75,7 @@ pub fn waits_for(app: &App, state: &State, actor: ActorId) -> Option<Awaited>
     ensures holder { IfSome result (λ w. w.holder.0 < length app.now.actors) }
 {
     app.recall_faultless();
-    let Some(call) = call_inside(app, state, actor) else {
+    let Some(call) = state.call_inside(app, actor) else {
         return None;
     };
     if !takes_without_limit(&call) {

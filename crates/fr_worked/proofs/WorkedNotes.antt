@@ -1,7 +1,7 @@
 -- The worked notes, row by row: a state to show where two alternatives are together, and what they say of one thing
 -- where they aren't.
-use Rattle.std.proofs.Common.{◌≡◌, ℕ, zero, suc, ◌<◌, ◌≤◌, [], ◌∷◌, get_or, Option, Some, None, Bool, true, false, refl, sym, subst, ◌∙◌, arith}
-use Rattle.std.specs.Prelude.{ℤ, pos, IfSome, nat_eq, if◌then◌else◌}
+use Rattle.std.proofs.Common.{◌≡◌, ℕ, zero, suc, ◌<◌, ◌≤◌, [], ◌∷◌, get_or, Option, Some, None, refl, sym, ◌∙◌, arith}
+use Rattle.std.specs.Prelude.{ℤ, pos, IfSome, nat_eq}
 use Rattle.std.proofs.lemmas.Int.{ints}
 use Rattle.std.proofs.lemmas.Bool.{eqb-true}
 use Rattle.fr_program.specs.declared.instr.Instr.TheVariants.{Goto}
@@ -10,7 +10,9 @@ use Rattle.fr_program.specs.declared.parts.Kind.TheVariants.{Mutex}
 use Rattle.fr_calls.specs.State.{State, At, Content, Free, Held, CanHave, Exists, IsWellFormed, kind_of, place_of, content_of, value_of, depth_in}
 use Rattle.fr_notes.specs.declared.claim.Claim.{Claim}
 use Rattle.fr_notes.specs.declared.claim.Claim.TheVariants.{NotHeld, Alive, Gone, HeldTimes}
-use Rattle.fr_notes.specs.Note.{Alternative, Meets, Within, HoldsOne, Holds, claim_of, range_of}
+use Rattle.fr_notes.specs.Note.{Alternative, Meets, Within, HoldsOne, claim_of, range_of}
+use Rattle.fr_notes.proofs.PairLaws.{inside-is}
+use Rattle.fr_notes.proofs.ImplicationLemmas.{only-one}
 use Rattle.fr_worked.specs.WorkedNotes.{two_tasks, says, any, Together, WorkedClaims, WorkedTogether}
 
 pub worked-claims : WorkedClaims
@@ -61,11 +63,6 @@ holds a v content critical s t k n claim range depth suspended meets within =
 pub in-any : Within any (pos 0)
 in-any = (omega (arith, ints), omega (arith, ints))
 
--- an actor with a depth is the one in the critical section
-inside-is : (b : Bool) (depth : ℕ) → 0 < (if b then depth else 0) → b ≡ true
-inside-is true depth h = refl
-inside-is false depth h = absurd (omega arith)
-
 -- so nobody is in it beside another
 no-two : (critical : Option (ℕ × ℕ)) → depth_in critical 0 ≡ 1 → depth_in critical 1 ≡ 2 → ⊥
 no-two None h k = absurd (omega arith)
@@ -73,13 +70,6 @@ no-two (Some c) h k =
     let first = eqb-true c.0 0 (inside-is (nat_eq c.0 0) c.1 (omega (arith, h))) in
     let second = eqb-true c.0 1 (inside-is (nat_eq c.0 1) c.1 (omega (arith, k))) in
     absurd (omega (arith, first, second))
-
--- a note of one alternative holds where that does
-only-one : (n : Alternative) (a : ℕ) (S : State) → Holds (n ∷ []) a S → HoldsOne n a S
-only-one n a S h =
-    let k : h.1.0 ≡ 0 = omega (arith, h.1.1) in
-    let e : n ≡ h.0 = subst (λ j. get_or (n ∷ []) j h.0 ≡ h.0) k h.1.2 in
-    subst (λ m. HoldsOne m a S) (sym e) h.2
 
 -- two alternatives that hold in one state are together
 together : (n m : Alternative) (S : State) → IsWellFormed two_tasks S → HoldsOne n 0 S → HoldsOne m 1 S → Together n m

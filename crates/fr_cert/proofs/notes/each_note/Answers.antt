@@ -1,5 +1,5 @@
-use Rattle.std.proofs.Common.{◌≡◌, ◌∙◌, List, [], ◌∷◌, ◌++◌, length, append_assoc, append-nil, sym, ap, subst, arith, rules}
-use Rattle.fr_cert.proofs.Terms.{nil_from_length, view, items_view, Value, get_item, AreReadBy, at, InNote}
+use Rattle.std.proofs.Common.{◌≡◌, ◌∙◌, [], ◌∷◌, ◌++◌, length, append_assoc, append-nil, sym, ap, subst, arith, rules}
+use Rattle.fr_cert.proofs.Terms.{nil_from_length, view, items_view, get_item, AreReadBy, at, InNote}
 use Rattle.fr_cert.proofs.FaultLemmas.{within_of}
 use Rattle.fr_cert.proofs.ReadLemmas.{count_read, entry_behind}
 use Rattle.fr_cert.proofs.notes.each_note.Goals as goal

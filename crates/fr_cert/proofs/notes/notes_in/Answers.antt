@@ -1,4 +1,4 @@
-use Rattle.std.proofs.Common.{◌≡◌, ◌∙◌, All, length, sym, ap, subst, inl, inr}
+use Rattle.std.proofs.Common.{◌≡◌, ◌∙◌, All, length, sym, ap, subst, inr}
 use Rattle.fr_cert.proofs.Terms.{err_from_is_err_and, items_view, items_len-items_view, points_of, NoteFits, EachEntry, IsNote}
 use Rattle.fr_cert.proofs.FaultLaws.{each_length}
 use Rattle.fr_cert.proofs.ReadLemmas.{count_read, placed_fit}

@@ -1,8 +1,8 @@
 use Rattle.std.proofs.Common.{◌≡◌, ◌<◌, ◌+◌, ◌++◌, ◌∷◌, [], Any, AllPairs, length, map, take, sym, ap, ◌∙◌, subst, inl, inr, arith}
+use Rattle.std.proofs.lemmas.List.{map_push}
 use Rattle.fr_cert.proofs.Terms.{get_or-map, length-map, items_view, view, at, EachEntry, deeper}
 use Rattle.fr_cert.proofs.EntryLemmas.{entry_here, entries_more, earlier}
 use Rattle.fr_cert.proofs.FaultLemmas.{within_of}
-use Rattle.fr_cert.proofs.MemberLemmas.{map_push}
 use Rattle.fr_cert.proofs.TwiceLemmas.{apart_more}
 use Rattle.fr_cert.proofs.reader.each_entry.Goals as goal
 

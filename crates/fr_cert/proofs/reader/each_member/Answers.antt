@@ -1,6 +1,7 @@
 use Rattle.std.proofs.Common.{◌≡◌, List, [], ◌∷◌, ◌++◌, map, append_assoc, sym, ap, ◌∙◌, subst}
+use Rattle.std.proofs.lemmas.List.{map_push}
 use Rattle.fr_cert.proofs.Terms.{err_from_is_err_and, deref_pair, rest_more, members_view, view, Entry, InMembers}
-use Rattle.fr_cert.proofs.MemberLemmas.{member_push, map_push, in_members}
+use Rattle.fr_cert.proofs.MemberLemmas.{member_push, in_members}
 use Rattle.fr_cert.proofs.reader.each_member.Goals as goal
 
 pub returns-in_err-read-clause-err : goal.returns-in_err-read-clause-err

@@ -1,5 +1,5 @@
 use Rattle.std.proofs.Common.{◌≡◌, ◌∙◌, ◌<◌, ◌≤◌, length, get_or, sym, ap, subst, arith, rules}
-use Rattle.fr_cert.proofs.Terms.{drop_all, array, object, string, number, view, items_view, number_view, the_lemmas, view-Array, view-Object}
+use Rattle.fr_cert.proofs.Terms.{drop_all, string, number, view, items_view, number_view, the_lemmas}
 use Rattle.fr_cert.proofs.SameLemmas.{is-text, items-more}
 use Rattle.fr_cert.proofs.same.+same.Goals as goal
 

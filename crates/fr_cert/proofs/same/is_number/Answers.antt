@@ -1,6 +1,6 @@
 use Rattle.std.proofs.Common.{sym, ap, ◌∙◌}
 use Rattle.fr_cert.proofs.Terms.{number, number_view}
-use Rattle.fr_cert.proofs.SameLemmas.{num-unsigned, num-negative}
+use Rattle.fr_cert.proofs.SameLemmas.{num-unsigned}
 use Rattle.fr_cert.proofs.same.is_number.Goals as goal
 
 pub returns-in-Some : goal.returns-in-Some

@@ -1,4 +1,4 @@
-use Rattle.std.proofs.Common.{◌≡◌, ◌∙◌, ◌<◌, ◌≤◌, [], length, sym, ap, arith}
+use Rattle.std.proofs.Common.{◌≡◌, ◌∙◌, ◌<◌, ◌≤◌, [], length, ap, arith}
 use Rattle.std.specs.Prelude.{nat_le}
 use Rattle.fr_cert.proofs.Terms.{le-leb, lt-leb, get_or_default, Note}
 use Rattle.fr_cert.proofs.WrittenLemmas.{all_more, all_less, all_end}

@@ -1,6 +1,6 @@
 use Rattle.std.proofs.Common.{sym, subst, arith, refl}
+use Rattle.fr_notes.proofs.AlternativesLemmas.{among-case}
 use Rattle.fr_edge.proofs.Terms.{start, Holds, HoldsOne}
-use Rattle.fr_edge.proofs.Lists.{among-case}
 use Rattle.fr_edge.proofs.entry.some_holds_at_start.Goals as goal
 
 pub returns-then-holds_at_start : goal.returns-then-holds_at_start

@@ -1,7 +1,8 @@
 use Rattle.std.proofs.Common.{sym, subst, arith, refl}
 use Rattle.std.specs.Prelude.{Contains}
+use Rattle.fr_notes.proofs.AlternativesLemmas.{among-case}
 use Rattle.fr_edge.proofs.Terms.{GoesWell}
-use Rattle.fr_edge.proofs.Lists.{among-case, item-fits}
+use Rattle.fr_edge.proofs.Lists.{item-fits}
 use Rattle.fr_edge.proofs.steps.all_go_well.Goals as goal
 
 pub goes_well-requires-clause-fits : goal.goes_well-requires-clause-fits

@@ -1,4 +1,4 @@
-use Rattle.std.proofs.Common.{Contains, sym, ap, ◌∙◌, subst, arith}
+use Rattle.std.proofs.Common.{Contains, sym, ap, subst, arith}
 use Rattle.fr_edge.proofs.Terms.{point_number}
 use Rattle.fr_edge.proofs.Firsts.{pc-small, landed}
 use Rattle.fr_edge.proofs.Targets.{no-target, others, all-go, missing}
@@ -13,7 +13,7 @@ pub returns-in-None : goal.returns-in-None
 returns-in-None c =
     let s = c.args.spot.now in
     let d = landed s.point.actor _ c.in-At.target c.in-At.ensures in
-    no-target s.app.now s.notes.now s.point s.instr.now c.args.way (s.instr.now, s.has_instr, s.has_side) s.has_instr c.in-At.target d.0 d.1 c.in-None.ensures.none
+    no-target s.app.now s.notes.now s.point s.instr.now c.args.way s.has_instr c.in-At.target d.0 d.1 c.in-None.ensures.none
 
 pub returns-then-all_go_well : goal.returns-then-all_go_well
 returns-then-all_go_well c =
@@ -21,7 +21,7 @@ returns-then-all_go_well c =
     let d = landed s.point.actor _ c.in-At.target c.in-At.ensures in
     let n = c.in-Some.ensures.some in
     let is = c.at.ensures.is c.in-At.target ((c.number.ensures.inverse c.in-Some.number).0 c.in-Some.is) in
-    all-go s.app.now s.notes.now s.point s.instr.now c.args.way (s.instr.now, s.has_instr, s.has_side) s.has_instr c.in-At.target d.0 d.1 c.at.result.now is (λ m k. c.all_go_well.ensures.0 c.if-all_go_well.true m (subst (λ note. Contains note m) (sym s.has_note) k))
+    all-go s.app.now s.notes.now s.point s.instr.now c.args.way s.has_instr c.in-At.target d.0 d.1 c.at.result.now is (λ m k. c.all_go_well.ensures.0 c.if-all_go_well.true m (subst (λ note. Contains note m) (sym s.has_note) k))
 
 pub returns-else-all_go_well : goal.returns-else-all_go_well
 returns-else-all_go_well c =
@@ -33,9 +33,9 @@ returns-else-all_go_well c =
       n.0,
       d.0,
       sym n.1,
-      missing s.app.now s.notes.now s.point s.instr.now c.args.way (s.instr.now, s.has_instr, s.has_side) s.has_instr c.in-At.target d.0 d.1 c.at.result.now is (λ all.
+      missing s.app.now s.notes.now s.point s.instr.now c.args.way s.has_instr c.in-At.target d.0 d.1 c.at.result.now is (λ all.
           let t = c.all_go_well.ensures.1 (λ m k. all m (subst (λ note. Contains note m) s.has_note k)) in
           let f = c.if-all_go_well.false in cc),
       λ other at lt.
-          others s.app.now s.notes.now s.point s.instr.now c.args.way (s.instr.now, s.has_instr, s.has_side) s.has_instr c.in-At.target d.0 d.1 other (λ e. let q = ap (λ t. point_number s.app.now t) e in omega (arith, n.1, lt)),
+          others s.app.now s.notes.now s.point s.instr.now c.args.way s.has_instr c.in-At.target d.0 d.1 other (λ e. let q = ap (λ t. point_number s.app.now t) e in omega (arith, n.1, lt)),
     )

@@ -1,7 +1,8 @@
 use Rattle.std.proofs.Common.{sym, subst, arith, refl}
 use Rattle.std.specs.Prelude.{Contains}
+use Rattle.fr_notes.proofs.AlternativesLemmas.{among-case}
 use Rattle.fr_effects.proofs.Terms.{IsSparedByRows}
-use Rattle.fr_effects.proofs.Lists.{among-case, item-fits}
+use Rattle.fr_effects.proofs.Lists.{item-fits}
 use Rattle.fr_effects.proofs.disturbance.is_spared_beside_each.Goals as goal
 
 pub is_spared-requires-clause-other : goal.is_spared-requires-clause-other

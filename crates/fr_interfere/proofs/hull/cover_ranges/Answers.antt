@@ -11,7 +11,7 @@ loop-entry-preserved c =
     let items = c.loop-entry.ranges in
     let i = c.loop-entry.entry-index in
     let e = get_or items i c.entry-item.result in
-    let r = c.common_range in
+    let r = c.hull in
     let least : IsLeastOf e.1 c.range.result r.result = (r.ensures.lo, r.ensures.hi) in
     grown-more IsWiderRange (HasRange c.args.alternative.now) same-range join-ranges c.args.ranges.now items i c.loop-entry.invariant (omega (arith, c.loop-entry-test.true, c.loop-entry.auto.ranges))
     c.entry-item.result (e.0, r.result) (refl, has-one e.1 c.range.result r.result least)

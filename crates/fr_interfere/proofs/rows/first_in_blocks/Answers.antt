@@ -1,6 +1,6 @@
 use Rattle.std.proofs.Common.{sym, ◌∙◌, subst, arith}
+use Rattle.std.proofs.lemmas.Option.{slice_get_read}
 use Rattle.fr_interfere.proofs.Terms.{same_Some, IsBlock, IsInSome, IsBelow, IsListed}
-use Rattle.fr_effects.proofs.Lists.{at-get}
 use Rattle.fr_interfere.proofs.RowLaws.{IsInBlock}
 use Rattle.fr_interfere.proofs.SpoilerLaws.{first-fewer, one-more, none-yet}
 use Rattle.fr_interfere.proofs.rows.first_in_blocks.Goals as goal
@@ -18,7 +18,7 @@ loop-block-preserved c = λ p here.
     let blocks = c.args.blocks.now in
     let i = c.loop-block.block-index in
     let b = c.block-item.result in
-    let there = at-get blocks i b c.loop-block-test.true c.block-item.is in
+    let there = slice_get_read blocks (length blocks) i b refl c.loop-block-test.true c.block-item.is in
     one-more P c.args.notes.now p (IsInBlock P blocks) i c.loop-block.least c.first_in_block.result c.lesser-least.result c.lesser-least.ensures (c.loop-block.invariant p here)
     (first-fewer P c.args.notes.now p (IsListed P b.numbers.items) (IsInBlock P blocks i)
     (λ q at (k, is, listed). subst (λ x. IsListed P x.numbers.items q) (same_Some _ _ (sym is ∙ there)) listed)
@@ -29,5 +29,5 @@ returns c = λ p here.
     let P = c.args.app.now in
     let blocks = c.args.blocks.now in
     first-fewer P c.args.notes.now p (IsBelow (IsInBlock P blocks) c.loop-block.block-index) (IsInSome P blocks)
-    (λ q at (k, b, l, is, listed). (k, omega (arith, l, c.loop-block-test.false), (b, at-get blocks k b l (sym is), listed)))
+    (λ q at (k, b, l, is, listed). (k, omega (arith, l, c.loop-block-test.false), (b, slice_get_read blocks (length blocks) k b refl l (sym is), listed)))
     c.loop-block.least (c.loop-block.invariant p here)

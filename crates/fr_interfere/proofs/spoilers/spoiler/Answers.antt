@@ -1,7 +1,8 @@
 use Rattle.std.proofs.Common.{◌≡◌, ◌<◌, Some, subst, arith, ⊎_elim}
 use Rattle.std.specs.Prelude.{slice_get}
+use Rattle.std.proofs.lemmas.Option.{slice_get_within}
 use Rattle.fr_interfere.proofs.Terms.{cases_lt, points_of, point_number}
-use Rattle.fr_effects.proofs.Lists.{get-below, get-there}
+use Rattle.fr_effects.proofs.Lists.{get-there}
 use Rattle.fr_interfere.proofs.spoilers.spoiler.Goals as goal
 
 pub loop-other-init : goal.loop-other-init
@@ -33,5 +34,5 @@ pub returns : goal.returns
 returns c = λ p here q there.
     let P = c.args.app.now in
     let e = c.recall_numbered.ensures.at q there in
-    let below = get-below (points_of P) (point_number P q) q e in
+    let below = slice_get_within (points_of P) (point_number P q) q e in
     c.loop-other.invariant p here (point_number P q) (omega (arith, below, c.points-other-end.ensures, c.loop-other-test.false)) q e

@@ -1,6 +1,7 @@
 use Rattle.std.proofs.Common.{below_more, get_or, subst}
+use Rattle.std.proofs.lemmas.List.{get_or_default}
 use Rattle.fr_order.proofs.Terms.{ObjId, Edge, Blocks}
-use Rattle.fr_order.proofs.GraphLemmas.{any-default, some-there}
+use Rattle.fr_order.proofs.GraphLemmas.{some-there}
 use Rattle.fr_order.proofs.peeling.first_free.Goals as goal
 
 pub loop-place-preserved : goal.loop-place-preserved
@@ -12,4 +13,4 @@ loop-place-preserved c =
     let x : ObjId = record { 0 = 0 } in
     let blocks = some-there (λ e. Blocks edges order (get_or rest i x).0 e) c.blocker.result c.blocker.ensures.some c.if-is_none.ensures in
     λ k d l. below_more (λ j. (d : ObjId) → (e : Edge) × Blocks edges order (get_or rest j d).0 e) i (λ j less d. c.loop-place.invariant j d less)
-    (λ d. subst (λ y. (e : Edge) × Blocks edges order y.0 e) (any-default rest i x d c.loop-place-test.true) blocks) k l d
+    (λ d. subst (λ y. (e : Edge) × Blocks edges order y.0 e) (get_or_default rest i x d c.loop-place-test.true) blocks) k l d
