@@ -1,5 +1,5 @@
 -- A list parted into runs: each run is as the list is, and each number of the list is in one of them.
-use Rattle.std.proofs.Common.{◌≡◌, ℕ, zero, suc, ◌+◌, ◌-◌, ◌<◌, ◌≤◌, List, [], ◌∷◌, ◌++◌, length, get_or, take, drop, sym, ap, ◌∙◌, subst, arith, ⊎_elim}
+use Rattle.std.proofs.Common.{◌≡◌, ℕ, zero, suc, ◌+◌, ◌-◌, ◌<◌, ◌≤◌, List, [], ◌∷◌, ◌++◌, length, get_or, take, drop, refl, sym, ap, ◌∙◌, subst, arith, ⊎_elim}
 use Rattle.std.specs.Prelude.{Option, None, Some, Result, Ok, Err, IfOk, IfSome, MatchResult, All, Any, Contains, map, slice_get}
 use Rattle.fr_interfere.proofs.Terms.{AllZip, range_with_len, cases_lt, length-range_with_len, length-map, length_push, get_or_push, get_or_append_left, length-take, length-drop, get_or-take}
 use Rattle.fr_interfere.proofs.Terms.{get_or-drop, get_or_default, same_Some, slice_get-get_or, Contains-append_left, Contains-push, Contains-get_or, Point, Program, IsFaultless, IsPoint}

@@ -1,4 +1,4 @@
-use Rattle.std.proofs.Common.{sym, ◌∙◌, subst, arith}
+use Rattle.std.proofs.Common.{length, refl, sym, ◌∙◌, subst, arith}
 use Rattle.std.proofs.lemmas.Option.{slice_get_read}
 use Rattle.fr_interfere.proofs.Terms.{same_Some, IsBlock, IsInSome, IsBelow, IsListed}
 use Rattle.fr_interfere.proofs.RowLaws.{IsInBlock}
