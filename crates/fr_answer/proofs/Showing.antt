@@ -15,17 +15,20 @@ pub from-found : {X E : Type 0} (Is : What → Type 0) (found : Result (X × Wha
 from-found Is (Ok r) what h is = subst Is (sym is) h
 from-found Is (Err e) what h is = absurd is
 
+-- what is printed in one form with one name is printed in another that is the same
+printed-as : {named path : List ℕ} {shown format : Option Format} (what : What) (old new : Option (List ℕ)) → named ≡ path → shown ≡ format → IsPrinted shown named what old new → IsPrinted format path what old new
+printed-as {path = path} {shown = shown} what old new is same s = subst (λ f. IsPrinted f path what old new) same (subst (λ p. IsPrinted shown p what old new) is s)
+
 -- so it does of what is shown
-pub shown-of : {X E Y : Type 0} (Is : What → Type 0) (found : Result (X × What) E) (format : Option Format) (named path : List ℕ) (old new : Option (List ℕ)) (r : Result ℕ Y) → named ≡ path → IfOk found (λ x. Is x.1)
-    → IfOk r (λ status. IsShown (HasFound found) format named status old new) → IfOk r (λ status. IsShown Is format path status old new)
-shown-of Is found format named path old new (Ok status) same h s = (s.0, (λ le. from-found Is found s.0 h (s.1 le)), s.2, subst (λ p. IsPrinted format p s.0 old new) same s.3)
-shown-of Is found format named path old new (Err e) same h s = tt
+pub shown-of : {X E Y : Type 0} (Is : What → Type 0) (found : Result (X × What) E) (shown format : Option Format) (named path : List ℕ) (old new : Option (List ℕ)) (r : Result ℕ Y) → named ≡ path → shown ≡ format → IfOk found (λ x. Is x.1)
+    → IfOk r (λ status. IsShown (HasFound found) shown named status old new) → IfOk r (λ status. IsShown Is format path status old new)
+shown-of Is found shown format named path old new (Ok status) is same h s = (s.0, (λ le. from-found Is found s.0 h (s.1 le)), s.2, printed-as s.0 old new is same s.3)
+shown-of Is found shown format named path old new (Err e) is same h s = tt
 
 -- so it does of an answer that is refused
 pub shown-none : {Y : Type 0} (Is : What → Type 0) (shown format : Option Format) (named path : List ℕ) (old new : Option (List ℕ)) (r : Result ℕ Y) → named ≡ path → shown ≡ format
     → IfOk r (λ status. IsShown (λ _. ⊥) shown named status old new) → IfOk r (λ status. IsShown Is format path status old new)
-shown-none Is shown format named path old new (Ok status) is same s =
-    (s.0, (λ le. absurd (s.1 le)), s.2, subst (λ f. IsPrinted f path s.0 old new) same (subst (λ p. IsPrinted shown p s.0 old new) is s.3))
+shown-none Is shown format named path old new (Ok status) is same s = (s.0, (λ le. absurd (s.1 le)), s.2, printed-as s.0 old new is same s.3)
 shown-none Is shown format named path old new (Err e) is same s = tt
 
 -- the answer to a line is what was found
@@ -40,9 +43,10 @@ paged-same puts Is None old new same = same
 paged-same puts Is (Some p) old new same = inl same
 
 -- the page of an answer that is shown is that of what was found
-pub paged-found : {X E Z : Type 0} (puts : Z → List ℕ → List ℕ → Z → Type 0) (Is : What → Type 0) (found : Result (X × What) E) (path : Option (List ℕ)) (old new : Z)
-    → IfOk found (λ x. Is x.1) → IsPaged puts (HasFound found) path old new → IsPaged puts Is path old new
-paged-found puts Is found path old new h paged = paged-as puts (HasFound found) Is path old new (λ w le has. from-found Is found w h has) paged
+pub paged-found : {X E Z : Type 0} (puts : Z → List ℕ → List ℕ → Z → Type 0) (Is : What → Type 0) (found : Result (X × What) E) (shown path : Option (List ℕ)) (old new : Z)
+    → shown ≡ path → IfOk found (λ x. Is x.1) → IsPaged puts (HasFound found) shown old new → IsPaged puts Is path old new
+paged-found puts Is found shown path old new same h paged =
+    subst (λ p. IsPaged puts Is p old new) same (paged-as puts (HasFound found) Is shown old new (λ w le has. from-found Is found w h has) paged)
 
 module _ (reads : Reading → List ℕ → List ℕ → Type 0) (asks : Bool) where
   -- a line of a list

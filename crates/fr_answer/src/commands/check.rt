@@ -84,13 +84,7 @@ fn check_looked<R: Threads + Wait + Sync, F: Files, O: Write, E: Write>(
         application: app,
         certificate: Some(certificate),
     };
-    let shown = Asked {
-        format: asked.format,
-        html: asked.html,
-        explains: ways.detail.is_some(),
-        words: false,
-        names: ways.names,
-    };
+    let shown = asked_of(asked, ways);
     show_found(alloc, source, found, ways.warns, shown, files, out, err)
 }
 

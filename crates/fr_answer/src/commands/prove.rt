@@ -114,13 +114,7 @@ fn prove_looked<R: Threads + Wait + Sync, F: Files, O: Write, E: Write>(
     let ways = ways_of(asked);
     let proof = proved_file(rt, alloc, files, asked.app, asked.searches, ways);
     let found = kept(alloc, proof, asked.out, files);
-    let shown = Asked {
-        format: asked.format,
-        html: asked.html,
-        explains: asked.detail.is_some(),
-        words: false,
-        names: true,
-    };
+    let shown = asked_of(asked);
     let source = source_of(asked);
     show_found(alloc, source, found, ways.warns, shown, files, out, err)
 }

@@ -81,13 +81,7 @@ fn refute_looked<R: Threads + Sync, F: Files, O: Write, E: Write>(
 {
     let ways = ways_of(asked);
     let found = searched_file(rt, alloc, files, asked.app, ways);
-    let shown = Asked {
-        format: asked.format,
-        html: asked.html,
-        explains: asked.explains,
-        words: true,
-        names: true,
-    };
+    let shown = asked_of(asked);
     let source = source_of(asked);
     show_found(alloc, source, found, ways.warns, shown, files, out, err)
 }

@@ -1,5 +1,5 @@
 -- What is shown is the verdict on both files.
-use Rattle.std.proofs.Common.{IfOk, refl, subst}
+use Rattle.std.proofs.Common.{IfOk, refl, ap, subst}
 use Rattle.std.specs.Prelude.{option_copied}
 use Rattle.fr_answer.proofs.Terms.{Reads, IsCheckOf}
 use Rattle.fr_answer.proofs.Showing.{paged-found, shown-of}
@@ -10,11 +10,11 @@ returns-clause-answered g c =
     let reads = Reads (g.F.Files.Gives c.args.files.now) g.F.Files.Means in
     let found = c.checked_files-found.result in
     let verdict = subst (λ asks. IfOk found (λ r. IsCheckOf reads asks c.args.app.now c.args.certificate.now r.1)) c.ways_of-ways.ensures c.checked_files-found.ensures.verdict in
-    shown-of (IsCheckOf reads c.args.asked.now.deadlock c.args.app.now c.args.certificate.now) found c.args.asked.now.format _ _ _ _ c.show_found.result refl verdict c.show_found.ensures.answered
+    shown-of (IsCheckOf reads c.args.asked.now.deadlock c.args.app.now c.args.certificate.now) found _ c.args.asked.now.format _ _ _ _ c.show_found.result refl c.asked_of-shown.ensures.format verdict c.show_found.ensures.answered
 
 pub returns-clause-files : goal.returns-clause-files
 returns-clause-files g c =
     let reads = Reads (g.F.Files.Gives c.args.files.now) g.F.Files.Means in
     let found = c.checked_files-found.result in
     let verdict = subst (λ asks. IfOk found (λ r. IsCheckOf reads asks c.args.app.now c.args.certificate.now r.1)) c.ways_of-ways.ensures c.checked_files-found.ensures.verdict in
-    paged-found g.F.Files.Puts (IsCheckOf reads c.args.asked.now.deadlock c.args.app.now c.args.certificate.now) found (option_copied c.args.asked.now.html) _ _ verdict c.show_found.ensures.paged
+    paged-found g.F.Files.Puts (IsCheckOf reads c.args.asked.now.deadlock c.args.app.now c.args.certificate.now) found _ (option_copied c.args.asked.now.html) _ _ (ap option_copied c.asked_of-shown.ensures.html) verdict c.show_found.ensures.paged

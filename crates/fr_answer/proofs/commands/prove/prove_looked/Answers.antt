@@ -1,5 +1,5 @@
 -- What is shown is what was proved, and a certificate is written where the verdict is yes.
-use Rattle.std.proofs.Common.{IfOk, List, ℕ, string_bytes, subst}
+use Rattle.std.proofs.Common.{IfOk, List, ℕ, string_bytes, ap, subst}
 use Rattle.std.specs.Prelude.{option_copied}
 use Rattle.fr_answer.proofs.Terms.{Reads, IsProofAt}
 use Rattle.fr_answer.proofs.Showing.{kept-by, paged-found, proof-found, shown-of}
@@ -13,7 +13,7 @@ returns-clause-answered g c =
     let searches = c.args.asked.now.searches in
     let all = c.proved_file-proof.result in
     let proof = subst (λ b. IfOk all (λ r. IsProofAt reads b app searches (string_bytes r.2) r.1)) c.ways_of-ways.ensures c.proved_file-proof.ensures.proof in
-    shown-of (λ what. (certificate : List ℕ) × IsProofAt reads asks app searches certificate what) c.kept-found.result c.args.asked.now.format _ _ _ _ c.show_found.result c.source_of-source.ensures
+    shown-of (λ what. (certificate : List ℕ) × IsProofAt reads asks app searches certificate what) c.kept-found.result _ c.args.asked.now.format _ _ _ _ c.show_found.result c.source_of-source.ensures c.asked_of-shown.ensures.format
     (proof-found reads asks app searches all c.kept-found.result proof c.kept-found.ensures.found c.kept-found.ensures.none) c.show_found.ensures.answered
 
 pub returns-clause-files : goal.returns-clause-files
@@ -26,6 +26,6 @@ returns-clause-files g c =
     let proof = subst (λ b. IfOk all (λ r. IsProofAt reads b app searches (string_bytes r.2) r.1)) c.ways_of-ways.ensures c.proved_file-proof.ensures.proof in (
       _,
       kept-by reads asks g.F.Files.Puts app searches (option_copied c.args.asked.now.out) all c.args.files.now _ proof c.kept-found.ensures.files c.kept-found.ensures.same,
-      paged-found g.F.Files.Puts (λ what. (certificate : List ℕ) × IsProofAt reads asks app searches certificate what) c.kept-found.result (option_copied c.args.asked.now.html) _ _
+      paged-found g.F.Files.Puts (λ what. (certificate : List ℕ) × IsProofAt reads asks app searches certificate what) c.kept-found.result _ (option_copied c.args.asked.now.html) _ _ (ap option_copied c.asked_of-shown.ensures.html)
           (proof-found reads asks app searches all c.kept-found.result proof c.kept-found.ensures.found c.kept-found.ensures.none) c.show_found.ensures.paged,
     )
