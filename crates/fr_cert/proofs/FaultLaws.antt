@@ -10,7 +10,8 @@ use Rattle.fr_cert.proofs.Terms.{InGuardObject, InGuard, InEndName, InKeysOfEnd,
 use Rattle.fr_cert.specs.declared.key.Key.TheVariants as key
 use Rattle.fr_cert.specs.declared.key.Keyed.TheVariants as place
 use Rattle.fr_cert.specs.declared.fault.CertFault.TheVariants as fault
-use Rattle.fr_cert.proofs.Laws.{both, one_at, one_name, one_text, one_version, one_end, one_end_value, unknown, apart, list_apart, object_apart}
+use Rattle.fr_program.proofs.OptionLemmas.{one_value}
+use Rattle.fr_cert.proofs.Laws.{one_at, one_name, one_text, one_version, one_end, one_end_value, unknown, apart, list_apart, object_apart}
 use Rattle.fr_cert.proofs.EntryLemmas.{each_both}
 use Rattle.fr_instr.proofs.TokenLaws.{apart as never}
 
@@ -32,7 +33,7 @@ free_keys : (p : Keyed) (ms : Members) (f : CertFault) → AreKnown p ms → InK
 free_keys p ms f h s = false≢true (sym s.3 ∙ h s.0 s.1 s.2)
 
 free_field : {A : Type 0} (k : Key) (M : Data → A → Type 0) (F : Data → CertFault → Type 0) → Free M F → FreeIn (At k M) (InField k F)
-free_field k M F free ms x f h s = free h.0 x s.2.0 h.2 (subst (λ d. F d s.2.0) (both (field k ms) s.0 h.0 s.1 h.1) s.2.1)
+free_field k M F free ms x f h s = free h.0 x s.2.0 h.2 (subst (λ d. F d s.2.0) (one_value (field k ms) s.0 h.0 s.1 h.1) s.2.1)
 
 free_needed : {A : Type 0} (k : Key) (M : Data → A → Type 0) (F : Data → CertFault → Type 0) → Free M F → FreeIn (At k M) (InNeeded k F)
 free_needed k M F free ms x f h (inl s) = never (field k ms) h.0 s.0 h.1
@@ -44,16 +45,16 @@ free_default k default M F free ms x f h s = free s.0 x s.2.0 (subst (λ o. OrDe
 
 free_object : {A : Type 0} (M : Members → A → Type 0) (F : Members → CertFault → Type 0) → FreeIn M F → Free (IsObject M) (InObject F)
 free_object M F free d x f h (inl s) = never (as_object d) h.0 s.0 h.1
-free_object M F free d x f h (inr s) = free h.0 x f h.2 (subst (λ ms. F ms f) (both (as_object d) s.0 h.0 s.1 h.1) s.2)
+free_object M F free d x f h (inr s) = free h.0 x f h.2 (subst (λ ms. F ms f) (one_value (as_object d) s.0 h.0 s.1 h.1) s.2)
 
 free_list : {A : Type 0} (M : Items → A → Type 0) (F : Items → CertFault → Type 0) → FreeOf M F → Free (IsList M) (InList F)
 free_list M F free d x f h (inl s) = never (as_array d) h.0 s.0 h.1
-free_list M F free d x f h (inr s) = free h.0 x f h.2 (subst (λ ds. F ds f) (both (as_array d) s.0 h.0 s.1 h.1) s.2)
+free_list M F free d x f h (inr s) = free h.0 x f h.2 (subst (λ ds. F ds f) (one_value (as_array d) s.0 h.0 s.1 h.1) s.2)
 
 entry_there : {A : Type 0} (M : Data → A → Type 0) (ds : Items) (xs : List A) (i : ℕ) (d : Data) → EachEntry M ds xs → get_item i ds ≡ Some d → (x : A) × M d x
 entry_there M no_items xs i d h e = absurd (never None d refl e)
 entry_there M (item y ds) [] i d h e = absurd h
-entry_there M (item y ds) (x ∷ xs) zero d h e = (x, subst (λ z. M z x) (both (Some y) y d refl e) h.0)
+entry_there M (item y ds) (x ∷ xs) zero d h e = (x, subst (λ z. M z x) (one_value (Some y) y d refl e) h.0)
 entry_there M (item y ds) (x ∷ xs) (suc i) d h e = entry_there M ds xs i d h.1 e
 
 free_entries : {A : Type 0} (M : Data → A → Type 0) (F : Data → CertFault → Type 0) → Free M F → FreeOf (EachEntry M) (InEntries F)
@@ -76,14 +77,14 @@ free_named {A} names M F free = free_members (IsNamed names M) (InNamed names F)
 
 free_name : (names : List (List ℕ)) → Free (Names names) (InName names)
 free_name names d n f h (inl s) = never (as_str d) h.0 s.0 h.1
-free_name names d n f h (inr s) = never (place_of names h.0) n (subst (λ t. place_of names t ≡ None) (both (as_str d) s.0 h.0 s.1 h.1) s.2) h.2
+free_name names d n f h (inr s) = never (place_of names h.0) n (subst (λ t. place_of names t ≡ None) (one_value (as_str d) s.0 h.0 s.1 h.1) s.2) h.2
 
 -- what an entry means is at its place
 meant_at : {A : Type 0} (M : Data → A → Type 0) → ((d : Data) (x y : A) → M d x → M d y → x ≡ y) → (ds : Items) (xs : List A) (i : ℕ) (d : Data) (x e : A)
     → EachEntry M ds xs → get_item i ds ≡ Some d → M d x → (i < length xs) × (get_or xs i e ≡ x)
 meant_at M one no_items xs i d x e h is m = absurd (never None d refl is)
 meant_at M one (item y ds) [] i d x e h is m = absurd h
-meant_at M one (item y ds) (z ∷ xs) zero d x e h is m = (omega arith, one d z x (subst (λ w. M w z) (both (Some y) y d refl is) h.0) m)
+meant_at M one (item y ds) (z ∷ xs) zero d x e h is m = (omega arith, one d z x (subst (λ w. M w z) (one_value (Some y) y d refl is) h.0) m)
 meant_at M one (item y ds) (z ∷ xs) (suc i) d x e h is m = let rest = meant_at M one ds xs i d x e h.1 is m in (omega (arith, rest.0), rest.1)
 
 -- and with entries no two of which are alike
@@ -100,7 +101,7 @@ free_names names = free_once (Names names) (InName names) (λ n m. n ≡ m) (fau
 
 free_depth : Free IsDepth InDepth
 free_depth d n f h (inl s) = never (integer_of d) (pos n) s.0 h.0
-free_depth d n f h (inr s) = s.2 n h.1 (both (integer_of d) s.0 (pos n) s.1 h.0)
+free_depth d n f h (inr s) = s.2 n h.1 (one_value (integer_of d) s.0 (pos n) s.1 h.0)
 
 no_order : (lo hi : ℤ) (r : ℤ × ℤ) → lo ≡ r.0 → hi ≡ r.1 → hi <ℤ lo → r.0 ≤ℤ r.1 → ⊥
 no_order lo hi r p q less most = absurd (omega (arith, ints, p, q, less, most))
@@ -109,7 +110,7 @@ free_ends : FreeOf AreEnds InEnds
 free_ends ds r f h (inl s) = never (end_at 0 ds) r.0 s.0 h.lo
 free_ends ds r f h (inr (inl s)) = never (end_at 1 ds) r.1 s.0 h.hi
 free_ends ds r f h (inr (inr (inl s))) = never (get_item 2 ds) s.0 h.only s.1
-free_ends ds r f h (inr (inr (inr s))) = no_order s.0 s.1 r (both (end_at 0 ds) s.0 r.0 s.2 h.lo) (both (end_at 1 ds) s.1 r.1 s.3 h.hi) s.4 h.order
+free_ends ds r f h (inr (inr (inr s))) = no_order s.0 s.1 r (one_value (end_at 0 ds) s.0 r.0 s.2 h.lo) (one_value (end_at 1 ds) s.1 r.1 s.3 h.hi) s.4 h.order
 
 free_span : Free IsSpan InSpan
 free_span = free_list AreEnds InEnds free_ends
@@ -163,7 +164,7 @@ free_note P version d note f (inr (inl h)) (inr (inr s)) = object_apart d h.1.0 
 free_note P version d note f (inr (inr h)) (inl s) = never (as_array d) h.1.0 (s.2 h.0) h.1.1
 free_note P version d note f (inr (inr h)) (inr (inl s)) = object_apart d s.0 h.1.0 s.1 h.1.1
 free_note P version d note f (inr (inr h)) (inr (inr s)) =
-    free_alternatives P h.1.0 note f h.1.2 h.2 h.3 (subst (λ ds. InAlternatives P ds f) (both (as_array d) s.1 h.1.0 s.2 h.1.1) s.3)
+    free_alternatives P h.1.0 note f h.1.2 h.2 h.3 (subst (λ ds. InAlternatives P ds f) (one_value (as_array d) s.1 h.1.0 s.2 h.1.1) s.3)
 
 free_notes : (P : Program) (version : ℕ) → FreeOf (AreNotes P version) (InNotes P version)
 free_notes P version ds notes f h (inl s) = s.0 (sym (each_length (IsNote P version) ds notes h.0) ∙ h.1)
@@ -173,7 +174,7 @@ free_notes P version ds notes f h (inr s) = free_entries (IsNote P version) (InN
 
 free_number : Free IsTurnNumber InTurnValue
 free_number d z f h (inl s) = never (integer_of d) z s.0 h.0
-free_number d z f h (inr s) = s.2 (subst IsNumber (both (integer_of d) z s.0 h.0 s.1) h.1)
+free_number d z f h (inr s) = s.2 (subst IsNumber (one_value (integer_of d) z s.0 h.0 s.1) h.1)
 
 free_values : (N : NamesOf) → FreeIn (AreTurnValues N) (InMembers (InNamed N.actors InTurnValue))
 free_values N ms values f h s = free_named N.actors IsTurnNumber InTurnValue free_number ms h.0 f h.1 s
@@ -222,7 +223,7 @@ free_end P ms e f h fits (inr s) = s.2 (subst (EndFits P) (one_end (names_in P) 
 
 free_fit_end : (P : Program) → Free (IsFitEnd P) (InObject (InEnd P))
 free_fit_end P d e f h (inl s) = never (as_object d) h.0.0 s.0 h.0.1
-free_fit_end P d e f h (inr s) = free_end P h.0.0 e f h.0.2 h.1 (subst (λ ms. InEnd P ms f) (both (as_object d) s.0 h.0.0 s.1 h.0.1) s.2)
+free_fit_end P d e f h (inr s) = free_end P h.0.0 e f h.0.2 h.1 (subst (λ ms. InEnd P ms f) (one_value (as_object d) s.0 h.0.0 s.1 h.0.1) s.2)
 
 free_all_ends : (P : Program) → FreeOf (AreFitEnds P) (InAllEnds P)
 free_all_ends P ds es f h (inl s) = free_entries (IsFitEnd P) (InObject (InEnd P)) (free_fit_end P) ds es f h.0 s
@@ -234,8 +235,8 @@ free_all_ends P ds es f h (inr s) =
 
 free_version : Free IsVersion InVersion
 free_version d v f h (inl s) = never (integer_of d) (pos v) s.0 h.0
-free_version d v f (h, inl is) (inr s) = s.2 (both (integer_of d) s.0 (pos v) s.1 h ∙ ap pos is)
-free_version d v f (h, inr is) (inr s) = s.3 (both (integer_of d) s.0 (pos v) s.1 h ∙ ap pos is)
+free_version d v f (h, inl is) (inr s) = s.2 (one_value (integer_of d) s.0 (pos v) s.1 h ∙ ap pos is)
+free_version d v f (h, inr is) (inr s) = s.3 (one_value (integer_of d) s.0 (pos v) s.1 h ∙ ap pos is)
 
 free_certificate : (P : Program) → FreeIn (IsCertificate P) (InCertificate P)
 free_certificate P ms C f h (inl s) = free_keys place.Certificate ms f h.only s
@@ -257,4 +258,4 @@ free_bytes P bytes C f h s = absurd s
 pub no_meaning : (P : Program) (bytes : List ℕ) (f : CertFault) (C : Certificate) → IsPresent P bytes f → Means P bytes C → ⊥
 no_meaning P bytes f C (inl s) h = free_bytes P bytes C f h s
 no_meaning P bytes f C (inr s) h =
-    free_object (IsCertificate P) (InCertificate P) (free_certificate P) h.tree C f h.means (subst (λ d. InTree P d f) (both (read bytes) s.0 h.tree s.1.parsed h.text.parsed) s.2)
+    free_object (IsCertificate P) (InCertificate P) (free_certificate P) h.tree C f h.means (subst (λ d. InTree P d f) (one_value (read bytes) s.0 h.tree s.1.parsed h.text.parsed) s.2)

@@ -7,14 +7,11 @@ use Rattle.fr_cert.proofs.Terms.{Names, AreNames, IsDepth, AreEnds, IsSpan, Note
 use Rattle.fr_cert.proofs.Terms.{IsGuard, IsEndName, IsEnd, IsFitEnd, AreFitEnds, IsVersion, IsCertificate, IsTree, Means, Key, Keyed}
 use Rattle.fr_program.specs.declared.instr.End.{End as BufferEnd}
 use Rattle.fr_program.specs.declared.instr.End.TheVariants.{Writer, Reader}
+use Rattle.fr_program.proofs.OptionLemmas.{one_value}
 use Rattle.fr_cert.specs.Keys.{field}
 use Rattle.fr_cert.specs.declared.key.Key.TheVariants as key
 use Rattle.fr_cert.specs.declared.key.Keyed.TheVariants as place
 use Rattle.fr_instr.proofs.TokenLaws.{apart as never}
-
--- two values that one place has are the same
-pub both : {A : Type 0} (o : Option A) (x y : A) → o ≡ Some x → o ≡ Some y → x ≡ y
-both o x y p q = same_Some x y (sym p ∙ q)
 
 pair : {A B : Type 0} (x y : A × B) → x.0 ≡ y.0 → x.1 ≡ y.1 → x ≡ y
 pair x y p q =
@@ -36,17 +33,17 @@ abbrev OneOf : {A : Type 0} → (Items → A → Type 0) → Type 0
 OneOf {A} M = (ds : Items) (x y : A) → M ds x → M ds y → x ≡ y
 
 pub one_at : {A : Type 0} (k : Key) (M : Data → A → Type 0) → One M → OneIn (At k M)
-one_at k M one ms x y h g = one h.0 x y h.2 (subst (λ d. M d y) (both (field k ms) g.0 h.0 g.1 h.1) g.2)
+one_at k M one ms x y h g = one h.0 x y h.2 (subst (λ d. M d y) (one_value (field k ms) g.0 h.0 g.1 h.1) g.2)
 
 one_default : {A : Type 0} (default : A) (M : Data → A → Type 0) → One M → (o : Option Data) (x y : A) → OrDefault default M o x → OrDefault default M o y → x ≡ y
 one_default default M one None x y h g = h ∙ sym g
 one_default default M one (Some d) x y h g = one d x y h g
 
 one_object : {A : Type 0} (M : Members → A → Type 0) → OneIn M → One (IsObject M)
-one_object M one d x y h g = one h.0 x y h.2 (subst (λ ms. M ms y) (both (as_object d) g.0 h.0 g.1 h.1) g.2)
+one_object M one d x y h g = one h.0 x y h.2 (subst (λ ms. M ms y) (one_value (as_object d) g.0 h.0 g.1 h.1) g.2)
 
 one_list : {A : Type 0} (M : Items → A → Type 0) → OneOf M → One (IsList M)
-one_list M one d x y h g = one h.0 x y h.2 (subst (λ ds. M ds y) (both (as_array d) g.0 h.0 g.1 h.1) g.2)
+one_list M one d x y h g = one h.0 x y h.2 (subst (λ ds. M ds y) (one_value (as_array d) g.0 h.0 g.1 h.1) g.2)
 
 one_entries : {A : Type 0} (M : Data → A → Type 0) → One M → OneOf (EachEntry M)
 one_entries M one no_items [] [] h g = refl
@@ -65,23 +62,23 @@ one_members M one (member name d ms) (x ∷ xs) [] h g = absurd g
 one_members M one (member name d ms) (x ∷ xs) (y ∷ ys) h g = rw (one name d x y h.0 g.0, one_members M one ms xs ys h.1 g.1) refl
 
 pub one_name : (names : List (List ℕ)) → One (Names names)
-one_name names d x y h g = both (place_of names h.0) x y h.2 (subst (λ s. place_of names s ≡ Some y) (both (as_str d) g.0 h.0 g.1 h.1) g.2)
+one_name names d x y h g = one_value (place_of names h.0) x y h.2 (subst (λ s. place_of names s ≡ Some y) (one_value (as_str d) g.0 h.0 g.1 h.1) g.2)
 
 one_names : (names : List (List ℕ)) → OneOf (AreNames names)
 one_names names ds xs ys h g = one_entries (Names names) (one_name names) ds xs ys h.0 g.0
 
 one_depth : One IsDepth
-one_depth d n m h g = let e : pos n ≡ pos m = both (integer_of d) (pos n) (pos m) h.0 g.0 in cc
+one_depth d n m h g = let e : pos n ≡ pos m = one_value (integer_of d) (pos n) (pos m) h.0 g.0 in cc
 
 one_ends : OneOf AreEnds
-one_ends ds r s h g = pair r s (both (end_at 0 ds) r.0 s.0 h.lo g.lo) (both (end_at 1 ds) r.1 s.1 h.hi g.hi)
+one_ends ds r s h g = pair r s (one_value (end_at 0 ds) r.0 s.0 h.lo g.lo) (one_value (end_at 1 ds) r.1 s.1 h.hi g.hi)
 
 one_span : One IsSpan
 one_span = one_list AreEnds one_ends
 
 one_named : {A : Type 0} (names : List (List ℕ)) (M : Data → A → Type 0) → One M → OneIn (EachMember (IsNamed names M))
 one_named names M one =
-    one_members (IsNamed names M) (λ name d x y h g. pair x y (both (place_of names name) x.0 y.0 h.0 g.0) (one d x.1 y.1 h.1 g.1))
+    one_members (IsNamed names M) (λ name d x y h g. pair x y (one_value (place_of names name) x.0 y.0 h.0 g.0) (one d x.1 y.1 h.1 g.1))
 
 -- ---- notes
 
@@ -165,7 +162,7 @@ rising_same (v ∷ vs) (w ∷ ws) least h g same =
 -- ---- guards
 
 one_number : One IsTurnNumber
-one_number d x y h g = both (integer_of d) x y h.0 g.0
+one_number d x y h g = one_value (integer_of d) x y h.0 g.0
 
 one_turn : (N : NamesOf) → OneIn (AreTurnValues N)
 one_turn N ms x y h g =
@@ -209,8 +206,8 @@ differ s t apart_ same = false≢true (sym apart_ ∙ (bytes_eq-Decides s t).1 s
 
 one_end_name : One IsEndName
 one_end_name d Writer Writer h g = refl
-one_end_name d Writer Reader h g = absurd (differ (codes "writer") (codes "reader") refl (both (as_str d) (codes "writer") (codes "reader") h g))
-one_end_name d Reader Writer h g = absurd (differ (codes "reader") (codes "writer") refl (both (as_str d) (codes "reader") (codes "writer") h g))
+one_end_name d Writer Reader h g = absurd (differ (codes "writer") (codes "reader") refl (one_value (as_str d) (codes "writer") (codes "reader") h g))
+one_end_name d Reader Writer h g = absurd (differ (codes "reader") (codes "writer") refl (one_value (as_str d) (codes "reader") (codes "writer") h g))
 one_end_name d Reader Reader h g = refl
 
 abbrev end_made : ℕ → BufferEnd → Guard → EndGuard
@@ -230,7 +227,7 @@ one_end_value N = one_object (IsEnd N) (one_end N)
 -- ---- the whole
 
 pub one_version : One IsVersion
-one_version d n m h g = let e : pos n ≡ pos m = both (integer_of d) (pos n) (pos m) h.0 g.0 in cc
+one_version d n m h g = let e : pos n ≡ pos m = one_value (integer_of d) (pos n) (pos m) h.0 g.0 in cc
 
 abbrev certificate_made : List Note → List EndGuard → Certificate
 certificate_made notes ends = record { notes = notes; ends = ends }
@@ -248,5 +245,5 @@ one_certificate P ms C D h g =
 
 pub one_meaning : (P : Program) (bytes : List ℕ) (C D : Certificate) → Means P bytes C → Means P bytes D → C ≡ D
 one_meaning P bytes C D h g =
-    let tree : g.tree ≡ h.tree = both (read bytes) g.tree h.tree g.text.parsed h.text.parsed in
+    let tree : g.tree ≡ h.tree = one_value (read bytes) g.tree h.tree g.text.parsed h.text.parsed in
     one_object (IsCertificate P) (one_certificate P) h.tree C D h.means (subst (λ d. IsTree P d D) tree g.means)

@@ -3,7 +3,8 @@ use Rattle.std.proofs.Common.{◌≡◌, ℕ, ◌<◌, List, length, Option, Som
 use Rattle.std.specs.Prelude.{Contains, slice_get}
 use Rattle.std.proofs.lemmas.Option.{slice_get_within}
 use Rattle.fr_edge.proofs.Terms.{same_Some, Instr, Point, Program, actor_at, instr_at, no_actor, IsPoint, points_of, point_number, IsFaultless, Place, At, Done, Rule, Alternative, Note, note_at}
-use Rattle.fr_edge.proofs.Terms.{KeepsRule, Goes, KeepsRuleBy, BreaksRuleBy, IsAmong, NoteOutcome, GoesOutcome, actor-there}
+use Rattle.fr_edge.proofs.Terms.{KeepsRule, Goes, KeepsRuleBy, BreaksRuleBy, IsAmong, NoteOutcome, GoesOutcome}
+use Rattle.fr_program.proofs.InstrLemmas.{instr_at-within}
 use Rattle.fr_program.specs.PointNumbers.{PointsAreNumbered}
 use Rattle.fr_program.specs.declared.ids.ActorId.{ActorId}
 use Rattle.fr_calls.specs.declared.way.Landing.TheVariants.{At as LandsAt}
@@ -15,7 +16,7 @@ use Rattle.fr_edge.specs.FirstOwn.{KeepsRules, IsLeastRule, IsFirstOwn}
 pub pc-small : (P : Program) (a pc : ℕ) (i : Instr) → IsFaultless P → instr_at P a pc ≡ Some i → pc < 512
 pc-small P a pc i free e =
     let l = slice_get_within (actor_at P a).code pc i e in
-    let s = free.small.code a no_actor (actor-there P a pc i e) in omega arith
+    let s = free.small.code a no_actor (instr_at-within P a pc i e) in omega arith
 
 -- the first own obligation is the same of what is equal
 pub own-there : (P Q : Program) (ns ms : List Note) (p q : Point) (own : Option Own) → P ≡ Q → ns ≡ ms → p ≡ q → IsFirstOwn P ns p own → IsFirstOwn Q ms q own

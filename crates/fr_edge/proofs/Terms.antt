@@ -14,7 +14,7 @@ pub use Rattle.fr_calls.specs.declared.rules.Rule.{Rule}
 pub use Rattle.fr_notes.specs.Note.{Alternative, Note, Within, range_of, Meets, HoldsOne, claim_of, Holds}
 pub use Rattle.fr_notes.specs.Noted.{note_at, NotedBy, IsAt}
 pub use Rattle.fr_notes.specs.Fits.{AlternativeFits}
-pub use Rattle.fr_notes.proofs.Seen.{actor-there, Site, other, IsKnown, Choice, drawn, IsChosen, drawn-known, drawn-content, usual, usual-chosen, filled, filled-chosen, contents-in}
+pub use Rattle.fr_notes.proofs.Seen.{Site, other, IsKnown, Choice, drawn, IsChosen, drawn-known, drawn-content, usual, usual-chosen, filled, filled-chosen, contents-in}
 pub use Rattle.fr_notes.proofs.Seen.{holds-known, known-fits, apart}
 pub use Rattle.fr_program.specs.declared.ids.VarId.{VarId}
 pub use Rattle.fr_program.specs.declared.ids.Side.{Side}

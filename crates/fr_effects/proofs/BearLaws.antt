@@ -7,7 +7,7 @@ use Rattle.fr_effects.proofs.Terms.{result_of, Way, Then, Else, StepBy, NotHeld,
 use Rattle.fr_effects.proofs.Terms.{joint_range, Effect, Life, Gives, Sets, IsSparedByRow, IsSparedByRows, effect_inside, effect_of, IsMade, IsWritten, IsSeen, Bears, EachBears, AllBear}
 use Rattle.fr_effects.proofs.Terms.{IsComputable}
 use Rattle.fr_calls.proofs.Rows.{row-of-step, landing-of-step, free-to-step}
-use Rattle.fr_effects.proofs.DisturbanceLaws.{same-actor}
+use Rattle.fr_program.proofs.PointLemmas.{same-actor}
 use Rattle.fr_effects.proofs.EffectLaws.{Suits, row-seen}
 
 -- an operand's number is one that it can be

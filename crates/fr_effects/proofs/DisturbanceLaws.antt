@@ -1,16 +1,13 @@
 -- What a step leaves decides whether it disturbs a note.
 use Rattle.std.proofs.Common.{◌≡◌, ◌≢◌, ℕ, List, Option, Some, sym, ap, ◌∙◌, subst}
 use Rattle.std.specs.Prelude.{◌↔◌, Bool, IsTrue, IfSome, Contains, slice_get}
-use Rattle.fr_effects.proofs.Terms.{same_Some, ActorId, Point, Program, IsPoint, points_of, PointsAreNumbered, Way, Then, Else, Alternative, Note, note_at, AlternativeFits, NoteFits, Known, AllLeave}
+use Rattle.fr_effects.proofs.Terms.{same_Some, Point, Program, IsPoint, points_of, PointsAreNumbered, Way, Then, Else, Alternative, Note, note_at, AlternativeFits, NoteFits, Known, AllLeave}
 use Rattle.fr_effects.proofs.Terms.{IsLeft, IsOther, LeavesSome, beside, CanMeet, compatible-from, compatible-meet, SparesSome, IsSparedByRow, IsSparedByRows, Undisturbed}
 use Rattle.fr_notes.specs.declared.change.Change.{Change}
 use Rattle.fr_notes.specs.Known.{Spares}
 use Rattle.fr_notes.proofs.KnownUses.{undisturbed-both}
+use Rattle.fr_program.proofs.PointLemmas.{same-actor}
 use Rattle.fr_effects.proofs.Lists.{contained-fits}
-
--- two actors with one number are one actor
-pub same-actor : (a b : ActorId) → a.0 ≡ b.0 → a ≡ b
-same-actor a b e = let f : ℕ → ActorId = λ k. record { 0 = k } in ap f e
 
 -- a row that leaves a change leaves an alternative of the note where that is spared, and only there
 pub left-spares : (P : Program) (k : Known) (n : Alternative) → k.other ≡ Some n → (q : Point) (way : Way) (change : Change) → IsLeft P k q way change → (p : Point) → IsOther P k q p → (note : Note) → NoteFits P note → (SparesSome k n change note ↔ LeavesSome P k q p way p.actor.0 note)

@@ -1,4 +1,4 @@
--- The first alternatives of a note, one more at a time.
+-- An alternative of a note that fits does, and what a look-up in a list gives.
 use Rattle.std.proofs.Common.{◌≡◌, ℕ, zero, suc, ◌<◌, List, [], ◌∷◌, length, get_or, Some, refl, sym, subst, arith}
 use Rattle.std.specs.Prelude.{Contains, slice_get}
 use Rattle.fr_effects.proofs.Terms.{Program, AlternativeFits, NoteFits, Alternative, Note}

@@ -35,7 +35,8 @@ use Rattle.fr_program.specs.declared.instr.Instr.TheVariants as line
 use Rattle.std.specs.Prelude.{unwrap_or}
 use Rattle.fr_instr.proofs.CallLaws.{needs, tail_of, name_again, verb_is, places_fit, tail_fits, name_token as call_name_token}
 use Rattle.fr_instr.proofs.PartsLaws.{copied, made_again, else_may_fail, into_may_answer}
-use Rattle.fr_instr.proofs.NameLaws.{all_left, all_right, apart_left, apart_right}
+use Rattle.fr_program.proofs.ListLemmas.{All-left, All-right}
+use Rattle.fr_instr.proofs.NameLaws.{apart_left, apart_right}
 use Rattle.fr_instr.proofs.WrittenLaws.{spells_written}
 
 -- ---- each piece means its part
@@ -226,8 +227,8 @@ line_tokens N line.Return g h = ((refl, refl), tt)
 pub written_is_read : (N : NamesOf) (l : Instr) → AreNames N → IsLineIn N l → IsLine N (written_line N l) l
 written_is_read N l are h =
     let good : Good N = record {
-      variables = all_left IsName N.variables (N.objects ++ N.actors) are.names;
-      objects = all_left IsName N.objects N.actors (all_right IsName N.variables (N.objects ++ N.actors) are.names);
+      variables = All-left IsName N.variables (N.objects ++ N.actors) are.names;
+      objects = All-left IsName N.objects N.actors (All-right IsName N.variables (N.objects ++ N.actors) are.names);
     } in (
       shape_of N l,
       spells_written (shape_toks (shape_of N l)) (line_tokens N l good h),

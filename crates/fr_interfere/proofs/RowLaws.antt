@@ -1,8 +1,8 @@
 -- A list parted into runs: each run is as the list is, and each number of the list is in one of them.
 use Rattle.std.proofs.Common.{◌≡◌, ℕ, zero, suc, ◌+◌, ◌-◌, ◌<◌, ◌≤◌, List, [], ◌∷◌, ◌++◌, length, get_or, take, drop, refl, sym, ap, ◌∙◌, subst, arith, ⊎_elim}
-use Rattle.std.specs.Prelude.{Option, None, Some, Result, Ok, Err, IfOk, IfSome, MatchResult, All, Any, Contains, map, slice_get}
+use Rattle.std.specs.Prelude.{Option, None, Some, Result, Ok, Err, IfOk, IfSome, MatchResult, All, Contains, map, slice_get}
 use Rattle.fr_interfere.proofs.Terms.{AllZip, range_with_len, cases_lt, length-range_with_len, length-map, length_push, get_or_push, get_or_append_left, length-take, length-drop, get_or-take}
-use Rattle.fr_interfere.proofs.Terms.{get_or-drop, get_or_default, same_Some, slice_get-get_or, Contains-append_left, Contains-push, Contains-get_or, Point, Program, IsFaultless, IsPoint}
+use Rattle.fr_interfere.proofs.Terms.{get_or-drop, get_or_default, same_Some, slice_get-get_or, Contains-get_or, Point, Program, IsFaultless, IsPoint}
 use Rattle.fr_interfere.proofs.Terms.{PointsAreNumbered, point_number, points_of, NotesFit, Note, note_at, Hull, Block, Effect, Run, AreUnder, Spares, IndexOf, Lists, list_at, AreHullsOf, AreListed}
 use Rattle.fr_interfere.proofs.Terms.{AreRows, IsBlock, IsBlockAt, HasRun, IsInRun, IsInSome, IsRow, IsRun, WritesOne, IsFirstOf, IsListed}
 use Rattle.std.proofs.lemmas.Slice.Zip.{AllZip-long}
@@ -74,17 +74,6 @@ module _ (P : Program) (notes : List Note) (numbers : List ℕ) (runs : List Run
       let has = made k b there r (slice_get_read runs (length runs) k r refl inside (sym one)) in
       let same = get_or_default numbers i 0 (point_number P q) l ∙ is in
       (k, b, omega (arith, inside, long), get_or_from_slice_get blocks k b b there, subst (Contains b.numbers.items) same (has.each i within.0 within.1))
-
--- one element more
-pub any-before : {E : Type 0} (IsSo : E → Type 0) (xs : List E) (y : E) → Any IsSo xs → Any IsSo (xs ++ y ∷ [])
-any-before IsSo xs y (k, x, l, is, so) =
-    let more = Contains-append_left xs (y ∷ []) x (k, l, is) in
-    (more.0, x, more.1, more.2, so)
-
-pub any-last : {E : Type 0} (IsSo : E → Type 0) (xs : List E) (y : E) → IsSo y → Any IsSo (xs ++ y ∷ [])
-any-last IsSo xs y so =
-    let last = Contains-push xs y in
-    (last.0, y, last.1, last.2, so)
 
 -- the point's number is in the block at this place
 abbrev pub IsInBlock : Program → List Block → ℕ → Point → Type 0

@@ -13,7 +13,7 @@ use Rattle.fr_notes.proofs.Left.{end_of}
 use Rattle.fr_notes.proofs.ObjectRows.{same-content}
 use Rattle.fr_notes.proofs.EndRows.{IsEndRow}
 use Rattle.fr_notes.proofs.Ends.{IsTarget, end-in, some-content, living-only}
-use Rattle.fr_notes.proofs.SemaphoreContents.{taken-in, take-shown, taken-none, given-in, give-shown, given-none, full-shown, never-full}
+use Rattle.fr_notes.proofs.SemaphoreContents.{taken-in, take-shown, taken-none, given-in, give-shown, given-none, full-shown, never-full, room-for}
 
 -- what queues and buffers hold is in nobody's hands
 send-unheld : (value : Operand) (kind : Kind) (n : ℕ) → IsTrue (attempts_on (QueueSend value) kind) → CanClaim kind (HeldTimes n) → ⊥
@@ -43,9 +43,6 @@ empty-takes : (P : Program) (value : Operand) (kind : Kind) → IsTrue (attempts
 empty-takes P value (Queue size lo hi) t h =
     let room : int_lt (pos 0) size ≡ true = room-for size h.0.0 in
     ((omega (arith, ints, h.0.0), All-nil (λ v. (lo ≤ℤ v) × (v ≤ℤ hi))), λ v. rw room)
-  where
-    room-for : (size : ℤ) → pos 1 ≤ℤ size → int_lt (pos 0) size ≡ true
-    room-for size h = grind (arith, ints)
 empty-takes P value kind t h = cc
 
 -- a received value is one that the queue can hold

@@ -138,10 +138,6 @@ pub if_none : {X P : Type 0} (r : Option X) → P → IfNone r P
 if_none None p = p
 if_none (Some x) p = tt
 
-pub none_then : {X P Q : Type 0} (r : Option X) → IfNone r P → (P → Q) → IfNone r Q
-none_then None h then = then h
-none_then (Some x) h then = tt
-
 pub apart-turned : AreSame (turned (λ x y. x ≢ y)) (λ x y. x ≢ y)
 apart-turned = record { to = λ x y h e. h (sym e); from = λ x y h e. h (sym e) }
 

@@ -8,13 +8,14 @@
 -- | Choice, drawn           | the values and contents of a state to show, and the state                        |
 -- | IsChosen                | the choice is of a state with what is known                                      |
 -- | usual, valued, filled   | a choice; one with another value, one with another content                       |
-use Rattle.std.proofs.Common.{◌≡◌, ◌≢◌, ℕ, zero, suc, ◌<◌, ◌≤◌, length, get_or, Option, Some, None, List, [], ◌∷◌, refl, sym, ap, ◌∙◌, subst, arith, ⊎_elim, inl, inr}
-use Rattle.std.specs.Prelude.{ℤ, pos, IfSome, ◌⊎◌, ◌≤ℤ◌, nat_lt, slice_get}
-use Rattle.fr_notes.proofs.Terms.{list_any, ints, clamps, cases_lt, get_or_past, length-map-range_with_len, get_or-map-range_with_len, common_steps, ActorId, Point, Instr, Kind, Queue, Binary}
-use Rattle.fr_notes.proofs.Terms.{Counting, Mutex, Recursive, Stream, Message, Program, IsPoint, instr_at, no_actor, IsFaultless, State, Place, At, Done, Content, Dead, Held}
+use Rattle.std.proofs.Common.{◌≡◌, ◌≢◌, ℕ, zero, suc, ◌<◌, ◌≤◌, length, get_or, Option, Some, None, List, [], ◌∷◌, refl, sym, ap, ◌∙◌, subst, arith, inl, inr}
+use Rattle.std.specs.Prelude.{ℤ, pos, IfSome, ◌⊎◌, ◌≤ℤ◌, nat_lt}
+use Rattle.fr_notes.proofs.Terms.{list_any, ints, clamps, get_or_past, length-map-range_with_len, get_or-map-range_with_len, common_steps, ActorId, Point, Kind, Queue, Binary}
+use Rattle.fr_notes.proofs.Terms.{Counting, Mutex, Recursive, Stream, Message, Program, IsPoint, IsFaultless, State, Place, At, Done, Content, Dead, Held}
 use Rattle.fr_notes.proofs.Terms.{CanHave, Exists, IsWellFormed, kind_of, content_of, value_of, count_held, depth_in, depth_of, suspension_of, held_at, holds_some, is-built}
 use Rattle.fr_notes.proofs.Terms.{Alternative, Claim, NotHeld, Alive, Gone, HeldTimes, Meets, Within, HoldsOne, claim_of, range_of, NotedBy, CanClaim, AlternativeFits, Known, KnownFits, ClaimsMeet}
 use Rattle.fr_notes.proofs.Terms.{IsOther, HasKnown, joint_range, meet_of, is_held, claims_some, holding, others_claim}
+use Rattle.fr_program.proofs.InstrLemmas.{instr_at-within}
 use Rattle.fr_notes.proofs.Shown.{listed, listed-case, instead, instead-case, instead-same, instead-other, held_at-same, held_at-other, depth_for-same, depth_for-other}
 use Rattle.fr_notes.proofs.Holdings.{IsIn, HoldingFits, held-once, in-from, in-mover, in-other, holding-fits, content_in, content-in, content-can}
 
@@ -50,13 +51,8 @@ second s = second_in s.known.mover s.known.other
 abbrev pub IsKnown : Site → State → Type 0
 IsKnown s S = HasKnown s.app s.known s.p s.q S
 
--- an actor that has an instruction is one of the application's
-pub actor-there : (P : Program) (a pc : ℕ) (i : Instr) → instr_at P a pc ≡ Some i → a < length P.actors
-actor-there P a pc i e =
-    ⊎_elim (λ l. l) (λ l. let f = subst (λ actor. slice_get actor.code pc ≡ Some i) (get_or_past P.actors a no_actor l) e in cc) (cases_lt a (length P.actors))
-
 pub point-there : (P : Program) (p : Point) → IsPoint P p → p.actor.0 < length P.actors
-point-there P p at = actor-there P p.actor.0 p.pc at.0 at.1
+point-there P p at = instr_at-within P p.actor.0 p.pc at.0 at.1
 
 apart-in : (P : Program) (n : Alternative) (o : Option Alternative) (p q : Point) → p.actor.0 < length P.actors → IsOther P (record { mover = n; other = o }) p q → other_in P o q ≢ p.actor.0
 apart-in P n None p q l there e = absurd (omega (arith, l, e))

@@ -1,13 +1,15 @@
 -- What takes and gives make of a content, beside what is known of it.
-use Rattle.std.proofs.Common.{◌≡◌, ℕ, suc, ◌+◌, ◌-◌, ◌≤◌, Some, None, Bool, true, false, refl, sym, ap, subst, arith, eq-eqb}
+use Rattle.std.proofs.Common.{◌≡◌, ℕ, suc, ◌+◌, ◌-◌, ◌≤◌, Some, None, Bool, true, false, refl, sym, ap, subst, arith}
 use Rattle.std.specs.Prelude.{◌≤ℤ◌, ℤ, pos, negsuc, IsTrue, nat_eq, nat_le, nat_lt, int_lt, if◌then◌else◌}
 use Rattle.fr_notes.proofs.Terms.{eqb-true, Decides-int_eq, ints, same_Some, cond_some, common_steps, Kind, Queue, Binary, Counting, Mutex, Recursive, Stream, Message, Program, Content, Count, Free}
 use Rattle.fr_notes.proofs.Terms.{Held, CanHave, taken, given, is_full, Holding, Unheld, Living, Lifeless, Own, Others, taken_by, given_by, can_be_full, is_mutex}
+use Rattle.fr_notes.proofs.Shown.{same-test}
 use Rattle.fr_notes.proofs.Holdings.{IsIn, held-once, content-can}
 use Rattle.fr_notes.proofs.Ends.{IsTarget}
 
-same-test : (k : ℕ) → nat_eq k k ≡ true
-same-test k = eq-eqb k k refl
+-- what holds something at all has room for the first
+pub room-for : (size : ℤ) → pos 1 ≤ℤ size → int_lt (pos 0) size ≡ true
+room-for size h = grind (arith, ints)
 
 -- a live object whose content is of no mutex is in nobody's hands
 pub count-in : (a b n : ℕ) → IsIn a b Living (Count n)
@@ -93,16 +95,13 @@ module _ (P : Program) (a b : ℕ) where
   given-in (Counting size first) Living new content made t i m = cc
   given-in kind known new content made t i m = cc
 
-  room : (size : ℤ) → pos 1 ≤ℤ size → int_lt (pos 0) size ≡ true
-  room size h = grind (arith, ints)
-
   pub give-shown : (kind : Kind) (known new : Holding) → IsTarget P a b kind known → given_by kind known ≡ Some new → (before : Content) × CanHave P kind before × IsIn a b known before × (made : Content) × (given kind before ≡ Some made)
   give-shown Mutex (Own n) new t w = (Held a n, content-can P a b Mutex (Own n) t.sizes t.fits, (refl, held-once Mutex n t.fits.0), Free, refl)
   give-shown Recursive (Own n) new t w =
       (Held a n, content-can P a b Recursive (Own n) t.sizes t.fits, (refl, held-once Recursive n t.fits.0), if nat_eq n 1 then Free else Held a (n - 1), refl)
   give-shown Binary Living new t w = (Count 0, omega arith, count-in a b 0, Count 1, refl)
   give-shown (Counting size first) Living new t w =
-      let r = room size t.limits.0.0 in (Count 0, omega (arith, ints, t.limits.0.0), count-in a b 0, Count 1, rw r)
+      let r = room-for size t.limits.0.0 in (Count 0, omega (arith, ints, t.limits.0.0), count-in a b 0, Count 1, rw r)
   give-shown kind known new t w = cc
 
   -- of a mutex that isn't known to be the mover's no give is left

@@ -50,8 +50,8 @@ listed-case n f k d Q inside past =
     ⊎_elim (λ h. subst Q (sym (get_or-map-range_with_len f 0 n k k d h (omega arith))) (inside h)) (λ h.
     subst Q (sym (get_or_past (listed n f) k d (omega (arith, length-map-range_with_len f 0 n)))) (past h)) (cases_lt k n)
 
-same-test : (a : ℕ) → nat_eq a a ≡ true
-same-test a = eq-eqb a a refl
+pub same-test : (k : ℕ) → nat_eq k k ≡ true
+same-test k = eq-eqb k k refl
 
 pub depth_for-same : (a depth : ℕ) → depth_for a depth a ≡ depth
 depth_for-same a depth = rw same-test

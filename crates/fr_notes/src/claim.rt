@@ -30,7 +30,7 @@ impl Claim {
         }
     }
 
-    /// The claim, where the other one is the same; otherwise the one that says nothing.
+    /// The claim, where the other one is the same; otherwise that the actor doesn't hold the object.
     pub fn common(self, other: Claim) -> Claim
         ensures same { self ≡ other → result ≡ self }
         ensures apart { self ≢ other → result ≡ NotHeld }

@@ -1,6 +1,7 @@
 -- The ends of edges, as they are listed by their numbers.
-use Rattle.std.proofs.Common.{◌≡◌, ◌≢◌, ◌<◌, ◌≤◌, ◌+◌, ℕ, List, [], ◌∷◌, ◌++◌, get_or, sym, ap, ◌∙◌, subst, ⊎_elim, arith}
+use Rattle.std.proofs.Common.{◌≡◌, ◌≢◌, ◌<◌, ◌≤◌, ◌+◌, ℕ, List, [], ◌∷◌, ◌++◌, get_or, sym, ◌∙◌, subst, ⊎_elim, arith}
 use Rattle.std.specs.Prelude.{All, Contains}
+use Rattle.fr_program.proofs.PointLemmas.{same-object}
 use Rattle.fr_order.proofs.Terms.{cases_lt, Contains-append_left, Contains-push, All-push, ObjId, Edge, IsEnd, IsWithin, AreEnds, HasEnds}
 
 -- both ends of each edge are in the list, as far as their numbers are below this one
@@ -25,13 +26,10 @@ pub ends-more : (edges : List Edge) (ends : List ObjId) (n : ℕ) (x : ObjId) �
 ends-more edges ends n x is below = λ k d l.
     let b = below k d l in
     let more : (y : ObjId) → Contains ends y → Contains (ends ++ x ∷ []) y = λ y h. Contains-append_left ends (x ∷ []) y h in
-    let here : (y : ObjId) → y.0 ≡ n → Contains (ends ++ x ∷ []) y = λ y e. subst (λ z. Contains (ends ++ x ∷ []) z) (same-id x y (is ∙ sym e)) (Contains-push ends x) in (
+    let here : (y : ObjId) → y.0 ≡ n → Contains (ends ++ x ∷ []) y = λ y e. subst (λ z. Contains (ends ++ x ∷ []) z) (same-object x y (is ∙ sym e)) (Contains-push ends x) in (
       one-more ends (ends ++ x ∷ []) n (get_or edges k d).held more (here (get_or edges k d).held) b.0,
       one-more ends (ends ++ x ∷ []) n (get_or edges k d).taken more (here (get_or edges k d).taken) b.1,
     )
-  where
-    same-id : (x y : ObjId) → x.0 ≡ y.0 → x ≡ y
-    same-id x y e = let f : ℕ → ObjId = λ n. record { 0 = n } in ap f e
 
 pub ends-all : (edges : List Edge) (ends : List ObjId) (n m : ℕ) → n ≤ m → IsWithin edges n → HasEndsBelow edges ends m → AreEnds edges ends → HasEnds edges ends
 ends-all edges ends n m le within below only = record {

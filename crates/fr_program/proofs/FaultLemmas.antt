@@ -1,5 +1,5 @@
 -- From the checks of lists, instructions and names to the faults of the whole.
-use Rattle.std.proofs.Common.{Result, Ok, Err, OnOk, ◌≡◌, ◌≢◌, ◌<◌, ◌≤◌, ℕ, List, [], ◌∷◌, Bool, true, false, not, IsTrue, IfSome, length, map, get_or, subst, sym, ap, ◌∙◌, All, AllPairs, Option, None, Some, slice_get, suc, ◌+◌, ◌-◌, refl, arith}
+use Rattle.std.proofs.Common.{◌≡◌, ◌≢◌, ◌<◌, ◌≤◌, ℕ, List, [], ◌∷◌, Bool, true, false, not, IsTrue, IfSome, length, map, get_or, subst, sym, ap, ◌∙◌, All, AllPairs, Option, None, Some, slice_get, suc, ◌+◌, ◌-◌, refl, arith}
 use Rattle.std.specs.List.{position, position_or_len}
 use Rattle.std.specs.Option.{option_map}
 use Rattle.std.proofs.lemmas.Bool.{false≢true, not-true, not-false}
@@ -86,11 +86,6 @@ free_of P (ResultRange at) h = if_some (ResultsFit P) _ (h.results at.actor.0 at
 free_of P (Operands at) h = if_some OperandsFit _ (h.operands at.actor.0 at.pc)
 free_of P (Names None) h = record { names = h.names.names; once = h.names.once; owners = h.names.owners }
 free_of P (Names (Some at)) h = if_some (NamesThings P) _ (h.names.things at.actor.0 at.pc)
-
--- what an answer gives, and what follows from it
-pub on_ok : {T E : Type 0} {A B : Type 0} (r : Result T E) → (A → B) → OnOk r A → OnOk r B
-on_ok (Ok x) follows h = follows h
-on_ok (Err e) follows h = tt
 
 -- lists, instructions and names without a fault are an application without one
 pub faultless : (P : Program) → AreListsFaultless P → IsCodeFaultless P → AreNamesFaultless P → IsFaultless P

@@ -1,6 +1,8 @@
--- What holds of each element of a mapped list, and of an element that was read.
-use Rattle.std.proofs.Common.{◌≡◌, ◌<◌, ◌+◌, ℕ, List, [], ◌∷◌, length, map, get_or, refl, ap, subst, sym, below_more, All}
-use Rattle.std.proofs.lemmas.List.{get_or-map, get_or_default, length-map}
+-- What holds of each element of a mapped list, of an element that was read, and of a part of a list.
+use Rattle.std.proofs.Common.{◌≡◌, ◌<◌, ◌+◌, ℕ, List, [], ◌∷◌, ◌++◌, length, map, get_or, refl, ap, subst, sym, below_more, All, arith, length-append}
+use Rattle.std.specs.Prelude.{Any}
+use Rattle.std.proofs.lemmas.List.{get_or-map, get_or_default, length-map, get_or_append_left, get_or-append-add}
+use Rattle.std.proofs.lemmas.List.Elements.{Contains-append_left}
 
 -- what holds of each image holds of each element, through the map
 pub All-unmapped : {X Y : Type 0} (P : Y → Type 0) (f : X → Y) (xs : List X) → All P (map f xs) → All (λ x. P (f x)) xs
@@ -25,6 +27,19 @@ each_more {X = X} P xs ys n e same within each here k d below =
 -- where one list is another, a read of the one is a read of the other
 pub read_same : {X : Type 0} (xs ys : List X) (n : ℕ) (x : X) → ys ≡ xs → x ≡ get_or ys n x → x ≡ get_or xs n x
 read_same xs ys n x same is = subst (λ zs. x ≡ get_or zs n x) same is
+
+-- what holds of each element of two lists, one after the other, holds of each element of either
+pub All-left : {X : Type 0} (P : X → Type 0) (xs ys : List X) → All P (xs ++ ys) → All P xs
+All-left P xs ys h k d within = subst P (get_or_append_left xs ys d k within) (h k d (omega (arith, length-append xs ys)))
+
+pub All-right : {X : Type 0} (P : X → Type 0) (xs ys : List X) → All P (xs ++ ys) → All P ys
+All-right P xs ys h k d within = subst P (get_or-append-add xs ys k d) (h (length xs + k) d (omega (arith, length-append xs ys)))
+
+-- what holds of some element holds of one where there are more
+pub Any-left : {X : Type 0} (P : X → Type 0) (xs ys : List X) → Any P xs → Any P (xs ++ ys)
+Any-left P xs ys (k, x, below, is, holds) =
+    let more = Contains-append_left xs ys x (k, below, is) in
+    (more.0, x, more.1, more.2, holds)
 
 -- two maps, one after the other, are one
 pub map_map : {X Y Z : Type 0} (f : X → Y) (g : Y → Z) (xs : List X) → map g (map f xs) ≡ map (λ x. g (f x)) xs

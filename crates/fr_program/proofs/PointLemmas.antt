@@ -1,10 +1,18 @@
--- The points of a code are those of its first instruction, and then those of the rest.
+-- The points of a code are those of its first instruction, and then those of the rest. Actors and objects with one number are one.
 use Rattle.std.proofs.Common.{◌≡◌, ◌<◌, ◌+◌, ℕ, List, [], ◌++◌, length, map, slice_index_or, drop, refl, sym, ap, ◌∙◌, append_assoc, append-nil, add-one}
 use Rattle.std.proofs.Math.Seq.{drop-cons}
+use Rattle.fr_program.specs.declared.ids.ActorId.{ActorId}
+use Rattle.fr_program.specs.declared.ids.ObjId.{ObjId}
 use Rattle.fr_program.specs.declared.instr.Instr.{Instr}
 use Rattle.fr_program.specs.declared.parts.Actor.{Actor}
 use Rattle.fr_program.specs.View.{actor_of}
 use Rattle.fr_program.specs.Points.{points_at, points_along, points_from}
+
+pub same-actor : (a b : ActorId) → a.0 ≡ b.0 → a ≡ b
+same-actor a b e = let f : ℕ → ActorId = λ k. record { 0 = k } in ap f e
+
+pub same-object : (o p : ObjId) → o.0 ≡ p.0 → o ≡ p
+same-object o p e = let f : ℕ → ObjId = λ k. record { 0 = k } in ap f e
 
 -- what is left of a code at an instruction has that instruction's points first
 pub points_along-drop : (a j : ℕ) (code : List Instr) (d : Instr) → j < length code →

@@ -33,7 +33,8 @@ use Rattle.fr_reader.specs.declared.key.TableName.{TableName}
 use Rattle.fr_reader.specs.declared.key.TableName.TheVariants as name
 use Rattle.fr_reader.specs.declared.fault.ReadFault.{ReadFault}
 use Rattle.fr_reader.specs.declared.fault.ReadFault.TheVariants as fault
-use Rattle.fr_reader.proofs.Laws.{both, same_array, same_table, same_kind, text_at, at_get, one_texts, one_program}
+use Rattle.fr_program.proofs.OptionLemmas.{one_value}
+use Rattle.fr_reader.proofs.Laws.{same_array, same_table, same_kind, text_at, at_get, one_texts, one_program}
 
 -- what is at a key suits it, and only a key that is not required may be missing
 abbrev Fits : Key → Option Data → Type 0
@@ -90,7 +91,7 @@ object_fits ms o h k known = own_fits o.kind ms h.own k known
 -- a table whose `kind` is a known word has no fault there
 in_no_kind : {K : Type 0} (word : K → List ℕ) (n : TableName) (ms : Members) (j : K) (f : ReadFault) → field key.Kind ms ≡ Some (string (word j)) → InKind word n ms f → ⊥
 in_no_kind word n ms j (fault.Missing t key.Kind) e (at, none) = apart (field key.Kind ms) (string (word j)) none e
-in_no_kind word n ms j (fault.WrongType t key.Kind) e (at, d, is, other) = other j (ap as_str (both (field key.Kind ms) d (string (word j)) is e))
+in_no_kind word n ms j (fault.WrongType t key.Kind) e (at, d, is, other) = other j (ap as_str (one_value (field key.Kind ms) d (string (word j)) is e))
 in_no_kind word n ms j f e s = absurd s
 
 in_no_object : (n : TableName) (ms : Members) (o : ObjectOf) (f : ReadFault) → IsObject ms o → InObject n ms f → ⊥
@@ -138,7 +139,7 @@ in_no_actor : (n : TableName) (ms : Members) (a : ActorText) (f : ReadFault) →
 in_no_actor n ms a f h (inl s) = in_no_kind actor_word n ms a.kind f h.kind s
 in_no_actor n ms a f h (inr (inl s)) = in_no_table table_kind.Actor n ms f (record { fits = actor_fits ms a h; only = h.only }) s
 in_no_actor n ms a f h (inr (inr s)) =
-    let same = same_array s.0 h.code.0 (both (field key.Code ms) (array s.0) (array h.code.0) s.1 h.code.1) in
+    let same = same_array s.0 h.code.0 (one_value (field key.Code ms) (array s.0) (array h.code.0) s.1 h.code.1) in
     in_no_each IsText (λ i. InLineOf n) f (λ i. in_no_line n f) h.code.0 a.lines h.code.2 (subst (λ ds. InEach (λ i. InLineOf n) ds f) same s.2)
 
 list_fits : {A : Type 0} (R : Data → A → Type 0) (k : Key) → (IsRequired k → ⊥) → ((ds : Items) → suits k (array ds) ≡ true) → (o : Option Data) (xs : List A) → EachAt R o xs → Fits k o
@@ -223,9 +224,9 @@ in_no_bytes bytes P f m s = absurd s
 pub no_meaning : (bytes : List ℕ) (f : ReadFault) (P : Program) → is_memory f ≡ false → Stands bytes f → Means bytes P → ⊥
 no_meaning bytes f P named (inl s) m = in_no_bytes bytes P f m s
 no_meaning bytes f P named (inr (root, text, inl s)) m =
-    let same = both (parse_document bytes) root m.root text.parsed m.text.parsed in
+    let same = one_value (parse_document bytes) root m.root text.parsed m.text.parsed in
     in_no_application m.root m.texts f m.tables (subst (λ r. InApplication r f) same s)
 no_meaning bytes f P named (inr (root, text, inr (t, tables, s))) m =
-    let same = both (parse_document bytes) root m.root text.parsed m.text.parsed in
+    let same = one_value (parse_document bytes) root m.root text.parsed m.text.parsed in
     let texts = one_texts m.root t m.texts (subst (λ r. AreTexts r t) same tables) m.tables in
     in_no_texts m.texts P f m.names m.says (not_built bytes P f m) (subst (λ u. InTexts u f) texts s)

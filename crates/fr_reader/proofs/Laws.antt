@@ -15,6 +15,8 @@ use Rattle.fr_program.specs.declared.parts.Kind.TheVariants as kind
 use Rattle.fr_program.specs.declared.parts.ActorKind.{ActorKind}
 use Rattle.fr_program.specs.declared.parts.ActorKind.TheVariants as actor
 use Rattle.fr_program.specs.Program.{Program, VariableOf, ObjectOf, ActorOf}
+use Rattle.fr_program.proofs.OptionLemmas.{one_value}
+use Rattle.fr_program.proofs.PointLemmas.{same-actor}
 use Rattle.fr_instr.specs.Names.{NamesOf}
 use Rattle.fr_instr.specs.Lines.{IsLine}
 use Rattle.fr_instr.proofs.LineLaws.{one_line}
@@ -24,9 +26,6 @@ use Rattle.fr_reader.specs.Meaning.{names_in, actors_in, lists_in, AreNames, IsO
 use Rattle.fr_reader.specs.declared.key.Key.TheVariants as key
 use Rattle.fr_reader.specs.declared.key.ObjectKind.{ObjectKind}
 use Rattle.fr_reader.specs.declared.key.ObjectKind.TheVariants.{Queue, Binary, Counting, Mutex, Recursive, Stream, Message}
-
-pub both : {A : Type 0} (o : Option A) (x y : A) → o ≡ Some x → o ≡ Some y → x ≡ y
-both o x y p q = same_Some x y (sym p ∙ q)
 
 same_string : (s t : List ℕ) → string s ≡ string t → s ≡ t
 same_string s t e = cc
@@ -44,10 +43,10 @@ pub same_table : (s t : Members) → table s ≡ table t → s ≡ t
 same_table s t e = cc
 
 pub text_at : (o : Option Data) (s t : List ℕ) → o ≡ Some (string s) → o ≡ Some (string t) → s ≡ t
-text_at o s t p q = same_string s t (both o (string s) (string t) p q)
+text_at o s t p q = same_string s t (one_value o (string s) (string t) p q)
 
 number_at : (o : Option Data) (s t : ℤ) → o ≡ Some (integer s) → o ≡ Some (integer t) → s ≡ t
-number_at o s t p q = same_integer s t (both o (integer s) (integer t) p q)
+number_at o s t p q = same_integer s t (one_value o (integer s) (integer t) p q)
 
 -- ---- one meaning of a table
 
@@ -105,7 +104,7 @@ one_object : (ms : Members) (o p : ObjectOf) → IsObject ms o → IsObject ms p
 one_object ms o p h k =
     let named = same_kind (kind_named o.kind) (kind_named p.kind) (text_at (field key.Kind ms) _ _ h.kind k.kind) in
     let whole : object_made o.name o.kind o.live ≡ object_made p.name p.kind p.live =
-    rw (text_at (field key.Name ms) o.name p.name h.name k.name, one_kind ms o.kind p.kind named h.own k.own, same_boolean o.live p.live (both (field key.Live ms) _ _ h.live k.live)) refl in
+    rw (text_at (field key.Name ms) o.name p.name h.name k.name, one_kind ms o.kind p.kind named h.own k.own, same_boolean o.live p.live (one_value (field key.Live ms) _ _ h.live k.live)) refl in
     whole
 
 one_each : {A : Type 0} (R : Data → A → Type 0) → ((d : Data) (x y : A) → R d x → R d y → x ≡ y) → (ds : Items) (xs ys : List A) → Each R ds xs → Each R ds ys → xs ≡ ys
@@ -133,7 +132,7 @@ actor_made n k l = record { name = n; kind = k; lines = l }
 
 one_actor : (ms : Members) (a b : ActorText) → IsActor ms a → IsActor ms b → a ≡ b
 one_actor ms a b h k =
-    let code = same_array k.code.0 h.code.0 (both (field key.Code ms) _ _ k.code.1 h.code.1) in
+    let code = same_array k.code.0 h.code.0 (one_value (field key.Code ms) _ _ k.code.1 h.code.1) in
     let lines = one_each IsText one_text h.code.0 a.lines b.lines h.code.2 (subst (λ ds. Each IsText ds b.lines) code k.code.2) in
     let whole : actor_made a.name a.kind a.lines ≡ actor_made b.name b.kind b.lines =
     rw (text_at (field key.Name ms) a.name b.name h.name k.name, same_actor_kind a.kind b.kind (text_at (field key.Kind ms) _ _ h.kind k.kind), lines) refl in
@@ -187,16 +186,13 @@ one_place names once i j x p q =
     let b = at_get names j x q in
     same_or i j (λ less. once i j x less b.0 (a.1 ∙ sym b.1)) (λ less. once j i x less a.0 (b.1 ∙ sym a.1))
 
-same_id : (a b : ActorId) → a.0 ≡ b.0 → a ≡ b
-same_id a b e = ap (λ n. record { 0 = n }) e
-
 one_owner : (actors : List (List ℕ)) → AllPairs (λ x y. x ≢ y) actors → (o : Option (List ℕ)) (a b : Option ActorId) → IsOwner actors o a → IsOwner actors o b → a ≡ b
 one_owner actors once None None None h k = refl
 one_owner actors once None None (Some b) h k = absurd k
 one_owner actors once None (Some a) b h k = absurd h
 one_owner actors once (Some x) None b h k = absurd h
 one_owner actors once (Some x) (Some a) None h k = absurd k
-one_owner actors once (Some x) (Some a) (Some b) h k = ap Some (same_id a b (one_place actors once a.0 b.0 x h k))
+one_owner actors once (Some x) (Some a) (Some b) h k = ap Some (same-actor a b (one_place actors once a.0 b.0 x h k))
 
 abbrev owned_made : List ℕ → ℤ → ℤ → ℤ → Option ActorId → VariableOf
 owned_made n l h i o = record { name = n; lo = l; hi = h; init = i; owner = o }
@@ -236,6 +232,6 @@ one_program t P Q names h k =
 
 pub one_meaning : (bytes : List ℕ) (P Q : Program) → Means bytes P → Means bytes Q → P ≡ Q
 one_meaning bytes P Q h k =
-    let root = both (parse_document bytes) k.root h.root k.text.parsed h.text.parsed in
+    let root = one_value (parse_document bytes) k.root h.root k.text.parsed h.text.parsed in
     let texts = one_texts h.root k.texts h.texts (subst (λ r. AreTexts r k.texts) root k.tables) h.tables in
     one_program h.texts P Q h.names h.says (subst (λ t. Says t Q) texts k.says)

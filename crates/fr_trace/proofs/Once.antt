@@ -2,6 +2,7 @@
 use Rattle.std.proofs.Common.{◌≡◌, ◌∙◌, ℤ, List, [], ◌∷◌, ap, refl, subst, sym}
 use Rattle.std.proofs.lemmas.Option.{same_Some}
 use Rattle.fr_program.specs.declared.ids.ObjId.{ObjId}
+use Rattle.fr_program.proofs.PointLemmas.{same-object}
 use Rattle.fr_instr.specs.Names.{NamesOf}
 use Rattle.fr_instr.specs.Tokens.{Tok, word, number, sign}
 use Rattle.fr_instr.specs.declared.call.Slot.{Slot}
@@ -22,11 +23,8 @@ number-once (sign Question) Unknown Unknown h k = refl
 number-once (sign Question) Unknown (Known y) h k = absurd k
 number-once t r v h k = absurd h
 
-object-id : (o p : ObjId) → o.0 ≡ p.0 → o ≡ p
-object-id o p e = ap (λ n. record { 0 = n }) e
-
 object-once : (N : NamesOf) (t : Tok) (r v : Recorded ObjId) → IsObjectAt N t r → IsObjectAt N t v → r ≡ v
-object-once N (word w) (Known o) (Known p) h k = ap Known (object-id o p (same_Some o.0 p.0 (sym h ∙ k)))
+object-once N (word w) (Known o) (Known p) h k = ap Known (same-object o p (same_Some o.0 p.0 (sym h ∙ k)))
 object-once N (word w) (Known o) Unknown h k = absurd k
 object-once N (sign Question) Unknown Unknown h k = refl
 object-once N (sign Question) Unknown (Known p) h k = absurd k

@@ -1,27 +1,14 @@
 -- One step more for one alternative more; and what has a step for each alternative undoes the note.
-use Rattle.std.proofs.Common.{◌≡◌, ◌<◌, ◌++◌, ◌∷◌, [], ℕ, zero, suc, List, length, get_or, Option, Some, None, refl, sym, ap, subst, ◌∙◌, arith, All, length-append}
+use Rattle.std.proofs.Common.{◌≡◌, ◌<◌, ◌++◌, ◌∷◌, [], List, length, get_or, Option, Some, None, refl, sym, ap, subst, arith, All}
 use Rattle.std.specs.Prelude.{Any}
+use Rattle.std.proofs.lemmas.List.Elements.{All-push}
 use Rattle.std.proofs.lemmas.List.Quantifiers.{Any-push}
+use Rattle.fr_program.proofs.ListLemmas.{Any-left}
 use Rattle.fr_calls.specs.declared.way.Way.{Way}
 use Rattle.fr_notes.specs.Note.{Alternative, Note}
 use Rattle.fr_witness.specs.declared.hunt.Hunt.{Hunt}
 use Rattle.fr_witness.specs.Hunt.{IsFound, AreFound, IsMade, UndoAll}
 use Rattle.fr_witness.specs.Shown.{Taken, Undoes}
-
-all-push : {X : Type 0} (P : X → Type 0) (xs : List X) (y : X) → All P xs → P y → All P (xs ++ y ∷ [])
-all-push P [] y h p zero d b = p
-all-push P [] y h p (suc k) d b = absurd (omega arith)
-all-push P (x ∷ xs) y h p zero d b = h zero d (omega arith)
-all-push P (x ∷ xs) y h p (suc k) d b = all-push P xs y (λ j e c. h (suc j) e (omega arith)) p k d (omega arith)
-
-any-more : {X : Type 0} (P : X → Type 0) (xs : List X) (y : X) → Any P xs → Any P (xs ++ y ∷ [])
-any-more P xs y (k, x, b, at, p) =
-    (k, x, subst (λ n. k < n) (sym (length-append xs (y ∷ []))) (omega (arith, b)), get_or-front xs y k x b ∙ at, p)
-  where
-    get_or-front : {X : Type 0} (xs : List X) (y : X) (k : ℕ) (d : X) → k < length xs → get_or (xs ++ y ∷ []) k d ≡ get_or xs k d
-    get_or-front [] y k d b = absurd (omega (arith, b))
-    get_or-front (x ∷ xs) y zero d b = refl
-    get_or-front (x ∷ xs) y (suc k) d b = get_or-front xs y k d (omega (arith, b))
 
 module _ (h : Hunt) where
   -- a step that is found by this row
@@ -31,9 +18,9 @@ module _ (h : Hunt) where
 
   pub grow : (way : Way) (us : List Alternative) (n : Alternative) (ts : List Taken) (t : Taken) → AreFound h way us ts → IsFound h (Some way) (n ∷ []) way t → AreFound h way (us ++ n ∷ []) (ts ++ t ∷ [])
   grow way us n ts t found f = (
-    all-push (λ s. IsFound h (Some way) [] way s) ts t found.0 (one-found (Some way) (n ∷ []) way t f),
-    all-push (λ m. Any (Undoes h.victim.0 m) (ts ++ t ∷ [])) us n
-        (λ k d b. any-more (Undoes h.victim.0 (get_or us k d)) ts t (found.1 k d b))
+    All-push (λ s. IsFound h (Some way) [] way s) ts t found.0 (one-found (Some way) (n ∷ []) way t f),
+    All-push (λ m. Any (Undoes h.victim.0 m) (ts ++ t ∷ [])) us n
+        (λ k d b. Any-left (Undoes h.victim.0 (get_or us k d)) ts (t ∷ []) (found.1 k d b))
         (Any-push (Undoes h.victim.0 n) ts t (f.undoes 0 n (omega arith))),
   )
 
@@ -49,7 +36,7 @@ module _ (h : Hunt) where
   pub single : (us : Note) (way : Way) (t : Taken) → IsFound h None us way t → UndoAll h us (t ∷ [])
   single us way t f = (
     way,
-    all-push (λ s. IsMade h way s) [] t (λ k d b. absurd (omega arith)) (made None us way t f),
+    All-push (λ s. IsMade h way s) [] t (λ k d b. absurd (omega arith)) (made None us way t f),
     ((λ e. cc), (λ k d b. (0, t, omega arith, refl, f.undoes k d b))),
   )
 

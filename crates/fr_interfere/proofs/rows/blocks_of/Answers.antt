@@ -1,7 +1,9 @@
 use Rattle.std.proofs.Common.{◌≡◌, [], ◌∷◌, ◌++◌, get_or, sym, ◌∙◌, subst, arith, ⊎_elim}
 use Rattle.std.specs.Prelude.{◌<◌, All, Any, Contains}
 use Rattle.fr_interfere.proofs.Terms.{cases_lt, get_or_default, All-push, point_number, IsBlock}
-use Rattle.fr_interfere.proofs.RowLaws.{run-listed, in-run, any-before, any-last}
+use Rattle.std.proofs.lemmas.List.Quantifiers.{Any-push}
+use Rattle.fr_program.proofs.ListLemmas.{Any-left}
+use Rattle.fr_interfere.proofs.RowLaws.{run-listed, in-run}
 use Rattle.fr_interfere.proofs.rows.blocks_of.Goals as goal
 
 pub loop-from-init : goal.loop-from-init
@@ -29,8 +31,8 @@ loop-from-preserved c =
       each = subst (λ bs. All (λ k. IsBlock P c.args.notes.now k) bs) more
           (All-push (λ k. IsBlock P c.args.notes.now k) old new c.loop-from.invariant.each c.in_ok-of.ensures.block);
       found = λ j l. subst (λ bs. Any (λ k. Contains k.numbers.items (get_or numbers j 0)) bs) more (⊎_elim
-          (λ before. any-before (λ k. Contains k.numbers.items (get_or numbers j 0)) old new (c.loop-from.invariant.found j before))
-          (λ here. any-last (λ k. Contains k.numbers.items (get_or numbers j 0)) old new
+          (λ before. Any-left (λ k. Contains k.numbers.items (get_or numbers j 0)) old (new ∷ []) (c.loop-from.invariant.found j before))
+          (λ here. Any-push (λ k. Contains k.numbers.items (get_or numbers j 0)) old new
           (subst (λ ns. Contains ns (get_or numbers j 0)) (sym c.in_ok-of.ensures.numbers) (in-run numbers c.loop-from.from b.result b.ensures.above b.ensures.most j here l)))
           (cases_lt j c.loop-from.from));
     }

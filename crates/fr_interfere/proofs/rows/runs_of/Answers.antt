@@ -1,7 +1,8 @@
 use Rattle.std.proofs.Common.{◌≡◌, [], ◌∷◌, ◌++◌, sym, subst, arith, ⊎_elim}
 use Rattle.std.specs.Prelude.{◌<◌, ◌≤◌, All}
 use Rattle.fr_interfere.proofs.Terms.{cases_lt, All-push, Run, IsRun, IsInRun}
-use Rattle.fr_interfere.proofs.RowLaws.{any-before, any-last}
+use Rattle.std.proofs.lemmas.List.Quantifiers.{Any-push}
+use Rattle.fr_program.proofs.ListLemmas.{Any-left}
 use Rattle.fr_interfere.proofs.rows.runs_of.Goals as goal
 
 pub loop-from-init : goal.loop-from-init
@@ -22,8 +23,8 @@ loop-from-preserved c =
       within = b.ensures.most;
       each = subst (λ rs. All (λ r. IsRun numbers r) rs) more (All-push (λ r. IsRun numbers r) old new c.loop-from.invariant.each (b.ensures.above, b.ensures.most));
       found = λ j l. subst (λ rs. IsInRun rs j) more (⊎_elim
-          (λ before. any-before (λ (r : Run). (r.from ≤ j) × (j < r.behind)) old new (c.loop-from.invariant.found j before))
-          (λ here. any-last (λ (r : Run). (r.from ≤ j) × (j < r.behind)) old new (here, l))
+          (λ before. Any-left (λ (r : Run). (r.from ≤ j) × (j < r.behind)) old (new ∷ []) (c.loop-from.invariant.found j before))
+          (λ here. Any-push (λ (r : Run). (r.from ≤ j) × (j < r.behind)) old new (here, l))
           (cases_lt j c.loop-from.from));
     }
 

@@ -2,7 +2,8 @@ use Rattle.std.proofs.Common.{arith, ◌≡◌, ap}
 use Rattle.fr_notes.proofs.Terms.{ints, IfSome_then}
 use mir.Val.{of_z}
 use mir.Syntax.{w128}
-use Rattle.fr_notes.proofs.ComparisonLaws.{none_then, least-apart, least-without, none-without}
+use Rattle.fr_program.proofs.OptionLemmas.{none_then}
+use Rattle.fr_notes.proofs.ComparisonLaws.{least-apart, least-without, none-without}
 use Rattle.fr_notes.proofs.comparison.apart.Goals as goal
 
 pub returns-then-other-clause-some : goal.returns-then-other-clause-some

@@ -3,7 +3,8 @@ use Rattle.std.specs.Prelude.{pos, negsuc}
 use Rattle.fr_notes.proofs.Terms.{ints, IfSome_then}
 use mir.Val.{of_z}
 use mir.Syntax.{w128}
-use Rattle.fr_notes.proofs.ComparisonLaws.{none_then, without-made, without-none, IsMoved}
+use Rattle.fr_program.proofs.OptionLemmas.{none_then}
+use Rattle.fr_notes.proofs.ComparisonLaws.{without-made, without-none, IsMoved}
 use Rattle.fr_notes.proofs.comparison.without.Goals as goal
 use Rattle.fr_notes.proofs.comparison.without.Goals.{then-range-other, else-range-other, then-range-other-2, else-range-other-2}
 

@@ -1,11 +1,8 @@
-use Rattle.std.proofs.Common.{Option, None, Some, IfNone, arith}
+use Rattle.std.proofs.Common.{arith}
 use Rattle.std.proofs.lemmas.Int.{ints, clamps}
 use Rattle.std.proofs.lemmas.Option.{IfSome_then}
+use Rattle.fr_program.proofs.OptionLemmas.{none_then}
 use Rattle.fr_program.proofs.range.Range.meet.Goals as goal
-
-none_then : {X P Q : Type 0} (r : Option X) → IfNone r P → (P → Q) → IfNone r Q
-none_then None holds then = then holds
-none_then (Some x) holds then = tt
 
 pub returns-clause-some : goal.returns-clause-some
 returns-clause-some c =
