@@ -115,7 +115,7 @@ impl Content {
     ghost use Rattle.fr_calls.specs.Step.{taken, given, is_full, queued, sent_bytes, received_bytes, sent_message, received_message};
     ghost use Rattle.fr_calls.specs.Choices.{IsAmong, IsRising};
 
-    /// What is kept so.
+    /// The content that this stock is.
     pub fn of(stock: Stock) -> Content
         ensures { result ≡ content_kept stock }
     {

@@ -1,8 +1,8 @@
 // States, the twelve rules of use, steps and runs: what an application does, and what it must not do. The other crates
 // take their meaning from the definitions in specs/: a state, a breach of a rule, a step, a run, safe. The code has
-// the rules that an actor's kind, depths and mutexes decide (`rule_of`) and where each row of the step table leads
-// (`lands_at`). `State` runs steps: `moves` gives an actor's choices, `apply` the state after one. The laws are
-// functions that do nothing: each is there for its contract.
+// all twelve rules (`State::breaches`), those alone that an actor's kind, depths and mutexes decide (`rule_of`), and where
+// each row of the step table leads (`lands_at`). `State` runs steps: `moves` gives an actor's choices, `apply` the state
+// after one. The laws are functions that do nothing: each is there for its contract.
 #![tactic(auto)]
 
 mod breach;

@@ -26,5 +26,5 @@ pub use names::Names;
 pub use number::integer_of;
 pub use reading::{read_line, read_line_at};
 pub use shape::{head_behind, take_number, take_word};
-pub use token::{Sign, Token, next_token, tokens};
+pub use token::{Sign, Token, next_token, place_of, tokens};
 pub use writing::write_line;

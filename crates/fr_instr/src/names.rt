@@ -142,8 +142,8 @@ impl Names {
         self.actors.len()
     }
 
-    /// Each is a name, and is given once among all of them.
-    pub(crate) fn are_names(&self)
+    /// Recalls that each is a name, and is given once among all of them.
+    pub(crate) fn recall_names(&self)
         ensures { AreNames self.now }
     {
         let _ = &self.variables;

@@ -376,7 +376,7 @@ fn head_at<'a, 't>(tokens: &'t [Token<'a>]) -> Front<'a, 't, &'a [u8]>
     }
 }
 
-/// The same, where the tokens begin so.
+/// The call's name and the tokens after its opening bracket; None where the tokens don't begin with a word and `(`.
 pub fn head_behind<'a, 't>(tokens: &'t [Token<'a>]) -> Option<(&'a [u8], &'t [Token<'a>])>
     ensures { option_map (λ p. (p.0.now, toks p.1.now)) result ≡ head_at (toks tokens.now) }
 {

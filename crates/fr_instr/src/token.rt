@@ -202,7 +202,7 @@ pub fn tokens(alloc: Global, text: &[u8]) -> Result<Vec<Token<'_>>, LineFault>
 
 /// Where in the text the token with this number begins, from 0: in bytes. For a number past the last token it is where what is
 /// no token begins, or the text's end.
-pub(crate) fn place_of(text: &[u8], number: usize) -> usize
+pub fn place_of(text: &[u8], number: usize) -> usize
     ensures { result ≤ length text.now }
 {
     let mut rest = text;

@@ -295,7 +295,7 @@ pub fn write_line(alloc: Global, line: &Line, names: &Names) -> Result<String, A
     ensures written { IfOk result (λ s. string_bytes s ≡ written_line names.now line.now) }
     ensures again { IfOk result (λ s. IsLine names.now (string_bytes s) line.now) }
 {
-    names.are_names();
+    names.recall_names();
     let mut out = String::new(alloc);
     push_line(&mut out, names, line)?;
     Ok(out)

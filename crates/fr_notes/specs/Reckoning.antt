@@ -1,5 +1,5 @@
 -- What a `set` computes and an `if` leaves, where each variable has a number of its range: for the public contracts of
--- `Known::operand`, `Known::result` and `Known::branch`, and for those of `Index` of fr_interfere. `IsNamed` is for private clauses.
+-- `Known::operand`, `Known::result` and `Known::branch`, and for those of `Index` of fr_effects. `IsNamed` is for private clauses.
 --
 -- | word                     | meaning                                                                             |
 -- |--------------------------|-------------------------------------------------------------------------------------|

@@ -1,5 +1,6 @@
 pub mod PointLemmas
 pub mod ListLemmas
+pub mod OptionLemmas
 pub mod UsesLemmas
 pub mod InstrLemmas
 pub mod PairLemmas

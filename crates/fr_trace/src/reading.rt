@@ -17,7 +17,7 @@ use crate::progress::Progress;
 use crate::said::{self, Said};
 use crate::stop::Stop;
 use fr_events::Trace;
-use fr_instr::{LineFault, Names, Token, Verb, next_token, row_named, tokens};
+use fr_instr::{LineFault, Names, Token, Verb, next_token, place_of, row_named, tokens};
 use std::alloc::{AllocError, Global};
 
 /// The most bytes of a trace, 64 MiB.
@@ -96,32 +96,12 @@ fn read_said<'a>(
     Ok(())
 }
 
-/// How many spaces the text begins with.
-fn spaces_before(text: &[u8]) -> usize {
-    let mut spaces = 0;
-    for byte in text {
-        if *byte != b' ' {
-            break;
-        }
-        spaces += 1;
-    }
-    spaces
-}
-
 /// The column of the token before which there are so many others, in bytes from 1; without such a token, that of what
 /// follows them.
-fn column_of(text: &[u8], skip: usize) -> usize {
-    let mut rest = text;
-    for _ in 0..skip {
-        match next_token(rest) {
-            Some((_, more)) => rest = more,
-            None => break,
-        }
-    }
-    text.len()
-        .saturating_sub(rest.len())
-        .saturating_add(spaces_before(rest))
-        .saturating_add(1)
+fn column_of(text: &[u8], skip: usize) -> usize
+    ensures { result ≤ length text.now + 1 }
+{
+    place_of(text, skip).saturating_add(1)
 }
 
 /// How many tokens are before the place at which these aren't an event.

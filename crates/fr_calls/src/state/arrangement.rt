@@ -151,7 +151,7 @@ impl State {
         copy_contents(&mut self.objects, &other.objects)
     }
 
-    /// The state with the point's actor there.
+    /// Puts the point's actor at the point.
     pub fn stand_at(&mut self, app: &App, point: Point)
         requires formed { IsWellFormed app.now self.old }
         requires point { IsPoint app.now point }
@@ -168,7 +168,7 @@ impl State {
         );
     }
 
-    /// The state with the actor done.
+    /// Makes the actor one that is done.
     pub fn finish(&mut self, app: &App, actor: ActorId)
         requires formed { IsWellFormed app.now self.old }
         requires actor { actor.0 < length app.now.actors }
@@ -179,7 +179,7 @@ impl State {
         self.go_to(actor, Place::Done);
     }
 
-    /// The state with this number in the variable.
+    /// Puts this number into the variable.
     pub fn set_value(&mut self, app: &App, x: VarId, value: i64)
         requires formed { IsWellFormed app.now self.old }
         requires variable { x.0 < length app.now.variables }
@@ -190,7 +190,7 @@ impl State {
         self.write(x, value);
     }
 
-    /// The state with the actor in the critical section at this depth, or, at 0, with nobody in it.
+    /// Puts the actor into the critical section at this depth; at 0, nobody is in it.
     pub fn set_depth(&mut self, app: &App, actor: ActorId, depth: u32)
         requires formed { IsWellFormed app.now self.old }
         requires actor { actor.0 < length app.now.actors }
@@ -205,7 +205,7 @@ impl State {
         };
     }
 
-    /// The state with this suspension depth of the actor.
+    /// Gives the actor this suspension depth.
     pub fn set_suspension(&mut self, app: &App, actor: ActorId, depth: u32)
         requires formed { IsWellFormed app.now self.old }
         requires actor { actor.0 < length app.now.actors }
@@ -224,8 +224,7 @@ impl State {
         self.objects[object.0] = content;
     }
 
-    /// The state with this content in the object, and whether the object can have it; where it
-    /// can't, the state is as it was.
+    /// Gives the object this content, and says whether the object can have it; where it can't, the state is as it was.
     pub fn set_content(&mut self, app: &App, object: ObjId, content: Content) -> bool
         requires formed { IsWellFormed app.now self.old }
         requires object { object.0 < length app.now.objects }

@@ -11,4 +11,4 @@ returns-clause-written c = c.in_ok-push_line.ensures ∙ ap (λ x. x ++ line_tex
 pub returns-clause-again : goal.returns-clause-again
 returns-clause-again c =
     let P : List ℕ → Type 0 = λ t. IsLine c.args.names.now t c.args.line.now in
-    subst P (sym (returns-clause-written c)) (written_is_read c.args.names.now c.args.line.now c.are_names.ensures c.requires)
+    subst P (sym (returns-clause-written c)) (written_is_read c.args.names.now c.args.line.now c.recall_names.ensures c.requires)
