@@ -73,7 +73,6 @@ pub struct Unfinished {
     pub done: u64,
 }
 
-// What the words done and least are at the end.
 /// What the words of finished numbers and of the least failed number say at the end.
 fn last_words(words: Words, seat: Seat<(), Progress>) -> (u64, u64)
     requires { (seat.table_id ≡ words.shared.table_id) × (words.shared.table_id.words ≡ 3) × (words.shared.table_id.slots ≡ 0) }
@@ -86,7 +85,6 @@ fn last_words(words: Words, seat: Seat<(), Progress>) -> (u64, u64)
     (done, least)
 }
 
-// What these words say of all jobs.
 /// The answer of a board that ends with these words.
 fn answer(jobs: u64, done: u64, least: u64) -> Result<Tally, Unfinished>
     ensures { AnswersBy jobs done least result }
@@ -98,7 +96,6 @@ fn answer(jobs: u64, done: u64, least: u64) -> Result<Tally, Unfinished>
     Ok(Tally { jobs, least })
 }
 
-// One more new pass.
 /// Appends a new pass for this seat.
 fn push_pass(passes: &mut Vec<Pass>, seat: Seat<(), Progress>, jobs: u64) -> Result<(), BoardFault>
     requires { seat.me ≡ (new_progress jobs 1, []) }
@@ -180,7 +177,6 @@ impl Board {
         }
     }
 
-    // The number is counted as finished, and becomes what the caller picks.
     /// Counts the claim with this number as finished: the one step that ends a claim.
     fn count<E: Ending>(&self, pass: &mut Pass, number: u64)
         requires own { IsOf self.now pass.old }

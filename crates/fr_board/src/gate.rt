@@ -1,8 +1,9 @@
 // Where whoever starts the workers of a board, or the threads of a run, may hold one of them.
 
-/// Where a worker arrives before it judges a job. A test may hold it there; that the worker comes back is the gate's own matter.
+/// Where a thread arrives before its next piece of work: a worker with the job that it is about to judge, an actor's thread of a run
+/// with how often it has polled. A test may hold it there; that the thread comes back is the gate's own matter.
 pub trait Gate: Sync {
-    /// This worker is about to judge this job.
+    /// This thread is about to do this piece of work.
     fn arrive(&self, worker: usize, job: u64);
 }
 

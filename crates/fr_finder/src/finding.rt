@@ -88,7 +88,8 @@ fn stable_round<R: Threads + Sync>(
 /// Each round has a note for each point: what all steps leave that lead there by the round before,
 /// and what the steps of other actors leave of that round's note. The guess is the first round that
 /// is the same as the one before it. Each end of a buffer gets the first guard that all notes inside
-/// it imply: one actor alone, a mutex, the critical section, a turn. The rounds are computed by
+/// it imply: one actor alone, a mutex, the critical section, a turn. Where they imply none it gets the
+/// first actor that can be inside it; an end that nobody can be inside gets none. The rounds are computed by
 /// several threads, and the answer doesn't depend on them. It is this project's own method.
 ///
 /// # Errors

@@ -380,7 +380,8 @@ pub fn ends(alloc: Global, app: &App, notes: &Notes) -> Result<Ends, AllocError>
     ends_wanted(alloc, app, notes, Wanted::Reached)
 }
 
-/// The same, and for each other end at which some line has a call the first actor with one.
+/// The guards of all ends of buffers inside which somebody can be; and for each other end at which some line has a call, the
+/// first actor with such a call.
 pub fn all_ends(alloc: Global, app: &App, notes: &Notes) -> Result<Ends, AllocError>
     requires { NotesFit app.now notes.now }
     ensures { IfOk result (λ ends. EndsFit app.now ends) }
@@ -388,8 +389,8 @@ pub fn all_ends(alloc: Global, app: &App, notes: &Notes) -> Result<Ends, AllocEr
     ends_wanted(alloc, app, notes, Wanted::Called)
 }
 
-/// The same, but that an end whose guard the notes inside it don't all imply gets the guard that most of them imply, so that it
-/// fails only at the points that lack it.
+/// The guards of all ends of buffers inside which somebody can be. Where the notes inside an end don't all imply one guard, it gets
+/// the guard that most of them imply, so that it fails only at the points that lack it.
 pub fn ends_of_most(alloc: Global, app: &App, notes: &Notes) -> Result<Ends, AllocError>
     requires { NotesFit app.now notes.now }
     ensures { IfOk result (λ ends. EndsFit app.now ends) }

@@ -3,8 +3,8 @@ use fr_calls::Rule;
 use fr_ends::EndName;
 use fr_program::Point;
 
-/// What a certificate owes at a point, in the order in which it is judged. Within one kind the
-/// least rule, end or point comes first.
+/// What can fail at a point, in the order in which it is judged. Within one kind the least rule, end or
+/// point comes first.
 #[derive(Clone, Copy, PartialEq, Eq)]
 pub enum Part {
     /// The actor doesn't begin with the note of its first point.

@@ -27,7 +27,8 @@ pub enum Order {
 /// gives no edge; a plain one gives an edge from itself to itself.
 ///
 /// Where the certificate passed and the answer is `Upwards`, no state of any run is deadlocked, as
-/// `an_order_excludes_deadlock` says. The answer is the same each time. Each point is looked at once for each object.
+/// `an_order_excludes_deadlock` says. The answer is the same each time. Each point is looked
+/// at once, and then, for each object, each point inside a take without limit.
 ///
 /// # Errors
 ///

@@ -3,7 +3,7 @@
 //
 // It uses `fr_worker`, which is one worker's turn, `fr_judge`, which judges the point that a No names (`Judging::part_at`),
 // and `fr_board`, which hands out each number once and keeps the least that failed. The judging takes no lock and no
-// memory; only `judge_with` and `judge_bytes` wait, for the threads that they start.
+// memory; only `judge_with`, `judge_reading` and `judge_bytes` wait, for the threads that they start.
 #![tactic(auto)]
 
 mod bytes;

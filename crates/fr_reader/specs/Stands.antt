@@ -9,6 +9,7 @@
 -- | InCode                | some line of some actor's code has a fault                                           |
 -- | InBuild               | what the texts say has a build fault                                                 |
 -- | InSaid, InTexts       | the fault is present in what the texts say, or in the texts                          |
+-- | InNamed               | the fault is present in the table of the bytes, in its keys or in its names          |
 -- | InText, InBytes       | the fault is present in the table of the bytes, or in the bytes themselves           |
 -- | Stands                | the fault is present in the bytes                                                    |
 use Rattle.std.specs.Prelude.{◌≡◌, ◌⊎◌, ◌<◌, ◌++◌, ℕ, List, ◌∷◌, Option, Some, None, Contains, IsUtf8, length, slice_get, string_bytes}
@@ -82,6 +83,10 @@ InTexts texts f = InNames (names_in texts) f ⊎ (AreNames (names_in texts) × I
 -- the fault is present in the table of a text
 abbrev pub InText : Members → ReadFault → Type 0
 InText root f = InApplication root f ⊎ ((texts : Texts) × AreTexts root texts × InTexts texts f)
+
+-- the fault is present in the table of a text, in what is at its keys or in its names
+abbrev pub InNamed : Members → ReadFault → Type 0
+InNamed root f = InApplication root f ⊎ ((texts : Texts) × AreTexts root texts × InNames (names_in texts) f)
 
 -- the fault is present in the bytes themselves: they are too many, or no TOML text
 abbrev pub InBytes : List ℕ → ReadFault → Type 0

@@ -6,7 +6,7 @@ ghost use Rattle.fr_program.specs.View.{program_of};
 ghost use Rattle.fr_reader.specs.Texts.{Texts, AreTexts};
 ghost use Rattle.fr_reader.specs.Meaning.{IsTableText, Means, Says, lists_in};
 ghost use Rattle.fr_reader.specs.Faults.{Standing, is_memory};
-ghost use Rattle.fr_reader.specs.Stands.{InBytes, Stands};
+ghost use Rattle.fr_reader.specs.Stands.{InBytes, InNamed, InText, Stands};
 ghost use Rattle.fr_reader.specs.declared.fault.ReadFault.{ReadFault as Refusal};
 
 use crate::fault::ReadFault;
@@ -39,9 +39,12 @@ fn table_of(alloc: Global, bytes: &[u8]) -> Result<Table, ReadFault>
 
 /// The names in the table of an application's text, with which its lines are read.
 ///
-/// Its errors are those of `read_app` that are asked for before owners and lines are.
+/// # Errors
+///
+/// A fault of the table, of what is at its keys, or of its names, that is present; or `Memory`.
 pub fn names_in(alloc: Global, table: &Table) -> Result<Names, ReadFault>
-    ensures { IfOk result (λ names. (texts : Texts) × AreTexts (table_view table.now) texts × (names ≡ lists_in texts)) }
+    ensures ok { IfOk result (λ names. (texts : Texts) × AreTexts (table_view table.now) texts × (names ≡ lists_in texts)) }
+    ensures err { IfErr result (Standing (InNamed (table_view table.now))) }
 {
     let texts = texts::texts_of(alloc, table)?;
     parts::names_of(alloc, &texts)
@@ -49,9 +52,12 @@ pub fn names_in(alloc: Global, table: &Table) -> Result<Names, ReadFault>
 
 /// The parts that the table of an application's text says, which may be no application.
 ///
-/// Its errors are those of `read_app` but for those of the bytes and of the parts.
+/// # Errors
+///
+/// A fault of the table, of its names, its owners or its lines, that is present; or `Memory`.
 pub fn parts_in(alloc: Global, table: &Table) -> Result<Parts, ReadFault>
-    ensures { IfOk result (λ parts. (texts : Texts) × AreTexts (table_view table.now) texts × Says texts (program_of parts)) }
+    ensures ok { IfOk result (λ parts. (texts : Texts) × AreTexts (table_view table.now) texts × Says texts (program_of parts)) }
+    ensures err { IfErr result (Standing (InText (table_view table.now))) }
 {
     let texts = texts::texts_of(alloc, table)?;
     parts::parts_of(alloc, &texts)

@@ -148,6 +148,12 @@ impl Reader {
                 self.cursor.advance();
                 Argument::Forever
             }
+            Slot::Length | Slot::Ticks if is_forever => {
+                let spot = self.cursor.spot();
+                let text = "portMAX_DELAY is for block times alone: write a number";
+                self.cursor.refuse(spot, text);
+                Argument::Forever
+            }
             Slot::Length | Slot::Time | Slot::Ticks => {
                 let range = if matches!(slot, Slot::Length) {
                     LENGTHS

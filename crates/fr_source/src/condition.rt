@@ -8,6 +8,18 @@ use crate::program::{Call, Comparison, Operand, Owner, Variable};
 use crate::reader::Reader;
 use crate::texts::Word;
 
+/// Why a condition doesn't go on with this sign, before the one after it.
+fn why_no_condition(sign: &str, after: &str) -> Option<&'static str> {
+    match (sign, after) {
+        ("=", ">") => Some("'=>' in a condition: write '>='"),
+        ("=", _) => Some("'=' in a condition: write '=='"),
+        ("++" | "--", _) => {
+            Some("a condition changes nothing: write '++' or '--' as a statement of its own")
+        }
+        _ => None,
+    }
+}
+
 impl Reader {
     /// Refuses a call that doesn't answer whether it worked.
     fn check_fails(&mut self, call: Call, spot: Spot) {
@@ -43,8 +55,10 @@ impl Reader {
         self.cursor.take("(", "");
         let test = self.bare_condition();
         let spot = self.cursor.spot();
-        if self.cursor.sees("=") {
-            self.cursor.refuse(spot, "'=' in a condition: write '=='");
+        let sign = self.cursor.text(self.cursor.token());
+        let after = self.cursor.text(self.cursor.following());
+        if let Some(why) = why_no_condition(sign, after) {
+            self.cursor.refuse(spot, why);
         }
         self.cursor.take(")", "");
         test

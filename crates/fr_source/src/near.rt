@@ -51,9 +51,12 @@ macro_rules! hints {
 }
 
 /// Words that begin a declaration of C.
-pub(crate) static OF_C: [(&str, &str); 19] = hints! {
+pub(crate) static OF_C: [(&str, &str); 23] = hints! {
     ": write 'shared n in 0..8;' for what several use":
-        "volatile" "static" "unsigned" "int" "bool" "uint8_t" "uint16_t" "uint32_t" "BaseType_t" "UBaseType_t";
+        "volatile" "static" "unsigned" "int" "bool" "uint8_t" "uint16_t" "uint32_t" "BaseType_t" "UBaseType_t"
+        "TickType_t";
+    ": write a variable for each field": "struct";
+    ": leave it out, and write 'const N = 3;' for each name of an enum": "typedef" "enum";
     ": write 'stream s[64];'": "StreamBufferHandle_t";
     ": write 'message m[64];'": "MessageBufferHandle_t";
     ": write 'queue q[8] of 0..9;'": "QueueHandle_t";
@@ -65,9 +68,17 @@ pub(crate) static OF_C: [(&str, &str); 19] = hints! {
 };
 
 /// Calls that no source has. A hint begins with the quote behind the call's name.
-pub(crate) static OF_CALLS: [(&str, &str); 8] = hints! {
+pub(crate) static OF_CALLS: [(&str, &str); 18] = hints! {
     "': leave it out": "portYIELD_FROM_ISR" "portEND_SWITCHING_ISR";
     "': write configASSERT": "assert";
+    "': write taskENTER_CRITICAL()": "portENTER_CRITICAL";
+    "': write taskEXIT_CRITICAL()": "portEXIT_CRITICAL";
+    "': write taskENTER_CRITICAL() or taskENTER_CRITICAL_FROM_ISR() in its place":
+        "taskDISABLE_INTERRUPTS" "portDISABLE_INTERRUPTS" "portSET_INTERRUPT_MASK_FROM_ISR";
+    "': write taskEXIT_CRITICAL() or taskEXIT_CRITICAL_FROM_ISR() in its place":
+        "taskENABLE_INTERRUPTS" "portENABLE_INTERRUPTS" "portCLEAR_INTERRUPT_MASK_FROM_ISR";
+    "': write taskYIELD()": "portYIELD";
+    "': leave it out: all tasks run from the start": "vTaskStartScheduler";
     "': write any(..), as in 'n = any(0, 4);'":
         "uxQueueMessagesWaiting" "uxQueueMessagesWaitingFromISR" "uxQueueSpacesAvailable" "uxSemaphoreGetCount"
         "xTaskGetTickCount";

@@ -3,8 +3,9 @@
 
 use crate::cursor::Cursor;
 use crate::fault::{Fault, Spot};
-use crate::kernel::{Kernel, TYPES, is_among, is_reserved, kernel_named};
+use crate::kernel::{DECLARATIONS, Kernel, TYPES, is_among, is_reserved, kernel_named};
 use crate::lines::Lines;
+use crate::near::{OF_C, hint_for};
 use crate::open::{Case, Open};
 use crate::program::{Home, Program};
 use crate::scope::{Meaning, Scope};
@@ -69,6 +70,8 @@ fn why_undeclared(text: &str) -> Option<&'static str> {
         Some("'%' isn't declared: there are no types, write 'var n in 0..9;'")
     } else if text == "portTICK_PERIOD_MS" {
         Some("'%' isn't declared: write pdMS_TO_TICKS(500) for 500 milliseconds")
+    } else if is_among(text, &DECLARATIONS) {
+        Some("'%' begins a declaration, which stands outside: is a '}' missing above?")
     } else {
         None
     }
@@ -123,6 +126,10 @@ impl Reader {
     pub(crate) fn new_name(&mut self, what: &str) -> Token {
         let token = self.cursor.word(what);
         let Token { span, spot, .. } = token;
+        if is_among(self.cursor.text(token), &TYPES) {
+            let form = "'%' is a type of C, and there are none here: write the name alone";
+            self.cursor.refuse_piece(spot, form, span, "");
+        }
         if self.is_taken(token) {
             let form = "'%' is a word of this notation or of the kernel: choose another name";
             self.cursor.refuse_piece(spot, form, span, "");
@@ -175,6 +182,11 @@ impl Reader {
         let Token { span, spot, .. } = token;
         if let Some(form) = why_undeclared(self.cursor.text(token)) {
             return self.cursor.refuse_piece(spot, form, span, "");
+        }
+        if let Some(hint) = hint_for(&OF_C, self.cursor.text(token)) {
+            return self
+                .cursor
+                .refuse_piece(spot, "'%' isn't declared%", span, hint);
         }
         match (self.near(token), self.here.call) {
             (Some(near), _) => {

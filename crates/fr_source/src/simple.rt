@@ -51,6 +51,12 @@ impl Reader {
 
     /// Takes a variable, and what it is given or how it is changed.
     fn assignment_here(&mut self, spot: Spot) {
+        let token = self.cursor.token();
+        if self.cursor.is_before("=") && matches!(self.meaning(token), Some(Meaning::Object(_))) {
+            let form =
+                "'%' is the name of an object: what makes it has that name in brackets, as in xSemaphoreCreateMutex(m)";
+            self.cursor.refuse_piece(spot, form, token.span, "");
+        }
         let variable = self.variable_named("a statement");
         if self.cursor.accepts("=") {
             let term = self.expression();

@@ -261,8 +261,9 @@ impl Reader {
         };
         let last = self.cursor.previous();
         let after = self.cursor.token();
+        let is_test = matches!(open, Open::Do { .. }) && after.spot.line <= last.spot.line;
         let is_apart = margin.is_plain
-            || after.spot.line <= last.spot.line
+            || is_test
             || after.indent < margin.indent
             || self.cursor.sees("else")
             || self.cursor.sees("}");
@@ -367,6 +368,9 @@ impl Reader {
             }
             Jump::Return => {
                 self.cursor.advance();
+                if !self.cursor.sees(";") {
+                    self.cursor.refuse_next("';': a return has no value");
+                }
                 self.here.lines.goto(0, spot);
             }
             Jump::Goto => {

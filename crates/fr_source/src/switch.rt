@@ -45,7 +45,7 @@ impl Reader {
             let name = self.program.variable(variable).name;
             self.cursor.refuse_piece(variable_spot, form, name, "");
         }
-        self.cursor.take(")", "");
+        self.cursor.take(")", ": a switch is on one variable");
         self.cursor.take("{", "");
         let end = self.here.lines.label();
         let first_item = self.here.lines.body.items.len();

@@ -121,6 +121,15 @@ fn comment_length(text: &[u8]) -> Option<usize> {
     None
 }
 
+/// Why a comment that ends with `\` is refused.
+const JOINED: &str =
+    "this comment ends with '\\', so C reads the next line as part of it: leave the '\\' out";
+
+/// Whether a comment ends with `\`, so that C joins the next line to it.
+fn is_joined(comment: &[u8]) -> bool {
+    comment.trim_ascii_end().ends_with(b"\\")
+}
+
 /// The length of the number that the text begins with.
 fn number_length(text: &[u8]) -> usize {
     let hexadecimal = text.starts_with(b"0x") || text.starts_with(b"0X");
@@ -190,9 +199,15 @@ fn unknown_sign(alloc: Global, spot: Spot, text: &[u8]) -> Fault {
     if byte.is_ascii_graphic() {
         let sign = std::str::from_utf8(text).unwrap_or("");
         wrong_about(alloc, spot, "the sign '%' means nothing here%", sign, hint)
-    } else {
+    } else if byte.is_ascii() {
         let words = &[Word::Number(i64::from(byte))];
         wrong_with(alloc, spot, "the sign of code % means nothing here", words)
+    } else {
+        wrong(
+            alloc,
+            spot,
+            "this character isn't ASCII: only a comment may have it",
+        )
     }
 }
 
@@ -239,6 +254,7 @@ impl Scan {
     ) -> Result<(), Fault> {
         let Position { spot, indent } = position;
         match piece {
+            Piece::Comment if is_joined(text) => return Err(wrong(alloc, spot, JOINED)),
             Piece::Comment => return Ok(push_blanks(&mut self.blank, text)?),
             Piece::Unended => return Err(wrong(alloc, spot, "this comment doesn't end")),
             Piece::Unknown => return Err(unknown_sign(alloc, spot, text)),

@@ -1,14 +1,14 @@
 -- The lines of a trace, one after another: what is read with one line more, and where the reading stops.
-use Rattle.std.proofs.Common.{◌≡◌, ℕ, ◌+◌, ◌<◌, ◌≤◌, Bool, true, false, List, [], ◌∷◌, ◌++◌, ◌==◌, codes, cond, drop, eqb, get_or, inr, length, ne_eqb, take, suc, arith, refl, sym, subst, ap, ◌∙◌}
+use Rattle.std.proofs.Common.{◌≡◌, ℕ, ◌+◌, ◌<◌, ◌≤◌, Bool, true, false, List, [], ◌∷◌, ◌++◌, ◌==◌, codes, cond, drop, eqb, get_or, inr, length, ne_eqb, take, suc, arith, refl, sym, subst, ap, ◌∙◌, ⊎_elim}
 use Rattle.std.specs.List.{enumerate_from}
 use Rattle.std.specs.Str.Lines.{lines}
 use Rattle.std.proofs.Math.Seq.{split_at}
-use Rattle.std.proofs.lemmas.Bool.{eqb-true}
+use Rattle.std.proofs.lemmas.Bool.{cases_lt, eqb-false, eqb-true}
 use Rattle.std.proofs.lemmas.List.{length-take, take_all, take_more}
 use Rattle.std.proofs.lemmas.List.FromFn.{get_or-enumerate_from, length-enumerate_from}
 use Rattle.fr_instr.specs.Names.{NamesOf}
 use Rattle.fr_trace.specs.Means.{IsPresent, IsText}
-use Rattle.fr_trace.specs.Reads.{ComesTo, IsLineWhy, IsPlaceWhy, IsTextWhy, LineReads, ReadsAt, ReadsLines, Sofar, start}
+use Rattle.fr_trace.specs.Reads.{ComesTo, IsLineWhy, IsPlaceWhy, IsStrangeLine, IsTextWhy, LineReads, ReadsAt, ReadsLines, Sofar, start}
 use Rattle.fr_trace.specs.declared.no_trace.NoTrace.{NoTrace}
 use Rattle.fr_trace.specs.declared.no_trace.NoTrace.TheVariants.{Memory, TooLong, NotText, Faulty, NotListed}
 
@@ -76,7 +76,9 @@ module _ (N : NamesOf) (anywhere : Bool) (text : List (List ℕ)) (n index : ℕ
   text-why s false TooLong e kept w = absurd w
   text-why s false NotText e kept w = absurd w
   text-why s false (Faulty k column fault) e kept w = (line, (comes k s w.0 kept, stuck s w.2), λ l. w.1)
-  text-why s false (NotListed unlisted) e kept w = (line, comes unlisted.line s w.0 kept, w.1)
+  text-why s false (NotListed unlisted) e kept w =
+      let later : 1 < unlisted.line = ⊎_elim (λ l. omega (arith, w.0, l)) (λ l. absurd (eqb-false index 0 e (omega (arith, l)))) (cases_lt 0 index) in
+      (subst (λ l. ComesTo N anywhere text unlisted.line l) (sym w.1) (comes unlisted.line s w.0 kept), later, subst (IsStrangeLine N) (sym w.1) w.2)
 
 -- a line that isn't the first isn't read, from why it isn't
 pub place-why : (N : NamesOf) (i : ℕ) (line : List ℕ) (s : Sofar) (why : NoTrace) → (i ≡ 0 → ⊥)

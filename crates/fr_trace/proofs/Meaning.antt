@@ -1,5 +1,5 @@
 -- Bytes have one meaning at most: each line adds one thing at most to what is read before it.
-use Rattle.std.proofs.Common.{◌≡◌, ◌+◌, ◌∙◌, ◌==◌, ℕ, ℤ, List, [], ◌∷◌, ◌++◌, Bool, true, false, cond, codes, Option, Some, None, length, map, inl, inr, arith, ap, refl, subst, sym}
+use Rattle.std.proofs.Common.{◌≡◌, ◌+◌, ◌∙◌, ◌==◌, ℕ, ℤ, List, [], ◌∷◌, ◌++◌, Bool, true, false, cond, codes, Option, Some, None, length, map, inl, inr, arith, ap, ne_eqb, refl, subst, sym}
 use Rattle.std.proofs.lemmas.Option.{same_Some}
 use Rattle.std.specs.Str.Lines.{lines}
 use Rattle.fr_program.specs.declared.ids.ActorId.{ActorId}
@@ -13,16 +13,17 @@ use Rattle.fr_instr.specs.declared.call.Verb.{Verb}
 use Rattle.fr_instr.proofs.LineLaws.{one_integer}
 use Rattle.fr_trace.specs.Args.{unseen_parts}
 use Rattle.fr_trace.specs.Means.{IsPresent, TraceMeans, TraceOf, trace_of}
-use Rattle.fr_trace.specs.Reads.{ActorDoes, Does, HasReturned, HasSet, Hides, IsEnter, IsEnterOf, LineReads, OwnDoes, ReadsAt, ReadsLines, Returned, SaidReads, Sofar, TokensRead, after, is_open, start}
+use Rattle.fr_trace.specs.Reads.{ActorDoes, ComesTo, Does, HasReturned, HasSet, Hides, IsEnter, IsEnterOf, LineReads, OwnDoes, ReadsAt, ReadsLines, Returned, SaidReads, Sofar, TokensRead, after, is_open, start}
 use Rattle.fr_trace.specs.Said.{Said, nothing, unseen, lost, enter, returns, sets, begins, ends, begins_comment}
 use Rattle.fr_trace.specs.declared.effect.Addition.{Addition}
 use Rattle.fr_trace.specs.declared.effect.Addition.TheVariants.{Add}
-use Rattle.fr_trace.specs.declared.no_trace.NoTrace.TheVariants.{Faulty}
-use Rattle.fr_trace.specs.declared.no_trace.TraceFault.{TraceFault}
+use Rattle.fr_trace.specs.declared.no_trace.NoTrace.{NoTrace}
+use Rattle.fr_trace.specs.declared.no_trace.NoTrace.TheVariants.{Memory, TooLong, NotText, Faulty, NotListed}
 use Rattle.fr_events.specs.declared.recorded.Recorded.{Recorded}
 use Rattle.fr_events.specs.declared.trace.Event.{Event}
 use Rattle.fr_events.specs.declared.trace.Happening.TheVariants.{Enter, Set}
 use Rattle.fr_trace.proofs.Once.{all-once, number-once}
+use Rattle.fr_trace.proofs.Strange.{strange-line}
 
 enter-of-once : (N : NamesOf) (n : ℕ) (s : Sofar) (a : ActorId) (v : Verb) (ps : List Slot) (ts : List Tok) (e f : Event)
     → IsEnterOf N n s a v ps ts e → IsEnterOf N n s a v ps ts f → e ≡ f
@@ -137,11 +138,27 @@ lines-split N i (b ∷ before) line rest s w (v, r, m) =
     let more = lines-split N (i + 1) before line rest v w m in
     (more.0, more.1, (v, r, more.2), subst (λ j. ReadsAt N j line more.0 more.1) (omega arith) more.3)
 
-pub no-meaning : (N : NamesOf) (anywhere : Bool) (bytes : List ℕ) (k column : ℕ) (fault : TraceFault) (trace : TraceOf) → IsPresent N anywhere bytes (Faulty k column fault)
-    → TraceMeans N anywhere bytes trace → ⊥
-no-meaning N anywhere bytes k column fault trace (text, inl none) means = omega (arith, none, means.some)
-no-meaning N anywhere bytes k column fault trace (text, inr (line, (c, stuck), fine)) means =
+-- a line up to which the text can be read isn't read itself, as the text is a trace
+line-read : (N : NamesOf) (anywhere : Bool) (bytes line : List ℕ) (k : ℕ) (trace : TraceOf) (c : ComesTo N anywhere (lines bytes) k line) → TraceMeans N anywhere bytes trace
+    → (t : Sofar) × ReadsAt N (length c.before) line c.so_far t
+line-read N anywhere bytes line k trace c means =
     let parts = lines-split N 0 c.before line c.after_it (start anywhere (length N.actors)) means.last
     (subst (λ ls. ReadsLines N 0 ls (start anywhere (length N.actors)) means.last) c.parts means.reads) in
     let same = lines-once N 0 c.before (start anywhere (length N.actors)) parts.0 c.so_far parts.2 c.reads in
-    stuck (parts.1, subst (λ x. ReadsAt N (length c.before) line x parts.1) same (subst (λ j. ReadsAt N j line parts.0 parts.1) (omega arith) parts.3))
+    (parts.1, subst (λ x. ReadsAt N (length c.before) line x parts.1) same (subst (λ j. ReadsAt N j line parts.0 parts.1) (omega arith) parts.3))
+
+-- a line after the first one is read as such
+later-read : (N : NamesOf) (i : ℕ) (line : List ℕ) (s t : Sofar) → (i ≡ 0 → ⊥) → ReadsAt N i line s t → LineReads N (i + 1) line s t
+later-read N i line s t later reads =
+    subst (λ b. cond b ((line ≡ codes "fr_trace 1") × (t ≡ s)) (LineReads N (i + 1) line s t)) (ne_eqb i 0 later) reads
+
+pub no-meaning : (N : NamesOf) (anywhere : Bool) (bytes : List ℕ) (why : NoTrace) (trace : TraceOf) → (why ≡ Memory → ⊥) → IsPresent N anywhere bytes why → TraceMeans N anywhere bytes trace → ⊥
+no-meaning N anywhere bytes Memory trace known present means = known refl
+no-meaning N anywhere bytes TooLong trace known present means = omega (arith, present, means.text.0)
+no-meaning N anywhere bytes NotText trace known present means = present.1 means.text.1
+no-meaning N anywhere bytes (Faulty k column fault) trace known (text, inl none) means = omega (arith, none.0, means.some)
+no-meaning N anywhere bytes (Faulty k column fault) trace known (text, inr (line, (c, stuck), fine)) means = stuck (line-read N anywhere bytes line k trace c means)
+no-meaning N anywhere bytes (NotListed unlisted) trace known (text, (c, later, strange)) means =
+    let read = line-read N anywhere bytes unlisted.text.now unlisted.line trace c means in
+    strange-line N (length c.before + 1) unlisted.text.now c.so_far read.0 strange
+    (later-read N (length c.before) unlisted.text.now c.so_far read.0 (λ e. omega (arith, e, later, c.numbered)) read.1)

@@ -50,16 +50,16 @@ tokens-why N n s ts said (Wrong f k) e w = (
 )
 
 -- a line that is no comment is read by its tokens
-by-tokens : (N : NamesOf) (n : ℕ) (line : List ℕ) (s t : Sofar) → begins_comment line ≡ false → LineReads N n line s t
+pub by-tokens : (N : NamesOf) (n : ℕ) (line : List ℕ) (s t : Sofar) → begins_comment line ≡ false → LineReads N n line s t
     → (ts : List Tok) × Spells line ts × TokensRead N n ts s t
 by-tokens N n line s t e h = rw e at h
 
 -- why a line isn't read, from why its tokens aren't
 pub line-why : (N : NamesOf) (n : ℕ) (s : Sofar) (line : List ℕ) (ts : List Tok) (stop : Stop) (why : NoTrace) → begins_comment line ≡ false → Spells line ts
-    → IsNoTrace stop n why → IsStop stop (IsStrangeTokens N ts) ((t : Sofar) × TokensRead N n ts s t)
+    → IsNoTrace stop n line why → IsStop stop (IsStrangeTokens N ts) ((t : Sofar) × TokensRead N n ts s t)
     → IsLineWhy N n line ((t : Sofar) × LineReads N n line s t) why
 line-why N n s line ts Memory no_trace.Memory e sp made w = tt
-line-why N n s line ts (NotListed u) (no_trace.NotListed l) e sp made w = (made, record { tokens = ts; no_comment = e; spells = sp; strange = w })
+line-why N n s line ts (NotListed u) (no_trace.NotListed l) e sp made w = (made.0, made.1, record { tokens = ts; no_comment = e; spells = sp; strange = w })
 line-why N n s line ts (Wrong f k) (no_trace.Faulty m column fault) e sp made w = (
   made,
   λ h. w.0 (subst (IsStrangeTokens N) (spells_once line h.tokens ts h.spells sp) h.strange),

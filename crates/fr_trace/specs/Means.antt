@@ -16,6 +16,7 @@ use Rattle.fr_instr.specs.declared.call.Verb.{Verb}
 use Rattle.fr_trace.specs.Reads.{IsTextWhy, ReadsLines, Sofar, start}
 use Rattle.fr_trace.specs.declared.no_trace.NoTrace.{NoTrace}
 use Rattle.fr_trace.specs.declared.no_trace.NoTrace.TheVariants.{Memory, TooLong, NotText, Faulty, NotListed}
+use Rattle.fr_trace.specs.declared.no_trace.TraceFault.TheVariants.{Version}
 use Rattle.fr_events.specs.declared.trace.Event.{Event}
 use Rattle.fr_events.specs.declared.trace.Trace.{Trace}
 
@@ -58,5 +59,5 @@ IsPresent N anywhere bytes Memory = ⊤
 IsPresent N anywhere bytes TooLong = 67_108_864 < length bytes
 IsPresent N anywhere bytes NotText = (length bytes ≤ 67_108_864) × (¬ (IsUtf8 bytes))
 IsPresent N anywhere bytes (Faulty number column fault) =
-    IsText bytes × ((length bytes ≡ 0) ⊎ IsTextWhy N anywhere (lines bytes) (Faulty number column fault))
+    IsText bytes × (((length bytes ≡ 0) × (number ≡ 1) × (column ≡ 1) × (fault ≡ Version)) ⊎ IsTextWhy N anywhere (lines bytes) (Faulty number column fault))
 IsPresent N anywhere bytes (NotListed unlisted) = IsText bytes × IsTextWhy N anywhere (lines bytes) (NotListed unlisted)

@@ -260,12 +260,12 @@ IsStop Memory Strange Reads = ⊤
 IsStop (NotListed unlisted) Strange Reads = Strange
 IsStop (Wrong fault skip) Strange Reads = (¬ Strange) × (¬ Reads)
 
--- the refusal of the line with this number
-abbrev pub IsNoTrace : Stop → ℕ → NoTrace → Type 0
-IsNoTrace Memory n no_trace.Memory = ⊤
-IsNoTrace (NotListed unlisted) n (no_trace.NotListed l) = l.line ≡ n
-IsNoTrace (Wrong fault skip) n (no_trace.Faulty k column f) = k ≡ n
-IsNoTrace stop n why = ⊥
+-- the refusal of the line with this number and this text
+abbrev pub IsNoTrace : Stop → ℕ → List ℕ → NoTrace → Type 0
+IsNoTrace Memory n line no_trace.Memory = ⊤
+IsNoTrace (NotListed unlisted) n line (no_trace.NotListed l) = (l.line ≡ n) × (l.text.now ≡ line)
+IsNoTrace (Wrong fault skip) n line (no_trace.Faulty k column f) = k ≡ n
+IsNoTrace stop n line why = ⊥
 
 -- the refusal of a line that no tokens spell
 abbrev pub IsSpellWhy : ℕ → List ℕ → NoTrace → Type 0
@@ -277,7 +277,7 @@ IsSpellWhy n line why = ⊥
 abbrev pub IsLineWhy : NamesOf → ℕ → List ℕ → Type 0 → NoTrace → Type 0
 IsLineWhy N n line Reads no_trace.Memory = ⊤
 IsLineWhy N n line Reads (no_trace.Faulty k column fault) = (k ≡ n) × (¬ (IsStrangeLine N line)) × (¬ Reads)
-IsLineWhy N n line Reads (no_trace.NotListed unlisted) = (unlisted.line ≡ n) × IsStrangeLine N line
+IsLineWhy N n line Reads (no_trace.NotListed unlisted) = (unlisted.line ≡ n) × (unlisted.text.now ≡ line) × IsStrangeLine N line
 IsLineWhy N n line Reads other = ⊥
 
 -- why a line isn't read that is the first one, or isn't
@@ -292,4 +292,5 @@ IsTextWhy N anywhere text no_trace.Memory = ⊤
 IsTextWhy N anywhere text no_trace.TooLong = ⊥
 IsTextWhy N anywhere text no_trace.NotText = ⊥
 IsTextWhy N anywhere text (no_trace.Faulty k column fault) = (line : List ℕ) × StopsAt N anywhere text k line × (1 < k → ¬ (IsStrangeLine N line))
-IsTextWhy N anywhere text (no_trace.NotListed unlisted) = (line : List ℕ) × ComesTo N anywhere text unlisted.line line × IsStrangeLine N line
+IsTextWhy N anywhere text (no_trace.NotListed unlisted) =
+    ComesTo N anywhere text unlisted.line unlisted.text.now × (1 < unlisted.line) × IsStrangeLine N unlisted.text.now

@@ -8,8 +8,8 @@ ghost use Rattle.fr_instr.specs.Names.{NamesOf};
 ghost use Rattle.fr_instr.specs.Tokens.{Spells};
 ghost use Rattle.fr_trace.specs.Views.{said_of, so_far};
 ghost use Rattle.fr_instr.specs.declared.call.Verb.{Verb};
-ghost use Rattle.fr_trace.specs.declared.no_trace.NoTrace.TheVariants.{Faulty};
-ghost use Rattle.fr_trace.specs.declared.no_trace.TraceFault.{TraceFault};
+ghost use Rattle.fr_trace.specs.declared.no_trace.NoTrace.{NoTrace as Refusal};
+ghost use Rattle.fr_trace.specs.declared.no_trace.NoTrace.TheVariants.{Memory};
 
 use crate::effect;
 use crate::no_trace::{NoTrace, NotListed, TraceFault, Unlisted};
@@ -151,7 +151,7 @@ fn first_word(text: &[u8]) -> &[u8] {
 
 /// Why a line with this number isn't read.
 fn no_trace<'a>(stop: Stop<'a>, line: usize, text: &'a [u8]) -> NoTrace<'a>
-    ensures { IsNoTrace stop.entry line result }
+    ensures { IsNoTrace stop.entry line text.now result }
 {
     match stop {
         Stop::Memory => NoTrace::Memory,
@@ -368,8 +368,8 @@ pub fn one_meaning()
         TraceMeans N anywhere bytes one → TraceMeans N anywhere bytes other → one ≡ other }
 {}
 
-/// Bytes in which a fault is present mean no trace.
+/// Bytes in which a fault is present mean no trace, but for a refused allocation.
 pub fn no_meaning()
-    ensures { (N : NamesOf) (anywhere : Bool) (bytes : List ℕ) (line column : ℕ) (fault : TraceFault) (trace : TraceOf) →
-        IsPresent N anywhere bytes (Faulty line column fault) → TraceMeans N anywhere bytes trace → ⊥ }
+    ensures { (N : NamesOf) (anywhere : Bool) (bytes : List ℕ) (why : Refusal) (trace : TraceOf) →
+        (why ≡ Memory → ⊥) → IsPresent N anywhere bytes why → TraceMeans N anywhere bytes trace → ⊥ }
 {}

@@ -60,8 +60,8 @@ impl<'a> Hunt<'a> {
 }
 
 impl<'a> Hunt<'a> {
-    /// Steps by one row that undo every alternative of the note: one that undoes them all, where there is
-    /// one, or one for each. None where none are found.
+    /// Steps by one row that undo every alternative of the note: one that undoes them all, where one is
+    /// found, or one for each. None where none are found.
     pub(crate) fn steps(&self, alloc: Global, note: &Note) -> Result<Option<Vec<Taken>>, AllocError>
         requires fit { HuntFits self.now }
         requires note { NoteFits self.now.app.now note.now }
