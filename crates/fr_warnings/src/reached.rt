@@ -1,6 +1,7 @@
 // Points that are never reached.
+use crate::uses::is_single;
 use fr_notes::Notes;
-use fr_program::{ActorId, App};
+use fr_program::{ActorId, App, Instr, Point, Side};
 use fr_wording::{actor_name, add_text};
 use std::alloc::{AllocError, Global};
 
@@ -58,6 +59,19 @@ fn rows_of(alloc: Global, app: &App, notes: &Notes) -> Result<Vec<Unreached>, Al
     Ok(rows)
 }
 
+/// Whether the row is the line of an assertion alone: it sets a variable with one value, and is there so that no run gets to it.
+fn is_assertion(app: &App, row: Unreached) -> bool {
+    let point = Point {
+        actor: ActorId(row.actor),
+        pc: row.first,
+        side: Side::Before,
+    };
+    match app.instr(point) {
+        Some(Instr::Set { target, .. }) => row.first == row.last && is_single(app, *target),
+        _ => false,
+    }
+}
+
 /// The line of a row of points.
 fn line_of(alloc: Global, app: &App, row: Unreached) -> Result<String, AllocError> {
     let (name, first, last) = (actor_name(app, ActorId(row.actor)), row.first, row.last);
@@ -72,14 +86,17 @@ fn line_of(alloc: Global, app: &App, row: Unreached) -> Result<String, AllocErro
 fn lines_of(alloc: Global, app: &App, rows: &[Unreached]) -> Result<Vec<String>, AllocError> {
     let mut lines = Vec::new(alloc);
     for row in rows {
-        add_text(&mut lines, line_of(alloc, app, *row)?)?;
+        if !is_assertion(app, *row) {
+            add_text(&mut lines, line_of(alloc, app, *row)?)?;
+        }
     }
     Ok(lines)
 }
 
 /// The warnings for points that are never reached, a line for each row of points whose notes say that the actor is never
-/// there, with the actor and its lines of code. Nothing is asked at such points, and a wrong target can be the cause. An
-/// error says that an allocation was refused. The lines' form is this project's own.
+/// there, with the actor and its lines of code. Nothing is asked at such points, and a wrong target can be the cause. The line
+/// of an assertion, to which no run should get, is left out. An error says that an allocation was refused. The lines' form is
+/// this project's own.
 pub(crate) fn never_reached(
     alloc: Global,
     app: &App,

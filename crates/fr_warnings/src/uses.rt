@@ -151,7 +151,7 @@ pub(crate) fn never_used(alloc: Global, app: &App) -> Result<Vec<String>, AllocE
 }
 
 /// Whether the variable has one value alone.
-fn is_single(app: &App, x: VarId) -> bool {
+pub(crate) fn is_single(app: &App, x: VarId) -> bool {
     match app.variables().get(x.0) {
         Some(variable) => variable.lo >= variable.hi,
         None => false,

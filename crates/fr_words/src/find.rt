@@ -14,7 +14,7 @@ use std::alloc::{AllocError, Global};
 /// The command `find`.
 const TABLE: &CommandTable = &CommandTable {
     name: "find",
-    about: "Finds a certificate for an application, and writes it to a file",
+    about: "Guesses a certificate by a simpler method than prove, and writes it to a file",
     statuses: "Exit status:
   0  A certificate was found and written
   1  None was found, and no file was written

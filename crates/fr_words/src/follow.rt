@@ -16,7 +16,7 @@ const TABLE: &CommandTable = &CommandTable {
     about: "Looks for runs of an application that explain traces of the firmware",
     statuses: "Exit status:
   0  For each trace, a run explains its events; after some that were lost, and with --from-anywhere, each actor is followed by itself
-  1  No such run was found, or a trace has something that the application doesn't list
+  1  No such run was found, it leads to a breach, or a trace has something that the application doesn't list
   2  The arguments, the application or a trace are refused, or a file for the run or the page is one of these files
   3  The machine failed: no memory, or a file that can't be read or written",
     words: &[
@@ -31,6 +31,7 @@ const TABLE: &CommandTable = &CommandTable {
         },
         Word {
             otherwise: &["20000"],
+            help: "The most states that are kept at each event, 1 to 100000000",
             ..STATES
         },
         Word {

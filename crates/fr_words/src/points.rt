@@ -21,7 +21,7 @@ const TABLE: &CommandTable = &CommandTable {
     words: &[
         APP,
         Word {
-            help: "Print the place in the source, too, and on standard error where a refused file is wrong",
+            help: "Print the place in the source, too, and on standard error where a refused file is at fault",
             ..EXPLAIN
         },
     ],

@@ -18,8 +18,8 @@ const TABLE: &CommandTable = &CommandTable {
     name: "prove",
     about: "Works out a certificate for an application, and prints the verdict by it",
     statuses: "Exit status:
-  0  The verdict is yes, or all states were seen and none breaches a rule
-  1  A run into a breach was printed, or the verdict by the best certificate that was found
+  0  The verdict is yes, or all states were seen and none breaches a rule; with --deadlock, no deadlock either
+  1  A run into a breach or a deadlock was printed, or the verdict by the best certificate that was found
   2  The arguments or the application are refused, or the file for the certificate has something else
   3  The machine failed: no memory, no thread, or a file that can't be read or written",
     words: &[

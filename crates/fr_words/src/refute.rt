@@ -17,8 +17,8 @@ const TABLE: &CommandTable = &CommandTable {
     name: "refute",
     about: "Looks for a run of an application into a breach of a rule, shortest first",
     statuses: "Exit status:
-  0  No state of any run breaches a rule
-  1  A run into a breach was printed, or none was found and more states are left
+  0  No state of any run breaches a rule; with --deadlock, none is a deadlock either
+  1  A run into a breach or a deadlock was printed, or none was found and more states are left
   2  The arguments or the application are refused
   3  The machine failed: no memory, or a file that can't be read or written",
     words: &[

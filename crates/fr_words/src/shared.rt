@@ -10,8 +10,8 @@ use fr_request::{Detail, Format};
 
 /// What the exit status says of a verdict, for the help of the whole and of `check`.
 pub const STATUSES: &str = "Exit status:
-  0  The verdict is yes
-  1  The verdict is no
+  0  The answer is yes, or what was asked for was done; with --deadlock, no deadlock either
+  1  The answer is no, or a breach or a deadlock was found or isn't excluded
   2  The arguments, the application or the certificate are refused
   3  The machine failed: no memory, no thread, or a file that can't be read or written";
 
@@ -68,7 +68,7 @@ pub const WORKERS: Word = Word {
 
 pub const WARN: Word = Word {
     name: "warn",
-    help: "Warn of lines of code that are never reached, on standard error",
+    help: "Warn of what the verdict may hide, such as lines that are never reached, on standard error",
     ..FLAG
 };
 
