@@ -54,7 +54,8 @@ impl Reader {
         let token = self.cursor.token();
         if self.cursor.is_before("=") && matches!(self.meaning(token), Some(Meaning::Object(_))) {
             let form =
-                "'%' is the name of an object: what makes it has that name in brackets, as in xSemaphoreCreateMutex(m)";
+                "expected the name of a variable, and '%' is the name of an object; a call that makes it has it in \
+                brackets: xSemaphoreCreateMutex(m)";
             self.cursor.refuse_piece(spot, form, token.span, "");
         }
         let variable = self.variable_named("a statement");

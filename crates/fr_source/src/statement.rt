@@ -369,7 +369,8 @@ impl Reader {
             Jump::Return => {
                 self.cursor.advance();
                 if !self.cursor.sees(";") {
-                    self.cursor.refuse_next("';': a return has no value");
+                    let why = ": a return has no value";
+                    self.cursor.refuse_for("'", ";", "'", why);
                 }
                 self.here.lines.goto(0, spot);
             }

@@ -203,11 +203,7 @@ fn unknown_sign(alloc: Global, spot: Spot, text: &[u8]) -> Fault {
         let words = &[Word::Number(i64::from(byte))];
         wrong_with(alloc, spot, "the sign of code % means nothing here", words)
     } else {
-        wrong(
-            alloc,
-            spot,
-            "this character isn't ASCII: only a comment may have it",
-        )
+        wrong(alloc, spot, "this isn't ASCII: only a comment may have it")
     }
 }
 
