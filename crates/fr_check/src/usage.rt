@@ -16,6 +16,14 @@ pub fn no_memory(rt: &HostRuntime) -> u8
     MACHINE
 }
 
+/// Prints that a text couldn't be written, and gives the exit status.
+fn no_output(rt: &HostRuntime) -> u8
+    ensures { result ≡ 3 }
+{
+    let _printed = eprintln!(rt; "machine: file");
+    MACHINE
+}
+
 /// Refuses words that the usage message can't be printed for, and gives the exit status.
 pub fn refuse_words(rt: &HostRuntime) -> u8
     ensures { 2 ≤ result }
@@ -38,7 +46,7 @@ fn plain_words(alloc: Global, words: &[String]) -> Result<Vec<String>, AllocErro
 }
 
 /// Prints the usage message for words that were not matched, or the help or the version, and gives the exit status. Where the words
-/// were not matched for want of memory, it prints that.
+/// were not matched for want of memory, or the text can't be written, it prints that.
 pub fn explain(rt: &HostRuntime, words: &[String], unmatched: &clap::Error) -> u8
     ensures { kind_of unmatched.now ≡ ErrorKind.OutOfMemory → result ≡ 3 }
 {
@@ -56,6 +64,6 @@ pub fn explain(rt: &HostRuntime, words: &[String], unmatched: &clap::Error) -> u
     }
     match error.print(rt) {
         Ok(()) => error.exit_code() as u8,
-        Err(_) => MACHINE,
+        Err(_) => no_output(rt),
     }
 }

@@ -3,6 +3,7 @@
 use crate::fault::{Fault, Spot};
 use crate::source::{Source, plain};
 use crate::texts::{Word, filled, push_filled};
+use fr_escape::push_plain;
 use std::alloc::{AllocError, AllocFailed, Global};
 
 /// A place in a source, and what is to be said of it. All texts are printable ASCII and tabs.
@@ -86,14 +87,15 @@ pub(crate) fn refused_by(alloc: Global, source: &Source<'_>, fault: Fault) -> Re
 }
 
 impl Message {
-    /// The line to print: `FILE:LINE:COLUMN: text`. Of the name of the file, control characters and what isn't ASCII are
-    /// question marks.
+    /// The line to print: `FILE:LINE:COLUMN: text`. What could steer a terminal in the file's name is written as in a literal
+    /// of Rust.
     ///
     /// # Errors
     ///
     /// Only where memory is refused.
     pub fn report(&self, alloc: Global, file: &str) -> Result<String, AllocError> {
-        let mut report = plain(alloc, file.as_bytes())?;
+        let mut report = String::new(alloc);
+        push_plain(&mut report, file)?;
         let Message {
             line,
             column,

@@ -6,11 +6,12 @@ use crate::expand::{Code, Line, Origin, code_of, outermost};
 use crate::fault::{Fault, Spot, wrong, wrong_about, wrong_with};
 use crate::message::{Message, Refused, message_at, refused_by};
 use crate::program::{Action, Actor, Home, Program};
-use crate::source::{Source, plain};
+use crate::source::Source;
 use crate::text::text_of;
 use crate::texts::{Pieces, Word, filled};
 use crate::tidy::{reached, tidied};
 use crate::token::{Scan, scanned};
+use fr_escape::push_plain;
 use std::alloc::{AllocError, Global};
 
 /// The most bytes of a source.
@@ -199,7 +200,7 @@ fn application_of(
 }
 
 /// Translates a source (docs/SOURCE.md) into the text of an application. `file` is the name of its file, as comments show
-/// it: of it, control characters and what isn't ASCII are question marks. The text has at most 1,048,576 bytes.
+/// it: what could steer a terminal is written as in a literal of Rust. The text has at most 1,048,576 bytes.
 ///
 /// # Errors
 ///
@@ -207,13 +208,14 @@ fn application_of(
 pub fn translated(alloc: Global, file: &str, source: &[u8]) -> Result<Translation, Refused>
     ensures { IfOk result (λ translation. length (string_bytes translation.text) ≤ 1048576) }
 {
-    let file = plain(alloc, file.as_bytes())?;
+    let mut name = String::new(alloc);
+    push_plain(&mut name, file)?;
     let source = match source {
         // A byte order mark is passed by.
         [0xef, 0xbb, 0xbf, rest @ ..] => rest,
         _ => source,
     };
-    let text = Source::new(alloc, file.as_str(), source)?;
+    let text = Source::new(alloc, name.as_str(), source)?;
     match translation_of(alloc, &text, source) {
         Ok(translation) => Ok(translation),
         Err(fault) => Err(refused_by(alloc, &text, fault)),

@@ -20,7 +20,7 @@ const TABLE: &CommandTable = &CommandTable {
     statuses: "Exit status:
   0  The verdict is yes, or all states were seen and none breaches a rule; with --deadlock, no deadlock either
   1  A run into a breach or a deadlock was printed, or the verdict by the best certificate that was found
-  2  The arguments or the application are refused, or the file for the certificate has something else
+  2  The arguments or the application are refused, or a file that would be written holds something else
   3  The machine failed: no memory, no thread, or a file that can't be read or written",
     words: &[
         APP,

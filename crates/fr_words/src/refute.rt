@@ -20,7 +20,7 @@ const TABLE: &CommandTable = &CommandTable {
   0  No state of any run breaches a rule; with --deadlock, none is a deadlock either
   1  A run into a breach or a deadlock was printed, or none was found and more states are left
   2  The arguments or the application are refused
-  3  The machine failed: no memory, or a file that can't be read or written",
+  3  The machine failed: no memory, no thread, or a file that can't be read or written",
     words: &[
         APP,
         STATES,
