@@ -80,12 +80,12 @@ subject_by (Some trace) a = string_bytes trace.file
 abbrev pub subject : AnswerShown → List ℕ
 subject a = subject_by a.trace a
 
-abbrev pub line_by : Option TraceShown → Option ℕ
-line_by None = None
-line_by (Some trace) = trace.line
+abbrev pub line_by : Option TraceShown → AnswerShown → Option ℕ
+line_by None a = a.line
+line_by (Some trace) a = trace.line
 
 abbrev pub subject_line : AnswerShown → Option ℕ
-subject_line a = line_by a.trace
+subject_line a = line_by a.trace a
 
 abbrev pub rule_of : Option Failure → AnswerKind → List ℕ
 rule_of None kind = kind_name kind
@@ -99,6 +99,7 @@ pub record IsNew (source : Source) (kind : AnswerKind) (report : List ℕ) (a : 
   pub application : string_bytes a.application ≡ source.application.now
   pub certificate : option_map string_bytes a.certificate ≡ option_map (λ path. path.now) source.certificate
   pub trace : a.trace ≡ None
+  pub line : a.line ≡ None
   pub answer : a.answer ≡ kind
   pub report_line : string_bytes a.report ≡ report
   pub lines : a.lines.items ≡ []

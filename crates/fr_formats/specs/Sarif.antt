@@ -242,8 +242,12 @@ result_by GaveUp a = whole_result (codes "warning") a
 unfoldable pub result_of : AnswerShown → List Token
 result_of a = result_by a.answer a
 
+abbrev pub warned_file : List ℕ → Option String → List ℕ
+warned_file path None = path
+warned_file path (Some file) = string_bytes file
+
 abbrev pub warning_result : List ℕ → WarningShown → List Token
-warning_result path w = plain_result path None (warning_rule w.kind) (codes "warning") (string_bytes w.text)
+warning_result path w = plain_result (warned_file path w.file) w.line (warning_rule w.kind) (codes "warning") (string_bytes w.text)
 
 unfoldable pub warning_results : AnswerShown → List Token
 warning_results a = flat_map (warning_result (string_bytes a.application)) a.warnings.items

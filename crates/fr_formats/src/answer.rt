@@ -136,6 +136,10 @@ pub struct WarningShown {
     pub kind: WarningKind,
     /// The line that is printed.
     pub text: String,
+    /// The source's file, where the line of code is from one; it is the application's file otherwise.
+    pub file: Option<String>,
+    /// The number of the line in that file, from 1, where the warning is about a line.
+    pub line: Option<usize>,
 }
 
 /// The trace that was followed.
@@ -157,6 +161,8 @@ pub struct AnswerShown {
     pub certificate: Option<String>,
     /// The trace that was followed, where one was.
     pub trace: Option<TraceShown>,
+    /// The number of the line at which the application's file is refused, from 1, where that is known.
+    pub line: Option<usize>,
     pub answer: AnswerKind,
     /// The first line that is printed.
     pub report: String,
@@ -263,6 +269,7 @@ impl AnswerShown {
             application: String::from_str(alloc, source.application)?,
             certificate,
             trace: None,
+            line: None,
             answer: kind,
             report,
             lines: Vec::new(alloc),
@@ -282,13 +289,14 @@ impl AnswerShown {
         }
     }
 
-    /// The line of that file that the answer is about, where it is about one: that of the trace which can't be followed.
+    /// The line of that file that the answer is about, where it is about one: that of the trace which can't be followed, or that
+    /// at which the application is refused.
     pub(crate) fn subject_line(&self) -> Option<usize>
         ensures { result ≡ subject_line self.now }
     {
         match &self.trace {
             Some(trace) => trace.line,
-            None => None,
+            None => self.line,
         }
     }
 

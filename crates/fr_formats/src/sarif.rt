@@ -150,14 +150,32 @@ fn put_result(out: &mut Out, answer: &AnswerShown) -> Result<(), AllocError>
     }
 }
 
+/// Appends the result of a warning about the file at this path, or about a line of the file that it names itself.
+#[tactic(auto, unfolding(crate::specs::Sarif::warning_result))]
+fn put_warning(out: &mut Out, path: &str, warning: &WarningShown) -> Result<(), AllocError>
+    ensures { OnOk result (out.new.tokens ≡ out.old.tokens ++ warning_result path.now warning.now) }
+{
+    let path = match &warning.file {
+        Some(file) => file.as_str(),
+        None => path,
+    };
+    put_plain(
+        out,
+        path,
+        warning.line,
+        warning.kind.rule(),
+        "warning",
+        &warning.text,
+    )
+}
+
 /// Appends a result for each warning.
 #[tactic(auto, using(std::proofs::Common::append_assoc), unfolding(crate::specs::Sarif::warning_results))]
 fn put_warnings(out: &mut Out, answer: &AnswerShown) -> Result<(), AllocError>
     ensures { OnOk result (out.new.tokens ≡ out.old.tokens ++ warning_results answer.now) }
 {
     for warning in &answer.warnings {
-        let (rule, text) = (warning.kind.rule(), warning.text.as_str());
-        put_plain(out, &answer.application, None, rule, "warning", text)?;
+        put_warning(out, &answer.application, warning)?;
     }
     Ok(())
 }

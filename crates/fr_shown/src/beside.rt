@@ -6,7 +6,6 @@ use crate::hidden::said_beside;
 use fr_formats::{Source, WarningShown};
 use fr_outcome::{Answer, AppText, Boxed, Refusal, What};
 use fr_request::Warns;
-use fr_source::Message;
 use std::alloc::{AllocError, Global};
 
 /// What an answer has besides what was found out.
@@ -24,7 +23,7 @@ impl Beside {
         alloc: Global,
         source: Source,
         what: &What,
-        left_out: &[Message],
+        text: &AppText,
         warns: Warns,
     ) -> Result<Beside, AllocError>
         ensures { IfOk result (λ beside. string_bytes beside.application ≡ source.entry.application.now) }
@@ -34,7 +33,7 @@ impl Beside {
             Some(path) => Some(String::from_str(alloc, path)?),
             None => None,
         };
-        let (warnings, notes) = said_beside(alloc, source, what, left_out, warns)?;
+        let (warnings, notes) = said_beside(alloc, source, what, text, warns)?;
         Ok(Beside {
             application,
             certificate,
@@ -63,7 +62,7 @@ pub fn answer_to(
             What::Refused(Boxed::new(alloc, refusal)?),
         ),
     };
-    let beside = Beside::of(alloc, source, &what, &text.left_out, warns)?;
+    let beside = Beside::of(alloc, source, &what, &text, warns)?;
     Ok(Answer {
         command: source.command,
         application: beside.application,

@@ -1,11 +1,13 @@
 // What an answer may hide.
+use crate::shown::Places;
 use fr_formats::{Command, Source, WarningKind, WarningShown};
 use fr_judge::Verdict;
-use fr_outcome::{Judged, Tried, What};
+use fr_outcome::{AppText, Judged, Tried, What};
+use fr_program::App;
 use fr_refuter::{Finding, Left};
 use fr_request::Warns;
 use fr_source::Message;
-use fr_warnings::warnings_for;
+use fr_warnings::{Warning, warnings_for};
 use std::alloc::{AllocError, Global};
 
 /// What is said where a certificate is asked for and the proof is by all states.
@@ -15,20 +17,43 @@ const NO_CERTIFICATE: &str = "no certificate was written: all states were gone t
 const NOT_FOLLOWED: &str =
     "not every step was followed: an actor has more than 4096 choices, or a depth or a count past 255";
 
+/// These warnings of an application, with the places of their lines in its text, or in the source that it was translated from.
+fn placed(
+    alloc: Global,
+    app: &App,
+    text: &[u8],
+    warnings: Vec<Warning>,
+) -> Result<Vec<WarningShown>, AllocError> {
+    let mut shown = Vec::new(alloc);
+    if warnings.is_empty() {
+        return Ok(shown);
+    }
+    let places = Places::build(alloc, app, text)?;
+    for warning in warnings {
+        shown.push(places.warned(alloc, warning)?)?;
+    }
+    Ok(shown)
+}
+
 /// What the answer may hide, as far as it is asked for: a verdict says nothing of lines that are never reached, and of what is never
 /// used. An answer without a verdict hides nothing. Its error is that an allocation was refused.
-fn warnings_of(alloc: Global, what: &What, warns: Warns) -> Result<Vec<WarningShown>, AllocError> {
+fn warnings_of(
+    alloc: Global,
+    what: &What,
+    text: &[u8],
+    warns: Warns,
+) -> Result<Vec<WarningShown>, AllocError> {
     match what {
         What::Judged(judged) => {
             let judged = judged.get();
-            warnings_for(
-                alloc,
-                judged.app(),
-                Some(&judged.certificate().notes),
-                warns,
-            )
+            let (app, notes) = (judged.app(), &judged.certificate().notes);
+            let warnings = warnings_for(alloc, app, Some(notes), warns)?;
+            placed(alloc, app, text, warnings)
         }
-        What::Searched(searched) => warnings_for(alloc, &searched.get().app, None, warns),
+        What::Searched(searched) => {
+            let app = &searched.get().app;
+            placed(alloc, app, text, warnings_for(alloc, app, None, warns)?)
+        }
         What::Refused(_) => Ok(Vec::new(alloc)),
     }
 }
@@ -124,9 +149,12 @@ fn add_left_out(
         return Ok(());
     }
     for message in left_out {
-        let text = message.report(alloc, path)?;
-        let kind = WarningKind::NeverReached;
-        warnings.push(WarningShown { kind, text })?;
+        warnings.push(WarningShown {
+            kind: WarningKind::NeverReached,
+            text: message.report(alloc, path)?,
+            file: None,
+            line: Some(message.line),
+        })?;
     }
     Ok(())
 }
@@ -137,10 +165,16 @@ pub(crate) fn said_beside(
     alloc: Global,
     source: Source,
     what: &What,
-    left_out: &[Message],
+    text: &AppText,
     warns: Warns,
 ) -> Result<(Vec<WarningShown>, Vec<String>), AllocError> {
-    let mut warnings = warnings_of(alloc, what, warns)?;
-    add_left_out(alloc, &mut warnings, source.application, left_out, warns)?;
+    let mut warnings = warnings_of(alloc, what, &text.bytes, warns)?;
+    add_left_out(
+        alloc,
+        &mut warnings,
+        source.application,
+        &text.left_out,
+        warns,
+    )?;
     Ok((warnings, notes_of(alloc, source, what)?))
 }

@@ -8,9 +8,9 @@ mod steps;
 
 use failure::failure_of;
 use fr_formats::{AnswerShown, Failure, Source, StepShown, WarningShown};
-use fr_outcome::{Answer, Judged, What};
+use fr_outcome::{Answer, CheckFault, Judged, What};
 use fr_refuter::Finding;
-use places::Places;
+pub(crate) use places::Places;
 use std::alloc::{AllocError, Global};
 use steps::{deadlock_shown, run_shown};
 
@@ -56,15 +56,38 @@ fn details_of(
     }
 }
 
+/// A copy of the text, if there is one.
+fn copied(text: &Option<String>) -> Result<Option<String>, AllocError> {
+    match text {
+        Some(text) => Ok(Some(text.clone()?)),
+        None => Ok(None),
+    }
+}
+
+/// The line at which the application's file is refused, where it is a source.
+fn refused_line(what: &What) -> Option<usize> {
+    match what {
+        What::Refused(refusal) => match &refusal.get().fault {
+            CheckFault::Source(message) => Some(message.line),
+            _ => None,
+        },
+        _ => None,
+    }
+}
+
 /// The warnings.
 fn warnings_shown(
     alloc: Global,
     warnings: &[WarningShown],
 ) -> Result<Vec<WarningShown>, AllocError> {
     let mut shown = Vec::new(alloc);
-    for WarningShown { kind, text } in warnings {
-        let (kind, text) = (*kind, text.clone()?);
-        shown.push(WarningShown { kind, text })?;
+    for warning in warnings {
+        shown.push(WarningShown {
+            kind: warning.kind,
+            text: warning.text.clone()?,
+            file: copied(&warning.file)?,
+            line: warning.line,
+        })?;
     }
     Ok(shown)
 }
@@ -75,6 +98,7 @@ fn add_details(alloc: Global, answer: &Answer, shown: &mut AnswerShown) -> Resul
     ensures kind { OnOk result (shown.new.answer ≡ shown.old.answer) }
     ensures report { OnOk result (shown.new.report ≡ shown.old.report) }
 {
+    shown.line = refused_line(&answer.what);
     shown.lines = answer.what.shown_lines(alloc)?;
     shown.warnings = warnings_shown(alloc, &answer.warnings)?;
     let (failure, steps) = details_of(alloc, answer)?;

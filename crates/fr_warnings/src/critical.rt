@@ -1,8 +1,10 @@
 // Sends and receives of stream and message buffers in critical sections.
 use crate::mutexes::call_at;
+use crate::warning::Warning;
+use fr_formats::WarningKind;
 use fr_notes::Notes;
 use fr_program::{Act, App, BlockTime, End, ObjId, Point, Side, Timing};
-use fr_wording::{actor_name, add_text, object_name};
+use fr_wording::{actor_name, object_name};
 use std::alloc::{AllocError, Global};
 
 /// Whether the actor can be in a critical section at the point with this number.
@@ -47,7 +49,7 @@ fn line_of(
     )
 }
 
-/// The warnings for tasks that send or receive bytes of a stream or message buffer in a critical section: the kernel calls
+/// Adds the warnings for tasks that send or receive bytes of a stream or message buffer in a critical section: the kernel calls
 /// `vTaskSuspendAll` there, which asserts on several cores that its task isn't in one. A line for each task, with the first such
 /// place. A call with a block time isn't reported: it breaks a rule there. An error says that an allocation was refused. The lines'
 /// form is this project's own.
@@ -55,8 +57,8 @@ pub(crate) fn buffers_in_critical_sections(
     alloc: Global,
     app: &App,
     notes: &Notes,
-) -> Result<Vec<String>, AllocError> {
-    let mut lines = Vec::new(alloc);
+    warnings: &mut Vec<Warning>,
+) -> Result<(), AllocError> {
     let mut warned = None;
     for number in 0..app.points() {
         let point = app.point(number);
@@ -64,9 +66,13 @@ pub(crate) fn buffers_in_critical_sections(
             && warned != Some(point.actor)
             && can_be_critical(notes, number)
         {
-            add_text(&mut lines, line_of(alloc, app, point, moved)?)?;
+            warnings.push(Warning {
+                kind: WarningKind::BufferInCriticalSection,
+                text: line_of(alloc, app, point, moved)?,
+                point: Some(point),
+            })?;
             warned = Some(point.actor);
         }
     }
-    Ok(lines)
+    Ok(())
 }

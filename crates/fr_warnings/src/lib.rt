@@ -10,4 +10,4 @@ mod updates;
 mod uses;
 mod warning;
 
-pub use warning::warnings_for;
+pub use warning::{Warning, warnings_for};

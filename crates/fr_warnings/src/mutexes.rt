@@ -1,10 +1,12 @@
 // Mutexes that are held for long: while a task waits without limit for something else, and where a task takes one that it holds.
+use crate::warning::Warning;
+use fr_formats::WarningKind;
 use fr_notes::{Claim, Notes};
 use fr_program::{
     Act, ActorId, App, Attempt, BlockTime, Call, Instr, ObjId, ObjectCall, Point, SemaphoreForm,
     Side, Timing,
 };
-use fr_wording::{actor_name, add_text, is_mutex, object_name};
+use fr_wording::{actor_name, is_mutex, object_name};
 use std::alloc::{AllocError, Global};
 
 /// Whether the actor can hold the mutex at the point with this number.
@@ -54,10 +56,10 @@ fn held_line(
     )
 }
 
-/// Adds a line for each mutex that the actor can hold at the point while it waits for the object.
+/// Adds a warning for each mutex that the actor can hold at the point while it waits for the object.
 fn add_held(
     alloc: Global,
-    lines: &mut Vec<String>,
+    warnings: &mut Vec<Warning>,
     app: &App,
     notes: &Notes,
     (number, point): (usize, Point),
@@ -66,28 +68,32 @@ fn add_held(
     for place in 0..app.objects().len() {
         let mutex = ObjId(place);
         if is_mutex(app, mutex) && can_hold(notes, number, mutex) {
-            add_text(lines, held_line(alloc, app, point, mutex, awaited)?)?;
+            warnings.push(Warning {
+                kind: WarningKind::HeldWhileWaiting,
+                text: held_line(alloc, app, point, mutex, awaited)?,
+                point: Some(point),
+            })?;
         }
     }
     Ok(())
 }
 
-/// The warnings for mutexes that can be held while an actor waits without limit for something that isn't a mutex, a line for each place
+/// Adds the warnings for mutexes that can be held while an actor waits without limit for something that isn't a mutex, a line for each place
 /// and mutex. Whoever takes the mutex then waits as long. An error says that an allocation was refused. The lines' form is this
 /// project's own.
 pub(crate) fn held_while_waiting(
     alloc: Global,
     app: &App,
     notes: &Notes,
-) -> Result<Vec<String>, AllocError> {
-    let mut lines = Vec::new(alloc);
+    warnings: &mut Vec<Warning>,
+) -> Result<(), AllocError> {
     for number in 0..app.points() {
         let point = app.point(number);
         if let Some(awaited) = waited_for(app, point) {
-            add_held(alloc, &mut lines, app, notes, (number, point), awaited)?;
+            add_held(alloc, warnings, app, notes, (number, point), awaited)?;
         }
     }
-    Ok(lines)
+    Ok(())
 }
 
 /// The plain mutex that the line takes.
@@ -129,22 +135,26 @@ fn taken_line(alloc: Global, app: &App, point: Point, mutex: ObjId) -> Result<St
     }
 }
 
-/// The warnings for plain mutexes that an actor takes where it can hold them: one that isn't given back on some way. A line for each
+/// Adds the warnings for plain mutexes that an actor takes where it can hold them: one that isn't given back on some way. A line for each
 /// place. An error says that an allocation was refused. The lines' form is this project's own.
 pub(crate) fn never_given(
     alloc: Global,
     app: &App,
     notes: &Notes,
-) -> Result<Vec<String>, AllocError> {
-    let mut lines = Vec::new(alloc);
+    warnings: &mut Vec<Warning>,
+) -> Result<(), AllocError> {
     for number in 0..app.points() {
         let point = app.point(number);
         if let Some(mutex) = mutex_taken(app, point)
             && point.side == Side::Before
             && can_hold(notes, number, mutex)
         {
-            add_text(&mut lines, taken_line(alloc, app, point, mutex)?)?;
+            warnings.push(Warning {
+                kind: WarningKind::NeverGiven,
+                text: taken_line(alloc, app, point, mutex)?,
+                point: Some(point),
+            })?;
         }
     }
-    Ok(lines)
+    Ok(())
 }

@@ -1,8 +1,10 @@
 // Points that are never reached.
 use crate::uses::is_single;
+use crate::warning::Warning;
+use fr_formats::WarningKind;
 use fr_notes::Notes;
 use fr_program::{ActorId, App, Instr, Point, Side};
-use fr_wording::{actor_name, add_text};
+use fr_wording::actor_name;
 use std::alloc::{AllocError, Global};
 
 /// Points of one actor in a row whose notes say that the actor is never there.
@@ -59,14 +61,20 @@ fn rows_of(alloc: Global, app: &App, notes: &Notes) -> Result<Vec<Unreached>, Al
     Ok(rows)
 }
 
+impl Unreached {
+    /// The first of the points, or the one before it at the same line.
+    fn point(self) -> Point {
+        Point {
+            actor: ActorId(self.actor),
+            pc: self.first,
+            side: Side::Before,
+        }
+    }
+}
+
 /// Whether the row is the line of an assertion alone: it sets a variable with one value, and is there so that no run gets to it.
 fn is_assertion(app: &App, row: Unreached) -> bool {
-    let point = Point {
-        actor: ActorId(row.actor),
-        pc: row.first,
-        side: Side::Before,
-    };
-    match app.instr(point) {
+    match app.instr(row.point()) {
         Some(Instr::Set { target, .. }) => row.first == row.last && is_single(app, *target),
         _ => false,
     }
@@ -82,18 +90,7 @@ fn line_of(alloc: Global, app: &App, row: Unreached) -> Result<String, AllocErro
     }
 }
 
-/// The lines of these rows.
-fn lines_of(alloc: Global, app: &App, rows: &[Unreached]) -> Result<Vec<String>, AllocError> {
-    let mut lines = Vec::new(alloc);
-    for row in rows {
-        if !is_assertion(app, *row) {
-            add_text(&mut lines, line_of(alloc, app, *row)?)?;
-        }
-    }
-    Ok(lines)
-}
-
-/// The warnings for points that are never reached, a line for each row of points whose notes say that the actor is never
+/// Adds the warnings for points that are never reached, one for each row of points whose notes say that the actor is never
 /// there, with the actor and its lines of code. Nothing is asked at such points, and a wrong target can be the cause. The line
 /// of an assertion, to which no run should get, is left out. An error says that an allocation was refused. The lines' form is
 /// this project's own.
@@ -101,7 +98,16 @@ pub(crate) fn never_reached(
     alloc: Global,
     app: &App,
     notes: &Notes,
-) -> Result<Vec<String>, AllocError> {
-    let rows = rows_of(alloc, app, notes)?;
-    lines_of(alloc, app, &rows)
+    warnings: &mut Vec<Warning>,
+) -> Result<(), AllocError> {
+    for row in rows_of(alloc, app, notes)? {
+        if !is_assertion(app, row) {
+            warnings.push(Warning {
+                kind: WarningKind::NeverReached,
+                text: line_of(alloc, app, row)?,
+                point: Some(row.point()),
+            })?;
+        }
+    }
+    Ok(())
 }

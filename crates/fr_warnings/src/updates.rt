@@ -1,8 +1,10 @@
 // Updates of shared variables that can be lost: an actor copies the variable and then sets it from the copy, and another actor can set it
 // in between.
+use crate::warning::Warning;
+use fr_formats::WarningKind;
 use fr_notes::{Alternative, Note, Notes, can_meet};
 use fr_program::{Act, ActorId, App, Call, Instr, Operand, Point, Side, VarId};
-use fr_wording::{actor_name, add_text};
+use fr_wording::actor_name;
 use std::alloc::{AllocError, Global};
 use std::mem::replace;
 
@@ -392,16 +394,29 @@ fn line_of(alloc: Global, app: &App, update: &Update, by: Point) -> Result<Strin
     )
 }
 
+/// The point at which the update sets the variable.
+fn store_of(update: &Update) -> Point {
+    Point {
+        actor: update.copied.actor,
+        pc: update.pc,
+        side: Side::Before,
+    }
+}
+
 /// Adds the warning for an update, if it can be lost.
 fn add_update(
     alloc: Global,
-    lines: &mut Vec<String>,
+    warnings: &mut Vec<Warning>,
     app: &App,
     notes: &Notes,
     update: &Update,
 ) -> Result<(), AllocError> {
     match loser_of(app, notes, update) {
-        Some(by) => add_text(lines, line_of(alloc, app, update, by)?),
+        Some(by) => Ok(warnings.push(Warning {
+            kind: WarningKind::LostUpdate,
+            text: line_of(alloc, app, update, by)?,
+            point: Some(store_of(update)),
+        })?),
         None => Ok(()),
     }
 }
@@ -409,7 +424,7 @@ fn add_update(
 /// Adds the warnings for the updates in an actor's code.
 fn add_updates(
     alloc: Global,
-    lines: &mut Vec<String>,
+    warnings: &mut Vec<Warning>,
     app: &App,
     notes: &Notes,
     (actor, code): (ActorId, &[Instr]),
@@ -418,23 +433,24 @@ fn add_updates(
         if let Some(copied) = copied_at(app, actor, pc, instr)
             && let Some(update) = update_after(alloc, code, copied)?
         {
-            add_update(alloc, lines, app, notes, &update)?;
+            add_update(alloc, warnings, app, notes, &update)?;
         }
     }
     Ok(())
 }
 
-/// The warnings for updates that can be lost, a line each: an actor copies a shared variable, and sets it from the copy, which it may have
-/// changed, and another actor can set it in between, by what their notes say. An error says that an allocation was refused. The lines' form is this project's own.
+/// Adds the warnings for updates that can be lost, a line each: an actor copies a shared variable, and sets it from the copy, which it
+/// may have changed, and another actor can set it in between, by what their notes say. An error says that an allocation was refused.
+/// The lines' form is this project's own.
 pub(crate) fn lost_updates(
     alloc: Global,
     app: &App,
     notes: &Notes,
-) -> Result<Vec<String>, AllocError> {
-    let mut lines = Vec::new(alloc);
+    warnings: &mut Vec<Warning>,
+) -> Result<(), AllocError> {
     for (number, actor) in app.actors().iter().enumerate() {
         let place = (ActorId(number), actor.code.as_slice());
-        add_updates(alloc, &mut lines, app, notes, place)?;
+        add_updates(alloc, warnings, app, notes, place)?;
     }
-    Ok(lines)
+    Ok(())
 }

@@ -1,6 +1,8 @@
 // What the lines of an application use: the warnings for variables and objects that are never used, and for variables that are used one way.
+use crate::warning::Warning;
+use fr_formats::WarningKind;
 use fr_program::{Act, App, Attempt, Call, Instr, ObjId, Operand, VarId};
-use fr_wording::{add_text, object_name, variable_name};
+use fr_wording::{object_name, variable_name};
 use std::alloc::{AllocError, Global};
 
 /// Whether each variable is read, whether it is written, and whether each object is named by a line of code.
@@ -105,49 +107,64 @@ fn uses_in(alloc: Global, app: &App) -> Result<Uses, AllocError> {
     Ok(uses)
 }
 
-/// Adds the warning for something, by its name and how it is used.
-fn warn(
+/// The warning for something, by its name and how it is used.
+fn warning_for(
     alloc: Global,
-    lines: &mut Vec<String>,
+    kind: WarningKind,
     what: &str,
     name: &str,
     how: &str,
-) -> Result<(), AllocError> {
-    add_text(
-        lines,
-        format!(in alloc; "warning: the {what} {name} is {how}")?,
-    )
+) -> Result<Warning, AllocError> {
+    Ok(Warning {
+        kind,
+        text: format!(in alloc; "warning: the {what} {name} is {how}")?,
+        point: None,
+    })
 }
 
 /// Adds the warnings for what isn't used.
 fn add_unused(
     alloc: Global,
-    lines: &mut Vec<String>,
+    warnings: &mut Vec<Warning>,
     app: &App,
     uses: &Uses,
 ) -> Result<(), AllocError> {
     for place in 0..app.variables().len() {
         if !is_marked(&uses.read, place) && !is_marked(&uses.written, place) {
             let name = variable_name(app, VarId(place));
-            warn(alloc, lines, "variable", name, "never used")?;
+            warnings.push(warning_for(
+                alloc,
+                WarningKind::NeverUsed,
+                "variable",
+                name,
+                "never used",
+            )?)?;
         }
     }
     for place in 0..app.objects().len() {
         if !is_marked(&uses.named, place) {
             let name = object_name(app, ObjId(place));
-            warn(alloc, lines, "object", name, "never used")?;
+            warnings.push(warning_for(
+                alloc,
+                WarningKind::NeverUsed,
+                "object",
+                name,
+                "never used",
+            )?)?;
         }
     }
     Ok(())
 }
 
-/// The warnings for variables and objects that no line of code names, a line each. A wrong name can be the cause. An error
+/// Adds the warnings for variables and objects that no line of code names, a line each. A wrong name can be the cause. An error
 /// says that an allocation was refused. The lines' form is this project's own.
-pub(crate) fn never_used(alloc: Global, app: &App) -> Result<Vec<String>, AllocError> {
+pub(crate) fn never_used(
+    alloc: Global,
+    app: &App,
+    warnings: &mut Vec<Warning>,
+) -> Result<(), AllocError> {
     let uses = uses_in(alloc, app)?;
-    let mut lines = Vec::new(alloc);
-    add_unused(alloc, &mut lines, app, &uses)?;
-    Ok(lines)
+    add_unused(alloc, warnings, app, &uses)
 }
 
 /// Whether the variable has one value alone.
@@ -170,30 +187,27 @@ fn one_way(app: &App, uses: &Uses, x: VarId) -> Option<&'static str> {
 /// Adds the warnings for variables that are used one way.
 fn add_one_way(
     alloc: Global,
-    lines: &mut Vec<String>,
+    warnings: &mut Vec<Warning>,
     app: &App,
     uses: &Uses,
 ) -> Result<(), AllocError> {
     for place in 0..app.variables().len() {
         if let Some(how) = one_way(app, uses, VarId(place)) {
-            warn(
-                alloc,
-                lines,
-                "variable",
-                variable_name(app, VarId(place)),
-                how,
-            )?;
+            let name = variable_name(app, VarId(place));
+            warnings.push(warning_for(alloc, WarningKind::UsedOneWay, "variable", name, how)?)?;
         }
     }
     Ok(())
 }
 
-/// The warnings for variables that are read and never written, or written and never read, a line each. A wrong name can be the cause.
+/// Adds the warnings for variables that are read and never written, or written and never read, a line each. A wrong name can be the cause.
 /// A variable with one value in its range is written so that a rule is broken there, and nobody has to read it.
 /// An error says that an allocation was refused. The lines' form is this project's own.
-pub(crate) fn used_one_way(alloc: Global, app: &App) -> Result<Vec<String>, AllocError> {
+pub(crate) fn used_one_way(
+    alloc: Global,
+    app: &App,
+    warnings: &mut Vec<Warning>,
+) -> Result<(), AllocError> {
     let uses = uses_in(alloc, app)?;
-    let mut lines = Vec::new(alloc);
-    add_one_way(alloc, &mut lines, app, &uses)?;
-    Ok(lines)
+    add_one_way(alloc, warnings, app, &uses)
 }

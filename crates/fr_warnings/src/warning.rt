@@ -4,71 +4,60 @@ use crate::mutexes::{held_while_waiting, never_given};
 use crate::reached::never_reached;
 use crate::updates::lost_updates;
 use crate::uses::{never_used, used_one_way};
-use fr_formats::{WarningKind, WarningShown};
+use fr_formats::WarningKind;
 use fr_notes::Notes;
-use fr_program::App;
+use fr_program::{App, Point};
 use fr_request::Warns;
 use std::alloc::{AllocError, Global};
+
+/// What an answer may hide.
+#[derive(Drop)]
+pub struct Warning {
+    pub kind: WarningKind,
+    /// The line that is printed.
+    pub text: String,
+    /// The point that it is about, the first of several.
+    pub point: Option<Point>,
+}
 
 /// The warning for an application without actors.
 const NO_ACTORS: &str = "warning: no task or interrupt is in this file";
 
-/// Adds lines as warnings of this kind.
-fn add(
-    warnings: &mut Vec<WarningShown>,
-    kind: WarningKind,
-    lines: Vec<String>,
-) -> Result<(), AllocError> {
-    for text in lines {
-        warnings.push(WarningShown { kind, text })?;
-    }
-    Ok(())
-}
-
 /// Adds the warnings that rest on notes.
 fn add_noted(
     alloc: Global,
-    warnings: &mut Vec<WarningShown>,
+    warnings: &mut Vec<Warning>,
     app: &App,
     notes: &Notes,
 ) -> Result<(), AllocError> {
-    let lines = never_reached(alloc, app, notes)?;
-    add(warnings, WarningKind::NeverReached, lines)?;
-    let lines = held_while_waiting(alloc, app, notes)?;
-    add(warnings, WarningKind::HeldWhileWaiting, lines)?;
-    let lines = never_given(alloc, app, notes)?;
-    add(warnings, WarningKind::NeverGiven, lines)?;
-    let lines = lost_updates(alloc, app, notes)?;
-    add(warnings, WarningKind::LostUpdate, lines)?;
-    let lines = buffers_in_critical_sections(alloc, app, notes)?;
-    add(warnings, WarningKind::BufferInCriticalSection, lines)
+    never_reached(alloc, app, notes, warnings)?;
+    held_while_waiting(alloc, app, notes, warnings)?;
+    never_given(alloc, app, notes, warnings)?;
+    lost_updates(alloc, app, notes, warnings)?;
+    buffers_in_critical_sections(alloc, app, notes, warnings)
 }
 
 /// Adds what is never used, or used one way.
-fn add_unused(
-    alloc: Global,
-    warnings: &mut Vec<WarningShown>,
-    app: &App,
-) -> Result<(), AllocError> {
-    let lines = never_used(alloc, app)?;
-    add(warnings, WarningKind::NeverUsed, lines)?;
-    let lines = used_one_way(alloc, app)?;
-    add(warnings, WarningKind::UsedOneWay, lines)
+fn add_unused(alloc: Global, warnings: &mut Vec<Warning>, app: &App) -> Result<(), AllocError> {
+    never_used(alloc, app, warnings)?;
+    used_one_way(alloc, app, warnings)
 }
 
 /// Adds that the application has no actors, and where all warnings are asked for what the notes hint at, where there are notes, and
 /// what is never used or used one way.
 fn add_for(
     alloc: Global,
-    warnings: &mut Vec<WarningShown>,
+    warnings: &mut Vec<Warning>,
     app: &App,
     notes: Option<&Notes>,
     warns: Warns,
 ) -> Result<(), AllocError> {
     if app.actors().is_empty() {
-        let text = String::from_str(alloc, NO_ACTORS)?;
-        let kind = WarningKind::NoActors;
-        warnings.push(WarningShown { kind, text })?;
+        warnings.push(Warning {
+            kind: WarningKind::NoActors,
+            text: String::from_str(alloc, NO_ACTORS)?,
+            point: None,
+        })?;
     }
     if warns != Warns::OfAll {
         return Ok(());
@@ -86,7 +75,7 @@ pub fn warnings_for(
     app: &App,
     notes: Option<&Notes>,
     warns: Warns,
-) -> Result<Vec<WarningShown>, AllocError> {
+) -> Result<Vec<Warning>, AllocError> {
     let mut warnings = Vec::new(alloc);
     if warns != Warns::Never {
         add_for(alloc, &mut warnings, app, notes, warns)?;

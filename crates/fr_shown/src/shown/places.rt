@@ -2,14 +2,15 @@
 ghost use Rattle.std.specs.Prelude.{◌≡◌, IfOk};
 
 use fr_code::{CodePlace, CodeSource, places_of_code, source_texts, sources_of_code};
-use fr_formats::{PlaceShown, SourceShown};
+use fr_formats::{PlaceShown, SourceShown, WarningShown};
 use fr_program::{App, Point};
+use fr_warnings::Warning;
 use fr_wording::{Sources, actor_name, line_of_code};
 use std::alloc::{AllocError, Global};
 
 /// Where the code of an application stands in its text, and in the source that it was translated from.
 #[derive(Drop)]
-pub(super) struct Places<'a> {
+pub(crate) struct Places<'a> {
     app: &'a App,
     code: Vec<Vec<CodePlace>>,
     sources: Vec<Vec<Option<CodeSource>>>,
@@ -17,7 +18,7 @@ pub(super) struct Places<'a> {
 
 impl<'a> Places<'a> {
     /// Those of this application, which is what the text means.
-    pub(super) fn build(alloc: Global, app: &'a App, text: &[u8]) -> Result<Places<'a>, AllocError>
+    pub(crate) fn build(alloc: Global, app: &'a App, text: &[u8]) -> Result<Places<'a>, AllocError>
         ensures { IfOk result (λ places. places.app.now ≡ app.now) }
     {
         let code = places_of_code(alloc, text)?;
@@ -48,6 +49,37 @@ impl<'a> Places<'a> {
                 line: source.line,
             })),
             _ => Ok(None),
+        }
+    }
+
+    /// The warning, with the place of its line.
+    pub(crate) fn warned(
+        &self,
+        alloc: Global,
+        warning: Warning,
+    ) -> Result<WarningShown, AllocError> {
+        let Warning { kind, text, point } = warning;
+        let Some(point) = point else {
+            return Ok(WarningShown {
+                kind,
+                text,
+                file: None,
+                line: None,
+            });
+        };
+        match self.source_at(alloc, point)? {
+            Some(SourceShown { file, line }) => Ok(WarningShown {
+                kind,
+                text: format!(in alloc; "{text}  # {file}:{line}")?,
+                file: Some(file),
+                line: Some(line),
+            }),
+            None => Ok(WarningShown {
+                kind,
+                text,
+                file: None,
+                line: self.code_at(point).map(|place| place.line),
+            }),
         }
     }
 
