@@ -1,7 +1,8 @@
 use Rattle.std.proofs.Common.{◌≡◌}
 use Rattle.std.specs.Prelude.{◌≢◌, pos}
 use Rattle.fr_notes.proofs.Terms.{IfSome_then, Less, AtMost, Greater, AtLeast, Equal, NotEqual, Compares, IsBelow, turned}
-use Rattle.fr_notes.proofs.ComparisonLaws.{none_then, are-least-same, no-pair-same, less, at-most, greater, at-least, equal, not-equal, exchanged-some, exchanged-none}
+use Rattle.fr_program.proofs.OptionLemmas.{none_then}
+use Rattle.fr_notes.proofs.ComparisonLaws.{are-least-same, no-pair-same, less, at-most, greater, at-least, equal, not-equal, exchanged-some, exchanged-none}
 use Rattle.fr_notes.proofs.comparison.narrowed.Goals as goal
 
 pub returns-in-Less-clause-some : goal.returns-in-Less-clause-some

@@ -1,6 +1,6 @@
 use Rattle.std.proofs.Common.{arith}
 use Rattle.fr_notes.proofs.Terms.{ints, clamps, IfSome_then}
-use Rattle.fr_notes.proofs.ComparisonLaws.{none_then}
+use Rattle.fr_program.proofs.OptionLemmas.{none_then}
 use Rattle.fr_notes.proofs.comparison.up_to.Goals as goal
 
 pub returns-clause-some : goal.returns-clause-some
