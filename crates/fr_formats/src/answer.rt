@@ -147,7 +147,7 @@ pub struct WarningShown {
 pub struct TraceShown {
     /// Its file, as it was named.
     pub file: String,
-    /// The number of the line of the trace that can't be followed, from 1; None where there is none.
+    /// The number of the line of the trace that can't be followed, or at which it is refused, from 1; None where there is none.
     pub line: Option<usize>,
 }
 

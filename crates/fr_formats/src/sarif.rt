@@ -6,7 +6,7 @@ ghost use Rattle.std.specs.Prelude.{◌≡◌, ◌++◌, IfOk, OnOk, map, nat_lt
 ghost use Rattle.fr_formats.specs.Answers.{greatest_status as greatest};
 ghost use Rattle.fr_formats.specs.Sarif.{IsSarif, added, all_notifications, artifact, error_begins, failing, failing_by, files, invocations, is_named, log, log_begins, notification, notification_of, notifications, plain_result, related, result_begins, result_of, results, results_begin, rule_of, rule_tokens, rules, warning_results, whole_result, whole_text};
 
-use crate::answer::{AnswerKind, AnswerShown, Failure, greatest_status};
+use crate::answer::{AnswerKind, AnswerShown, Failure, WarningShown, greatest_status};
 use crate::ident::{Ident, idents, rule_index};
 use crate::piece::Piece::{Array, Field, Flag, Marks, MaybeNumber, Message, Number, Object};
 use crate::piece::{Out, put};

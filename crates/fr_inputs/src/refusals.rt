@@ -63,7 +63,8 @@ fn source_fault(
         lines.push(String::from_str(alloc, recipe)?)?;
     }
     let place = place_of_texts(alloc, &lines)?;
-    Ok((CheckFault::Source(report), place))
+    let line = Some(message.line);
+    Ok((CheckFault::Source { text: report, line }, place))
 }
 
 /// The fault of these texts, and where `places` asks for it where they are at fault.

@@ -5,6 +5,7 @@
 -- | kind_of_judged, kind_of_finding, kind_of_fault | the kind of answer that each of them is                           |
 -- | kind_of                         | the kind of an answer                                                            |
 -- | what_status                     | the exit status of an answer                                                     |
+-- | refused_line, fault_line_number | the number of the line at which a source or a trace is refused                   |
 -- | first_line                      | the first line of an answer                                                      |
 -- | waits_text, second_text         | the line that says whether actors can deadlock, where it is asked                |
 -- | judged_line, shown_line         | the line that a report shows                                                     |
@@ -42,7 +43,7 @@ use Rattle.fr_formats.specs.declared.answer.AnswerKind.TheVariants.{Yes, No, May
 use Rattle.fr_formats.specs.Answers.{status_of as kind_status}
 use Rattle.fr_parallel.specs.Crew.{IsNoCrew}
 use Rattle.fr_outcome.specs.declared.fault.CheckFault.{CheckFault}
-use Rattle.fr_outcome.specs.declared.fault.CheckFault.TheVariants.{App, Cert, Workers, Memory, Thread}
+use Rattle.fr_outcome.specs.declared.fault.CheckFault.TheVariants.{App, Cert, Source, Workers, Memory, Thread}
 use Rattle.fr_outcome.specs.declared.answer.What.{What}
 use Rattle.fr_outcome.specs.declared.answer.What.TheVariants.{Judged, Searched, Refused as NoAnswer}
 use Rattle.fr_outcome.specs.Judged.{JudgedOf}
@@ -75,6 +76,15 @@ abbrev pub kind_of : What → AnswerKind
 kind_of (Judged j) = kind_of_judged j.verdict j.waits
 kind_of (Searched s) = kind_of_finding s.found
 kind_of (NoAnswer r) = kind_of_fault r.fault
+
+-- the number of the line of a source or a trace at which it is refused, where it is refused at one
+abbrev pub fault_line_number : CheckFault → Option ℕ
+fault_line_number (Source text line) = line
+fault_line_number fault = None
+
+abbrev pub refused_line : What → Option ℕ
+refused_line (NoAnswer r) = fault_line_number r.fault
+refused_line what = None
 
 -- the exit status of an answer is that of its kind
 abbrev pub what_status : What → ℕ

@@ -53,7 +53,7 @@ abbrev pub fault_status : CheckFault → ℕ
 fault_status (App f) = 2
 fault_status (Cert f) = 2
 fault_status (NoList f) = 2
-fault_status (Source text) = 2
+fault_status (Source text line) = 2
 fault_status Words = 2
 fault_status Workers = 2
 fault_status Rounds = 2
@@ -77,7 +77,7 @@ abbrev pub line_of : CheckFault → List ℕ
 line_of (App f) = codes "refused: app " ++ fault_text f
 line_of (Cert f) = codes "refused: cert " ++ text_of f
 line_of (NoList f) = list_line f
-line_of (Source text) = string_bytes text
+line_of (Source text line) = string_bytes text
 line_of Words = codes "refused: words"
 line_of Workers = codes "refused: workers"
 line_of Rounds = codes "refused: rounds"

@@ -17,6 +17,7 @@ ghost use Rattle.fr_outcome.specs.Answers.{
   kind_of_judged,
   kind_of_waits,
   place_text,
+  refused_line,
   second_text,
   shown_line,
   waits_text,
@@ -273,6 +274,19 @@ impl What {
         ensures { result ≡ what_status self.now }
     {
         self.kind().status()
+    }
+
+    /// The number of the line of a source or a trace at which it is refused, from 1; None where nothing is, or not at a line.
+    pub fn refused_line(&self) -> Option<usize>
+        ensures { result ≡ refused_line self.now }
+    {
+        match self {
+            What::Refused(refusal) => match &refusal.get().fault {
+                CheckFault::Source { line, .. } => *line,
+                _ => None,
+            },
+            What::Judged(_) | What::Searched(_) => None,
+        }
     }
 
     /// The first line of the answer's text, without its newline: the verdict, what was found, or the fault. Its error is that an

@@ -20,8 +20,13 @@ pub enum CheckFault {
     Cert(CertFault),
     /// The bytes of a list of applications are refused.
     List(ListFault),
-    /// A source is refused: what is wrong in it and where, as it is printed.
-    Source(String),
+    /// A source or a trace is refused.
+    Source {
+        /// What is wrong in it and where, as it is printed.
+        text: String,
+        /// The number of the line that is at fault, from 1, where it is one.
+        line: Option<usize>,
+    },
     /// The words that a run picks its choices by are no list of numbers.
     Words,
     /// The number of workers is not 1 to 64.
@@ -145,7 +150,7 @@ pub fn status(fault: &CheckFault) -> u8
         CheckFault::App(_)
         | CheckFault::Cert(_)
         | CheckFault::List(_)
-        | CheckFault::Source(_)
+        | CheckFault::Source { .. }
         | CheckFault::Words
         | CheckFault::Workers
         | CheckFault::Rounds
@@ -176,7 +181,7 @@ pub fn fault_line(alloc: Global, fault: &CheckFault) -> Result<String, AllocErro
         CheckFault::App(fault) => format!(in alloc; "refused: app {fault}"),
         CheckFault::Cert(fault) => format!(in alloc; "refused: cert {fault}"),
         CheckFault::List(fault) => list_line(alloc, *fault),
-        CheckFault::Source(text) => text.clone(),
+        CheckFault::Source { text, .. } => text.clone(),
         CheckFault::Words => String::from_str(alloc, "refused: words"),
         CheckFault::Workers => String::from_str(alloc, "refused: workers"),
         CheckFault::Rounds => String::from_str(alloc, "refused: rounds"),

@@ -60,7 +60,7 @@ pub fn refuse<E: Write>(alloc: Global, refusal: Refusal, err: &mut E) -> u8
 /// Whether it is printed where a fault is: always of a file and of a source.
 fn shows_place(fault: &CheckFault, asked: Asked) -> bool {
     match fault {
-        CheckFault::File | CheckFault::Source(_) => true,
+        CheckFault::File | CheckFault::Source { .. } => true,
         CheckFault::App(fault) if asked.words => asked.explains || is_unknown_word(fault),
         _ => asked.explains,
     }

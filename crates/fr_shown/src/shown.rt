@@ -8,7 +8,7 @@ mod steps;
 
 use failure::failure_of;
 use fr_formats::{AnswerShown, Failure, Source, StepShown, WarningShown};
-use fr_outcome::{Answer, CheckFault, Judged, What};
+use fr_outcome::{Answer, Judged, What};
 use fr_refuter::Finding;
 pub(crate) use places::Places;
 use std::alloc::{AllocError, Global};
@@ -64,17 +64,6 @@ fn copied(text: &Option<String>) -> Result<Option<String>, AllocError> {
     }
 }
 
-/// The line at which the application's file is refused, where it is a source.
-fn refused_line(what: &What) -> Option<usize> {
-    match what {
-        What::Refused(refusal) => match &refusal.get().fault {
-            CheckFault::Source(message) => Some(message.line),
-            _ => None,
-        },
-        _ => None,
-    }
-}
-
 /// The warnings.
 fn warnings_shown(
     alloc: Global,
@@ -98,7 +87,7 @@ fn add_details(alloc: Global, answer: &Answer, shown: &mut AnswerShown) -> Resul
     ensures kind { OnOk result (shown.new.answer ≡ shown.old.answer) }
     ensures report { OnOk result (shown.new.report ≡ shown.old.report) }
 {
-    shown.line = refused_line(&answer.what);
+    shown.line = answer.what.refused_line();
     shown.lines = answer.what.shown_lines(alloc)?;
     shown.warnings = warnings_shown(alloc, &answer.warnings)?;
     let (failure, steps) = details_of(alloc, answer)?;

@@ -24,10 +24,10 @@ fn explains(asked: &FollowRequest) -> bool {
 fn refused(alloc: Global, why: NoAnswer, places: bool) -> Refusal
     ensures { 2 ≤ fault_status result.fault }
 {
-    let NoAnswer::Refused { line, place } = why else {
+    let NoAnswer::Refused { text, line, place } = why else {
         return Refusal::from(CheckFault::Memory);
     };
-    let fault = CheckFault::Source(line);
+    let fault = CheckFault::Source { text, line };
     if !places || place.is_empty() {
         return Refusal::from(fault);
     }
@@ -86,7 +86,7 @@ fn answer_with(alloc: Global, what: &What, explains: bool) -> Result<TraceAnswer
         kind: what.kind(),
         line,
         why,
-        stop: None,
+        stop: what.refused_line(),
         followed: None,
         run: None,
         rows: Vec::new(alloc),

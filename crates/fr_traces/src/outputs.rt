@@ -36,7 +36,7 @@ pub(crate) fn look_at_outputs<F: Files>(
 {
     if let Some(word) = word_for_one(asked) {
         let text = format!(in alloc; "refused: {word} is for one trace")?;
-        return Err(Refusal::from(CheckFault::Source(text)));
+        return Err(Refusal::from(CheckFault::Source { text, line: None }));
     }
     let trace = asked.traces.first().copied().unwrap_or("");
     let run = output_at(asked.run, Holds::Anything);

@@ -53,7 +53,7 @@ pub struct TraceAnswer {
     pub line: String,
     /// The lines that explain it, where that is asked for.
     pub why: Vec<String>,
-    /// The number of the trace's line that can't be followed, from 1; None where there is none.
+    /// The number of the trace's line that can't be followed, or at which the trace is refused, from 1; None where there is none.
     pub stop: Option<usize>,
     /// How far it was followed; None where it wasn't, as it has something that the application doesn't list.
     pub followed: Option<Followed>,
@@ -73,7 +73,9 @@ pub enum NoAnswer {
     /// The bytes are no trace.
     Refused {
         /// What is wrong, as it is printed.
-        line: String,
+        text: String,
+        /// The number of the line that is at fault, from 1, where it is one.
+        line: Option<usize>,
         /// Where it is: the trace's line, and below it a mark. Empty where it is no line.
         place: Vec<String>,
     },
@@ -327,13 +329,15 @@ fn answer_of(
 
 /// Why the bytes are no trace.
 fn refused(alloc: Global, bytes: &[u8], why: NoTrace) -> Result<NoAnswer, AllocError> {
-    let (line, place) = match why {
+    let (text, line, place) = match why {
         NoTrace::TooLong => (
             String::from_str(alloc, "refused: trace 1 TooLong")?,
+            None,
             Vec::new(alloc),
         ),
         NoTrace::NotText => (
             String::from_str(alloc, "refused: trace 2 NotText")?,
+            None,
             Vec::new(alloc),
         ),
         NoTrace::Faulty {
@@ -343,11 +347,11 @@ fn refused(alloc: Global, bytes: &[u8], why: NoTrace) -> Result<NoAnswer, AllocE
         } => {
             let said = fault_text(fault);
             let text = format!(in alloc; "refused: trace line {line}, column {column}: {said}")?;
-            (text, marked(alloc, bytes, line, column)?)
+            (text, Some(line), marked(alloc, bytes, line, column)?)
         }
         NoTrace::Memory | NoTrace::NotListed(_) => return Err(AllocError),
     };
-    Ok(NoAnswer::Refused { line, place })
+    Ok(NoAnswer::Refused { text, line, place })
 }
 
 /// The trace in these bytes, which may begin anywhere in a run or doesn't.
