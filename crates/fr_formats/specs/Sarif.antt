@@ -16,10 +16,11 @@
 -- | notifications, invocations        | what kept the machine from answers, and how the program ended           |
 -- | Rule, rules                       | what can fail: its name, and words about it                             |
 -- | log, IsSarif                      | the whole report                                                        |
-use Rattle.std.specs.Prelude.{◌≡◌, ℕ, zero, ℤ, pos, ◌+◌, ◌-◌, ◌^◌, min, nat_lt, nat_eq, Bool, true, false, ◌&&◌, if◌then◌else◌, List, [], ◌∷◌, ◌++◌, Option, Some, None, bytes_eq, codes, decimal, flat_map, is_some, map, string_bytes}
+use Rattle.std.specs.Prelude.{◌≡◌, ℕ, zero, ℤ, pos, ◌+◌, ◌-◌, ◌^◌, min, nat_lt, nat_eq, Bool, true, false, ◌&&◌, if◌then◌else◌, List, [], ◌∷◌, ◌++◌, Option, Some, None, bytes_eq, codes, decimal, flat_map, is_some, map, string_bytes, String}
 use Rattle.std.specs.Fmt.{signed_decimal}
 use Rattle.std.specs.List.{list_any, starts_with}
 use Rattle.json.specs.Token.{Token, begin_object, end_object, end_array, key}
+use Rattle.std.specs.declared.alloc.Global.{Global}
 use Rattle.fr_escape.specs.Uri.{uri}
 use Rattle.fr_request.specs.declared.format.TheConstants.{VERSION}
 use Rattle.fr_formats.specs.declared.answer.AnswerKind.{AnswerKind}
@@ -242,7 +243,7 @@ result_by GaveUp a = whole_result (codes "warning") a
 unfoldable pub result_of : AnswerShown → List Token
 result_of a = result_by a.answer a
 
-abbrev pub warned_file : List ℕ → Option String → List ℕ
+abbrev pub warned_file : List ℕ → Option (String Global) → List ℕ
 warned_file path None = path
 warned_file path (Some file) = string_bytes file
 

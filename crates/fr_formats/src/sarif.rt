@@ -4,7 +4,7 @@ mod place;
 
 ghost use Rattle.std.specs.Prelude.{◌≡◌, ◌++◌, IfOk, OnOk, map, nat_lt, string_bytes};
 ghost use Rattle.fr_formats.specs.Answers.{greatest_status as greatest};
-ghost use Rattle.fr_formats.specs.Sarif.{IsSarif, added, all_notifications, artifact, error_begins, failing, failing_by, files, invocations, is_named, log, log_begins, notification, notification_of, notifications, plain_result, related, result_begins, result_of, results, results_begin, rule_of, rule_tokens, rules, warning_results, whole_result, whole_text};
+ghost use Rattle.fr_formats.specs.Sarif.{IsSarif, added, all_notifications, artifact, error_begins, failing, failing_by, files, invocations, is_named, log, log_begins, notification, notification_of, notifications, plain_result, related, result_begins, result_of, results, results_begin, rule_of, rule_tokens, rules, warning_result, warning_results, whole_result, whole_text};
 
 use crate::answer::{AnswerKind, AnswerShown, Failure, WarningShown, greatest_status};
 use crate::ident::{Ident, idents, rule_index};
