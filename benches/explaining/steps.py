@@ -14,7 +14,7 @@ from model import DEAD, FREE, Held
 HERE = os.path.dirname(os.path.abspath(__file__))
 TOP = os.path.join(HERE, "..", "..")
 NAME = "explaining_steps"
-CRATES = ["fr_calls", "fr_reader", "fr_instr", "fr_program"]
+CRATES = ["fr_calls", "fr_rules", "fr_reader", "fr_instr", "fr_program"]
 LAST = re.compile(r"(\d+) tables, (\d+) cases, (\d+) differ")
 WORDS = {"binary": "count", "counting": "count", "stream": "bytes", "queue": "values", "message": "messages"}
 

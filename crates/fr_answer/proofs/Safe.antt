@@ -4,7 +4,7 @@ use Rattle.fr_answer.proofs.Terms.{All-head, All-tail, Program, TellsYes, TellsN
 use Rattle.fr_answer.proofs.Terms.{what_status, IsAnsweredFor, IsProofOf, IsSettledIn, IsSearchOf, IsVerdictOn, AreAnswered, AreEachSafe, AreLinesPrinted, AreNamedSafe, IsAnswerBy, IsCheckAnswered}
 use Rattle.fr_answer.proofs.Terms.{IsCheckOf, IsLineAnswer, IsProofAt, IsSafeAt, IsSearchAt, IsShown, LineAnswer, greater_status}
 use Rattle.std.specs.Prelude.{fold, true, false, IfSome, IsSome, IsTrue}
-use Rattle.fr_calls.specs.Run.{IsSafe}
+use Rattle.fr_rules.specs.Run.{IsSafe}
 use Rattle.fr_waits.specs.Waits.{HasNoDeadlock}
 use Rattle.fr_ends.specs.Certificate.{Certificate, AllHaveDistinctTurns}
 use Rattle.fr_ends.specs.Fits.{EndFits}

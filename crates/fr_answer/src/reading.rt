@@ -4,7 +4,7 @@ ghost use Rattle.fr_outcome.specs.Checked.{fault_status};
 ghost use Rattle.fr_answer.specs.Commands.{IsCheckOf, IsProofAt, IsSearchAt};
 ghost use Rattle.fr_inputs.specs.Inputs.{AsApp, Reads};
 
-use fr_cert::MOST_BYTES as MOST_CERTIFICATE_BYTES;
+use fr_cert::MOST_CERTIFICATE_BYTES;
 use fr_findings::{Ways, judged_texts, searched_text};
 use fr_inputs::{Files, application, input, refusal_of_texts};
 use fr_outcome::{AppText, CheckFault, Refusal, What};

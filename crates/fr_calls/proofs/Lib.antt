@@ -1,13 +1,6 @@
 pub mod Breached
-pub mod Built
-pub mod Contents
-pub mod Formed
-pub mod Places
-pub mod Free
 pub mod Unforbidden
-pub mod Endings
 pub mod Begins
-pub mod Rows
 pub mod Named
 pub mod Chosen
 pub mod Spanned

@@ -1,10 +1,5 @@
-pub mod State
-pub mod Rule
-pub mod FirstBreach
-pub mod Step
-pub mod Landing
 pub mod View
-pub mod Choices
+pub mod FirstBreach
+pub mod Moves
 pub mod Ways
-pub mod Run
 pub mod Laws

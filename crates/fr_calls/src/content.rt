@@ -43,7 +43,7 @@ pub struct Content {
 }
 
 impl Model for Content {
-    ghost use Rattle.fr_calls.specs.State.{Content as ContentOf};
+    ghost use Rattle.fr_rules.specs.State.{Content as ContentOf};
 
     ghost Value = { ContentOf };
 
@@ -111,9 +111,9 @@ impl Messages {
 
 impl Content {
     ghost use Rattle.fr_calls.specs.View.{content_kept};
-    ghost use Rattle.fr_calls.specs.State.{Dead, Values, new_content, count_held};
-    ghost use Rattle.fr_calls.specs.Step.{taken, given, is_full, queued, sent_bytes, received_bytes, sent_message, received_message};
-    ghost use Rattle.fr_calls.specs.Choices.{IsAmong, IsRising};
+    ghost use Rattle.fr_rules.specs.State.{Dead, Values, new_content, count_held};
+    ghost use Rattle.fr_rules.specs.Step.{taken, given, is_full, queued, sent_bytes, received_bytes, sent_message, received_message};
+    ghost use Rattle.fr_calls.specs.Moves.{IsAmong, IsRising};
 
     /// The content that this stock is.
     pub fn of(stock: Stock) -> Content

@@ -1,15 +1,13 @@
 // Whether an actor is free to step: it breaches no rule at whose breach there is no step.
 ghost use Rattle.std.specs.Prelude.{◌≡◌, ◌<◌, ◌↔◌, length, IsTrue, IsFalse};
 ghost use Rattle.fr_program.specs.Fault.{NamesThings};
-ghost use Rattle.fr_calls.specs.State.{IsWellFormed};
-ghost use Rattle.fr_calls.specs.Rule.{given_kind, GivesUnheld, UsesDead, condition_of};
-ghost use Rattle.fr_calls.specs.Step.{SuitsInside, IsFree};
+ghost use Rattle.fr_rules.specs.State.{IsWellFormed};
+ghost use Rattle.fr_rules.specs.Rule.{GivesUnheld, UsesDead, condition_of};
+ghost use Rattle.fr_rules.specs.Step.{SuitsInside, IsFree};
 
-use crate::rules::{Condition, first_forbidden, is_unsuited};
 use crate::state::State;
-use fr_program::{
-    Act, ActorId, App, Attempt, Call, Instr, Kind, Point, SemaphoreForm, Side, Timing,
-};
+use fr_program::{ActorId, App, Call, Instr, Kind, Point, Side};
+use fr_rules::{Condition, first_forbidden, given_kind, is_unsuited};
 
 /// Whether the actor isn't inside a take or a give that doesn't suit the kind of semaphore.
 fn suits_inside(app: &App, side: Side, instr: &Instr) -> bool
@@ -21,25 +19,6 @@ fn suits_inside(app: &App, side: Side, instr: &Instr) -> bool
             !is_unsuited(app.kind(call.object), call.timing, call.act)
         }
         _ => true,
-    }
-}
-
-/// The kind of mutex that a task's give is for.
-pub fn given_kind(act: Act, timing: Timing) -> Option<Kind>
-    ensures { result ≡ given_kind act timing }
-{
-    match (act, timing) {
-        (
-            Act::Try {
-                attempt: Attempt::Give(form),
-                ..
-            },
-            Timing::Now,
-        ) => Some(match form {
-            SemaphoreForm::Plain => Kind::Mutex,
-            SemaphoreForm::Recursive => Kind::Recursive,
-        }),
-        _ => None,
     }
 }
 

@@ -1,8 +1,6 @@
-// States, the twelve rules of use, steps and runs: what an application does, and what it must not do. The other crates
-// take their meaning from the definitions in specs/: a state, a breach of a rule, a step, a run, safe. The code has
-// all twelve rules (`State::breaches`), those alone that an actor's kind, depths and mutexes decide (`rule_of`), and where
-// each row of the step table leads (`lands_at`). `State` runs steps: `moves` gives an actor's choices, `apply` the state
-// after one. The laws are functions that do nothing: each is there for its contract.
+// States that run: what an actor can do next (`State::moves`), the state after a step (`State::apply`), and which rules
+// of use are breached (`State::breaches`). What a state, a step and a breach are is defined in `fr_rules`, which is handed
+// on from here. The laws are functions that do nothing: each is there for its contract.
 #![tactic(auto)]
 
 mod breach;
@@ -10,15 +8,15 @@ mod content;
 mod freedom;
 mod laws;
 mod moves;
-mod rules;
 mod state;
 mod step;
-mod way;
 
+pub use breach::span_of;
 pub use content::{Content, Messages, Stock};
-pub use freedom::given_kind;
+pub use fr_rules::{
+    Condition, Landing, Rule, Way, can_time_out, first_forbidden, forbids, given_kind, is_at_end,
+    is_unsuited, lands_at, rule_of,
+};
 pub use laws::{steps_stay_well_formed, the_start_is_well_formed};
-pub use moves::{Moves, can_time_out};
-pub use rules::{Condition, Rule, first_forbidden, forbids, is_at_end, is_unsuited, rule_of};
-pub use state::{Place, State};
-pub use way::{Landing, Way, lands_at};
+pub use moves::Moves;
+pub use state::{Place, State, value_in};

@@ -43,7 +43,7 @@ pub use Rattle.fr_notes.specs.Fits.{AlternativeFits, CanClaim, NoteFits, most_de
 pub use Rattle.fr_notes.specs.View.{ends_of}
 pub use Rattle.fr_program.specs.declared.parts.Kind.{Kind}
 pub use Rattle.fr_program.specs.declared.parts.Kind.TheVariants.{Mutex, Recursive}
-pub use Rattle.fr_calls.specs.State.{kind_of}
+pub use Rattle.fr_rules.specs.State.{kind_of}
 pub use Rattle.fr_notes.specs.declared.claim.Claim.{Claim}
 pub use Rattle.fr_notes.specs.declared.claim.Claim.TheVariants.{HeldTimes, NotHeld, Alive, Gone}
 pub use Rattle.fr_notes.specs.declared.note.NoteParts.{NoteParts}

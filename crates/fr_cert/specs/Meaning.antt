@@ -28,7 +28,7 @@ use Rattle.fr_program.specs.Points.{points_of}
 use Rattle.fr_instr.specs.Names.{NamesOf}
 use Rattle.fr_program.specs.declared.instr.End.{End as BufferEnd}
 use Rattle.fr_program.specs.Uses.{end_text}
-use Rattle.fr_calls.specs.State.{kind_of}
+use Rattle.fr_rules.specs.State.{kind_of}
 use Rattle.fr_notes.specs.declared.claim.Claim.{Claim}
 use Rattle.fr_notes.specs.declared.claim.Claim.TheVariants.{NotHeld, Alive, Gone, HeldTimes}
 use Rattle.fr_notes.specs.Note.{Alternative, Note}

@@ -27,5 +27,5 @@ mod written_notes;
 
 pub use fault::CertFault;
 pub use path::{Path, Step};
-pub use reading::{MOST_BYTES, no_meaning, one_meaning, read_cert};
+pub use reading::{MOST_CERTIFICATE_BYTES, no_meaning, one_meaning, read_cert};
 pub use writing::write_cert;

@@ -26,7 +26,7 @@ use serde_json::{Map, Value};
 use std::alloc::Global;
 
 /// The most bytes that a certificate has.
-pub const MOST_BYTES: usize = 16_777_216;
+pub const MOST_CERTIFICATE_BYTES: usize = 16_777_216;
 
 /// A version, 1 or 2.
 struct Version;
@@ -106,7 +106,7 @@ fn tree_of(alloc: Global, bytes: &[u8]) -> Result<Value, CertFault>
     ensures ok { IfOk result (λ tree. IsTreeText bytes.now (view tree)) }
     ensures err { IfErr result (Standing (InBytes bytes.now)) }
 {
-    if bytes.len() > MOST_BYTES {
+    if bytes.len() > MOST_CERTIFICATE_BYTES {
         return Err(CertFault::TooLong);
     }
     match Value::from_slice(alloc, bytes) {

@@ -7,8 +7,8 @@ use Rattle.fr_edge.proofs.Terms.{KeepsRule, Goes, KeepsRuleBy, BreaksRuleBy, IsA
 use Rattle.fr_program.proofs.InstrLemmas.{instr_at-within}
 use Rattle.fr_program.specs.PointNumbers.{PointsAreNumbered}
 use Rattle.fr_program.specs.declared.ids.ActorId.{ActorId}
-use Rattle.fr_calls.specs.declared.way.Landing.TheVariants.{At as LandsAt}
-use Rattle.fr_calls.specs.Landing.{landing_of}
+use Rattle.fr_rules.specs.declared.way.Landing.TheVariants.{At as LandsAt}
+use Rattle.fr_rules.specs.Landing.{landing_of}
 use Rattle.fr_edge.specs.declared.failure.Own.{Own}
 use Rattle.fr_edge.specs.FirstOwn.{KeepsRules, IsLeastRule, IsFirstOwn}
 

@@ -16,9 +16,9 @@ use Rattle.fr_program.specs.declared.instr.Operator.TheVariants.{Plus, Minus, Ti
 use Rattle.fr_program.specs.declared.ids.ObjId.{ObjId}
 use Rattle.fr_program.specs.declared.parts.Kind.TheVariants.{Queue}
 use Rattle.fr_program.specs.Limits.{IsNumber}
-use Rattle.fr_calls.specs.declared.rules.Rule.TheVariants.{OneWriter, OneReader, GivenByHolder, AllowedInCritical, AllowedSuspended, AllowedInInterrupt, IsLive, LifeInOrder, SuitsSemaphore, DepthAboveZero, EndsInOrder, InRange}
-use Rattle.fr_calls.proofs.Built.{HasSizes, is-built}
-use Rattle.fr_calls.proofs.Contents.{new-fits}
+use Rattle.fr_rules.specs.declared.rules.Rule.TheVariants.{OneWriter, OneReader, GivenByHolder, AllowedInCritical, AllowedSuspended, AllowedInInterrupt, IsLive, LifeInOrder, SuitsSemaphore, DepthAboveZero, EndsInOrder, InRange}
+use Rattle.fr_rules.proofs.Built.{HasSizes, is-built}
+use Rattle.fr_rules.proofs.Contents.{new-fits}
 use Rattle.fr_notes.specs.declared.holding.Holding.{Holding}
 use Rattle.fr_notes.specs.declared.holding.Holding.TheVariants.{Unheld, Living, Lifeless, Own, Others}
 use Rattle.fr_notes.specs.Holding.{holding, can_be_dead}

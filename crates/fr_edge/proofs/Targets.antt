@@ -5,7 +5,7 @@ use Rattle.std.specs.Prelude.{ℤ, ◌↔◌, All, Contains}
 use Rattle.fr_edge.proofs.Terms.{cases_lt, Instr, Point, Program, instr_of, IsPoint, Way, Then, Else, State, At, place_of, StepBy, landing, CanStep, AlwaysLeaves, AlternativeFits, alone, Keeps}
 use Rattle.fr_edge.proofs.Terms.{IsLeft, Alternative, Note, HoldsOne, note_at, IsAt, NotedBy, Goes, GoesBy, GoesWell, WayOutcome, GoesOutcome}
 use Rattle.fr_notes.specs.declared.change.Change.{Change}
-use Rattle.fr_calls.proofs.Places.{own-place}
+use Rattle.fr_rules.proofs.Places.{own-place}
 use Rattle.fr_edge.proofs.Lists.{contained}
 
 -- a step of the point's actor from a state in which it stands there lands where the table says

@@ -9,8 +9,8 @@ pub use Rattle.fr_program.specs.Program.{Program, VariableOf, ObjectOf}
 pub use Rattle.fr_program.specs.Lookup.{actor_at, instr_at, no_actor, IsPoint, instr_of, is_interrupt, variable_at, no_variable, object_at, no_object}
 pub use Rattle.fr_program.specs.Points.{points_of, point_number}
 pub use Rattle.fr_program.specs.Fault.{IsFaultless, NamesThings, OperandsFit, AreApart, IsConstant}
-pub use Rattle.fr_calls.specs.State.{Place, At, Done, State, Content, place_of, Dead, CanHave, content_of, suspension_of, kind_of, start, first_content, new_content, value_of}
-pub use Rattle.fr_calls.specs.declared.rules.Rule.{Rule}
+pub use Rattle.fr_rules.specs.State.{Place, At, Done, State, Content, place_of, Dead, CanHave, content_of, suspension_of, kind_of, start, first_content, new_content, value_of}
+pub use Rattle.fr_rules.specs.declared.rules.Rule.{Rule}
 pub use Rattle.fr_notes.specs.Note.{Alternative, Note, Within, range_of, Meets, HoldsOne, claim_of, Holds}
 pub use Rattle.fr_notes.specs.Noted.{note_at, NotedBy, IsAt}
 pub use Rattle.fr_notes.specs.Fits.{AlternativeFits}
@@ -25,11 +25,11 @@ pub use Rattle.fr_program.specs.declared.instr.Act.{Act}
 pub use Rattle.fr_program.specs.declared.instr.Act.TheVariants.{Try}
 pub use Rattle.fr_program.specs.declared.instr.Attempt.TheVariants.{QueueSend}
 pub use Rattle.fr_program.specs.declared.instr.Timing.{Timing}
-pub use Rattle.fr_calls.specs.declared.way.Way.{Way}
-pub use Rattle.fr_calls.specs.declared.way.Way.TheVariants.{Then, Else}
-pub use Rattle.fr_calls.specs.Step.{StepBy, landing, CanStep, AlwaysLeaves}
-pub use Rattle.fr_calls.specs.Rule.{number_of, decided_rules, condition_of, first_forbidden, forbids, holds_some, used_object, GivesUnheld, LifeOutOfOrder, PutsOut, SendsOut, IsOutOfQueue}
-pub use Rattle.fr_calls.specs.Rule.{IsForbidden, Breaches, IsOutside, result_of, operand_of, Breach}
+pub use Rattle.fr_rules.specs.declared.way.Way.{Way}
+pub use Rattle.fr_rules.specs.declared.way.Way.TheVariants.{Then, Else}
+pub use Rattle.fr_rules.specs.Step.{StepBy, landing, CanStep, AlwaysLeaves}
+pub use Rattle.fr_rules.specs.Rule.{number_of, decided_rules, condition_of, first_forbidden, forbids, holds_some, used_object, GivesUnheld, LifeOutOfOrder, PutsOut, SendsOut, IsOutOfQueue}
+pub use Rattle.fr_rules.specs.Rule.{IsForbidden, Breaches, IsOutside, result_of, operand_of, Breach}
 pub use Rattle.fr_program.specs.declared.instr.Operand.{Operand}
 pub use Rattle.fr_program.specs.declared.instr.Operator.{Operator}
 pub use Rattle.fr_program.specs.declared.parts.Kind.{Kind}

@@ -32,12 +32,12 @@ use Rattle.fr_program.specs.declared.ids.Point.{Point}
 use Rattle.fr_program.specs.Program.{Program}
 use Rattle.fr_program.specs.Lookup.{IsPoint, instr_of, variable_at}
 use Rattle.fr_program.specs.Points.{point_number}
-use Rattle.fr_calls.specs.declared.way.Way.{Way}
-use Rattle.fr_calls.specs.State.{State, kind_of}
-use Rattle.fr_calls.specs.declared.rules.Rule.{Rule}
-use Rattle.fr_calls.specs.declared.rules.Rule.TheVariants.{AllowedInCritical, AllowedSuspended, AllowedInInterrupt, SuitsSemaphore, DepthAboveZero, EndsInOrder}
-use Rattle.fr_calls.specs.Rule.{number_of, Breach, used_object, result_of, IsOutside}
-use Rattle.fr_calls.specs.Step.{CanStep, AlwaysLeaves}
+use Rattle.fr_rules.specs.declared.way.Way.{Way}
+use Rattle.fr_rules.specs.State.{State, kind_of}
+use Rattle.fr_rules.specs.declared.rules.Rule.{Rule}
+use Rattle.fr_rules.specs.declared.rules.Rule.TheVariants.{AllowedInCritical, AllowedSuspended, AllowedInInterrupt, SuitsSemaphore, DepthAboveZero, EndsInOrder}
+use Rattle.fr_rules.specs.Rule.{number_of, Breach, used_object, result_of, IsOutside}
+use Rattle.fr_rules.specs.Step.{CanStep, AlwaysLeaves}
 use Rattle.fr_notes.specs.Note.{Alternative, Note, HoldsOne}
 use Rattle.fr_notes.specs.Noted.{note_at, IsAt, NotedBy}
 use Rattle.fr_notes.specs.Known.{Known, alone, joint_range, LeavesSome}

@@ -4,8 +4,8 @@ use Rattle.fr_program.specs.declared.ids.Point.{Point}
 use Rattle.fr_program.specs.Program.{Program}
 use Rattle.fr_program.specs.Lookup.{IsPoint}
 use Rattle.fr_program.specs.Points.{point_number}
-use Rattle.fr_calls.specs.declared.rules.Rule.{Rule}
-use Rattle.fr_calls.specs.Rule.{number_of}
+use Rattle.fr_rules.specs.declared.rules.Rule.{Rule}
+use Rattle.fr_rules.specs.Rule.{number_of}
 use Rattle.fr_notes.specs.Note.{Note}
 use Rattle.fr_edge.specs.declared.failure.Own.{Own}
 use Rattle.fr_edge.specs.declared.failure.Own.TheVariants.{Entry as FailsEntry, Rule as FailsRule, Goes as FailsGoes}

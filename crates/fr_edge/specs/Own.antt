@@ -7,12 +7,12 @@ use Rattle.fr_program.specs.declared.ids.Point.{Point}
 use Rattle.fr_program.specs.declared.ids.Side.TheVariants.{Before}
 use Rattle.fr_program.specs.Program.{Program}
 use Rattle.fr_program.specs.Lookup.{IsPoint, instr_of}
-use Rattle.fr_calls.specs.State.{State, start}
-use Rattle.fr_calls.specs.declared.rules.Rule.{Rule}
-use Rattle.fr_calls.specs.declared.rules.Rule.TheVariants.{OneWriter, OneReader, LifeInOrder}
-use Rattle.fr_calls.specs.Rule.{Breach}
-use Rattle.fr_calls.specs.declared.way.Way.{Way}
-use Rattle.fr_calls.specs.Step.{CanStep, AlwaysLeaves}
+use Rattle.fr_rules.specs.State.{State, start}
+use Rattle.fr_rules.specs.declared.rules.Rule.{Rule}
+use Rattle.fr_rules.specs.declared.rules.Rule.TheVariants.{OneWriter, OneReader, LifeInOrder}
+use Rattle.fr_rules.specs.Rule.{Breach}
+use Rattle.fr_rules.specs.declared.way.Way.{Way}
+use Rattle.fr_rules.specs.Step.{CanStep, AlwaysLeaves}
 use Rattle.fr_notes.specs.Note.{Alternative, Note, HoldsOne, Holds}
 use Rattle.fr_notes.specs.Noted.{note_at, IsAt, Noted, NotedBy}
 

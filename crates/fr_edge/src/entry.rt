@@ -1,6 +1,6 @@
 // Whether a point's note holds when the scheduler starts.
 ghost use Rattle.std.specs.Prelude.{◌≡◌, ◌<◌, ◌↔◌, ℕ, length, All, IsTrue};
-ghost use Rattle.fr_calls.specs.State.{start};
+ghost use Rattle.fr_rules.specs.State.{start};
 ghost use Rattle.fr_notes.specs.Fits.{AlternativeFits};
 ghost use Rattle.fr_notes.specs.Note.{HoldsOne, Holds, Within};
 ghost use Rattle.fr_notes.specs.View.{ends_of};

@@ -1,6 +1,6 @@
 // What a point owes by itself: its entry, the rules that are kept there, and where its steps go.
-use fr_calls::Rule;
 use fr_program::Point;
+use fr_rules::Rule;
 
 /// The first of its own obligations that fails at a point.
 #[derive(Clone, Copy, PartialEq, Eq)]

@@ -3,15 +3,15 @@ ghost use Rattle.std.specs.Prelude.{◌≡◌, ◌<◌, ◌↔◌, ◌≤ℤ◌,
 ghost use Rattle.std.specs.Option.{option_map};
 ghost use Rattle.fr_program.specs.Lookup.{variable_at};
 ghost use Rattle.fr_program.specs.Fault.{NamesThings, OperandsFit};
-ghost use Rattle.fr_calls.specs.Rule.{used_object};
+ghost use Rattle.fr_rules.specs.Rule.{used_object};
 ghost use Rattle.fr_notes.specs.Fits.{AlternativeFits};
 ghost use Rattle.fr_notes.specs.Known.{IsPossible, joint_range};
 ghost use Rattle.fr_notes.specs.Reckoning.{HasNumbersIn};
 ghost use Rattle.fr_edge.specs.Alternatives.{RuleOutcome, NoteOutcome, AnyRule, IsDecided, IsUndecided, gives_unheld, uses_dead, creates_live, SendsIn, SendsOutBy, StaysIn, IsOutBy, lesser_of};
 
-use fr_calls::{Rule, first_forbidden};
 use fr_notes::{Alternative, Holding, Known, Spot, condition_at, is_given_unheld};
 use fr_program::{Act, App, Attempt, Call, Instr, Kind, ObjId, Range, Side, VarId};
+use fr_rules::{Rule, first_forbidden};
 
 /// The least of the rules that the actor's condition decides, before an instruction.
 fn decided_rule(spot: &Spot, alternative: &Alternative) -> Option<Rule>

@@ -5,9 +5,9 @@ ghost use Rattle.fr_notes.specs.Known.{IsPossible, Keeps};
 ghost use Rattle.fr_edge.specs.Alternatives.{GoesWell, WayOutcome, GoesOutcome};
 ghost use Rattle.fr_notes.specs.Note.{Alternative as AlternativeOf};
 
-use fr_calls::{Landing, Way, lands_at};
 use fr_notes::{Alternative, Change, Known, Note, Spot, change_by, keeps};
 use fr_program::{Call, Instr, Side};
+use fr_rules::{Landing, Way, lands_at};
 
 /// Whether some alternative of a note holds of the mover after each step that makes this change.
 fn is_kept(known: &Known, change: &Change, next: &Note) -> bool

@@ -6,7 +6,7 @@ use Rattle.fr_effects.proofs.Terms.{Operand, Number, Variable, Operator, Times, 
 use Rattle.fr_effects.proofs.Terms.{result_of, Way, Then, Else, StepBy, NotHeld, Alternative, Note, HoldsOne, Within, claim_of, range_of, CanBeIn, IsSpanIn, ends_of, Known, HasKnown, alone, beside}
 use Rattle.fr_effects.proofs.Terms.{joint_range, Effect, Life, Gives, Sets, IsSparedByRow, IsSparedByRows, effect_inside, effect_of, IsMade, IsWritten, IsSeen, Bears, EachBears, AllBear}
 use Rattle.fr_effects.proofs.Terms.{IsComputable}
-use Rattle.fr_calls.proofs.Rows.{row-of-step, landing-of-step, free-to-step}
+use Rattle.fr_rules.proofs.Rows.{row-of-step, landing-of-step, free-to-step}
 use Rattle.fr_program.proofs.PointLemmas.{same-actor}
 use Rattle.fr_effects.proofs.EffectLaws.{Suits, row-seen}
 

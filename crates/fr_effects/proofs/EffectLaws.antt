@@ -12,9 +12,9 @@ use Rattle.fr_program.specs.declared.instr.Timing.TheVariants.{Now, FromIsr, Wai
 use Rattle.fr_program.specs.declared.instr.SemaphoreForm.{SemaphoreForm}
 use Rattle.fr_program.specs.declared.instr.SemaphoreForm.TheVariants.{Plain as PlainForm, Recursive as RecursiveForm}
 use Rattle.fr_program.specs.Timings.{suits_timing}
-use Rattle.fr_calls.specs.declared.rules.Rule.TheVariants.{GivenByHolder, IsLive, DepthAboveZero}
-use Rattle.fr_calls.specs.Step.{IsFree}
-use Rattle.fr_calls.proofs.Endings.{on}
+use Rattle.fr_rules.specs.declared.rules.Rule.TheVariants.{GivenByHolder, IsLive, DepthAboveZero}
+use Rattle.fr_rules.specs.Step.{IsFree}
+use Rattle.fr_rules.proofs.Endings.{on}
 
 -- ---- contents
 

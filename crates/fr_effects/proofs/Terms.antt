@@ -30,12 +30,12 @@ pub use Rattle.fr_program.specs.Program.{Program}
 pub use Rattle.fr_program.specs.Lookup.{instr_of, no_object, IsPoint, no_variable, variable_at}
 pub use Rattle.fr_program.specs.Uses.{acts_on, is_buffer, act_variables}
 pub use Rattle.fr_program.specs.Fault.{IsFaultless, OperandsFit, NamesThings}
-pub use Rattle.fr_calls.specs.State.{State, kind_of, Content, Dead, Values, Count, Free, Held, Bytes, Lengths, CanHave, IsWellFormed, content_of, value_of, depth_in, depth_of, suspension_of}
-pub use Rattle.fr_calls.specs.State.{count_held, new_content, write, becomes, suspend_at, held_at}
-pub use Rattle.fr_calls.specs.Rule.{operand_of, result_of, GivesUnheld, is_unsuited}
-pub use Rattle.fr_calls.specs.declared.way.Way.{Way}
-pub use Rattle.fr_calls.specs.declared.way.Way.TheVariants.{Then, Else}
-pub use Rattle.fr_calls.specs.Step.{StepBy, Row, Does, Works, Ends, Puts, Moves, with_result, transition, taken, given, queued, moved_bytes, sent_message, received_message}
+pub use Rattle.fr_rules.specs.State.{State, kind_of, Content, Dead, Values, Count, Free, Held, Bytes, Lengths, CanHave, IsWellFormed, content_of, value_of, depth_in, depth_of, suspension_of}
+pub use Rattle.fr_rules.specs.State.{count_held, new_content, write, becomes, suspend_at, held_at}
+pub use Rattle.fr_rules.specs.Rule.{operand_of, result_of, GivesUnheld, is_unsuited}
+pub use Rattle.fr_rules.specs.declared.way.Way.{Way}
+pub use Rattle.fr_rules.specs.declared.way.Way.TheVariants.{Then, Else}
+pub use Rattle.fr_rules.specs.Step.{StepBy, Row, Does, Works, Ends, Puts, Moves, with_result, transition, taken, given, queued, moved_bytes, sent_message, received_message}
 pub use Rattle.fr_notes.specs.declared.claim.Claim.TheVariants.{NotHeld, Alive, Gone, HeldTimes}
 pub use Rattle.fr_notes.specs.Note.{Alternative, Note, HoldsOne, Within, claim_of, range_of, Meets}
 pub use Rattle.fr_notes.specs.Reckoning.{CanBeIn, IsSpanIn}
@@ -56,7 +56,7 @@ pub use Rattle.fr_program.specs.declared.instr.End.TheVariants.{Writer, Reader}
 pub use Rattle.fr_program.specs.declared.instr.Timing.{Timing}
 pub use Rattle.fr_program.specs.declared.instr.BufferKind.{BufferKind}
 pub use Rattle.fr_program.specs.declared.instr.BufferKind.TheVariants.{Stream as OfStream, Message as OfMessage}
-pub use Rattle.fr_calls.proofs.Contents.{set_case}
+pub use Rattle.fr_rules.proofs.Contents.{set_case}
 pub use Rattle.fr_notes.specs.declared.claim.Claim.{Claim}
 pub use Rattle.fr_notes.specs.Alternatives.{IsAmong}
 pub use Rattle.fr_notes.proofs.Shown.{depth_for-other, held_at-other}

@@ -31,8 +31,8 @@ use Rattle.fr_program.specs.declared.parts.Kind.TheVariants.{Queue}
 use Rattle.fr_program.specs.Program.{Program}
 use Rattle.fr_program.specs.Lookup.{instr_of, variable_at}
 use Rattle.fr_program.specs.Fault.{IsConstant}
-use Rattle.fr_calls.specs.State.{State, content_of, value_of, depth_of, suspension_of, kind_of}
-use Rattle.fr_calls.specs.Rule.{operand_of, result_of}
+use Rattle.fr_rules.specs.State.{State, content_of, value_of, depth_of, suspension_of, kind_of}
+use Rattle.fr_rules.specs.Rule.{operand_of, result_of}
 use Rattle.fr_notes.specs.declared.claim.Claim.{Claim}
 use Rattle.fr_notes.specs.declared.claim.Claim.TheVariants.{NotHeld}
 use Rattle.fr_notes.specs.Note.{Alternative, Note, Meets, Within, claim_of, range_of}

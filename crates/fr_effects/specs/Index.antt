@@ -13,7 +13,7 @@ use Rattle.std.specs.Prelude.{◌≡◌, ◌<◌, ◌↔◌, ℕ, ℤ, List, [],
 use Rattle.fr_program.specs.declared.ids.Point.{Point}
 use Rattle.fr_program.specs.Program.{Program}
 use Rattle.fr_program.specs.Points.{points_of}
-use Rattle.fr_calls.specs.Rule.{result_of}
+use Rattle.fr_rules.specs.Rule.{result_of}
 use Rattle.fr_notes.specs.Note.{Within}
 use Rattle.fr_notes.specs.Reckoning.{CanBeIn}
 use Rattle.fr_effects.specs.declared.effects.Effect.{Effect}

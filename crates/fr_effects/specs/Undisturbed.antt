@@ -3,9 +3,9 @@ use Rattle.std.specs.Prelude.{◌≢◌, List, Contains}
 use Rattle.fr_program.specs.declared.ids.Point.{Point}
 use Rattle.fr_program.specs.Program.{Program}
 use Rattle.fr_program.specs.Lookup.{IsPoint}
-use Rattle.fr_calls.specs.State.{State}
-use Rattle.fr_calls.specs.declared.way.Way.{Way}
-use Rattle.fr_calls.specs.Step.{CanStep, AlwaysLeaves, Anywhere}
+use Rattle.fr_rules.specs.State.{State}
+use Rattle.fr_rules.specs.declared.way.Way.{Way}
+use Rattle.fr_rules.specs.Step.{CanStep, AlwaysLeaves, Anywhere}
 use Rattle.fr_notes.specs.Note.{Alternative, Note, HoldsOne}
 use Rattle.fr_notes.specs.Noted.{note_at, NotedBy}
 

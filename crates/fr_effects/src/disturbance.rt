@@ -10,9 +10,9 @@ ghost use Rattle.fr_effects.specs.Disturbance.{SparesSome, IsSparedByRows};
 ghost use Rattle.fr_effects.specs.Undisturbed.{Undisturbed};
 
 use crate::effects::{all_bear, effect_of};
-use fr_calls::Way;
 use fr_notes::{Alternative, Case, Change, Known, Note, Notes, Spot, can_meet, change_by, spares};
 use fr_program::App;
+use fr_rules::Way;
 
 /// Whether some alternative of the note holds of the other actor after each step that makes this
 /// change, where this one held before.

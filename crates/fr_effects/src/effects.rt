@@ -3,7 +3,7 @@ ghost use Rattle.std.specs.Prelude.{◌≡◌, ◌<◌, ◌⊎◌, ◌↔◌, �
 ghost use Rattle.fr_program.specs.declared.ids.Point.{Point as PointOf};
 ghost use Rattle.fr_program.specs.Fault.{IsConstant, NamesThings};
 ghost use Rattle.fr_program.specs.Points.{points_of};
-ghost use Rattle.fr_calls.specs.Rule.{result_of};
+ghost use Rattle.fr_rules.specs.Rule.{result_of};
 ghost use Rattle.fr_notes.specs.Fits.{AlternativeFits, NoteFits};
 ghost use Rattle.fr_notes.specs.Note.{Within, claim_of, range_of};
 ghost use Rattle.fr_notes.specs.Reckoning.{CanBeIn};

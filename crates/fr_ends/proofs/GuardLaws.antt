@@ -19,10 +19,10 @@ use Rattle.fr_program.specs.Lookup.{IsPoint, instr_of}
 use Rattle.fr_program.specs.Fault.{IsFaultless}
 use Rattle.fr_program.specs.Points.{points_of}
 use Rattle.fr_program.specs.PointNumbers.{PointsAreNumbered}
-use Rattle.fr_calls.specs.State.{State, Content, count_held, content_of, value_of, kind_of}
+use Rattle.fr_rules.specs.State.{State, Content, count_held, content_of, value_of, kind_of}
 use Rattle.fr_program.specs.declared.instr.End.{End}
 use Rattle.fr_program.specs.declared.instr.End.TheVariants.{Writer, Reader}
-use Rattle.fr_calls.specs.Rule.{is_at_end}
+use Rattle.fr_rules.specs.Rule.{is_at_end}
 use Rattle.fr_notes.specs.declared.claim.Claim.{Claim}
 use Rattle.fr_notes.specs.declared.claim.Claim.TheVariants.{NotHeld, Alive, Gone, HeldTimes}
 use Rattle.fr_notes.specs.Note.{Alternative, Note, Meets, Within, HoldsOne, claim_of, range_of}

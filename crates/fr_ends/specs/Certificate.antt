@@ -8,7 +8,7 @@
 -- | HasDistinctTurns   | no two actors have one turn value, so no two actors have one guard          |
 -- | guard_for          | the guard that is listed for an end                                         |
 use Rattle.std.specs.Prelude.{◌≡◌, ◌<◌, ℕ, ℤ, List, [], ◌∷◌, Option, None, Some, Bool, true, false, ◌&&◌, nat_eq, if◌then◌else◌, All}
-use Rattle.fr_calls.specs.State.{State, value_of, content_of, depth_of, count_held}
+use Rattle.fr_rules.specs.State.{State, value_of, content_of, depth_of, count_held}
 use Rattle.fr_program.specs.declared.instr.End.{End}
 use Rattle.fr_program.specs.declared.instr.End.TheVariants.{Writer, Reader}
 pub use Rattle.fr_ends.specs.Guard.{Guard, Sole, ByMutex, InCritical, Turn, EndGuard}

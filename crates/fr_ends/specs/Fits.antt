@@ -13,7 +13,7 @@ use Rattle.fr_program.specs.declared.parts.Kind.{Kind}
 use Rattle.fr_program.specs.declared.parts.Kind.TheVariants.{Mutex, Recursive, Stream, Message}
 use Rattle.fr_program.specs.Program.{Program}
 use Rattle.fr_program.specs.Limits.{IsNumber}
-use Rattle.fr_calls.specs.State.{kind_of}
+use Rattle.fr_rules.specs.State.{kind_of}
 use Rattle.fr_notes.specs.Fits.{NotesFit}
 use Rattle.fr_ends.specs.Guard.{Guard, Sole, ByMutex, InCritical, Turn, EndGuard}
 use Rattle.fr_ends.specs.Certificate.{Certificate, HasDistinctTurns}

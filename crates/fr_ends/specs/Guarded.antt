@@ -10,9 +10,9 @@ use Rattle.fr_program.specs.declared.ids.Side.{Side}
 use Rattle.fr_program.specs.declared.ids.Side.TheVariants.{Before, Inside}
 use Rattle.fr_program.specs.Program.{Program}
 use Rattle.fr_program.specs.Lookup.{IsPoint, instr_of}
-use Rattle.fr_calls.specs.State.{State}
+use Rattle.fr_rules.specs.State.{State}
 use Rattle.fr_program.specs.declared.instr.End.{End}
-use Rattle.fr_calls.specs.Rule.{is_at_end}
+use Rattle.fr_rules.specs.Rule.{is_at_end}
 use Rattle.fr_notes.specs.Note.{Note}
 use Rattle.fr_notes.specs.Noted.{Noted}
 use Rattle.fr_ends.specs.Guard.{Guard}

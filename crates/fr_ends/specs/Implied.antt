@@ -9,7 +9,7 @@
 use Rattle.std.specs.Prelude.{◌≡◌, ◌<◌, ℕ, ℤ, List, Option, Some, IsTrue, All}
 use Rattle.fr_program.specs.declared.instr.ObjectCall.{ObjectCall}
 use Rattle.fr_program.specs.declared.instr.End.{End}
-use Rattle.fr_calls.specs.Rule.{is_at_end}
+use Rattle.fr_rules.specs.Rule.{is_at_end}
 use Rattle.fr_notes.specs.Note.{Alternative, Note, claim_of, range_of}
 use Rattle.fr_notes.specs.Known.{is_held}
 use Rattle.fr_ends.specs.Guard.{Guard, Sole, ByMutex, InCritical, Turn, EndGuard}

@@ -11,6 +11,7 @@ ghost use Rattle.fr_ends.specs.View.{values_of, guard_of, end_of};
 use crate::ends::EndName;
 use crate::fault::EndsFault;
 use crate::guard::{EndGuard, Guard};
+use fr_notes::{object_count, variable_count};
 use fr_program::{ActorId, App, Kind, ObjId, VarId};
 use std::collections::BTreeMap;
 
@@ -39,20 +40,6 @@ fn actor_count(app: &App) -> usize
     ensures { result ≡ length app.now.actors }
 {
     app.actors().len()
-}
-
-/// How many variables the application has.
-fn variable_count(app: &App) -> usize
-    ensures { result ≡ length app.now.variables }
-{
-    app.variables().len()
-}
-
-/// How many objects the application has.
-fn object_count(app: &App) -> usize
-    ensures { result ≡ length app.now.objects }
-{
-    app.objects().len()
 }
 
 /// Whether the actor is one of so many. Its value has 64 bits, as each `i64`.

@@ -7,7 +7,7 @@ ghost use Rattle.fr_notes.specs.Known.{is_held};
 ghost use Rattle.fr_notes.specs.Note.{claim_of};
 ghost use Rattle.fr_ends.specs.Certificate.{value_for};
 ghost use Rattle.fr_ends.specs.Fits.{CertificateFits};
-ghost use Rattle.fr_ends.specs.FirstEnd.{IsFirstEnd};
+ghost use Rattle.fr_ends.specs.FirstEnd.{IsFirstEnd, inside_end};
 ghost use Rattle.fr_ends.specs.Guard.{Turn};
 ghost use Rattle.fr_ends.specs.Guarded.{called_inside};
 ghost use Rattle.fr_ends.specs.Implied.{SaysGuard, NoteSays, KeepsEnd};
@@ -16,9 +16,9 @@ ghost use Rattle.fr_ends.specs.View.{values_of, guard_of};
 use crate::certificate::Certificate;
 use crate::ends::{EndName, Ends};
 use crate::guard::Guard;
-use fr_calls::is_at_end;
 use fr_notes::{Alternative, Claim, Known, Note};
 use fr_program::{ActorId, App, Call, End, Instr, ObjId, ObjectCall, Point, Range, Side, VarId};
+use fr_rules::is_at_end;
 use std::collections::BTreeMap;
 
 /// The object call that the point is inside; None where it is inside none.
@@ -31,8 +31,18 @@ pub(crate) fn called_inside(app: &App, point: Point) -> Option<ObjectCall>
     }
 }
 
+/// Whether the point is inside a call at this end of its buffer.
+pub fn is_inside_end(app: &App, point: Point, end: EndName) -> bool
+    ensures { result ≡ inside_end (called_inside point.side (instr_of app.now point)) end }
+{
+    match called_inside(app, point) {
+        Some(call) => call.object.0 == end.buffer.0 && is_at_end(end.end, call.act),
+        None => false,
+    }
+}
+
 /// The turn value that is listed for an actor.
-fn value_for(values: &BTreeMap<ActorId, i64>, actor: ActorId) -> Option<i64>
+pub fn value_for(values: &BTreeMap<ActorId, i64>, actor: ActorId) -> Option<i64>
     ensures { result ≡ value_for (values_of values.now) actor.0 }
 {
     values.get(&actor).copied()

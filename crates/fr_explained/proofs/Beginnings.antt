@@ -4,10 +4,10 @@ use Rattle.std.proofs.Math.Nat.{eq-or-lt_of_le}
 use Rattle.std.proofs.lemmas.Bool.{cases_lt}
 use Rattle.fr_program.specs.Program.{Program}
 use Rattle.fr_events.specs.declared.trace.Trace.{Trace}
-use Rattle.fr_follower.specs.Alone.{NoneExplains}
-use Rattle.fr_follower.specs.Explains.{Explains, Passes, World}
-use Rattle.fr_follower.specs.declared.item.Item.{Item}
-use Rattle.fr_follower.specs.declared.item.Item.TheVariants.{Step as StepItem, Event as EventItem}
+use Rattle.fr_explained.specs.Alone.{NoneExplains}
+use Rattle.fr_explained.specs.Explains.{Explains, Passes, World}
+use Rattle.fr_explained.specs.declared.item.Item.{Item}
+use Rattle.fr_explained.specs.declared.item.Item.TheVariants.{Step as StepItem, Event as EventItem}
 
 module _ (P : Program) (e : Trace) (k : ℕ) where
   -- the first of the items, which lead to a world after so many events

@@ -1,1 +1,3 @@
+mod Added
+pub mod Passed
 mod Beginnings

@@ -2,9 +2,9 @@
 ghost use Rattle.std.specs.Prelude.{◌≡◌, ◌≤◌, ◌+◌, ℕ, List};
 ghost use Rattle.fr_program.specs.Program.{Program};
 ghost use Rattle.fr_events.specs.declared.trace.Trace.{Trace as TraceOf};
-ghost use Rattle.fr_follower.specs.Alone.{NoneExplains};
-ghost use Rattle.fr_follower.specs.Explains.{Explains};
-ghost use Rattle.fr_follower.specs.declared.item.Item.{Item as ItemOf};
+ghost use Rattle.fr_explained.specs.Alone.{NoneExplains};
+ghost use Rattle.fr_explained.specs.Explains.{Explains};
+ghost use Rattle.fr_explained.specs.declared.item.Item.{Item as ItemOf};
 
 /// Where some items explain so many events, some explain fewer.
 pub fn a_beginning_is_explained()

@@ -1,6 +1,6 @@
 // Which points lead to which.
-use fr_calls::{Landing, Way, lands_at};
 use fr_program::{Act, App, BufferKind, Call, Instr, ObjectCall, Point};
+use fr_rules::{Landing, Way, lands_at};
 use std::alloc::{AllocError, Global};
 
 /// The rows of an instruction in their order: those that work before those that fail, but for a

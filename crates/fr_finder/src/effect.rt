@@ -3,9 +3,9 @@ ghost use Rattle.fr_notes.specs.Fits.{AlternativeFits, NotesFit};
 ghost use Rattle.fr_finder.specs.Spots.{IsPlaced, IsSpot};
 
 use crate::spot::spot_at;
-use fr_calls::Way;
 use fr_notes::{Alternative, Change, Known, Notes, Spot, change_by};
 use fr_program::{ActorId, App, Instr, Point, Range, VarId};
+use fr_rules::Way;
 use std::alloc::{AllocError, Global};
 
 /// What a step from a point can change of other actors' notes, where one alternative of its own note

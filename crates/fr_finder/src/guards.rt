@@ -5,10 +5,9 @@ ghost use Rattle.fr_ends.specs.Fits.{EndFits, EndsFit};
 ghost use Rattle.fr_ends.specs.View.{end_of};
 
 use crate::spot::spot_at;
-use fr_calls::is_at_end;
-use fr_ends::{EndGuard, EndName, Ends, Guard, is_listed, note_says};
+use fr_ends::{EndGuard, EndName, Ends, Guard, is_inside_end, is_listed, note_says};
 use fr_notes::{Alternative, Note, Notes, Spot};
-use fr_program::{ActorId, App, Call, End, Instr, ObjId, Side, VarId};
+use fr_program::{ActorId, App, End, ObjId, VarId};
 use std::alloc::{AllocError, Global};
 use std::collections::BTreeMap;
 
@@ -19,19 +18,9 @@ struct Insider<'a> {
     note: &'a Note,
 }
 
-/// Whether the point is inside a call at this end.
-fn is_call_at(spot: &Spot, end: EndName) -> bool {
-    match (spot.point.side, spot.instr) {
-        (Side::Inside, Instr::Call(Call::On(call))) => {
-            call.object.0 == end.buffer.0 && is_at_end(end.end, call.act)
-        }
-        _ => false,
-    }
-}
-
 /// Whether some actor can be at the point, inside this end.
 fn is_inside(spot: &Spot, end: EndName) -> bool {
-    !spot.note.alternatives().is_empty() && is_call_at(spot, end)
+    !spot.note.alternatives().is_empty() && is_inside_end(spot.app, spot.point, end)
 }
 
 /// All actors that can be inside this end, with their notes there.
@@ -288,7 +277,7 @@ fn first_caller(app: &App, notes: &Notes, end: EndName) -> Option<EndGuard>
 {
     for number in 0..app.points() {
         if let Some(spot) = spot_at(app, notes, number) {
-            if is_call_at(&spot, end) {
+            if is_inside_end(app, spot.point, end) {
                 return fitting(app, end, Guard::Sole(spot.point.actor));
             }
         }

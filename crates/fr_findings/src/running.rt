@@ -1,6 +1,6 @@
 // Running the application that bytes mean, where it passes with its certificate.
 ghost use Rattle.std.specs.Prelude.{◌≡◌, ◌≢◌, ◌<◌, ℕ, List, [], IfOk, IfErr, Err, None, string_bytes};
-ghost use Rattle.fr_calls.specs.Run.{IsSafe};
+ghost use Rattle.fr_rules.specs.Run.{IsSafe};
 ghost use Rattle.fr_ends.specs.Fits.{CertificateFits};
 ghost use Rattle.fr_judge.specs.declared.part.Verdict.TheVariants.{Yes};
 ghost use Rattle.fr_judge.specs.Told.{Speaks};

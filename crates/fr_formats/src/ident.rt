@@ -3,7 +3,7 @@ ghost use Rattle.std.specs.Prelude.{◌≡◌, bytes_eq, map};
 ghost use Rattle.std.specs.List.{position_from};
 ghost use Rattle.fr_formats.specs.Names.{rule_index as index_of, rule_name as name_of_rule, rule_names};
 
-use fr_calls::Rule;
+use fr_rules::Rule;
 
 /// A rule or a part that can fail.
 #[derive(Clone, Copy)]

@@ -1,8 +1,8 @@
-// Reports that machines read. What a command answered for one application is an `AnswerShown`: a plain value, which the
-// crate above, fr_answer, fills. `answers_text` writes answers as JSON, as SARIF 2.1.0 and as JUnit's XML. Its contract
+// Reports that machines read. What a command answered for one application is an `AnswerShown`: a plain value, which
+// fr_shown and fr_traces fill. `answers_text` writes answers as JSON, as SARIF 2.1.0 and as JUnit's XML. Its contract
 // says to the letter what it writes: each of `specs/Json`, `specs/Sarif` and `specs/Junit` is the text of one form, and
 // no text of an answer gets into a report unescaped. `greatest_status` is the exit status of a report. Below are the
-// escapes (fr_escape), the forms' names (fr_request), and the rules that are named (fr_calls).
+// escapes (fr_escape), the forms' names (fr_request), and the rules that are named (fr_rules).
 #![tactic(auto, using(std::proofs::Common::append_assoc))]
 
 mod answer;

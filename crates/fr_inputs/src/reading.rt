@@ -7,7 +7,7 @@ use crate::files::Files;
 use crate::refusals::refusal_of_file;
 use crate::source::{is_source, translation};
 use fr_outcome::{AppText, Refusal};
-use fr_reader::MOST_BYTES as MOST_APP_BYTES;
+use fr_reader::MOST_APPLICATION_BYTES;
 use fr_source::Translation;
 use std::alloc::Global;
 
@@ -49,7 +49,7 @@ pub fn application<F: Files>(
         });
     }
     Ok(AppText {
-        bytes: input(alloc, files, path, MOST_APP_BYTES, names)?,
+        bytes: input(alloc, files, path, MOST_APPLICATION_BYTES, names)?,
         left_out: Vec::new(alloc),
     })
 }

@@ -1,5 +1,5 @@
 // Why there is no answer, and where.
-ghost use Rattle.std.specs.Prelude.{◌≡◌, ◌≤◌, IfOk};
+ghost use Rattle.std.specs.Prelude.{◌≡◌, ◌≢◌, ◌≤◌, ◌⊎◌, IfOk};
 ghost use Rattle.fr_outcome.specs.Checked.{fault_status};
 
 use fr_escape::{Location, place_of_texts};
@@ -75,7 +75,8 @@ pub fn refusal_of_texts(
     fault: CheckFault,
     places: bool,
 ) -> Refusal
-    ensures { 2 ≤ fault_status result.fault }
+    ensures least { 2 ≤ fault_status result.fault }
+    ensures fault { (result.fault ≡ fault) ⊎ (result.fault ≡ CheckFault.Memory) }
 {
     if !places {
         return Refusal::from(fault);
@@ -121,7 +122,9 @@ pub fn refusal_of_source(alloc: Global, path: &str, refused: Refused) -> Refusal
 
 /// The fault of outputs that aren't written.
 pub fn refusal_of_outputs(alloc: Global, fault: &OutputFault, names: bool) -> Refusal
-    ensures { 2 ≤ fault_status result.fault }
+    ensures least { 2 ≤ fault_status result.fault }
+    ensures refused { fault.now ≡ OutputFault.Refused → result.fault ≡ CheckFault.Out }
+    ensures file { fault.now ≢ OutputFault.Refused → fault_status result.fault ≡ 3 }
 {
     match fault {
         OutputFault::File(fault) => refusal_of_file(alloc, fault, names),

@@ -16,7 +16,7 @@ use Rattle.std.proofs.lemmas.Bool.Decides.{Decides-int_eq}
 use Rattle.std.proofs.lemmas.Option.{slice_get_within}
 use Rattle.fr_program.specs.declared.instr.CreatedKind.{CreatedKind}
 use Rattle.fr_program.specs.declared.instr.DeletedKind.{DeletedKind}
-use Rattle.fr_calls.proofs.Built.{HasSizes, is-built}
+use Rattle.fr_rules.proofs.Built.{HasSizes, is-built}
 use Rattle.fr_interfere.specs.IndexLaw.{ChangesNumber, KeepsNumber, IsTurned, ChangesLife, IsAt, IsExact}
 use Rattle.fr_effects.proofs.BearLaws.{call-suits}
 use Rattle.fr_effects.proofs.EffectLaws.{Suits}

@@ -22,8 +22,8 @@ pub use Rattle.std.specs.List.{AllZip, AllWithin}
 pub use Rattle.fr_program.specs.declared.instr.Operator.TheVariants.{Plus, Minus}
 pub use Rattle.fr_program.specs.Uses.{attempts_on}
 pub use Rattle.fr_program.specs.Fault.{CoversQueue, TakesIn, ResultsFit}
-pub use Rattle.fr_calls.specs.Rule.{UsesDead}
-pub use Rattle.fr_calls.specs.Step.{Completes}
+pub use Rattle.fr_rules.specs.Rule.{UsesDead}
+pub use Rattle.fr_rules.specs.Step.{Completes}
 pub use Rattle.fr_notes.specs.Known.{ClaimsMeet}
 pub use Rattle.fr_notes.specs.Fits.{NotesFit}
 pub use Rattle.fr_notes.specs.Pairs.{RangesMeet}

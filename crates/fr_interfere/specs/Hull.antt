@@ -24,7 +24,7 @@ use Rattle.fr_program.specs.Program.{Program}
 use Rattle.fr_program.specs.Lookup.{IsPoint}
 use Rattle.fr_program.specs.Points.{point_number}
 use Rattle.fr_program.specs.Spans.{IsIn}
-use Rattle.fr_calls.specs.Rule.{result_of}
+use Rattle.fr_rules.specs.Rule.{result_of}
 use Rattle.fr_notes.specs.declared.claim.Claim.{Claim}
 use Rattle.fr_notes.specs.Implication.{IsPart}
 use Rattle.fr_notes.specs.Known.{ClaimsMeet}

@@ -19,10 +19,10 @@ use Rattle.fr_program.specs.Program.{Program}
 use Rattle.fr_program.specs.Lookup.{instr_of}
 use Rattle.fr_program.specs.Fault.{IsFaultless}
 use Rattle.fr_program.specs.Points.{points_of}
-use Rattle.fr_calls.specs.State.{State, Content, Dead, content_of, value_of}
-use Rattle.fr_calls.specs.Rule.{UsesDead, operand_of, result_of}
-use Rattle.fr_calls.specs.declared.way.Way.{Way}
-use Rattle.fr_calls.specs.Step.{Row, transition}
+use Rattle.fr_rules.specs.State.{State, Content, Dead, content_of, value_of}
+use Rattle.fr_rules.specs.Rule.{UsesDead, operand_of, result_of}
+use Rattle.fr_rules.specs.declared.way.Way.{Way}
+use Rattle.fr_rules.specs.Step.{Row, transition}
 use Rattle.fr_effects.specs.Index.{IndexOf, IsIndexOf, list_at}
 
 -- some row of the table, at this side of the instruction, gives the variable another number

@@ -114,7 +114,7 @@ fn cover_claims(claims: &mut [(ObjId, Claim)], alternative: &Alternative)
 }
 
 /// The ranges, so that they cover the alternative too.
-fn cover_ranges(ranges: &mut [(VarId, Range)], alternative: &Alternative)
+pub fn cover_ranges(ranges: &mut [(VarId, Range)], alternative: &Alternative)
     ensures covers { CoversRanges ranges.new alternative.now }
     ensures keeps { (m : AlternativeOf) → CoversRanges ranges.old m → CoversRanges ranges.new m }
 {
@@ -164,14 +164,14 @@ fn is_narrower(app: &App, variable: VarId, range: Range) -> bool {
 }
 
 /// Whether one of the claims can't meet the alternative's claim of the same object.
-fn excludes_claim(claims: &[(ObjId, Claim)], alternative: &Alternative) -> bool
+pub fn excludes_claim(claims: &[(ObjId, Claim)], alternative: &Alternative) -> bool
     ensures { IsTrue result ↔ Any (λ e. IsDenied e alternative.now) claims.now }
 {
     claims.iter().any(|entry| is_denied(entry, alternative))
 }
 
 /// Whether one of the ranges has no number of the alternative's range of the same variable.
-fn excludes_range(ranges: &[(VarId, Range)], alternative: &Alternative) -> bool
+pub fn excludes_range(ranges: &[(VarId, Range)], alternative: &Alternative) -> bool
     ensures { IsTrue result ↔ Any (λ e. IsApart e alternative.now) ranges.now }
 {
     for entry in ranges {

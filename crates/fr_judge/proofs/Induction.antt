@@ -7,8 +7,8 @@ use Rattle.fr_judge.proofs.Terms.{same_Some, eqb_tells, Instr, Calls, Create, De
 use Rattle.fr_judge.proofs.Terms.{Writer, Reader, Rule, OneWriter, OneReader, LifeInOrder, InRange, Breach, SharesEnd, LifeOutOfOrder, Stands, is_at_end, IsInside, Step, Follows, IsRun, HoldsOne}
 use Rattle.fr_judge.proofs.Terms.{Holds, note_at, IsAt, Noted, NotedBy, is_own, Guard, Certificate, HasGuard, guard_for, called_inside, deleted_before, EntryPart, RulePart, GoesPart, GuardPart}
 use Rattle.fr_judge.proofs.Terms.{NearPart, SpoiledPart, KeepsNotes, Certified, StartKeepsNotes, StepKeepsNotes, NotesExcludeBreaches, IsSound}
-use Rattle.fr_calls.proofs.Built.{is-built}
-use Rattle.fr_calls.proofs.Formed.{map_case, start-formed, step-formed}
+use Rattle.fr_rules.proofs.Built.{is-built}
+use Rattle.fr_rules.proofs.Formed.{map_case, start-formed, step-formed}
 use Rattle.fr_judge.proofs.Turns.{guard-alone, distinct-listed}
 
 abbrev point : ℕ → ℕ → Side → Point

@@ -24,19 +24,19 @@ pub use Rattle.fr_ends.proofs.NearLaws.{near-unused, clash-found, found-clash}
 pub use Rattle.fr_program.specs.declared.instr.ObjectCall.{ObjectCall}
 pub use Rattle.fr_program.specs.declared.ids.ActorId.{ActorId}
 pub use Rattle.fr_program.specs.declared.instr.End.{End}
-pub use Rattle.fr_calls.specs.Rule.{is_at_end, Stands, Breaches, Breach, SharesEnd, LifeOutOfOrder, IsInside, number_of}
+pub use Rattle.fr_rules.specs.Rule.{is_at_end, Stands, Breaches, Breach, SharesEnd, LifeOutOfOrder, IsInside, number_of}
 pub use Rattle.fr_edge.specs.Own.{is_own, KeepsRule, Goes}
 pub use Rattle.fr_ends.specs.Certificate.{Certificate, HasGuard, guard_for, HasDistinctTurns, AllHaveDistinctTurns, same_end}
 pub use Rattle.fr_program.specs.declared.instr.End.TheVariants.{Writer, Reader}
 pub use Rattle.fr_edge.specs.FirstOwn.{IsFirstOwn}
-pub use Rattle.fr_calls.specs.State.{State, At, goes_to, Done, Exists, start, Content, Held, content_of, depth_in, count_held, IsWellFormed, place_of}
-pub use Rattle.fr_calls.specs.declared.rules.Rule.{Rule}
-pub use Rattle.fr_calls.specs.declared.way.Way.{Way}
-pub use Rattle.fr_calls.specs.Step.{StepBy, Row, landing, transition, Step}
+pub use Rattle.fr_rules.specs.State.{State, At, goes_to, Done, Exists, start, Content, Held, content_of, depth_in, count_held, IsWellFormed, place_of}
+pub use Rattle.fr_rules.specs.declared.rules.Rule.{Rule}
+pub use Rattle.fr_rules.specs.declared.way.Way.{Way}
+pub use Rattle.fr_rules.specs.Step.{StepBy, Row, landing, transition, Step}
 pub use Rattle.fr_notes.specs.Noted.{IsAt, Noted, note_at, NotedBy}
-pub use Rattle.fr_calls.specs.declared.rules.Rule.TheVariants.{OneWriter, OneReader, LifeInOrder, InRange, GivenByHolder, AllowedInCritical, AllowedSuspended, AllowedInInterrupt, IsLive}
-pub use Rattle.fr_calls.specs.declared.rules.Rule.TheVariants.{SuitsSemaphore, DepthAboveZero, EndsInOrder}
-pub use Rattle.fr_calls.specs.Run.{Follows, IsRun, IsSafe}
+pub use Rattle.fr_rules.specs.declared.rules.Rule.TheVariants.{OneWriter, OneReader, LifeInOrder, InRange, GivenByHolder, AllowedInCritical, AllowedSuspended, AllowedInInterrupt, IsLive}
+pub use Rattle.fr_rules.specs.declared.rules.Rule.TheVariants.{SuitsSemaphore, DepthAboveZero, EndsInOrder}
+pub use Rattle.fr_rules.specs.Run.{Follows, IsRun, IsSafe}
 pub use Rattle.fr_ends.specs.Guard.{Guard, EndGuard, Sole, ByMutex, InCritical, Turn}
 pub use Rattle.fr_ends.specs.Fits.{CertificateFits, GuardFits, EndFits}
 pub use Rattle.fr_judge.specs.Part.{Part, EntryPart, RulePart, GoesPart, GuardPart, NearPart, SpoiledPart, IsKept, end_number, place_in_order, ComesBefore}

@@ -10,7 +10,7 @@ use Rattle.fr_judge.proofs.Terms.{StepBy, Row, landing, transition, HoldsOne, no
 use Rattle.fr_judge.proofs.Terms.{IsKept, ComesBefore, place_in_order}
 use Rattle.std.proofs.lemmas.Map.Views.{list_any-from_Contains}
 use Rattle.fr_program.specs.Limits.{IsName, is_letter, is_digit, reserved, VariableInLimits, KindInLimits, most_instructions}
-use Rattle.fr_calls.specs.declared.way.Way.TheVariants.{Then, Else}
+use Rattle.fr_rules.specs.declared.way.Way.TheVariants.{Then, Else}
 use Rattle.fr_judge.specs.WorkedVerdicts.{only_line, only_point, silent, one_note, RoundIsYes, RoundIsCertified, ReturnIsNo}
 use Rattle.fr_judge.proofs.Here.{rule-kept, steps-by}
 

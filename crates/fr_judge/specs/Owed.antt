@@ -8,7 +8,7 @@ use Rattle.fr_program.specs.declared.ids.Point.{Point}
 use Rattle.fr_program.specs.declared.ids.Side.TheVariants.{Before}
 use Rattle.fr_program.specs.Program.{Program}
 use Rattle.fr_program.specs.Lookup.{IsPoint, instr_of}
-use Rattle.fr_calls.specs.Rule.{is_at_end}
+use Rattle.fr_rules.specs.Rule.{is_at_end}
 use Rattle.fr_edge.specs.Own.{is_own}
 use Rattle.fr_ends.specs.Certificate.{Certificate}
 use Rattle.fr_ends.specs.Guarded.{IsInsideOn, Deletes}

@@ -5,8 +5,8 @@ use Rattle.fr_program.specs.Program.{Program}
 use Rattle.fr_program.specs.Points.{point_number}
 use Rattle.fr_program.specs.declared.instr.End.{End}
 use Rattle.fr_program.specs.declared.instr.End.TheVariants.{Writer, Reader}
-use Rattle.fr_calls.specs.declared.rules.Rule.{Rule}
-use Rattle.fr_calls.specs.Rule.{number_of}
+use Rattle.fr_rules.specs.declared.rules.Rule.{Rule}
+use Rattle.fr_rules.specs.Rule.{number_of}
 use Rattle.fr_edge.specs.Own.{Entry, KeepsRule, Goes}
 use Rattle.fr_effects.specs.Undisturbed.{Undisturbed}
 use Rattle.fr_ends.specs.Certificate.{Certificate}

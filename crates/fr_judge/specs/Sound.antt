@@ -11,11 +11,11 @@ use Rattle.std.specs.Prelude.{ℕ, ℤ, List, Contains}
 use Rattle.fr_program.specs.declared.ids.Point.{Point}
 use Rattle.fr_program.specs.Program.{Program}
 use Rattle.fr_program.specs.Fault.{IsFaultless}
-use Rattle.fr_calls.specs.State.{State, IsWellFormed, start}
-use Rattle.fr_calls.specs.declared.rules.Rule.{Rule}
-use Rattle.fr_calls.specs.Rule.{Breach}
-use Rattle.fr_calls.specs.Step.{Step}
-use Rattle.fr_calls.specs.Run.{IsRun, IsSafe}
+use Rattle.fr_rules.specs.State.{State, IsWellFormed, start}
+use Rattle.fr_rules.specs.declared.rules.Rule.{Rule}
+use Rattle.fr_rules.specs.Rule.{Breach}
+use Rattle.fr_rules.specs.Step.{Step}
+use Rattle.fr_rules.specs.Run.{IsRun, IsSafe}
 use Rattle.fr_notes.specs.Note.{Holds}
 use Rattle.fr_notes.specs.Noted.{note_at, IsAt}
 use Rattle.fr_ends.specs.Certificate.{Certificate, AllHaveDistinctTurns}

@@ -15,7 +15,7 @@ use Rattle.fr_program.specs.declared.ids.Point.{Point}
 use Rattle.fr_program.specs.declared.ids.Side.TheVariants.{Before}
 use Rattle.fr_program.specs.declared.parts.ActorKind.TheVariants.{Task}
 use Rattle.fr_program.specs.Program.{Program}
-use Rattle.fr_calls.specs.declared.rules.Rule.TheVariants.{EndsInOrder}
+use Rattle.fr_rules.specs.declared.rules.Rule.TheVariants.{EndsInOrder}
 use Rattle.fr_notes.specs.Note.{Alternative}
 use Rattle.fr_ends.specs.Certificate.{Certificate}
 use Rattle.fr_judge.specs.Part.{RulePart}

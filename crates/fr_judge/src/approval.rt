@@ -1,6 +1,6 @@
 // Applications that have passed.
 ghost use Rattle.std.specs.Prelude.{◌≡◌, ◌≢◌, IfOk, IfErr, OnOk};
-ghost use Rattle.fr_calls.specs.Run.{IsSafe};
+ghost use Rattle.fr_rules.specs.Run.{IsSafe};
 ghost use Rattle.fr_ends.specs.Fits.{CertificateFits};
 ghost use Rattle.fr_effects.specs.Index.{IsIndexOf};
 ghost use Rattle.fr_judge.specs.Told.{TellsVerdict, Speaks};

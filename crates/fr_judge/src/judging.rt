@@ -2,7 +2,7 @@
 ghost use Rattle.std.specs.Prelude.{◌≡◌, ◌<◌, Some, length, slice_get, IfSome};
 ghost use Rattle.fr_program.specs.declared.ids.Point.{Point as PointOf};
 ghost use Rattle.fr_program.specs.Points.{points_of};
-ghost use Rattle.fr_calls.specs.Run.{IsSafe};
+ghost use Rattle.fr_rules.specs.Run.{IsSafe};
 ghost use Rattle.fr_ends.specs.Fits.{CertificateFits};
 ghost use Rattle.fr_effects.specs.Index.{IsIndexOf};
 ghost use Rattle.fr_judge.specs.Lists.{AreListsOf};

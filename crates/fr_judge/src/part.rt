@@ -1,7 +1,7 @@
 // What can fail at a point, and the verdict.
-use fr_calls::Rule;
 use fr_ends::EndName;
 use fr_program::Point;
+use fr_rules::Rule;
 
 /// What can fail at a point, in the order in which it is judged. Within one kind the least rule, end or
 /// point comes first.

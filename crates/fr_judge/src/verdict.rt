@@ -3,7 +3,7 @@ ghost use Rattle.std.specs.Prelude.{◌≡◌, ◌<◌, Some, length, slice_get,
 ghost use Rattle.std.specs.Option.{ForSome};
 ghost use Rattle.fr_program.specs.declared.ids.Point.{Point as PointOf};
 ghost use Rattle.fr_program.specs.Points.{points_of};
-ghost use Rattle.fr_calls.specs.Run.{IsSafe};
+ghost use Rattle.fr_rules.specs.Run.{IsSafe};
 ghost use Rattle.fr_ends.specs.Fits.{CertificateFits};
 ghost use Rattle.fr_effects.specs.Disturbance.{IsSpoiler};
 ghost use Rattle.fr_effects.specs.Index.{IsIndexOf};

@@ -3,7 +3,7 @@ ghost use Rattle.std.specs.Prelude.{◌≡◌};
 ghost use Rattle.fr_lanes.specs.Pages.{page_kind};
 
 use fr_formats::AnswerKind;
-use fr_page::{ActorShown, Kind, Page, StepShown, WaitShown};
+use fr_page::{ActorShown, Kind, Page, RowShown, WaitShown};
 use std::alloc::Global;
 
 /// The heading of a page for an answer of this kind.
@@ -37,7 +37,7 @@ pub struct Body {
     /// What is left out.
     pub omissions: Vec<String>,
     pub actors: Vec<ActorShown>,
-    pub steps: Vec<StepShown>,
+    pub steps: Vec<RowShown>,
     /// Which actors wait for one another after the steps.
     pub waits: Vec<WaitShown>,
 }
@@ -57,6 +57,7 @@ pub fn empty_body(alloc: Global) -> Body {
 /// The page with this heading and the words of the command, with this line and this below it.
 pub fn page_with(kind: Kind, command: String, line: String, body: Body) -> Page
     ensures kind { result.kind ≡ kind }
+    ensures command { result.command ≡ command }
     ensures line { result.answer ≡ line }
 {
     Page {

@@ -1,12 +1,15 @@
 // A run into a breach or a deadlock, step by step.
-ghost use Rattle.std.specs.Prelude.{IfOk};
-ghost use Rattle.fr_calls.specs.State.{IsWellFormed};
+ghost use Rattle.std.specs.Prelude.{◌≡◌, ◌⊎◌, IfOk};
+ghost use Rattle.fr_rules.specs.State.{IsWellFormed};
+ghost use Rattle.fr_rules.specs.Step.{Step};
 
 use crate::actors::{count_text, put_point};
 use crate::body::Body;
 use crate::code::Code;
 use fr_calls::{Place, Rule, State, the_start_is_well_formed};
-use fr_page::{ActorAfter, Doing, Moved, PointShown, StepShown, Track, TrackKind, WaitShown};
+use fr_page::{
+    ActorAfter, Doing, Moved, PointShown, PointState, RowShown, Track, TrackKind, WaitShown,
+};
 use fr_program::{ActorId, App, Point, Side};
 use fr_refuter::{Deadlocked, Refutation};
 use fr_report::{ExplainedRun, ExplainedStep, explain_deadlock, explain_run};
@@ -43,10 +46,7 @@ fn track_of(alloc: Global, app: &App, depth: Depth) -> Result<Track, AllocError>
             String::from_str(alloc, "scheduler suspended")?,
         ),
         Depth::Held(object) => {
-            let name = match app.objects().get(object.0) {
-                Some(object) => object.name.as_str(),
-                None => "",
-            };
+            let name = object_name(app, object);
             (TrackKind::Held, format!(in alloc; "holds {name}")?)
         }
     };
@@ -117,14 +117,14 @@ pub fn row_of(
     name: String,
     moved: Option<Moved>,
     state: &State,
-) -> Result<StepShown, AllocError>
+) -> Result<RowShown, AllocError>
     requires { IsWellFormed app.now state.now }
 {
     let mut after = Vec::new(alloc);
     for number in 0..app.actors().len() {
         after.push(actor_after(alloc, app, code, depths, ActorId(number), state)?)?;
     }
-    Ok(StepShown {
+    Ok(RowShown {
         name,
         omitted: 0,
         moved,
@@ -191,9 +191,14 @@ pub fn put_step(
     state: &mut State,
 ) -> Result<(), AllocError>
     requires { IsWellFormed app.now state.old }
-    ensures { IfOk result (λ _. IsWellFormed app.now state.new) }
+    ensures formed { IfOk result (λ _. IsWellFormed app.now state.new) }
+    ensures step { IfOk result (λ _. ((body.new ≡ body.old) × (state.new ≡ state.old))
+        ⊎ Step app.now state.old step.now.taken.actor.0 step.now.taken.choice state.new) }
 {
-    if !take_step(app, state, step.taken)? || !is_shown(spot.row, spot.rows) {
+    if !take_step(app, state, step.taken)? {
+        return Ok(());
+    }
+    if !is_shown(spot.row, spot.rows) {
         return Ok(());
     }
     let moved = move_of(alloc, app, code, step)?;
@@ -291,7 +296,7 @@ pub fn put_end(
         number: app.number(point).unwrap_or(0),
         side: String::from_str(alloc, point.side.text())?,
         notes: Vec::new(alloc),
-        standing: fr_page::Standing::Fails(String::from_str(alloc, said)?),
+        standing: PointState::Fails(String::from_str(alloc, said)?),
         explanation: Vec::new(alloc),
     };
     put_point(body, point, shown)

@@ -5,7 +5,7 @@ use Rattle.fr_notes.proofs.Terms.{same_Some, false≢true, All-nil, All-cons, Al
 use Rattle.fr_notes.proofs.Terms.{Program, Way, GivenByHolder, AllowedInCritical, AllowedSuspended, AllowedInInterrupt, SuitsSemaphore, DepthAboveZero, EndsInOrder, State, content_of, kind_of}
 use Rattle.fr_notes.proofs.Terms.{Breaches, IsForbidden, condition_of, forbids, first_forbidden, decided_rules, used_object, is_unsuited, IsFree, stops, Known, NeverSteps, Holding}
 use Rattle.fr_notes.proofs.Terms.{Unheld, Living, Lifeless, Own, Others, holding, living, is_given_unheld, IsSpot, condition_known}
-use Rattle.fr_calls.specs.declared.rules.Rule.{Rule}
+use Rattle.fr_rules.specs.declared.rules.Rule.{Rule}
 use Rattle.fr_notes.proofs.Holdings.{IsIn}
 use Rattle.fr_notes.proofs.Seen.{other, contents-in, apart}
 use Rattle.fr_notes.proofs.Rows.{row-never, site}

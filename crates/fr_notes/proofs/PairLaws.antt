@@ -3,7 +3,7 @@ use Rattle.std.proofs.Common.{◌≡◌, ◌≢◌, ℕ, zero, suc, ◌<◌, len
 use Rattle.std.specs.Prelude.{◌⊎◌, ◌↔◌, Any, Contains, if◌then◌else◌, nat_eq}
 use Rattle.fr_notes.proofs.Terms.{ints, clamps, eqb-true, ActorId, Point, Before, Program, IsPoint, IsFaultless, State, Content, content_of, depth_in, is-built, Alternative, Note, Claim}
 use Rattle.fr_notes.proofs.Terms.{Alive, Gone, HeldTimes, Meets, HoldsOne, claim_of, NotedBy, AreTogether, AlternativeFits, NoteFits, ClaimsMeet, AreCompatible, beside, CanMeet, MeetsSome}
-use Rattle.fr_calls.proofs.Formed.{point_before}
+use Rattle.fr_rules.proofs.Formed.{point_before}
 use Rattle.fr_notes.proofs.Shown.{depth_for-other}
 use Rattle.fr_notes.proofs.Seen.{Site, drawn, drawn-known, usual, usual-chosen}
 

@@ -27,13 +27,13 @@ pub use Rattle.fr_program.specs.declared.range.Range.{Range}
 pub use Rattle.fr_program.specs.Limits.{KindInLimits, ActInLimits, InstrInLimits}
 pub use Rattle.fr_program.specs.Timings.{suits_timing}
 pub use Rattle.fr_program.specs.Uses.{attempts_on, is_buffer, written_by, operand_variables, acts_on, act_variables, option_list}
-pub use Rattle.fr_calls.specs.declared.way.Way.TheVariants.{Then, Else}
-pub use Rattle.fr_calls.specs.State.{State, Content, Values, CanHave, content_of, kind_of, new_content, becomes, Bytes, Lengths, Dead, count_held, Count, Free, Held, IsWellFormed, value_of, depth_of}
-pub use Rattle.fr_calls.specs.State.{suspension_of, write, depth_in, in_critical, critical_at, suspend_at, At, goes_to, Place, Done, Exists, held_at}
-pub use Rattle.fr_calls.specs.Rule.{operand_of, is_unsuited, given_kind, GivesUnheld, LacksMutex, used_object, Breaches, IsForbidden, condition_of, forbids, first_forbidden, decided_rules, holds_some}
-pub use Rattle.fr_calls.specs.Rule.{UsesDead, result_of}
-pub use Rattle.fr_calls.specs.Step.{Works, Puts, taken, given, queued, can_fail, Completes, Moves, sent_bytes, received_bytes, sent_message, received_message, with_result, transition, IsFree, StepBy}
-pub use Rattle.fr_calls.specs.Step.{Row, stops, Transition, landing, is_full}
+pub use Rattle.fr_rules.specs.declared.way.Way.TheVariants.{Then, Else}
+pub use Rattle.fr_rules.specs.State.{State, Content, Values, CanHave, content_of, kind_of, new_content, becomes, Bytes, Lengths, Dead, count_held, Count, Free, Held, IsWellFormed, value_of, depth_of}
+pub use Rattle.fr_rules.specs.State.{suspension_of, write, depth_in, in_critical, critical_at, suspend_at, At, goes_to, Place, Done, Exists, held_at}
+pub use Rattle.fr_rules.specs.Rule.{operand_of, is_unsuited, given_kind, GivesUnheld, LacksMutex, used_object, Breaches, IsForbidden, condition_of, forbids, first_forbidden, decided_rules, holds_some}
+pub use Rattle.fr_rules.specs.Rule.{UsesDead, result_of}
+pub use Rattle.fr_rules.specs.Step.{Works, Puts, taken, given, queued, can_fail, Completes, Moves, sent_bytes, received_bytes, sent_message, received_message, with_result, transition, IsFree, StepBy}
+pub use Rattle.fr_rules.specs.Step.{Row, stops, Transition, landing, is_full}
 pub use Rattle.fr_program.specs.declared.ids.Point.{Point}
 pub use Rattle.fr_program.specs.declared.instr.Instr.{Instr}
 pub use Rattle.fr_program.specs.declared.instr.Instr.TheVariants.{Set, Call as Calls, Goto, Return, If, Pick}
@@ -41,7 +41,7 @@ pub use Rattle.fr_program.specs.declared.instr.Operand.TheVariants.{Number, Vari
 pub use Rattle.fr_program.specs.declared.instr.Operator.{Operator}
 pub use Rattle.fr_program.specs.declared.instr.Operator.TheVariants.{Plus, Minus, Times}
 pub use Rattle.fr_program.specs.Fault.{IsConstant, AreApart, OperandsFit, IsFaultless, NamesThings}
-pub use Rattle.fr_calls.specs.declared.way.Way.{Way}
+pub use Rattle.fr_rules.specs.declared.way.Way.{Way}
 pub use Rattle.fr_program.specs.declared.instr.Act.{Act}
 pub use Rattle.fr_program.specs.declared.instr.Comparison.TheVariants.{Less, AtMost, Greater, AtLeast, Equal, NotEqual}
 pub use Rattle.fr_program.specs.Spans.{IsIn, IsSpan, IsScaled}
@@ -49,11 +49,11 @@ pub use Rattle.fr_program.specs.declared.instr.ObjectCall.{ObjectCall}
 pub use Rattle.fr_program.specs.declared.ids.Side.{Side}
 pub use Rattle.fr_program.specs.declared.ids.Side.TheVariants.{Inside, Before}
 pub use Rattle.fr_program.specs.declared.instr.Call.TheVariants.{On, Create, Delete, ExitCritical, ResumeAll, EnterCritical, SuspendAll, Yield, Delay, DeleteSelf}
-pub use Rattle.fr_calls.specs.declared.rules.Rule.TheVariants.{IsLive, GivenByHolder, AllowedInCritical, AllowedSuspended, AllowedInInterrupt, SuitsSemaphore, DepthAboveZero, EndsInOrder}
-pub use Rattle.fr_calls.proofs.Free.{inside-free, live-use, no-use, before-free}
+pub use Rattle.fr_rules.specs.declared.rules.Rule.TheVariants.{IsLive, GivenByHolder, AllowedInCritical, AllowedSuspended, AllowedInInterrupt, SuitsSemaphore, DepthAboveZero, EndsInOrder}
+pub use Rattle.fr_rules.proofs.Free.{inside-free, live-use, no-use, before-free}
 pub use Rattle.fr_program.specs.Lookup.{no_object, IsPoint, variable_at, no_variable, actor_at, is_interrupt, instr_of, instr_at, no_actor}
-pub use Rattle.fr_calls.proofs.Built.{HasSizes, is-built}
-pub use Rattle.fr_calls.proofs.Contents.{new-fits}
+pub use Rattle.fr_rules.proofs.Built.{HasSizes, is-built}
+pub use Rattle.fr_rules.proofs.Contents.{new-fits}
 pub use Rattle.fr_program.specs.declared.instr.Form.{Form}
 pub use Rattle.fr_program.specs.declared.ids.ActorId.{ActorId}
 pub use Rattle.fr_program.proofs.FaultLemmas.{refuted}

@@ -12,9 +12,9 @@ use Rattle.fr_program.specs.declared.instr.Comparison.{Comparison}
 use Rattle.fr_program.specs.declared.instr.Operand.{Operand}
 use Rattle.fr_program.specs.declared.instr.Operand.TheVariants.{Number, Variable}
 use Rattle.fr_program.specs.declared.range.Range.{Range}
-use Rattle.fr_calls.specs.declared.way.Way.{Way}
-use Rattle.fr_calls.specs.declared.way.Way.TheVariants.{Then, Else}
-use Rattle.fr_calls.specs.Step.{compare}
+use Rattle.fr_rules.specs.declared.way.Way.{Way}
+use Rattle.fr_rules.specs.declared.way.Way.TheVariants.{Then, Else}
+use Rattle.fr_rules.specs.Step.{compare}
 use Rattle.fr_notes.specs.declared.change.Change.{Change}
 use Rattle.fr_notes.specs.View.{ends_of}
 

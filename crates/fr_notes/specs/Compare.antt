@@ -1,7 +1,7 @@
 -- Two notes: whether one implies the other, and whether some state has both.
 use Rattle.std.specs.Prelude.{◌≢◌, ◌<◌, ℕ, length}
 use Rattle.fr_program.specs.Program.{Program}
-use Rattle.fr_calls.specs.State.{State, IsWellFormed}
+use Rattle.fr_rules.specs.State.{State, IsWellFormed}
 use Rattle.fr_notes.specs.Note.{Note, Holds}
 
 -- the second note holds of every actor in every state in which the first one does

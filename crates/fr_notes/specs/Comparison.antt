@@ -3,7 +3,7 @@ use Rattle.std.specs.Prelude.{◌≢◌, ◌≤ℤ◌, ◌+ℤ◌, ℤ, IsTrue}
 use Rattle.fr_program.specs.declared.instr.Comparison.{Comparison}
 use Rattle.fr_program.specs.declared.range.Range.{Range}
 use Rattle.fr_program.specs.Spans.{IsIn}
-use Rattle.fr_calls.specs.Step.{compare}
+use Rattle.fr_rules.specs.Step.{compare}
 
 -- what relates a number of one range to one of the other: a comparison that is true of them
 abbrev pub Compares : Comparison → ℤ → ℤ → Type 0

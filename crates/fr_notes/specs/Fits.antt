@@ -13,7 +13,7 @@ use Rattle.fr_program.specs.declared.parts.Kind.TheVariants.{Mutex, Recursive}
 use Rattle.fr_program.specs.Program.{Program}
 use Rattle.fr_program.specs.Lookup.{variable_at}
 use Rattle.fr_program.specs.Points.{points_of}
-use Rattle.fr_calls.specs.State.{kind_of}
+use Rattle.fr_rules.specs.State.{kind_of}
 use Rattle.fr_notes.specs.Note.{Alternative, Note, Claim, NotHeld, Alive, Gone, HeldTimes, range_of}
 
 -- the most that a depth or a count in a note can be

@@ -21,8 +21,8 @@ use Rattle.fr_program.specs.declared.instr.BufferKind.TheVariants.{Stream as OfS
 use Rattle.fr_program.specs.declared.instr.Timing.{Timing}
 use Rattle.fr_program.specs.declared.parts.Kind.{Kind}
 use Rattle.fr_program.specs.declared.parts.Kind.TheVariants.{Binary, Counting, Mutex, Recursive}
-use Rattle.fr_calls.specs.Rule.{given_kind}
-use Rattle.fr_calls.specs.Step.{can_time_out}
+use Rattle.fr_rules.specs.Rule.{given_kind}
+use Rattle.fr_rules.specs.Step.{can_time_out}
 pub use Rattle.fr_notes.specs.declared.holding.Holding.{Holding}
 pub use Rattle.fr_notes.specs.declared.holding.Holding.TheVariants.{Unheld, Living, Lifeless, Own, Others}
 use Rattle.fr_notes.specs.Note.{Claim, NotHeld, Alive, Gone, HeldTimes, claim_of}

@@ -2,7 +2,7 @@
 use Rattle.std.specs.Prelude.{ℕ, ◌<◌, length}
 use Rattle.fr_program.specs.Program.{Program}
 use Rattle.fr_program.specs.Fault.{IsFaultless}
-use Rattle.fr_calls.specs.State.{State, IsWellFormed}
+use Rattle.fr_rules.specs.State.{State, IsWellFormed}
 use Rattle.fr_notes.specs.Note.{Alternative, HoldsOne}
 use Rattle.fr_notes.specs.Fits.{AlternativeFits}
 

@@ -10,7 +10,7 @@
 use Rattle.std.specs.Prelude.{◌≡◌, ◌≢◌, ◌≤ℤ◌, ℕ, ℤ, pos, List, slice_index_or, Contains}
 pub use Rattle.fr_notes.specs.declared.claim.Claim.{Claim}
 pub use Rattle.fr_notes.specs.declared.claim.Claim.TheVariants.{NotHeld, Alive, Gone, HeldTimes}
-use Rattle.fr_calls.specs.State.{State, Content, Dead, Held, value_of, content_of, suspension_of, depth_of, count_held}
+use Rattle.fr_rules.specs.State.{State, Content, Dead, Held, value_of, content_of, suspension_of, depth_of, count_held}
 
 -- one alternative; each list goes in the order of the numbers, and a range has both of its ends
 pub record Alternative : Type 0 where

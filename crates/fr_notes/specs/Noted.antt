@@ -3,7 +3,7 @@ use Rattle.std.specs.Prelude.{◌≡◌, List, [], slice_index_or}
 use Rattle.fr_program.specs.declared.ids.Point.{Point}
 use Rattle.fr_program.specs.Program.{Program}
 use Rattle.fr_program.specs.Points.{point_number}
-use Rattle.fr_calls.specs.State.{State, At, place_of, IsWellFormed}
+use Rattle.fr_rules.specs.State.{State, At, place_of, IsWellFormed}
 use Rattle.fr_notes.specs.Note.{Alternative, Note, HoldsOne, Holds}
 
 -- the note of a point; notes go in the order of the points' numbers

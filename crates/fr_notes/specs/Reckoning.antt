@@ -16,7 +16,7 @@ use Rattle.fr_program.specs.declared.range.Range.{Range}
 use Rattle.fr_program.specs.Program.{Program}
 use Rattle.fr_program.specs.Limits.{IsNumber}
 use Rattle.fr_program.specs.Spans.{IsIn}
-use Rattle.fr_calls.specs.Rule.{result_of}
+use Rattle.fr_rules.specs.Rule.{result_of}
 use Rattle.fr_notes.specs.Note.{Within}
 
 -- both ends of the numbers that an operand can be

@@ -26,10 +26,10 @@ use Rattle.fr_program.specs.declared.range.Range.{Range}
 use Rattle.fr_program.specs.Program.{Program}
 use Rattle.fr_program.specs.Lookup.{IsPoint, instr_of, actor_at, is_interrupt}
 use Rattle.fr_program.specs.Fault.{IsFaultless}
-use Rattle.fr_calls.specs.declared.way.Way.{Way}
-use Rattle.fr_calls.specs.declared.rules.Condition.{Condition}
-use Rattle.fr_calls.specs.State.{kind_of}
-use Rattle.fr_calls.specs.Rule.{first_forbidden, is_unsuited}
+use Rattle.fr_rules.specs.declared.way.Way.{Way}
+use Rattle.fr_rules.specs.declared.rules.Condition.{Condition}
+use Rattle.fr_rules.specs.State.{kind_of}
+use Rattle.fr_rules.specs.Rule.{first_forbidden, is_unsuited}
 use Rattle.fr_notes.specs.declared.change.Change.{Change}
 use Rattle.fr_notes.specs.Known.{Known, KnownFits, IsLeft, NeverSteps, claims_some}
 use Rattle.fr_notes.specs.Note.{Claim}

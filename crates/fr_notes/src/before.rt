@@ -5,7 +5,7 @@ ghost use Rattle.fr_program.specs.declared.instr.CreatedKind.{CreatedKind as Cre
 ghost use Rattle.fr_program.specs.declared.instr.DeletedKind.{DeletedKind as DeletedKindOf};
 ghost use Rattle.fr_program.specs.Program.{Program};
 ghost use Rattle.fr_program.specs.Fault.{IsFaultless, IsConstant, NamesThings, OperandsFit};
-ghost use Rattle.fr_calls.specs.State.{kind_of};
+ghost use Rattle.fr_rules.specs.State.{kind_of};
 ghost use Rattle.fr_notes.specs.Known.{KnownFits, IsPossible, joint_range};
 ghost use Rattle.fr_notes.specs.Reckoning.{HasNumbersIn};
 ghost use Rattle.fr_notes.specs.Spot.{LeavesBefore};
@@ -14,10 +14,10 @@ use crate::change::{Change, narrowed_to};
 use crate::claim::Claim;
 use crate::inside::is_given_unheld;
 use crate::known::Known;
-use fr_calls::Way;
 use fr_program::{
     App, Call, Comparison, Instr, Kind, ObjId, ObjectCall, Operand, Operator, Range, VarId,
 };
+use fr_rules::Way;
 
 /// An entry of the critical section: no step while another actor is in it.
 pub fn entered(known: &Known) -> Option<Change>

@@ -1,12 +1,12 @@
 // A change: what a step leaves of what is known before it.
 ghost use Rattle.std.specs.Prelude.{◌≡◌, ◌↔◌, ℤ, IsTrue};
-ghost use Rattle.fr_calls.specs.Step.{compare};
+ghost use Rattle.fr_rules.specs.Step.{compare};
 ghost use Rattle.fr_notes.specs.Change.{Turns, narrowed_to};
 
 use crate::claim::Claim;
 use crate::comparison::negated;
-use fr_calls::Way;
 use fr_program::{Comparison, ObjId, Operand, Range, VarId};
+use fr_rules::Way;
 
 /// What a step by one row makes of an alternative: the depths after it, at most one object's new
 /// claim, and at most two variables' new ranges. All else is as before.

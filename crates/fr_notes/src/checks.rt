@@ -84,7 +84,7 @@ fn check_spans(app: &App, narrower: &[(VarId, Range)]) -> Result<(), NoteFault>
     Ok(())
 }
 
-/// Whether the parts have none of the three faults; where they have one, it is named.
+/// Refuses parts with one of the three faults, and names it.
 pub fn check_note(app: &App, parts: &NoteParts) -> Result<(), NoteFault>
     ensures counts { OnOk result (All (IsCount app.now) parts.now.held.items) }
     ensures lives { OnOk result

@@ -2,7 +2,7 @@
 ghost use Rattle.std.specs.Prelude.{◌≡◌, ◌≢◌, ◌≤ℤ◌, ◌<ℤ◌, ℤ, pos, not, IfSome, IfNone};
 ghost use Rattle.std.specs.Int.{int_min, int_max};
 ghost use Rattle.fr_program.specs.Spans.{IsIn, IsNarrow};
-ghost use Rattle.fr_calls.specs.Step.{compare};
+ghost use Rattle.fr_rules.specs.Step.{compare};
 ghost use Rattle.fr_notes.specs.Comparison.{Compares, IsBelow, IsLeast, AreLeast, NoPair, IsWithout};
 
 use fr_program::{Comparison, Range};

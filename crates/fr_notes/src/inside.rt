@@ -11,8 +11,8 @@ ghost use Rattle.fr_notes.specs.Spot.{LeavesAt, EndLeaves};
 use crate::change::Change;
 use crate::holding::Holding;
 use crate::known::Known;
-use fr_calls::{Way, can_time_out, given_kind, is_unsuited};
 use fr_program::{Act, App, Attempt, BufferKind, End, Kind, ObjectCall, Range, Timing, VarId};
+use fr_rules::{Way, can_time_out, given_kind, is_unsuited};
 
 /// What a take that works makes of a live object; None where it can't work.
 fn taken(kind: Kind, holding: Holding) -> Option<Holding>

@@ -40,6 +40,7 @@ pub use known::Known;
 pub use laws::fitting_can_hold;
 pub use note::{Alternative, Note, NoteParts};
 pub use notes::Notes;
-pub use pairs::{can_meet, together};
+pub use pairs::{can_meet, some_meet, together};
+pub use parts::{object_count, variable_count};
 pub use steps::{change_by, condition_at};
 pub use subject::Subject;

@@ -64,7 +64,7 @@ fn meets_some(alternative: &Alternative, others: &[Alternative]) -> bool
 }
 
 /// Whether one of the alternatives can hold together with one of the others.
-fn some_meet(alternatives: &[Alternative], others: &[Alternative]) -> bool
+pub fn some_meet(alternatives: &[Alternative], others: &[Alternative]) -> bool
     ensures { IsTrue result ↔ Any (MeetsSome others.now) alternatives.now }
 {
     alternatives

@@ -9,8 +9,8 @@ ghost use Rattle.fr_notes.specs.View.{ends_of};
 use crate::change::comparison_for;
 use crate::comparison::narrowed;
 use crate::known::Known;
-use fr_calls::Way;
 use fr_program::{Comparison, Operand, Operator, Range};
+use fr_rules::Way;
 
 impl<'a> Known<'a> {
     /// The numbers that an operand can be.

@@ -12,8 +12,8 @@ use crate::before::{
 use crate::change::Change;
 use crate::inside::change_inside;
 use crate::known::Known;
-use fr_calls::{Condition, Way, first_forbidden};
 use fr_program::{App, Call, Instr, Point, Side};
+use fr_rules::{Condition, Way, first_forbidden};
 
 /// The condition of the mover, which is at this point.
 pub fn condition_at(app: &App, known: &Known, point: Point) -> Condition

@@ -5,7 +5,7 @@ use Rattle.std.specs.Prelude.{IsTrue, if◌then◌else◌}
 use Rattle.std.proofs.lemmas.Bool.{eq-eqb}
 use Rattle.fr_order.proofs.Terms.{ObjId, Point, Inside, Kind, Mutex, Recursive, Program, State, Content, Held, content_of, kind_of, CanHave, IsWellFormed, Claim, NotHeld, Alive, Gone, HeldTimes, Note}
 use Rattle.fr_order.proofs.Terms.{Meets, Holds, claim_of, note_at, IsAt, is_any_mutex, place_in, ComesBefore, IsEdge}
-use Rattle.fr_calls.specs.Step.{taken}
+use Rattle.fr_rules.specs.Step.{taken}
 use Rattle.fr_waits.specs.declared.wait.Wait.{Wait}
 use Rattle.fr_waits.specs.Waits.{WaitsFor, WaitInTurn, IsDeadlocked}
 

@@ -9,7 +9,7 @@ pub use Rattle.fr_program.specs.declared.ids.Side.TheVariants.{Inside, Before}
 pub use Rattle.fr_program.specs.declared.parts.Kind.{Kind}
 pub use Rattle.fr_program.specs.declared.parts.Kind.TheVariants.{Mutex, Recursive}
 pub use Rattle.fr_program.specs.Program.{Program}
-pub use Rattle.fr_calls.specs.State.{State, Content, Held, content_of, kind_of, CanHave, IsWellFormed}
+pub use Rattle.fr_rules.specs.State.{State, Content, Held, content_of, kind_of, CanHave, IsWellFormed}
 pub use Rattle.fr_notes.specs.declared.claim.Claim.{Claim}
 pub use Rattle.fr_notes.specs.declared.claim.Claim.TheVariants.{NotHeld, Alive, Gone, HeldTimes}
 pub use Rattle.fr_notes.specs.Note.{Note, Meets, Holds, claim_of, Alternative}

@@ -32,7 +32,7 @@ use Rattle.fr_program.specs.declared.parts.Kind.{Kind}
 use Rattle.fr_program.specs.declared.parts.Kind.TheVariants.{Mutex, Recursive}
 use Rattle.fr_program.specs.Program.{Program}
 use Rattle.fr_program.specs.Points.{points_of}
-use Rattle.fr_calls.specs.State.{kind_of}
+use Rattle.fr_rules.specs.State.{kind_of}
 use Rattle.fr_notes.specs.Note.{Note}
 use Rattle.fr_ends.specs.Fits.{is_any_mutex}
 use Rattle.fr_order.specs.declared.edge.Edge.{Edge}

@@ -21,7 +21,7 @@ use Rattle.fr_program.specs.declared.ids.Side.TheVariants.{Inside}
 use Rattle.fr_program.specs.declared.parts.Kind.TheVariants.{Recursive}
 use Rattle.fr_program.specs.Program.{Program}
 use Rattle.fr_program.specs.Lookup.{IsPoint, instr_of}
-use Rattle.fr_calls.specs.State.{kind_of}
+use Rattle.fr_rules.specs.State.{kind_of}
 use Rattle.fr_waits.specs.Waits.{TakesWithoutLimit, HasNoDeadlock}
 use Rattle.fr_notes.specs.declared.claim.Claim.TheVariants.{HeldTimes}
 use Rattle.fr_notes.specs.Note.{Alternative, Note, claim_of}

@@ -2,24 +2,17 @@
 ghost use Rattle.std.specs.Prelude.{◌≡◌, ◌<◌, ◌↔◌, ◌+◌, ℕ, Some, IsTrue, IfOk, IfSome, IfNone, length, slice_get};
 ghost use Rattle.fr_program.specs.declared.ids.Point.{Point as PointOf};
 ghost use Rattle.fr_program.specs.Lookup.{instr_of};
-ghost use Rattle.fr_calls.specs.State.{kind_of};
+ghost use Rattle.fr_rules.specs.State.{kind_of};
 ghost use Rattle.fr_notes.specs.Fits.{NotesFit};
 ghost use Rattle.fr_order.specs.Order.{CanHold, IsEdge};
 ghost use Rattle.fr_order.specs.Edges.{waits_to_take, inside_take, inside_any_take, can_be_edge, AreTakes, AreAllTakes, CanBeEdge, AreEdges, HasEdgesBelow};
 
 use crate::edge::Edge;
-use fr_notes::{Claim, Note, Notes};
+use fr_notes::{Claim, Note, Notes, object_count};
 use fr_program::{
     Act, App, Attempt, BlockTime, Call, Instr, Kind, ObjId, ObjectCall, Point, Side, Timing,
 };
 use std::alloc::{AllocError, Global};
-
-/// How many objects the application has.
-pub(crate) fn object_count(app: &App) -> usize
-    ensures { result ≡ length app.now.objects }
-{
-    app.objects().len()
-}
 
 /// Whether the call is a take that waits without limit.
 fn waits_to_take(call: ObjectCall) -> bool

@@ -4,9 +4,10 @@ ghost use Rattle.fr_ends.specs.Fits.{CertificateFits};
 ghost use Rattle.fr_order.specs.Order.{IsOrderOf, NamesThings};
 
 use crate::edge::Edge;
-use crate::edges::{edges_of, object_count};
+use crate::edges::edges_of;
 use crate::settling::settle;
 use fr_ends::Certificate;
+use fr_notes::object_count;
 use fr_program::{App, ObjId};
 use std::alloc::{AllocError, Global};
 

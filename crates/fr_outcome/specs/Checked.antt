@@ -19,7 +19,7 @@
 use Rattle.std.specs.Prelude.{◌≡◌, ◌++◌, ℕ, List, Option, false, codes, decimal, if◌then◌else◌, string_bytes}
 use Rattle.std.specs.Io.KnownBytes.{Appends}
 use Rattle.fr_program.specs.Program.{Program}
-use Rattle.fr_calls.specs.Run.{IsSafe}
+use Rattle.fr_rules.specs.Run.{IsSafe}
 use Rattle.fr_waits.specs.Waits.{HasNoDeadlock}
 use Rattle.fr_list.specs.declared.listed.ListFault.{ListFault}
 use Rattle.fr_list.specs.declared.listed.ListFault.TheVariants.{Memory as NoMemoryForList, TooLong, NotText, Words as TooManyWords, Empty}

@@ -2,7 +2,7 @@
 ghost use Rattle.std.specs.Prelude.{◌≡◌, ◌++◌, OnOk, codes, string_bytes};
 ghost use Rattle.fr_page.specs.Markup.{each};
 
-use crate::page::{ActorShown, LineShown, PointShown, Reason, Standing};
+use crate::page::{ActorShown, LineShown, PointShown, PointState, Reason};
 use crate::writer::Writer;
 use std::alloc::AllocError;
 
@@ -46,9 +46,9 @@ fn put_explanation(page: &mut Writer, reasons: &[Reason]) -> Result<(), AllocErr
 /// Writes how it is with a point.
 fn put_standing(page: &mut Writer, point: &PointShown) -> Result<(), AllocError> {
     match &point.standing {
-        Standing::Holds => put_notes(page, &point.notes),
-        Standing::Never => page.markup("<span class='note'>never reached</span>"),
-        Standing::Fails(why) => {
+        PointState::Holds => put_notes(page, &point.notes),
+        PointState::Never => page.markup("<span class='note'>never reached</span>"),
+        PointState::Fails(why) => {
             put_notes(page, &point.notes)?;
             page.between(
                 "<p><strong>&#10007; fails:</strong> ",
@@ -63,9 +63,9 @@ fn put_standing(page: &mut Writer, point: &PointShown) -> Result<(), AllocError>
 /// Writes a point, with an anchor of its own.
 fn put_point(page: &mut Writer, point: &PointShown) -> Result<(), AllocError> {
     page.markup(match &point.standing {
-        Standing::Holds => "<tr class='point' id='point-",
-        Standing::Never => "<tr class='point never' id='point-",
-        Standing::Fails(_) => "<tr class='point fails' id='point-",
+        PointState::Holds => "<tr class='point' id='point-",
+        PointState::Never => "<tr class='point never' id='point-",
+        PointState::Fails(_) => "<tr class='point fails' id='point-",
     })?;
     page.number(point.number)?;
     page.markup("'><td></td><td><span class='where'>point ")?;
@@ -80,7 +80,7 @@ fn put_line(page: &mut Writer, line: &LineShown) -> Result<(), AllocError> {
     let is_reached = line
         .points
         .iter()
-        .any(|point| !matches!(&point.standing, Standing::Never));
+        .any(|point| !matches!(&point.standing, PointState::Never));
     if is_reached || line.points.is_empty() {
         page.markup("<tbody>\n<tr><th scope='row'>")?;
     } else {
@@ -96,7 +96,7 @@ fn put_line(page: &mut Writer, line: &LineShown) -> Result<(), AllocError> {
 
 /// Whether the point fails.
 fn fails(point: &PointShown) -> bool {
-    matches!(&point.standing, Standing::Fails(_))
+    matches!(&point.standing, PointState::Fails(_))
 }
 
 /// Whether a point of the actor fails.
@@ -119,7 +119,7 @@ fn put_link(
     page.between("'>", actor.name.as_str(), " ")?;
     page.number(line.number)?;
     page.between(" ", point.side.as_str(), "</a>")?;
-    if let Standing::Fails(why) = &point.standing {
+    if let PointState::Fails(why) = &point.standing {
         page.between(": ", why.as_str(), "")?;
     }
     page.markup("</li>\n")

@@ -45,7 +45,7 @@ pub struct Page {
     pub omissions: Vec<String>,
     pub actors: Vec<ActorShown>,
     /// The run, from the start on; no steps where there is none.
-    pub steps: Vec<StepShown>,
+    pub steps: Vec<RowShown>,
     /// Which actors wait for one another after the run, in the order of the cycle; none where they don't.
     pub waits: Vec<WaitShown>,
 }
@@ -99,14 +99,14 @@ pub struct PointShown {
     pub side: String,
     /// What its note says in words, an item for each alternative.
     pub notes: Vec<String>,
-    pub standing: Standing,
+    pub standing: PointState,
     /// Why it fails: a state that shows it, and the step from there.
     pub explanation: Vec<Reason>,
 }
 
 /// How it is with a point.
 #[derive(Drop)]
-pub enum Standing {
+pub enum PointState {
     Holds,
     /// With what the report says of it.
     Fails(String),
@@ -116,7 +116,7 @@ pub enum Standing {
 
 /// A step of a run, its start, or an event of the trace, with the state behind it.
 #[derive(Drop)]
-pub struct StepShown {
+pub struct RowShown {
     /// As `step 3`.
     pub name: String,
     /// How many steps the page leaves out before it.

@@ -1,5 +1,5 @@
 // A run as lanes, one an actor: time goes down, and bars run along a lane.
-use crate::page::{ActorAfter, ActorShown, Doing, Moved, Page, StepShown, TrackKind, WaitShown};
+use crate::page::{ActorAfter, ActorShown, Doing, Moved, Page, RowShown, TrackKind, WaitShown};
 use crate::writer::Writer;
 use std::alloc::{AllocError, Global};
 
@@ -28,7 +28,7 @@ struct Lane<'a> {
 }
 
 /// How deep an actor is in what a track is about, after a step; 0 where there is no such step.
-fn depth(steps: &[StepShown], step: Option<usize>, actor: usize, track: usize) -> u32 {
+fn depth(steps: &[RowShown], step: Option<usize>, actor: usize, track: usize) -> u32 {
     let Some(step) = step.and_then(|step| steps.get(step)) else {
         return 0;
     };
@@ -39,7 +39,7 @@ fn depth(steps: &[StepShown], step: Option<usize>, actor: usize, track: usize) -
 }
 
 /// Whether a bar is on the track somewhere in the run.
-fn has_bar(steps: &[StepShown], actor: usize, track: usize) -> bool {
+fn has_bar(steps: &[RowShown], actor: usize, track: usize) -> bool {
     for number in 0..steps.len() {
         if depth(steps, Some(number), actor, track) > 0 {
             return true;
@@ -49,7 +49,7 @@ fn has_bar(steps: &[StepShown], actor: usize, track: usize) -> bool {
 }
 
 /// Whether the actor does something in a step, or after the last one.
-fn does_something(steps: &[StepShown], actor: usize) -> bool {
+fn does_something(steps: &[RowShown], actor: usize) -> bool {
     steps.iter().any(|step| match &step.moved {
         Some(moved) => moved.actor == actor,
         None => false,
@@ -59,7 +59,7 @@ fn does_something(steps: &[StepShown], actor: usize) -> bool {
 /// The lane of an actor.
 fn lane_of<'a>(
     alloc: Global,
-    steps: &[StepShown],
+    steps: &[RowShown],
     number: usize,
     actor: &'a ActorShown,
 ) -> Result<Lane<'a>, AllocError> {
@@ -80,7 +80,7 @@ fn lane_of<'a>(
 fn lanes_of<'a>(
     alloc: Global,
     actors: &'a [ActorShown],
-    steps: &[StepShown],
+    steps: &[RowShown],
 ) -> Result<Vec<Lane<'a>>, AllocError> {
     let mut lanes = Vec::new(alloc);
     for (number, actor) in actors.iter().enumerate() {
@@ -95,7 +95,7 @@ fn lanes_of<'a>(
 fn put_still(
     page: &mut Writer,
     actors: &[ActorShown],
-    steps: &[StepShown],
+    steps: &[RowShown],
     still: usize,
 ) -> Result<(), AllocError> {
     if still == 0 {
@@ -144,7 +144,7 @@ fn put_lane_head(page: &mut Writer, lane: &Lane) -> Result<(), AllocError> {
 /// Writes the part of a bar that is in the row of a step, with the depth where it changes.
 fn put_bar(
     page: &mut Writer,
-    steps: &[StepShown],
+    steps: &[RowShown],
     step: usize,
     lane: &Lane,
     track: usize,
@@ -196,9 +196,9 @@ fn put_move(page: &mut Writer, name: &str, moved: &Moved) -> Result<(), AllocErr
 /// Writes the cell of a lane in the row of a step.
 fn put_cell(
     page: &mut Writer,
-    steps: &[StepShown],
+    steps: &[RowShown],
     number: usize,
-    step: &StepShown,
+    step: &RowShown,
     lane: &Lane,
 ) -> Result<(), AllocError> {
     page.markup("<td><div class='lane'>")?;
@@ -229,9 +229,9 @@ fn put_gap(page: &mut Writer, omitted: usize, lanes: usize) -> Result<(), AllocE
 /// Writes the row of a step.
 fn put_row(
     page: &mut Writer,
-    steps: &[StepShown],
+    steps: &[RowShown],
     number: usize,
-    step: &StepShown,
+    step: &RowShown,
     lanes: &[Lane],
 ) -> Result<(), AllocError> {
     put_gap(page, step.omitted, lanes.len())?;
@@ -309,7 +309,7 @@ fn put_after(page: &mut Writer, actor: &ActorShown, after: &ActorAfter) -> Resul
 }
 
 /// Writes the state behind a step.
-fn put_state(page: &mut Writer, actors: &[ActorShown], step: &StepShown) -> Result<(), AllocError> {
+fn put_state(page: &mut Writer, actors: &[ActorShown], step: &RowShown) -> Result<(), AllocError> {
     page.between(
         "<details><summary>",
         step.name.as_str(),
@@ -340,7 +340,7 @@ fn put_waits(page: &mut Writer, lanes: &[Lane], waits: &[WaitShown]) -> Result<(
 /// Writes the lanes with a row for each step, and below them who waits for whom.
 fn put_lanes(
     page: &mut Writer,
-    steps: &[StepShown],
+    steps: &[RowShown],
     lanes: &[Lane],
     waits: &[WaitShown],
 ) -> Result<(), AllocError> {
@@ -357,7 +357,7 @@ fn put_lanes(
 }
 
 /// Whether an event of the trace stands among the steps.
-fn has_event(steps: &[StepShown]) -> bool {
+fn has_event(steps: &[RowShown]) -> bool {
     steps.iter().any(|step| match &step.moved {
         Some(moved) => moved.doing == Doing::Event,
         None => false,
@@ -365,7 +365,7 @@ fn has_event(steps: &[StepShown]) -> bool {
 }
 
 /// Writes the run's heading, and below it what the lanes show.
-fn put_run_head(page: &mut Writer, steps: &[StepShown]) -> Result<(), AllocError> {
+fn put_run_head(page: &mut Writer, steps: &[RowShown]) -> Result<(), AllocError> {
     page.markup(RUN)?;
     if has_event(steps) {
         page.markup(EVENTS)?;

@@ -1,6 +1,6 @@
 // From the bytes of an application and of a certificate to the verdict, found by several workers.
 ghost use Rattle.std.specs.Prelude.{◌≡◌, ◌↔◌, IfOk, IfErr, IsErrOf};
-ghost use Rattle.fr_calls.specs.Run.{IsSafe};
+ghost use Rattle.fr_rules.specs.Run.{IsSafe};
 ghost use Rattle.fr_cert.specs.Meaning.{Means as CertMeans};
 ghost use Rattle.fr_ends.specs.Fits.{CertificateFits};
 ghost use Rattle.fr_judge.specs.declared.part.Verdict.TheVariants.{Yes};

@@ -86,13 +86,10 @@ fn start_all<'s, E, R: Threads, G: Gate>(
             join_all(rt, handles);
             return Err(ParFault::Threads);
         };
-        match handles.push(handle) {
-            Ok(()) => {}
-            Err(refused) => {
-                refused.value.join(rt);
-                join_all(rt, handles);
-                return Err(ParFault::Memory);
-            }
+        if let Err(refused) = handles.push(handle) {
+            refused.value.join(rt);
+            join_all(rt, handles);
+            return Err(ParFault::Memory);
         }
     }
     Ok(handles)

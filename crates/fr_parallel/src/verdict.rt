@@ -2,7 +2,7 @@
 ghost use Rattle.std.specs.Prelude.{◌≡◌, ◌≢◌, ◌↔◌, length, IfOk, IfErr, IsErrOf, Some, IsTrue};
 ghost use Rattle.fr_board.specs.Tally.{IsNewBoard, IsSeatCount};
 ghost use Rattle.fr_program.specs.Points.{points_of};
-ghost use Rattle.fr_calls.specs.Run.{IsSafe};
+ghost use Rattle.fr_rules.specs.Run.{IsSafe};
 ghost use Rattle.fr_ends.specs.Fits.{CertificateFits};
 ghost use Rattle.fr_judge.specs.declared.part.Verdict.TheVariants.{Yes};
 ghost use Rattle.fr_judge.specs.Told.{TellsVerdict, Speaks};

@@ -8,7 +8,7 @@ use crate::shown::Start;
 use crate::table::{line_at, table_named};
 use fr_escape::Location;
 use fr_instr::LineFault;
-use fr_reader::{Key, MOST_BYTES, ReadFault, names_in};
+use fr_reader::{Key, MOST_APPLICATION_BYTES, ReadFault, names_in};
 use std::alloc::{AllocError, Global};
 use toml::Table;
 
@@ -69,7 +69,7 @@ pub fn is_unknown_word(fault: &ReadFault) -> bool {
 /// Appends the place of a fault that is present in these bytes.
 fn push_place(out: &mut Lines, bytes: &[u8], fault: &ReadFault) {
     if matches!(fault, ReadFault::TooLong) {
-        return out.say(format_args!("the file has over {MOST_BYTES} bytes"));
+        return out.say(format_args!("the file has over {MOST_APPLICATION_BYTES} bytes"));
     }
     match toml::table_from_slice(out.alloc, bytes) {
         Ok(table) => push_fault(out, &table, fault),

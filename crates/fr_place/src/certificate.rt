@@ -6,7 +6,7 @@ use crate::nearness::push_nearest;
 use crate::position::{position_in, push_position};
 use crate::shown::Quoted;
 use crate::steps::{inner_key, last_key, push_path, value_at};
-use fr_cert::{CertFault, MOST_BYTES, Path, Step};
+use fr_cert::{CertFault, MOST_CERTIFICATE_BYTES, Path, Step};
 use fr_escape::Location;
 use fr_program::App;
 use fr_reader::Key;
@@ -187,7 +187,7 @@ fn push_fault(out: &mut Lines, app: &App, tree: &Value, fault: &CertFault) {
 /// Appends the place of a fault that is present in these bytes.
 fn push_place(out: &mut Lines, app: &App, bytes: &[u8], fault: &CertFault) {
     if matches!(fault, CertFault::TooLong) {
-        return out.say(format_args!("the file has over {MOST_BYTES} bytes"));
+        return out.say(format_args!("the file has over {MOST_CERTIFICATE_BYTES} bytes"));
     }
     match Value::from_slice(out.alloc, bytes) {
         Ok(tree) => push_fault(out, app, &tree, fault),

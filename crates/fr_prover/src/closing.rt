@@ -85,7 +85,7 @@ impl<'a> Trial<'a> {
         Ok(felt)
     }
 
-    /// Merges what the writes of all other actors leave of an alternative of the point.
+    /// Merges what the writes of all other actors leave of an alternative of the point. Whether the notes changed.
     fn meet_writers(
         &mut self,
         alloc: Global,
@@ -128,7 +128,7 @@ impl<'a> Trial<'a> {
         Ok(changed)
     }
 
-    /// Merges what the creates and deletes of all other actors leave of an alternative of the point.
+    /// Merges what the creates and deletes of all other actors leave of an alternative of the point. Whether the notes changed.
     fn meet_makers(
         &mut self,
         alloc: Global,
@@ -145,7 +145,7 @@ impl<'a> Trial<'a> {
         Ok(changed)
     }
 
-    /// Merges what the steps of all other actors leave of an alternative of the point.
+    /// Merges what the steps of all other actors leave of an alternative of the point. Whether the notes changed.
     fn meet_all(
         &mut self,
         alloc: Global,
@@ -157,7 +157,7 @@ impl<'a> Trial<'a> {
         Ok(self.meet_makers(alloc, actor, item, others)? || is_written)
     }
 
-    /// Merges once what the steps of all other actors leave of the note of the actor's point.
+    /// Merges once what the steps of all other actors leave of the note of the actor's point. Whether the notes changed.
     fn close_once(
         &mut self,
         alloc: Global,

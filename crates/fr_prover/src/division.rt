@@ -32,7 +32,7 @@ fn part_of(cuts: &[i128], number: i128) -> usize {
     part
 }
 
-/// Whether an object is known to be live, known to be dead, or neither.
+/// 1 where the object is known to be live, 2 where it is known to be dead, and else 0.
 fn life_of(claim: Claim) -> u32 {
     match claim {
         Claim::Alive | Claim::HeldTimes(_) => 1,

@@ -5,9 +5,10 @@ ghost use Rattle.fr_finder.specs.Spots.{IsPlaced};
 use crate::lists::empty_lists;
 use crate::place::{Placed, changed_life, place_at};
 use crate::trial::{Item, Trial};
-use fr_calls::Way;
+use fr_interfere::{cover_ranges, excludes_claim, excludes_range};
 use fr_notes::{Alternative, Claim, Known, change_by};
 use fr_program::{App, Instr, ObjId, Operand, Operator, Range, VarId};
+use fr_rules::Way;
 use std::alloc::{AllocError, Global};
 use std::collections::HashMap;
 use std::hash::{FoldHasher, Hash, Hasher};
@@ -90,34 +91,6 @@ fn weaken(claims: &mut Vec<(ObjId, Claim)>, facts: &Alternative) {
     }
 }
 
-/// Grows the ranges so that they have the alternative's numbers, too.
-fn widen(ranges: &mut Vec<(VarId, Range)>, facts: &Alternative) {
-    for (variable, range) in ranges.iter_mut() {
-        *range = range.hull(facts.range(*variable));
-    }
-}
-
-/// Whether one of the claims can't hold together with what the alternative says of the same object.
-fn is_denied(claims: &[(ObjId, Claim)], other: &Alternative) -> bool {
-    for (object, claim) in claims {
-        if !claim.meets(other.claim(*object)) {
-            return true;
-        }
-    }
-    false
-}
-
-/// Whether one of the ranges has no number in common with the alternative's range of the same variable.
-fn are_apart(ranges: &[(VarId, Range)], other: &Alternative) -> bool {
-    for (variable, range) in ranges {
-        let numbers = other.range(*variable);
-        if range.hi < numbers.lo || numbers.hi < range.lo {
-            return true;
-        }
-    }
-    false
-}
-
 impl Common {
     /// What one alternative says.
     fn of(alloc: Global, app: &App, facts: &Alternative) -> Result<Common, AllocError> {
@@ -132,14 +105,14 @@ impl Common {
     fn take(&mut self, facts: &Alternative) {
         self.critical = self.critical && facts.critical() > 0;
         weaken(&mut self.claims, facts);
-        widen(&mut self.ranges, facts);
+        cover_ranges(&mut self.ranges, facts);
     }
 
     /// Whether an alternative of another actor can hold together with none of them.
     fn excludes(&self, other: &Alternative) -> bool {
         self.critical && other.critical() > 0
-            || is_denied(&self.claims, other)
-            || are_apart(&self.ranges, other)
+            || excludes_claim(&self.claims, other)
+            || excludes_range(&self.ranges, other)
     }
 }
 

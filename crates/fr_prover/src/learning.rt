@@ -55,7 +55,7 @@ fn learn_number(
     insert(thresholds, number)
 }
 
-/// Adds both ends to the thresholds of a variable.
+/// Adds both ends to the thresholds of a variable. Whether one of them is new.
 fn learn_ends(
     app: &App,
     thresholds: &mut Vec<Vec<i128>>,

@@ -163,7 +163,7 @@ impl<'a> Trial<'a> {
         }
     }
 
-    /// Puts what two alternatives of the list have in common in the place of the second one.
+    /// Puts what two alternatives of the list have in common in the place of the second one. Whether the note changed.
     fn put_joined(
         &mut self,
         alloc: Global,
@@ -202,7 +202,7 @@ impl<'a> Trial<'a> {
         self.put_joined(alloc, number, every, pair, growth)
     }
 
-    /// Adds an alternative to the point's note, where it is kept apart from those that are there.
+    /// Adds an alternative to the point's note, where it is kept apart from those that are there. Whether the note changed.
     fn add(
         &mut self,
         alloc: Global,

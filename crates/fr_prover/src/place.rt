@@ -2,8 +2,8 @@
 ghost use Rattle.std.specs.Prelude.{IfSome};
 ghost use Rattle.fr_finder.specs.Spots.{IsPlaced};
 
-use fr_calls::Way;
 use fr_program::{Act, App, Attempt, Call, Instr, Operand, Point, VarId};
+use fr_rules::Way;
 
 /// A point with its instruction.
 #[derive(Clone, Copy)]

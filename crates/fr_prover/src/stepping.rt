@@ -6,9 +6,9 @@ ghost use Rattle.fr_finder.specs.Spots.{IsPlaced};
 
 use crate::place::{Placed, place_at};
 use crate::trial::{Item, Trial};
-use fr_calls::Way;
 use fr_finder::{left_to_mover, left_to_other, target};
 use fr_notes::{Alternative, Change, Known, can_meet, change_by, keeps, spares};
+use fr_rules::Way;
 use std::alloc::{AllocError, Global};
 
 impl<'a> Trial<'a> {

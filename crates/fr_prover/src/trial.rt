@@ -9,9 +9,9 @@ use crate::place::{place_at, ways};
 use crate::plan::Plan;
 use crate::pool::Pool;
 use crate::table::TruthTable;
-use fr_calls::Way;
 use fr_notes::{Alternative, Claim, Known, keeps};
 use fr_program::{App, ObjId, Range, VarId};
+use fr_rules::Way;
 use std::alloc::{AllocError, Global};
 use std::collections::HashMap;
 

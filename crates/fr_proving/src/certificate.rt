@@ -3,7 +3,7 @@ ghost use Rattle.std.specs.Prelude.{◌≡◌};
 ghost use Rattle.fr_ends.specs.Fits.{CertificateFits};
 
 use crate::layout::laid_out;
-use fr_cert::{MOST_BYTES, write_cert};
+use fr_cert::{MOST_CERTIFICATE_BYTES, write_cert};
 use fr_ends::Certificate;
 use fr_judge::{Judging, Lists};
 use fr_notes::{Alternative, Note};
@@ -73,7 +73,7 @@ fn is_too_long(app: &App, certificate: &Certificate) -> bool {
             least = least.saturating_add(least_bytes_of_note(app, note));
         }
     }
-    least > MOST_BYTES
+    least > MOST_CERTIFICATE_BYTES
 }
 
 /// The text of the thin certificate where that passes, and else of the whole one, unless that is longer than a certificate may be.
@@ -88,7 +88,7 @@ fn shorter_text(
 {
     if !passes(alloc, app, thin)? && !is_too_long(app, whole) {
         let text = text_of(alloc, app, whole)?;
-        if text.len() <= MOST_BYTES {
+        if text.len() <= MOST_CERTIFICATE_BYTES {
             return Ok(text);
         }
     }

@@ -17,14 +17,14 @@ use std::alloc::Global;
 use toml::Table;
 
 /// How many bytes the text of an application has at the most.
-pub const MOST_BYTES: usize = 1_048_576;
+pub const MOST_APPLICATION_BYTES: usize = 1_048_576;
 
 /// The table that the bytes are the text of.
 fn table_of(alloc: Global, bytes: &[u8]) -> Result<Table, ReadFault>
     ensures ok { IfOk result (λ table. IsTableText bytes.now (table_view table)) }
     ensures err { IfErr result (Standing (InBytes bytes.now)) }
 {
-    if bytes.len() > MOST_BYTES {
+    if bytes.len() > MOST_APPLICATION_BYTES {
         return Err(ReadFault::TooLong);
     }
     match toml::table_from_slice(alloc, bytes) {

@@ -16,6 +16,6 @@ mod table;
 mod texts;
 mod variable;
 
-pub use app::{MOST_BYTES, names_in, no_meaning, one_meaning, parts_in, read_app};
+pub use app::{MOST_APPLICATION_BYTES, names_in, no_meaning, one_meaning, parts_in, read_app};
 pub use fault::ReadFault;
 pub use key::{Key, TableName};

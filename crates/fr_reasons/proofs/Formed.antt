@@ -2,7 +2,7 @@
 use Rattle.std.proofs.Common.{Some, None, sym, subst}
 use Rattle.fr_program.specs.declared.ids.Point.{Point}
 use Rattle.fr_program.specs.Program.{Program}
-use Rattle.fr_calls.specs.State.{IsWellFormed, start}
+use Rattle.fr_rules.specs.State.{IsWellFormed, start}
 use Rattle.fr_ends.specs.Certificate.{Certificate}
 use Rattle.fr_judge.specs.declared.part.Part.{Part}
 use Rattle.fr_judge.specs.declared.part.Part.TheVariants.{Entry, Rule, Goes, Guard, Near, Spoiled}

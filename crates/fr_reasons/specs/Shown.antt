@@ -1,7 +1,7 @@
 -- For private clauses: what the text of an explanation needs of what it shows.
 use Rattle.std.specs.Prelude.{◌<◌, List, All, IfSome, length}
 use Rattle.fr_program.specs.Program.{Program}
-use Rattle.fr_calls.specs.State.{IsWellFormed}
+use Rattle.fr_rules.specs.State.{IsWellFormed}
 use Rattle.fr_notes.specs.Fits.{NoteFits}
 use Rattle.fr_witness.specs.declared.taken.Taken.{Taken}
 use Rattle.fr_reasons.specs.declared.reason.scene.Scene.{Scene}

@@ -1,7 +1,7 @@
 // Why a verdict is no: what follows its report, where it is asked for.
 ghost use Rattle.std.specs.Prelude.{◌≡◌, IfOk, IfSome, None};
 ghost use Rattle.fr_judge.specs.declared.part.Verdict.TheVariants.{Yes};
-ghost use Rattle.fr_calls.specs.State.{IsWellFormed};
+ghost use Rattle.fr_rules.specs.State.{IsWellFormed};
 ghost use Rattle.fr_ends.specs.Fits.{CertificateFits};
 ghost use Rattle.fr_reasons.specs.Shown.{IsFormedStep, AreFormedSteps, IsFormed, IsScene, IsSpot};
 

@@ -18,7 +18,7 @@ use Rattle.fr_escape.specs.Plain.{plain}
 use Rattle.fr_program.specs.declared.ids.ActorId.{ActorId}
 use Rattle.fr_program.specs.Program.{Program}
 use Rattle.fr_program.specs.Lookup.{actor_at}
-use Rattle.fr_calls.specs.Rule.{number_of}
+use Rattle.fr_rules.specs.Rule.{number_of}
 use Rattle.fr_runner.specs.declared.trace.Entry.TheVariants.{Stepped}
 use Rattle.fr_states.specs.declared.step.StepTaken.{StepTaken}
 use Rattle.fr_refuter.specs.declared.replay.Refutation.{Refutation}

@@ -8,7 +8,7 @@
 use Rattle.std.specs.Prelude.{ℕ, List, ◌++◌, codes, decimal}
 use Rattle.fr_program.specs.Program.{Program}
 use Rattle.fr_program.specs.Lookup.{object_at}
-use Rattle.fr_calls.specs.Rule.{number_of}
+use Rattle.fr_rules.specs.Rule.{number_of}
 use Rattle.fr_program.specs.Uses.{end_text}
 use Rattle.fr_judge.specs.declared.part.Part.{Part}
 use Rattle.fr_judge.specs.declared.part.Part.TheVariants.{Entry, Rule, Goes, Guard, Near, Spoiled}

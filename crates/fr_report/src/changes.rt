@@ -1,15 +1,15 @@
 // What a step of a run changed, in words.
 ghost use Rattle.std.specs.Prelude.{◌≡◌, IfOk};
-ghost use Rattle.fr_calls.specs.State.{IsWellFormed};
+ghost use Rattle.fr_rules.specs.State.{IsWellFormed};
 
-use fr_calls::{Content, Place, State, Stock};
+use fr_calls::{Content, Place, State, Stock, value_in};
 use fr_notes::Subject;
 use fr_program::{ActorId, App, ObjId, Point, VarId};
 use fr_states::StepTaken;
 use fr_wording::{
     Sources, Standing, actor_name, actor_place, add_text, content_in, fact, has_changed,
     object_name, outcome_text, put_content, put_held, put_listed, standing_in, subject_at,
-    subject_count, value_in, variable_name,
+    subject_count, variable_name,
 };
 use std::alloc::{AllocError, Global};
 

@@ -1,6 +1,6 @@
 // What is found of an application that is searched for a breach, or for a deadlock too.
 ghost use Rattle.std.specs.Prelude.{◌≡◌, ◌++◌, ◌∷◌, [], ℕ, List, All, IfOk, codes, string_bytes};
-ghost use Rattle.fr_calls.specs.State.{IsWellFormed};
+ghost use Rattle.fr_rules.specs.State.{IsWellFormed};
 ghost use Rattle.fr_wording.specs.Lines.{lines_text};
 ghost use Rattle.fr_report.specs.Refuted.{breach_text, found_line, shorter_text, steps_in, AreRunLines, AreWaiting, IsBelow, IsLast, IsStepTold};
 ghost use Rattle.fr_wording.specs.Standings.{standings_text, IsPlaced};

@@ -4,10 +4,11 @@ use Rattle.std.specs.Prelude.{ℤ, pos, ◌+ℤ◌, ◌-ℤ◌, ◌≤ℤ◌, �
 use Rattle.std.proofs.lemmas.Int.{ints}
 use Rattle.std.proofs.lemmas.Option.{slice_get-get_or, slice_get_within, same_Some}
 use Rattle.fr_program.specs.Program.{Program}
-use Rattle.fr_calls.specs.State.{State}
+use Rattle.fr_rules.specs.State.{State}
 use Rattle.fr_calls.specs.declared.moves.Moves.{Moves}
 use Rattle.fr_calls.specs.declared.moves.Moves.TheVariants.{None as NoMove, Span, Pair}
-use Rattle.fr_calls.specs.Choices.{CanChoose, IsAmong, IsRising}
+use Rattle.fr_rules.specs.Choices.{CanChoose}
+use Rattle.fr_calls.specs.Moves.{IsAmong, IsRising}
 use Rattle.fr_runner.specs.Listed.{numbers_from, listed}
 use Rattle.fr_runner.specs.Trace.{AreChoices}
 

@@ -2,7 +2,7 @@
 use Rattle.std.proofs.Common.{◌≡◌, ◌<◌, ◌+◌, ◌-◌, ℕ, suc, List, [], ◌∷◌, ◌++◌, length, refl, sym, ap, ◌∙◌, subst, arith}
 use Rattle.std.proofs.lemmas.List.{length-append}
 use Rattle.fr_program.specs.Program.{Program}
-use Rattle.fr_calls.specs.State.{State}
+use Rattle.fr_rules.specs.State.{State}
 use Rattle.fr_runner.specs.Trace.{Entry, IsEntry, Replays, word_at}
 
 pub replays-push : (P : Program) (words : List ℕ) (before : ℕ) (S : State) (es : List Entry) (mid : State) (e : Entry) (T : State) → Replays P words before S es mid → IsEntry P (word_at words (before + length es)) mid e T → Replays P words before S (es ++ e ∷ []) T

@@ -9,8 +9,8 @@ use Rattle.fr_program.specs.declared.parts.Kind.TheVariants.{Mutex, Recursive}
 use Rattle.fr_program.specs.declared.ids.Point.{Point}
 use Rattle.fr_program.specs.Program.{Program}
 use Rattle.fr_program.specs.Points.{point_number}
-use Rattle.fr_calls.specs.State.{State, Content, Held, count_held, kind_of, content_of}
-use Rattle.fr_calls.specs.Choices.{CanChoose, IsShallow}
+use Rattle.fr_rules.specs.State.{State, Content, Held, count_held, kind_of, content_of}
+use Rattle.fr_rules.specs.Choices.{CanChoose, IsShallow}
 use Rattle.fr_program.specs.declared.ids.ActorId.{ActorId}
 use Rattle.fr_notes.specs.declared.claim.Claim.{Claim}
 use Rattle.fr_notes.specs.declared.claim.Claim.TheVariants.{NotHeld, Alive, Gone, HeldTimes}

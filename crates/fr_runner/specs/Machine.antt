@@ -8,7 +8,7 @@
 -- | IsRunning      | its entries replay from the start to its state, which keeps the notes, and with the      |
 -- |                | polls left they are as many as the polls that it began with                              |
 use Rattle.std.specs.Prelude.{◌≡◌, ◌+◌, ℕ, List, length}
-use Rattle.fr_calls.specs.State.{State, start}
+use Rattle.fr_rules.specs.State.{State, start}
 use Rattle.fr_judge.specs.Approved.{Approved}
 use Rattle.fr_judge.specs.Sound.{KeepsNotes}
 use Rattle.fr_runner.specs.Trace.{Entry, Replays}

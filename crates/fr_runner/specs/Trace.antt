@@ -14,9 +14,9 @@
 use Rattle.std.specs.Prelude.{◌≡◌, ◌<◌, ◌≤◌, ◌<ℤ◌, ◌+◌, ◌%◌, ◌↔◌, ℕ, ℤ, List, [], ◌∷◌, Some, length, slice_index, slice_get, AllPairs, Contains}
 use Rattle.fr_program.specs.declared.ids.ActorId.{ActorId}
 use Rattle.fr_program.specs.Program.{Program}
-use Rattle.fr_calls.specs.State.{State, Done, place_of, start}
-use Rattle.fr_calls.specs.Step.{Step}
-use Rattle.fr_calls.specs.Choices.{CanChoose}
+use Rattle.fr_rules.specs.State.{State, Done, place_of, start}
+use Rattle.fr_rules.specs.Step.{Step}
+use Rattle.fr_rules.specs.Choices.{CanChoose}
 pub use Rattle.fr_runner.specs.declared.trace.Entry.{Entry}
 pub use Rattle.fr_runner.specs.declared.trace.Entry.TheVariants.{Stepped, Blocked}
 

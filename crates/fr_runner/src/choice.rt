@@ -1,7 +1,7 @@
 // Which of an actor's choices a word picks. There can be 2^64 of them, so they are counted in 128 bits.
 ghost use Rattle.std.specs.Prelude.{◌≡◌, ◌≤ℤ◌, ◌+ℤ◌, ◌-ℤ◌, ◌<◌, ◌%◌, ◌^◌, pos, Some, length, slice_get, IfSome, IfNone, nat_abs};
 ghost use Rattle.fr_calls.specs.declared.moves.Moves.TheVariants.{None as NoMove, Span};
-ghost use Rattle.fr_calls.specs.Choices.{IsRising};
+ghost use Rattle.fr_calls.specs.Moves.{IsRising};
 ghost use Rattle.fr_runner.specs.Listed.{listed};
 
 use fr_calls::Moves;

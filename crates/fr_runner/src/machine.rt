@@ -1,8 +1,8 @@
 // A machine that runs an application that has passed, one poll at a time.
 ghost use Rattle.std.specs.Prelude.{◌≡◌, ◌≢◌, ◌<◌, ◌≤◌, ◌+◌, ◌↔◌, ℕ, [], ◌∷◌, ◌++◌, length, IsTrue, IsErrOf, IfOk, IfErr, OnOk, OnErr};
-ghost use Rattle.fr_calls.specs.State.{Done, place_of, start};
-ghost use Rattle.fr_calls.specs.declared.rules.Rule.{Rule as RuleOf};
-ghost use Rattle.fr_calls.specs.Rule.{Breach};
+ghost use Rattle.fr_rules.specs.State.{Done, place_of, start};
+ghost use Rattle.fr_rules.specs.declared.rules.Rule.{Rule as RuleOf};
+ghost use Rattle.fr_rules.specs.Rule.{Breach};
 ghost use Rattle.fr_judge.specs.Sound.{KeepsNotes};
 ghost use Rattle.fr_runner.specs.declared.fault.RunFault.TheVariants.{Polls, Threads, Spent, NoActor};
 ghost use Rattle.fr_runner.specs.Trace.{IsEntry, Replays, actor_of, word_at};

@@ -1,6 +1,6 @@
 // The rest of a run: what one thread polls of it alone.
 ghost use Rattle.std.specs.Prelude.{◌≡◌, ◌≢◌, ◌<◌, ◌≤◌, ◌+◌, ◌^◌, ℕ, length, IfSome, IfNone, IfErr, OnOk};
-ghost use Rattle.fr_calls.specs.State.{Done, place_of};
+ghost use Rattle.fr_rules.specs.State.{Done, place_of};
 ghost use Rattle.fr_runner.specs.declared.fault.RunFault.TheVariants.{Polls, Threads, Spent, NoActor};
 ghost use Rattle.fr_runner.specs.Trace.{AllDone};
 

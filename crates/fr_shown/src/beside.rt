@@ -1,6 +1,7 @@
 // The answer to a command: what was found out, with the application's text and what is said beside it.
 ghost use Rattle.std.specs.Prelude.{◌≡◌, ◌≤◌, IfErr, IfOk, string_bytes};
 ghost use Rattle.fr_outcome.specs.Answers.{HasFound, what_status};
+ghost use Rattle.fr_outcome.specs.declared.answer.What.TheVariants.{Refused as RefusedWhat};
 
 use crate::hidden::said_beside;
 use fr_formats::{Source, WarningShown};
@@ -51,6 +52,8 @@ pub fn answer_to(
     warns: Warns,
 ) -> Result<Answer, AllocError>
     ensures path { IfOk result (λ a. string_bytes a.application ≡ source.entry.application.now) }
+    ensures what { IfOk found (λ r. IfOk result (λ a. a.what ≡ r.1)) }
+    ensures fault { IfErr found (λ refusal. IfOk result (λ a. a.what ≡ RefusedWhat refusal)) }
     ensures found { IfOk result (λ a. what_status a.what ≤ 1 → HasFound found a.what) }
     ensures refused { IfErr found (λ _. IfOk result (λ a. 2 ≤ what_status a.what)) }
     ensures most { IfOk result (λ a. what_status a.what ≤ 3) }

@@ -1,6 +1,6 @@
 // An answer as reports for machines show it.
 ghost use Rattle.std.specs.Prelude.{◌≡◌, IfOk, OnOk, string_bytes};
-ghost use Rattle.fr_outcome.specs.Answers.{kind_of, shown_line};
+ghost use Rattle.fr_outcome.specs.Answers.{kind_of, refused_line, shown_line};
 
 mod failure;
 mod places;
@@ -86,6 +86,7 @@ fn add_details(alloc: Global, answer: &Answer, shown: &mut AnswerShown) -> Resul
     ensures application { OnOk result (shown.new.application ≡ shown.old.application) }
     ensures kind { OnOk result (shown.new.answer ≡ shown.old.answer) }
     ensures report { OnOk result (shown.new.report ≡ shown.old.report) }
+    ensures line { OnOk result (shown.new.line ≡ refused_line answer.now.what) }
 {
     shown.line = answer.what.refused_line();
     shown.lines = answer.what.shown_lines(alloc)?;
@@ -101,6 +102,7 @@ pub fn shown_of(alloc: Global, answer: &Answer) -> Result<AnswerShown, AllocErro
     ensures application { IfOk result (λ shown. string_bytes shown.application ≡ string_bytes answer.now.application) }
     ensures kind { IfOk result (λ shown. shown.answer ≡ kind_of answer.now.what) }
     ensures report { IfOk result (λ shown. string_bytes shown.report ≡ shown_line answer.now.what) }
+    ensures line { IfOk result (λ shown. shown.line ≡ refused_line answer.now.what) }
 {
     let source = Source {
         command: answer.command,

@@ -135,7 +135,7 @@ impl Cursor {
         matches!(self.token().kind, Kind::Word) && self.is(self.following(), sign)
     }
 
-    /// Takes the next token if it is this word or sign.
+    /// Takes the next token if it is this word or sign. Whether it was.
     pub(crate) fn accepts(&mut self, text: &str) -> bool {
         let is_there = self.sees(text);
         if is_there {

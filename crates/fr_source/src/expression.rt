@@ -247,7 +247,7 @@ impl Reader {
         !self.assignment(yard) && self.infix(yard)
     }
 
-    /// Takes an operator before a term, or an opening bracket, if it is next.
+    /// Takes an operator before a term, or an opening bracket, if it is next. Whether it took one.
     fn prefix(&mut self, yard: &mut Yard) -> bool {
         let spot = self.cursor.spot();
         let waiting = match self.cursor.text(self.cursor.token()) {
@@ -420,7 +420,7 @@ impl Reader {
         term
     }
 
-    /// Takes the `=` of `(x = ..)`, if it is next and only `(x` is before it.
+    /// Takes the `=` of `(x = ..)`, if it is next and only `(x` is before it. Whether it took one.
     fn assignment(&mut self, yard: &mut Yard) -> bool {
         if !yard.is_of_tests
             || !self.cursor.sees("=")

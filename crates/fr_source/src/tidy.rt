@@ -210,7 +210,7 @@ impl Tidying<'_> {
         }
     }
 
-    /// Takes out the lines that no way leads to.
+    /// Takes out the lines that no way leads to. Whether there were any.
     fn take_out_unreached(&mut self, alloc: Global) -> Result<bool, AllocError> {
         let lines = made_of(alloc, self.plain, &self.kept)?;
         let seen = reached(alloc, &lines)?;

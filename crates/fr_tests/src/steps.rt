@@ -1,6 +1,6 @@
 // Steps of an actor from a state that facts tell, by the calls with which a run takes them.
 ghost use Rattle.std.specs.Prelude.{◌<◌, length};
-ghost use Rattle.fr_calls.specs.State.{IsWellFormed};
+ghost use Rattle.fr_rules.specs.State.{IsWellFormed};
 
 use crate::states::state_in;
 use fr_calls::{Rule, State};

@@ -2,7 +2,7 @@
 -- two is yes, then the application is safe.
 use Rattle.std.specs.Prelude.{ℕ, List}
 use Rattle.fr_program.specs.Program.{Program}
-use Rattle.fr_calls.specs.Run.{IsSafe}
+use Rattle.fr_rules.specs.Run.{IsSafe}
 use Rattle.fr_reader.specs.Meaning.{Means as AppMeans}
 use Rattle.fr_ends.specs.Certificate.{Certificate}
 use Rattle.fr_cert.specs.Meaning.{Means as CertMeans}

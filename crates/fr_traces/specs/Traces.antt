@@ -8,7 +8,7 @@
 -- | greatest_of        | the greatest of their exit statuses, 0 where there is none                      |
 -- | is_several, text_at | what is printed of an answer: where several traces are named, after the path   |
 -- | AreTraces          | these traces are answered, and this is so of the answers                        |
--- | ShowsTrace         | a report shows the answer to a trace: both files, its kind and its line         |
+-- | ShowsTrace         | a report shows the answer to a trace: both files, its kind and its lines        |
 -- | AreTracesPrinted   | the answers were written, in their order, or a report that shows them           |
 -- | AreCovered         | what no run has shown was written, where that is asked                          |
 -- | IsTracesAnswered   | all of that, for the application that is named                                  |
@@ -83,12 +83,13 @@ AreTraces reads asked P paths status Is =
     (answers : List TraceAnswerAt) × (map (λ t. t.path) answers ≡ paths) × All (IsAnswerAt reads asked P) answers
     × (status ≡ greatest_of answers) × Is answers
 
--- what a report shows of an answer for the application in this file: both files, the kind of the answer and its line
+-- what a report shows of an answer for the application in this file: both files, the kind of the answer, its line, and those below it
 pub record ShowsTrace (app : List ℕ) (t : TraceAnswerAt) (shown : AnswerShown) : Type 0 where
   pub application : string_bytes shown.application ≡ app
   pub trace : option_map (λ trace. string_bytes trace.file) shown.trace ≡ Some t.path
   pub kind : shown.answer ≡ t.kind
   pub line : string_bytes shown.report ≡ t.line
+  pub lines : lines_text shown.lines.items ≡ t.more
 
 -- the answers were written after what the writer had, and nothing else; or a report that shows them was
 abbrev pub AreTracesPrinted : Option Format → List ℕ → Bool → Option (List ℕ) → Option (List ℕ) → List TraceAnswerAt → Type 0

@@ -6,13 +6,14 @@ ghost use Rattle.fr_outcome.specs.Checked.{fault_status};
 ghost use Rattle.fr_inputs.specs.Inputs.{Reads};
 ghost use Rattle.fr_traces.specs.Traces.{IsAnswerAt, IsRunAt, answered_at};
 
+use crate::answered::answered;
 use fr_escape::place_of_texts;
 use fr_inputs::{Files, input};
 use fr_outcome::{Boxed, CheckFault, Refusal, What};
 use fr_program::App;
 use fr_request::FollowRequest;
 use fr_trace::MOST_TRACE_BYTES;
-use fr_trail::{Asked, NoAnswer, TraceAnswer, answered};
+use fr_trail::{Asked, NoAnswer, TraceAnswer};
 use std::alloc::{AllocError, Global};
 
 /// Whether it is explained why a trace isn't followed further, and where a refusal is: where a machine reads the answer, always.

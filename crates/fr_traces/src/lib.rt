@@ -3,6 +3,7 @@
 // a certificate.
 #![tactic(auto)]
 
+mod answered;
 mod answers;
 mod follow;
 mod outputs;

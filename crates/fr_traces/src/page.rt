@@ -1,10 +1,10 @@
 // A run that was found for a trace, with the events of the trace beside it.
 ghost use Rattle.std.specs.Prelude.{IfOk, string_bytes};
-ghost use Rattle.fr_calls.specs.State.{IsWellFormed};
+ghost use Rattle.fr_rules.specs.State.{IsWellFormed};
 ghost use Rattle.fr_traces.specs.Traces.{IsTrailPage};
 
 use fr_calls::{Rule, State};
-use fr_follower::Followed;
+use fr_explained::Followed;
 use fr_lanes::{
     Body, Code, RowPosition, count_text, empty_body, is_shown, omitted_before, page_kind,
     page_with, put_actors, put_end, put_start, put_step, put_tracks, row_of, rule_told,

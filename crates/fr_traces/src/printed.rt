@@ -39,6 +39,7 @@ fn trace_shown(
     ensures trace { IfOk result (λ shown. option_map (λ trace. string_bytes trace.file) shown.trace ≡ Some path.now) }
     ensures kind { IfOk result (λ shown. shown.answer ≡ answer.now.kind) }
     ensures line { IfOk result (λ shown. string_bytes shown.report ≡ string_bytes answer.now.line) }
+    ensures lines { IfOk result (λ shown. lines_text shown.lines.items ≡ lines_text answer.now.why.items) }
 {
     let source = Source {
         command: Command::Follow,

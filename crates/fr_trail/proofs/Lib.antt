@@ -1,1 +1,1 @@
-mod RunLaws
+pub mod RunLaws

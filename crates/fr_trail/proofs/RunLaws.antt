@@ -5,9 +5,9 @@ use Rattle.fr_program.specs.Program.{Program}
 use Rattle.fr_instr.specs.AppNames.{names_in}
 use Rattle.fr_trace.specs.Means.{TraceMeans, said_in}
 use Rattle.fr_events.specs.declared.trace.Trace.{Trace}
-use Rattle.fr_follower.specs.Follows.{IsFollowed}
-use Rattle.fr_follower.specs.declared.following.Followed.{Followed}
-use Rattle.fr_follower.specs.declared.item.Item.{Item}
+use Rattle.fr_explained.specs.Follows.{IsFollowed}
+use Rattle.fr_explained.specs.declared.followed.Followed.{Followed}
+use Rattle.fr_explained.specs.declared.item.Item.{Item}
 use Rattle.fr_trail.specs.Answered.{IsAsked}
 use Rattle.fr_trail.specs.Runs.{IsItemLine, IsRunIn, IsRunOf, IsRunText}
 
@@ -18,8 +18,8 @@ run-more P (i ∷ items) item text line h own =
     (h.0, h.1 ++ line, h.2, run-more P items item h.1 line h.3 own, ap (λ t. t ++ line) h.4 ∙ append_assoc h.0 h.1 line)
 
 -- the lines of the run are those of one for the trace in this text
-pub run-of : (any anywhere : Bool) (P : Program) (bytes : List ℕ) (e u : Trace) → TraceMeans (names_in P) anywhere bytes (said_in e) → IsAsked any e u → (found : Option (String Global))
-    → IfSome found (λ text. (f : Followed) × IsFollowed P u f × (items : List Item) × IsRunIn f items × IsRunText P items (string_bytes text))
+pub run-of : (any anywhere : Bool) (P : Program) (bytes : List ℕ) (e u : Trace) (f : Followed) → TraceMeans (names_in P) anywhere bytes (said_in e) → IsAsked any e u → IsFollowed P u f
+    → (found : Option (String Global)) → IfSome found (λ text. (items : List Item) × IsRunIn f items × IsRunText P items (string_bytes text))
     → IfSome found (λ text. IsRunOf any anywhere P bytes (string_bytes text))
-run-of any anywhere P bytes e u means asked (Some text) h = (e, means, u, asked, h.0, h.1, h.2, h.3, h.4)
-run-of any anywhere P bytes e u means asked None h = tt
+run-of any anywhere P bytes e u f means asked follows (Some text) h = (e, means, u, asked, f, follows, h.0, h.1, h.2)
+run-of any anywhere P bytes e u f means asked follows None h = tt

@@ -10,7 +10,7 @@
 use Rattle.std.specs.Prelude.{◌≡◌, ◌⊎◌, ◌++◌, ℕ, Bool, true, false, List, [], codes, decimal, length, map}
 use Rattle.fr_program.specs.Program.{Program}
 use Rattle.fr_program.specs.Lookup.{actor_at}
-use Rattle.fr_calls.specs.Rule.{number_of}
+use Rattle.fr_rules.specs.Rule.{number_of}
 use Rattle.fr_wording.specs.Names.{rule_text}
 use Rattle.fr_instr.specs.AppNames.{names_in}
 use Rattle.fr_trace.specs.Means.{TraceMeans, IsPresent, said_in}
@@ -24,9 +24,9 @@ use Rattle.fr_events.specs.declared.trace.Happening.TheVariants.{Enter}
 use Rattle.fr_events.specs.declared.trace.Trace.{Trace}
 use Rattle.fr_formats.specs.declared.answer.AnswerKind.{AnswerKind}
 use Rattle.fr_formats.specs.declared.answer.AnswerKind.TheVariants.{Followed as FollowedKind, FollowedApart, NotFollowed, Breach, GaveUp as GaveUpKind, NotListed as NotListedKind}
-use Rattle.fr_follower.specs.Follows.{IsFollowed}
-use Rattle.fr_follower.specs.declared.following.Followed.{Followed}
-use Rattle.fr_follower.specs.declared.following.Followed.TheVariants.{Whole, UpToLost, Strays, Stops, Breaks, GaveUp}
+use Rattle.fr_explained.specs.Follows.{IsFollowed}
+use Rattle.fr_explained.specs.declared.followed.Followed.{Followed}
+use Rattle.fr_explained.specs.declared.followed.Followed.TheVariants.{Whole, UpToLost, Strays, Stops, Breaks, GaveUp}
 
 -- the same without block times
 abbrev pub untimed_call : SeenCall → SeenCall

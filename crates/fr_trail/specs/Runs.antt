@@ -7,29 +7,30 @@
 -- | IsRunText  | the lines of all items, in their order                                                         |
 -- | IsRunIn    | the run that an answer has                                                                     |
 -- | IsRunOf    | the lines of a run that explains the trace in a text, as far as its answer says                |
-use Rattle.std.specs.Prelude.{◌≡◌, ◌++◌, ℕ, Bool, List, [], ◌∷◌, codes}
+use Rattle.std.specs.Prelude.{◌≡◌, ◌++◌, ℕ, Bool, List, [], ◌∷◌, codes, encode_utf8_all}
 use Rattle.std.specs.Fmt.{signed_decimal}
+use Rattle.fr_escape.specs.Plain.{plain}
 use Rattle.fr_program.specs.Program.{Program}
 use Rattle.fr_program.specs.Lookup.{actor_at}
 use Rattle.fr_instr.specs.AppNames.{names_in}
 use Rattle.fr_states.specs.declared.step.StepTaken.{StepTaken}
 use Rattle.fr_trace.specs.Means.{TraceMeans, said_in}
 use Rattle.fr_events.specs.declared.trace.Trace.{Trace}
-use Rattle.fr_follower.specs.Follows.{IsFollowed}
-use Rattle.fr_follower.specs.declared.item.Item.{Item}
-use Rattle.fr_follower.specs.declared.item.Item.TheVariants.{Step as StepItem, Event as EventItem}
-use Rattle.fr_follower.specs.declared.following.Followed.{Followed}
-use Rattle.fr_follower.specs.declared.following.Followed.TheVariants.{Whole, UpToLost, Strays, Stops, Breaks, GaveUp}
+use Rattle.fr_explained.specs.Follows.{IsFollowed}
+use Rattle.fr_explained.specs.declared.item.Item.{Item}
+use Rattle.fr_explained.specs.declared.item.Item.TheVariants.{Step as StepItem, Event as EventItem}
+use Rattle.fr_explained.specs.declared.followed.Followed.{Followed}
+use Rattle.fr_explained.specs.declared.followed.Followed.TheVariants.{Whole, UpToLost, Strays, Stops, Breaks, GaveUp}
 use Rattle.fr_trail.specs.Answered.{IsAsked}
 
 -- the line of a step, as `run` prints it
 abbrev pub step_text : Program → StepTaken → List ℕ
 step_text P step = (actor_at P step.actor.0).name ++ (codes " step " ++ (signed_decimal step.choice ++ codes "\n"))
 
--- the line of an item: a step, or an event as a comment
+-- the line of an item: a step, or an event as a comment, in which what ends a line is written as in a literal
 abbrev pub IsItemLine : Program → Item → List ℕ → Type 0
 IsItemLine P (StepItem step) line = line ≡ step_text P step
-IsItemLine P EventItem line = (said : List ℕ) × (line ≡ codes "  # " ++ (said ++ codes "\n"))
+IsItemLine P EventItem line = (said : List ℕ) × (line ≡ codes "  # " ++ (encode_utf8_all (plain said) ++ codes "\n"))
 
 -- the lines of all items, in their order
 abbrev pub IsRunText : Program → List Item → List ℕ → Type 0

@@ -1,28 +1,21 @@
 // The answer to a trace.
-ghost use Rattle.std.specs.Prelude.{◌≡◌, ◌≤◌, ◌++◌, ℕ, List, None, IfErr, IfOk, IfSome, codes, string_bytes};
+ghost use Rattle.std.specs.Prelude.{◌≡◌, ◌≤◌, ◌++◌, ℕ, List, None, IfOk, IfSome, codes, string_bytes};
 ghost use Rattle.fr_formats.specs.Answers.{status_of};
 ghost use Rattle.fr_formats.specs.declared.answer.AnswerKind.TheVariants.{NotListed as NotListedKind};
-ghost use Rattle.fr_instr.specs.AppNames.{names_in};
-ghost use Rattle.fr_trace.specs.Means.{IsPresent, TraceMeans, said_in};
-ghost use Rattle.fr_events.specs.declared.trace.Trace.{Trace as TraceOf};
-ghost use Rattle.fr_follower.specs.Follows.{IsFollowed};
-ghost use Rattle.fr_follower.specs.declared.following.Followed.{Followed as FollowedOf};
-ghost use Rattle.fr_follower.specs.declared.item.Item.{Item as ItemOf};
-ghost use Rattle.fr_trail.specs.Answered.{IsAsked, IsTraceAnswer, followed_end, followed_head, followed_kind};
-ghost use Rattle.fr_trail.specs.Runs.{IsRunIn, IsRunOf, IsRunText};
+ghost use Rattle.fr_explained.specs.declared.item.Item.{Item as ItemOf};
+ghost use Rattle.fr_trail.specs.Answered.{followed_end, followed_head, followed_kind};
+ghost use Rattle.fr_trail.specs.Runs.{IsRunIn, IsRunText};
 
 use crate::rows::{TrailRow, rows_of};
 use crate::run_text::run_text;
 use crate::texts::{event_shown, fault_text, line_of, marked, unlisted_text, unlisted_texts};
-use crate::times::as_asked;
 use crate::why::why;
 use fr_escape::place_of_texts;
 use fr_events::{Happening, Trace};
-use fr_follower::{Followed, Item, follow};
+use fr_explained::{Followed, Item};
 use fr_formats::AnswerKind;
-use fr_instr::names_of;
 use fr_program::App;
-use fr_trace::{NoTrace, NotListed, read_trace};
+use fr_trace::{NoTrace, NotListed};
 use fr_wording::{actor_name, rule_text};
 use std::alloc::{AllocError, Global};
 
@@ -291,21 +284,27 @@ fn begun_in(
     Ok(begun)
 }
 
-/// What is answered of a trace.
-fn answer_of(
+/// What is answered of a trace that was followed so far: its kind, a line, and where that is asked for the lines that explain it, and those
+/// of the run that was found. The lines' form is this project's own.
+///
+/// # Errors
+///
+/// Only where memory is refused.
+pub fn answer_of(
     alloc: Global,
     app: &App,
     bytes: &[u8],
     trace: &Trace,
+    followed: Followed,
     asked: Asked,
 ) -> Result<TraceAnswer, AllocError>
-    ensures answer { IfOk result (λ answer. (f : FollowedOf) × IsFollowed app.now trace.now f × (answer.kind ≡ followed_kind f)
-        × (rest : List ℕ) × (string_bytes answer.line ≡ followed_head app.now trace.now f ++ (rest ++ followed_end f))) }
-    ensures run { IfOk result (λ answer. IfSome answer.run (λ text. (f : FollowedOf) × IsFollowed app.now trace.now f
-        × (items : List ItemOf) × IsRunIn f items × IsRunText app.now items (string_bytes text))) }
+    ensures kind { IfOk result (λ answer. answer.kind ≡ followed_kind followed) }
+    ensures line { IfOk result (λ answer. (rest : List ℕ) ×
+        (string_bytes answer.line ≡ followed_head app.now trace.now followed ++ (rest ++ followed_end followed))) }
+    ensures run { IfOk result (λ answer. IfSome answer.run (λ text.
+        (items : List ItemOf) × IsRunIn followed items × IsRunText app.now items (string_bytes text))) }
     ensures most { IfOk result (λ answer. status_of answer.kind ≤ 1) }
 {
-    let followed = follow(alloc, app, trace, asked.states as usize)?;
     let head = head_of(alloc, app, trace, &followed)?;
     let (rest, end) = (
         rest_of(alloc, bytes, trace, &followed, asked.states)?,
@@ -328,7 +327,11 @@ fn answer_of(
 }
 
 /// Why the bytes are no trace.
-fn refused(alloc: Global, bytes: &[u8], why: NoTrace) -> Result<NoAnswer, AllocError> {
+///
+/// # Errors
+///
+/// Where memory is refused, also while the trace was read.
+pub fn no_answer(alloc: Global, bytes: &[u8], why: NoTrace) -> Result<NoAnswer, AllocError> {
     let (text, line, place) = match why {
         NoTrace::TooLong => (
             String::from_str(alloc, "refused: trace 1 TooLong")?,
@@ -354,42 +357,12 @@ fn refused(alloc: Global, bytes: &[u8], why: NoTrace) -> Result<NoAnswer, AllocE
     Ok(NoAnswer::Refused { text, line, place })
 }
 
-/// The trace in these bytes, which may begin anywhere in a run or doesn't.
-fn trace_in<'a>(
-    alloc: Global,
-    app: &App,
-    bytes: &'a [u8],
-    from_anywhere: bool,
-) -> Result<Trace, NoTrace<'a>>
-    ensures means { IfOk result (λ trace. TraceMeans (names_in app.now) from_anywhere bytes.now (said_in trace)) }
-    ensures fault { IfErr result (IsPresent (names_in app.now) from_anywhere bytes.now) }
-{
-    let names = names_of(alloc, app)?;
-    read_trace(alloc, &names, bytes, from_anywhere)
-}
-
-/// What is answered of a trace, with any block times where those will do.
-fn answer_as_asked(
-    alloc: Global,
-    app: &App,
-    bytes: &[u8],
-    trace: Trace,
-    asked: Asked,
-) -> Result<TraceAnswer, AllocError>
-    ensures answer { IfOk result (λ answer. (u : TraceOf) × IsAsked asked.any_times trace u
-        × (f : FollowedOf) × IsFollowed app.now u f × (answer.kind ≡ followed_kind f)
-        × (rest : List ℕ) × (string_bytes answer.line ≡ followed_head app.now u f ++ (rest ++ followed_end f))) }
-    ensures run { IfOk result (λ answer. (u : TraceOf) × IsAsked asked.any_times trace u
-        × IfSome answer.run (λ text. (f : FollowedOf) × IsFollowed app.now u f
-        × (items : List ItemOf) × IsRunIn f items × IsRunText app.now items (string_bytes text))) }
-    ensures most { IfOk result (λ answer. status_of answer.kind ≤ 1) }
-{
-    let followed = as_asked(alloc, trace, asked.any_times)?;
-    Ok(answer_of(alloc, app, bytes, &followed, asked)?)
-}
-
 /// What is answered of a trace that has something that the application doesn't list.
-fn unlisted_answer<'a>(
+///
+/// # Errors
+///
+/// Only where memory is refused.
+pub fn unlisted_answer<'a>(
     alloc: Global,
     app: &App,
     unlisted: NotListed<'a>,
@@ -411,31 +384,4 @@ fn unlisted_answer<'a>(
         rows: Vec::new(alloc),
         begun: Vec::new(alloc),
     })
-}
-
-/// What is answered of the text of a trace, which is followed by runs of the application: its kind, a line, and where that is asked for the
-/// lines that explain it, and those of the run that was found.
-///
-/// # Errors
-///
-/// `Refused` where the bytes are no trace; `Memory` where memory is refused. The lines' form is this project's own.
-pub fn answered(
-    alloc: Global,
-    app: &App,
-    bytes: &[u8],
-    asked: Asked,
-) -> Result<TraceAnswer, NoAnswer>
-    ensures answer { IfOk result (λ answer.
-        IsTraceAnswer asked.any_times asked.from_anywhere app.now bytes.now answer.kind (string_bytes answer.line)) }
-    ensures run { IfOk result (λ answer. IfSome answer.run (λ text.
-        IsRunOf asked.any_times asked.from_anywhere app.now bytes.now (string_bytes text))) }
-    ensures most { IfOk result (λ answer. status_of answer.kind ≤ 1) }
-{
-    match trace_in(alloc, app, bytes, asked.from_anywhere) {
-        Ok(trace) => Ok(answer_as_asked(alloc, app, bytes, trace, asked)?),
-        Err(NoTrace::NotListed(unlisted)) => {
-            Ok(unlisted_answer(alloc, app, unlisted, asked.explains)?)
-        }
-        Err(why) => Err(refused(alloc, bytes, why)?),
-    }
 }

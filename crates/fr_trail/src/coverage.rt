@@ -1,10 +1,12 @@
 // Which lines of code the runs that were found took, and how their calls went.
-ghost use Rattle.fr_calls.specs.State.{IsWellFormed};
+ghost use Rattle.fr_rules.specs.State.{IsWellFormed};
 
 use crate::answer::{TraceAnswer, run_in};
-use crate::replay::{Replayed, Visit, effect_at, replay};
-use fr_calls::{Place, can_time_out};
-use fr_program::{Act, Actor, ActorId, App, Attempt, Call, Instr, Kind, Point, Side};
+use crate::replay::{Replayed, StepSeen, effect_at, replay};
+use fr_calls::{Place, Way};
+use fr_events::Recorded;
+use fr_explained::can_end;
+use fr_program::{Actor, ActorId, App, Call, Instr, Point, Side};
 use fr_wording::{actor_place, line_of_code, text_of};
 use std::alloc::{AllocError, Global};
 
@@ -23,26 +25,6 @@ struct LineTaken {
 pub struct Coverage {
     /// By the numbers of the points before the lines.
     lines: Vec<LineTaken>,
-}
-
-/// Whether a call on an object can fail.
-fn can_fail(app: &App, call: Call) -> bool {
-    let Call::On(call) = call else {
-        return true;
-    };
-    match call.act {
-        Act::Move { .. } => true,
-        Act::Try { attempt, .. } => match attempt {
-            Attempt::QueueSend(_) | Attempt::QueueReceive(_) | Attempt::Take(_) => {
-                can_time_out(call.timing)
-            }
-            Attempt::Give(_) => match app.objects().get(call.object.0) {
-                Some(object) => matches!(object.kind, Kind::Binary | Kind::Counting { .. }),
-                None => false,
-            },
-            Attempt::Reset(_) => true,
-        },
-    }
 }
 
 /// The numbers of the lines that are marked here, from 0, as `3, 6 to 7`. The last one isn't marked.
@@ -118,7 +100,7 @@ impl Coverage {
     }
 
     /// Adds a step.
-    fn see(&mut self, app: &App, visit: Visit) {
+    fn see(&mut self, app: &App, visit: StepSeen) {
         let point = Point {
             side: Side::Before,
             ..visit.point
@@ -207,7 +189,7 @@ impl Coverage {
             None
         } else if !line.has_worked {
             Some("never worked")
-        } else if !line.has_failed && can_fail(app, *call) {
+        } else if !line.has_failed && can_end(app, call, Way::Else, Recorded::Unknown) {
             Some("never failed")
         } else {
             None

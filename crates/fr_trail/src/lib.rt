@@ -1,6 +1,6 @@
-// What a person reads of a recorded trace: how far it can be followed, and why no further. `answered` reads a trace's text, follows it by
-// runs of an application (fr_follower), and gives the kind of the answer with its line; its contract says how the line begins and what is
-// so then (specs/Answered.antt). The words of what explains an answer are presentation. Files are read by the crate above, fr_answer.
+// What a person reads of a recorded trace: how far it was followed, and why no further. `answer_of` gives the kind of the answer with
+// its line; its contract says how the line begins (specs/Answered.antt). The words of what explains an answer are presentation. The
+// search for a run that explains the trace (fr_follower) isn't needed here: fr_traces reads, follows and answers.
 #![tactic(auto)]
 
 mod answer;
@@ -13,6 +13,7 @@ mod texts;
 mod times;
 mod why;
 
-pub use answer::{Asked, NoAnswer, TraceAnswer, answered};
+pub use answer::{Asked, NoAnswer, TraceAnswer, answer_of, no_answer, unlisted_answer};
 pub use coverage::Coverage;
 pub use rows::TrailRow;
+pub use times::as_asked;

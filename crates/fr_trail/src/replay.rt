@@ -1,9 +1,9 @@
 // The steps of a run, each from where it was taken, and where the run leads.
 ghost use Rattle.std.specs.Prelude.{IfOk};
-ghost use Rattle.fr_calls.specs.State.{IsWellFormed};
+ghost use Rattle.fr_rules.specs.State.{IsWellFormed};
 
 use fr_calls::{Place, State, the_start_is_well_formed};
-use fr_follower::Item;
+use fr_explained::Item;
 use fr_program::{App, Call, Instr, Point, Side};
 use fr_states::{StepTaken, take_step};
 use fr_wording::actor_place;
@@ -11,7 +11,7 @@ use std::alloc::{AllocError, Global};
 
 /// A step of a run.
 #[derive(Clone, Copy)]
-pub(crate) struct Visit {
+pub(crate) struct StepSeen {
     /// Where its actor was.
     pub point: Point,
     pub choice: i64,
@@ -22,7 +22,7 @@ pub(crate) struct Visit {
 /// A run, step by step.
 #[derive(Drop)]
 pub(crate) struct Replayed {
-    pub visits: Vec<Visit>,
+    pub visits: Vec<StepSeen>,
     /// The state after it.
     pub state: State,
 }
@@ -37,11 +37,11 @@ pub(crate) fn effect_at(point: Point, instr: &Instr) -> Option<Call> {
 }
 
 /// The step from this state, after so many events; None where its actor is done.
-fn visit_in(app: &App, state: &State, step: StepTaken, events: usize) -> Option<Visit>
+fn visit_in(app: &App, state: &State, step: StepTaken, events: usize) -> Option<StepSeen>
     requires { IsWellFormed app.now state.now }
 {
     match actor_place(app, state, step.actor) {
-        Place::At { pc, side } => Some(Visit {
+        Place::At { pc, side } => Some(StepSeen {
             point: Point {
                 actor: step.actor,
                 pc,
@@ -58,7 +58,7 @@ fn visit_in(app: &App, state: &State, step: StepTaken, events: usize) -> Option<
 fn take(
     app: &App,
     state: &mut State,
-    visits: &mut Vec<Visit>,
+    visits: &mut Vec<StepSeen>,
     step: StepTaken,
     events: usize,
 ) -> Result<(), AllocError>

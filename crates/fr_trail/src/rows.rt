@@ -4,7 +4,7 @@ use crate::run_text::next_line;
 use crate::texts::line_shown;
 use fr_escape::push_plain;
 use fr_events::{Event, Trace};
-use fr_follower::{Followed, Item};
+use fr_explained::{Followed, Item};
 use fr_program::ActorId;
 use fr_states::StepTaken;
 use std::alloc::{AllocError, Global};

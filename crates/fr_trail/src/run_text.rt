@@ -4,7 +4,7 @@ ghost use Rattle.fr_trail.specs.Runs.{IsItemLine, IsRunText};
 
 use fr_escape::push_plain;
 use fr_events::{Event, Trace};
-use fr_follower::Item;
+use fr_explained::Item;
 use fr_program::App;
 use fr_wording::actor_name;
 use std::alloc::{AllocError, Global};

@@ -34,7 +34,11 @@ fn untimed_events(alloc: Global, events: &[Event]) -> Result<Vec<Event>, AllocEr
 }
 
 /// The trace as it is followed: where any times will do, all block times and ticks are unknown.
-pub(crate) fn as_asked(alloc: Global, trace: Trace, any_times: bool) -> Result<Trace, AllocError>
+///
+/// # Errors
+///
+/// Only where memory is refused.
+pub fn as_asked(alloc: Global, trace: Trace, any_times: bool) -> Result<Trace, AllocError>
     ensures { IfOk result (IsAsked any_times trace) }
 {
     if !any_times {

@@ -1,13 +1,13 @@
 // Why a trace isn't followed further: where its actor may be, by the run that explains the events before.
 ghost use Rattle.std.specs.Prelude.{IfOk};
-ghost use Rattle.fr_calls.specs.State.{IsWellFormed};
+ghost use Rattle.fr_rules.specs.State.{IsWellFormed};
 
 use crate::awaited::{awaited, records_handler};
-use crate::replay::{Replayed, Visit, effect_at, replay};
+use crate::replay::{Replayed, StepSeen, effect_at, replay};
 use crate::texts::{event_shown, events_before};
 use fr_calls::{Moves, Place, State};
 use fr_events::{Event, Happening, Trace};
-use fr_follower::{Followed, Item};
+use fr_explained::{Followed, Item};
 use fr_program::{ActorId, ActorKind, App, Call, Instr, Point, Side};
 use fr_states::{StepTaken, take_step};
 use fr_wording::{actor_name, actor_place, line_of_code, object_told};
@@ -78,7 +78,7 @@ fn inside_text(
 }
 
 /// Where an actor is whose call has had its effect by this step.
-fn past_text(alloc: Global, app: &App, visit: Visit) -> Result<String, AllocError> {
+fn past_text(alloc: Global, app: &App, visit: StepSeen) -> Result<String, AllocError> {
     let (name, code) = (
         actor_name(app, visit.point.actor),
         line_of_code(alloc, app, visit.point)?,
@@ -112,10 +112,10 @@ fn before_texts(
 fn effect_before(
     app: &App,
     trace: &Trace,
-    visits: &[Visit],
+    visits: &[StepSeen],
     actor: ActorId,
     event: usize,
-) -> Option<Visit> {
+) -> Option<StepSeen> {
     let before = trace.events.get(..event)?;
     let begun = before.iter().rposition(|other| other.actor == actor)?;
     let last = visits.iter().rfind(|visit| visit.point.actor == actor)?;

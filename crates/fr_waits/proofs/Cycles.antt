@@ -9,7 +9,7 @@ use Rattle.fr_program.specs.declared.instr.Call.TheVariants.{On}
 use Rattle.fr_program.specs.declared.ids.Side.TheVariants.{Inside}
 use Rattle.fr_program.specs.Program.{Program}
 use Rattle.fr_program.specs.Lookup.{instr_at}
-use Rattle.fr_calls.specs.State.{State, At, Held, content_of}
+use Rattle.fr_rules.specs.State.{State, At, Held, content_of}
 use Rattle.fr_waits.specs.declared.wait.Wait.{Wait}
 use Rattle.fr_waits.specs.Waits.{WaitsFor, WaitInTurn, IsCycle, IsInCycle, IsDeadlocked}
 

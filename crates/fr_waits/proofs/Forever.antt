@@ -32,13 +32,13 @@ use Rattle.fr_program.specs.Lookup.{instr_at, no_object}
 use Rattle.fr_program.specs.Timings.{suits_timing}
 use Rattle.fr_program.specs.Uses.{is_buffer, is_semaphore, acts_on}
 use Rattle.fr_program.specs.Fault.{IsFaultless}
-use Rattle.fr_calls.specs.State.{State, Done, Content, Dead, Values, Held, place_of, content_of, kind_of, count_held, write, becomes, new_content}
-use Rattle.fr_calls.specs.Rule.{LacksMutex, given_kind, is_unsuited, operand_of}
-use Rattle.fr_calls.specs.Step.{Step, Row, Does, Completes, Works, Puts, Moves, IsFree, landing, taken, given, queued, moved_bytes, sent_message, received_message, with_result, transition}
-use Rattle.fr_calls.specs.declared.rules.Rule.TheVariants.{GivenByHolder}
-use Rattle.fr_calls.specs.declared.way.Way.{Way}
-use Rattle.fr_calls.specs.declared.way.Way.TheVariants.{Then, Else}
-use Rattle.fr_calls.proofs.Contents.{set_case}
+use Rattle.fr_rules.specs.State.{State, Done, Content, Dead, Values, Held, place_of, content_of, kind_of, count_held, write, becomes, new_content}
+use Rattle.fr_rules.specs.Rule.{LacksMutex, given_kind, is_unsuited, operand_of}
+use Rattle.fr_rules.specs.Step.{Step, Row, Does, Completes, Works, Puts, Moves, IsFree, landing, taken, given, queued, moved_bytes, sent_message, received_message, with_result, transition}
+use Rattle.fr_rules.specs.declared.rules.Rule.TheVariants.{GivenByHolder}
+use Rattle.fr_rules.specs.declared.way.Way.{Way}
+use Rattle.fr_rules.specs.declared.way.Way.TheVariants.{Then, Else}
+use Rattle.fr_rules.proofs.Contents.{set_case}
 use Rattle.fr_waits.specs.declared.wait.Wait.{Wait}
 use Rattle.fr_waits.specs.Waits.{WaitsFor, WaitInTurn, IsCycle, IsInCycle, IsForGood}
 use Rattle.fr_waits.proofs.Cycles.{contains_first, contains_rest, next-in-cycle, waits-in-cycle}

@@ -12,11 +12,11 @@ use Rattle.fr_program.specs.declared.instr.Timing.TheVariants.{Waits}
 use Rattle.fr_program.specs.declared.instr.BlockTime.TheVariants.{MaxDelay}
 use Rattle.fr_program.specs.declared.ids.Side.TheVariants.{Inside}
 use Rattle.fr_program.specs.Program.{Program}
-use Rattle.fr_calls.specs.State.{State, content_of, kind_of}
-use Rattle.fr_calls.specs.Step.{Step, Completes, taken, transition}
-use Rattle.fr_calls.specs.declared.way.Way.{Way}
-use Rattle.fr_calls.specs.declared.way.Way.TheVariants.{Then, Else}
-use Rattle.fr_calls.proofs.Rows.{row-of-step}
+use Rattle.fr_rules.specs.State.{State, content_of, kind_of}
+use Rattle.fr_rules.specs.Step.{Step, Completes, taken, transition}
+use Rattle.fr_rules.specs.declared.way.Way.{Way}
+use Rattle.fr_rules.specs.declared.way.Way.TheVariants.{Then, Else}
+use Rattle.fr_rules.proofs.Rows.{row-of-step}
 use Rattle.fr_waits.specs.Waits.{WaitsFor, NobodyMoves}
 use Rattle.fr_waits.proofs.Cycles.{awaits-one}
 

@@ -10,7 +10,7 @@ use Rattle.std.proofs.lemmas.List.Quantifiers.{all_pairs_push}
 use Rattle.std.proofs.lemmas.Map.Keys.{IsDistinct-from_apart}
 use Rattle.std.proofs.lemmas.Map.Steps.{length-le_from_distinct_below}
 use Rattle.fr_program.specs.Program.{Program}
-use Rattle.fr_calls.specs.State.{State}
+use Rattle.fr_rules.specs.State.{State}
 use Rattle.fr_waits.specs.declared.wait.Wait.{Wait}
 use Rattle.fr_waits.specs.Waits.{HasEachOnce, WaitsFor, WaitInTurn, IsWay, LeadsTo, IsCycle, IsInCycle}
 use Rattle.fr_waits.proofs.Cycles.{join, split, drop-in-turn, closed, turned, next-in-cycle}

@@ -7,10 +7,10 @@ use Rattle.fr_program.specs.declared.instr.ObjectCall.{ObjectCall}
 use Rattle.fr_program.specs.declared.ids.Side.TheVariants.{Inside}
 use Rattle.fr_program.specs.Fault.{IsFaultless}
 use Rattle.fr_program.specs.Program.{Program}
-use Rattle.fr_calls.specs.State.{State, Held, IsWellFormed, content_of, kind_of}
-use Rattle.fr_calls.specs.Rule.{Stands}
-use Rattle.fr_calls.specs.Step.{taken}
-use Rattle.fr_calls.proofs.Formed.{actor_below}
+use Rattle.fr_rules.specs.State.{State, Held, IsWellFormed, content_of, kind_of}
+use Rattle.fr_rules.specs.Rule.{Stands}
+use Rattle.fr_rules.specs.Step.{taken}
+use Rattle.fr_rules.proofs.Formed.{actor_below}
 use Rattle.fr_waits.specs.Waits.{TakesWithoutLimit, WaitsFor, IsInCycle}
 use Rattle.fr_waits.proofs.Cycles.{waits-in-cycle}
 

@@ -29,9 +29,9 @@ use Rattle.fr_program.specs.declared.ids.Side.TheVariants.{Inside}
 use Rattle.fr_program.specs.Program.{Program}
 use Rattle.fr_program.specs.Lookup.{instr_at}
 use Rattle.fr_program.specs.Fault.{IsFaultless}
-use Rattle.fr_calls.specs.State.{State, At, Dead, Held, place_of, content_of, kind_of}
-use Rattle.fr_calls.specs.Step.{Step, taken}
-use Rattle.fr_calls.specs.Run.{IsRun}
+use Rattle.fr_rules.specs.State.{State, At, Dead, Held, place_of, content_of, kind_of}
+use Rattle.fr_rules.specs.Step.{Step, taken}
+use Rattle.fr_rules.specs.Run.{IsRun}
 use Rattle.fr_waits.specs.declared.wait.Wait.{Wait}
 
 -- the call is a take of this mutex, plain or recursive, that waits without limit (portMAX_DELAY)

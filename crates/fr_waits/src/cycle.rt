@@ -1,7 +1,7 @@
 // Cycles of waits. The walk goes from an actor to the one that it waits for, and so on, until an actor comes back.
 ghost use Rattle.std.specs.Prelude.{◌≡◌, ◌≢◌, ◌<◌, ◌≤◌, ◌++◌, ℕ, nat_lt, length, take, drop, slice_index_or, All, IfOk, IfSome, IfNone};
 ghost use Rattle.std.specs.List.{IsFirstBest};
-ghost use Rattle.fr_calls.specs.State.{IsWellFormed};
+ghost use Rattle.fr_rules.specs.State.{IsWellFormed};
 ghost use Rattle.fr_waits.specs.declared.wait.Wait.{Wait as WaitOf};
 ghost use Rattle.fr_waits.specs.Waits.{LeadsTo, IsCycle, IsInCycle, BeginsAtLeast, HasEachOnce, IsDeadlocked};
 

@@ -1,7 +1,7 @@
 // Whom an actor waits for: the holder of a mutex that it takes without limit.
 ghost use Rattle.std.specs.Prelude.{◌≡◌, ◌<◌, ◌↔◌, ℕ, length, None, IsTrue, IfSome, IfNone};
-ghost use Rattle.fr_calls.specs.State.{IsWellFormed, Held, kind_of, content_of};
-ghost use Rattle.fr_calls.specs.Step.{taken};
+ghost use Rattle.fr_rules.specs.State.{IsWellFormed, Held, kind_of, content_of};
+ghost use Rattle.fr_rules.specs.Step.{taken};
 ghost use Rattle.fr_waits.specs.Waits.{TakesWithoutLimit, WaitsFor};
 
 use fr_calls::{State, Stock};

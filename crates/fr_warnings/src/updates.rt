@@ -2,9 +2,9 @@
 // in between.
 use crate::warning::Warning;
 use fr_formats::WarningKind;
-use fr_notes::{Alternative, Note, Notes, can_meet};
+use fr_notes::{Notes, some_meet};
 use fr_program::{Act, ActorId, App, Call, Instr, Operand, Point, Side, VarId};
-use fr_wording::actor_name;
+use fr_wording::{actor_name, variable_name};
 use std::alloc::{AllocError, Global};
 use std::mem::replace;
 
@@ -43,14 +43,6 @@ fn shared_in(app: &App, operand: Operand) -> Option<VarId> {
     }
 }
 
-/// Whether the operand is this variable.
-fn is_variable(operand: Operand, x: VarId) -> bool {
-    match operand {
-        Operand::Variable(y) => x == y,
-        Operand::Number(_) => false,
-    }
-}
-
 /// What the line copies, if it copies a shared variable.
 fn copied_at(app: &App, actor: ActorId, pc: usize, instr: &Instr) -> Option<Copied> {
     let Instr::Set {
@@ -84,7 +76,7 @@ fn is_store(instr: &Instr, copied: Copied) -> bool {
             ..
         } => {
             target == copied.shared
-                && (is_variable(left, copied.copy) || is_variable(right, copied.copy))
+                && (left.variable() == Some(copied.copy) || right.variable() == Some(copied.copy))
         }
         _ => false,
     }
@@ -105,11 +97,9 @@ fn written_by(instr: &Instr) -> Option<(VarId, Side)> {
 /// Whether the line gives the variable a number that isn't worked out from the one that it has.
 fn overwrites(instr: &Instr, x: VarId) -> bool {
     match *instr {
-        Instr::Set { left, right, .. } if is_variable(left, x) || is_variable(right, x) => false,
-        _ => match written_by(instr) {
-            Some((y, _)) => x == y,
-            None => false,
-        },
+        Instr::Set { left, right, .. }
+            if left.variable() == Some(x) || right.variable() == Some(x) => false,
+        _ => instr.written() == Some(x),
     }
 }
 
@@ -292,33 +282,13 @@ fn update_after(
     walk.update(alloc, code, copied)
 }
 
-/// Whether the alternative can hold beside one of the note's.
-fn meets_some(alternative: &Alternative, note: &Note) -> bool {
-    for other in note.alternatives() {
-        if can_meet(alternative, other) {
-            return true;
-        }
-    }
-    false
-}
-
-/// Whether two actors can be at the points of these two notes at the same time.
-fn can_be_with(note: &Note, other: &Note) -> bool {
-    for alternative in note.alternatives() {
-        if meets_some(alternative, other) {
-            return true;
-        }
-    }
-    false
-}
-
 /// Whether two actors can be at these two points at the same time, by what their notes say.
 fn can_both_be_at(app: &App, notes: &Notes, one: Point, number: usize) -> bool {
     let Some(own) = app.number(one) else {
         return false;
     };
     match (notes.get(own), notes.get(number)) {
-        (Some(note), Some(other)) => can_be_with(note, other),
+        (Some(note), Some(other)) => some_meet(note.alternatives(), other.alternatives()),
         _ => false,
     }
 }
@@ -384,10 +354,7 @@ fn line_of(alloc: Global, app: &App, update: &Update, by: Point) -> Result<Strin
         ..
     } = update.copied;
     let (name, store) = (actor_name(app, actor), update.pc);
-    let variable = match app.variables().get(shared.0) {
-        Some(variable) => variable.name.as_str(),
-        None => "",
-    };
+    let variable = variable_name(app, shared);
     let (other, line) = (actor_name(app, by.actor), by.pc);
     format!(in alloc;
         "warning: the update of {variable} by {name} {pc} and {name} {store} can be lost: {other} {line} sets it in between"

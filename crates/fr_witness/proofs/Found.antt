@@ -4,7 +4,7 @@ use Rattle.std.specs.Prelude.{Any}
 use Rattle.std.proofs.lemmas.List.Elements.{All-push}
 use Rattle.std.proofs.lemmas.List.Quantifiers.{Any-push}
 use Rattle.fr_program.proofs.ListLemmas.{Any-left}
-use Rattle.fr_calls.specs.declared.way.Way.{Way}
+use Rattle.fr_rules.specs.declared.way.Way.{Way}
 use Rattle.fr_notes.specs.Note.{Alternative, Note}
 use Rattle.fr_witness.specs.declared.hunt.Hunt.{Hunt}
 use Rattle.fr_witness.specs.Hunt.{IsFound, AreFound, IsMade, UndoAll}

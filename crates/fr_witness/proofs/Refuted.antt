@@ -19,13 +19,13 @@ use Rattle.fr_program.specs.Lookup.{instr_at, variable_at}
 use Rattle.fr_program.specs.Points.{point_number}
 use Rattle.fr_program.specs.declared.instr.End.{End}
 use Rattle.fr_program.specs.Fault.{IsFaultless}
-use Rattle.fr_calls.specs.State.{State, Place, At, Done, IsWellFormed, place_of, value_of, write, goes_to}
-use Rattle.fr_calls.specs.declared.rules.Rule.{Rule}
-use Rattle.fr_calls.specs.declared.rules.Rule.TheVariants.{OneWriter, OneReader, GivenByHolder, IsLive, LifeInOrder, InRange}
-use Rattle.fr_calls.specs.Rule.{Breaches, PutsOut, IsOutside, operand_of, result_of}
-use Rattle.fr_calls.specs.declared.way.Way.{Way}
-use Rattle.fr_calls.specs.declared.way.Way.TheVariants.{Then}
-use Rattle.fr_calls.specs.Step.{StepBy, IsFree, CanStep, AlwaysLeaves, Anywhere, landing, stops}
+use Rattle.fr_rules.specs.State.{State, Place, At, Done, IsWellFormed, place_of, value_of, write, goes_to}
+use Rattle.fr_rules.specs.declared.rules.Rule.{Rule}
+use Rattle.fr_rules.specs.declared.rules.Rule.TheVariants.{OneWriter, OneReader, GivenByHolder, IsLive, LifeInOrder, InRange}
+use Rattle.fr_rules.specs.Rule.{Breaches, PutsOut, IsOutside, operand_of, result_of}
+use Rattle.fr_rules.specs.declared.way.Way.{Way}
+use Rattle.fr_rules.specs.declared.way.Way.TheVariants.{Then}
+use Rattle.fr_rules.specs.Step.{StepBy, IsFree, CanStep, AlwaysLeaves, Anywhere, landing, stops}
 use Rattle.fr_notes.specs.Note.{Alternative, Note, HoldsOne, Holds, Within, range_of}
 use Rattle.fr_notes.specs.Noted.{note_at, IsAt, Noted, NotedBy}
 use Rattle.fr_notes.specs.Fits.{AlternativeFits, NoteFits}

@@ -10,8 +10,8 @@
 -- | UndoAll   | steps by some row that undo a note                                                    |
 use Rattle.std.specs.Prelude.{◌≡◌, ◌<◌, List, [], Option, Some, All, Any, IfSome, length}
 use Rattle.fr_program.specs.Lookup.{IsPoint}
-use Rattle.fr_calls.specs.State.{State}
-use Rattle.fr_calls.specs.declared.way.Way.{Way}
+use Rattle.fr_rules.specs.State.{State}
+use Rattle.fr_rules.specs.declared.way.Way.{Way}
 use Rattle.fr_notes.specs.Note.{Alternative, Note}
 use Rattle.fr_notes.specs.Noted.{IsAt, NotedBy}
 use Rattle.fr_notes.specs.Fits.{AlternativeFits}

@@ -7,9 +7,9 @@
 -- | UndoesNote  | for each alternative of a note one of the steps undoes it                                |
 use Rattle.std.specs.Prelude.{◌≢◌, ℕ, List, [], All, Any}
 use Rattle.fr_program.specs.Program.{Program}
-use Rattle.fr_calls.specs.State.{IsWellFormed}
-use Rattle.fr_calls.specs.declared.way.Way.{Way}
-use Rattle.fr_calls.specs.Step.{StepBy}
+use Rattle.fr_rules.specs.State.{IsWellFormed}
+use Rattle.fr_rules.specs.declared.way.Way.{Way}
+use Rattle.fr_rules.specs.Step.{StepBy}
 use Rattle.fr_notes.specs.Note.{Alternative, Note, HoldsOne}
 pub use Rattle.fr_witness.specs.declared.taken.Taken.{Taken}
 

@@ -9,7 +9,7 @@
 use Rattle.std.specs.Prelude.{◌≡◌, ◌<◌, ℕ, Option, None, Some}
 pub use Rattle.fr_notes.specs.declared.subject.Subject.{Subject}
 pub use Rattle.fr_notes.specs.declared.subject.Subject.TheVariants.{Critical, Suspended, Object, Variable}
-use Rattle.fr_calls.specs.State.{State, value_of, content_of, suspension_of, depth_of}
+use Rattle.fr_rules.specs.State.{State, value_of, content_of, suspension_of, depth_of}
 use Rattle.fr_notes.specs.Note.{Alternative, Meets, Within, HoldsOne, claim_of, range_of}
 
 -- what the alternative says of the subject is so for this actor in this state

@@ -1,6 +1,6 @@
 // What a note says of a state: the first thing that is otherwise.
 ghost use Rattle.std.specs.Prelude.{◌≡◌, ◌<◌, ◌↔◌, ℕ, All, IsTrue, IfSome, IfNone, length};
-ghost use Rattle.fr_calls.specs.State.{IsWellFormed, value_of, content_of};
+ghost use Rattle.fr_rules.specs.State.{IsWellFormed, value_of, content_of};
 ghost use Rattle.fr_notes.specs.Fits.{AlternativeFits, NoteFits};
 ghost use Rattle.fr_notes.specs.Note.{Meets, Within, HoldsOne, Holds, claim_of, range_of};
 ghost use Rattle.fr_witness.specs.Subject.{IsFirstBroken};

@@ -1,6 +1,6 @@
 // Steps that leave nothing of what a note says: of the point to which the mover goes, or of another actor's point.
 ghost use Rattle.std.specs.Prelude.{◌∷◌, All, IfOk, IfSome, Some, []};
-ghost use Rattle.fr_calls.specs.State.{IsWellFormed};
+ghost use Rattle.fr_rules.specs.State.{IsWellFormed};
 ghost use Rattle.fr_notes.specs.Fits.{AlternativeFits, NoteFits};
 ghost use Rattle.fr_witness.specs.Hunt.{HuntFits, IsFound, AreFound, UndoAll};
 

@@ -1,7 +1,7 @@
 // The search for a step that undoes alternatives of a note, or for a state in which a rule is breached.
 ghost use Rattle.std.specs.Prelude.{◌≡◌, ◌<◌, ◌↔◌, IsTrue, All, IfOk, IfSome, length};
-ghost use Rattle.fr_calls.specs.State.{IsWellFormed};
-ghost use Rattle.fr_calls.specs.Rule.{Breach};
+ghost use Rattle.fr_rules.specs.State.{IsWellFormed};
+ghost use Rattle.fr_rules.specs.Rule.{Breach};
 ghost use Rattle.fr_notes.specs.Fits.{AlternativeFits};
 ghost use Rattle.fr_notes.specs.Noted.{IsAt};
 ghost use Rattle.fr_notes.specs.Note.{HoldsOne};

@@ -1,7 +1,7 @@
 // The search for what shows that the part that a verdict names isn't kept.
 ghost use Rattle.std.specs.Prelude.{Some, ◌≡◌, ◌↔◌, IfOk, IfSome, IfNone, IsTrue};
 ghost use Rattle.fr_program.specs.Lookup.{IsPoint};
-ghost use Rattle.fr_calls.specs.State.{IsWellFormed};
+ghost use Rattle.fr_rules.specs.State.{IsWellFormed};
 ghost use Rattle.fr_notes.specs.Fits.{AlternativeFits};
 ghost use Rattle.fr_notes.specs.Noted.{NotedBy};
 ghost use Rattle.fr_ends.specs.Certificate.{HasGuard, value_for};
@@ -16,7 +16,7 @@ use crate::hunt::Hunt;
 use crate::scene::{is_noted_by, plain_state};
 use crate::variants::Variants;
 use fr_calls::{Rule, State, the_start_is_well_formed};
-use fr_ends::{Certificate, EndName, Guard};
+use fr_ends::{Certificate, EndName, Guard, value_for};
 use fr_judge::{Part, Verdict};
 use fr_notes::{Alternative, Case, MOST_ALTERNATIVES, Spot};
 use fr_program::{ActorId, App, Point, Side};
@@ -199,18 +199,11 @@ fn both<'a>(
     Ok(None)
 }
 
-/// The turn value that is listed for an actor.
-fn turn_of(values: &BTreeMap<ActorId, i64>, actor: ActorId) -> Option<i64>
-    ensures { result ≡ value_for (values_of values.now) actor.0 }
-{
-    values.get(&actor).copied()
-}
-
 /// Whether it is the actor's turn, where the variable has this value.
 fn has_turn(values: &BTreeMap<ActorId, i64>, actor: ActorId, value: i64) -> bool
     ensures { IsTrue result ↔ (value_for (values_of values.now) actor.0 ≡ Some value) }
 {
-    match turn_of(values, actor) {
+    match value_for(values, actor) {
         Some(listed) => listed == value,
         None => false,
     }

@@ -1,6 +1,6 @@
 // A step that is shown: the states before and after it.
 ghost use Rattle.std.specs.Prelude.{◌≡◌, ◌<◌, IfOk, IfSome, length};
-ghost use Rattle.fr_calls.specs.State.{IsWellFormed};
+ghost use Rattle.fr_rules.specs.State.{IsWellFormed};
 ghost use Rattle.fr_witness.specs.Shown.{IsTaken};
 
 use fr_calls::{Rule, State, Way};

@@ -10,8 +10,8 @@ use Rattle.fr_program.specs.Program.{Program}
 use Rattle.fr_program.specs.Lookup.{actor_at}
 use Rattle.fr_program.specs.Points.{point_number}
 use Rattle.fr_program.specs.Uses.{side_text}
-use Rattle.fr_calls.specs.declared.rules.Rule.{Rule as RuleOf}
-use Rattle.fr_calls.specs.declared.rules.Rule.TheVariants.{OneWriter, OneReader, GivenByHolder, AllowedInCritical, AllowedSuspended, AllowedInInterrupt, IsLive, LifeInOrder, SuitsSemaphore, DepthAboveZero, EndsInOrder, InRange}
+use Rattle.fr_rules.specs.declared.rules.Rule.{Rule as RuleOf}
+use Rattle.fr_rules.specs.declared.rules.Rule.TheVariants.{OneWriter, OneReader, GivenByHolder, AllowedInCritical, AllowedSuspended, AllowedInInterrupt, IsLive, LifeInOrder, SuitsSemaphore, DepthAboveZero, EndsInOrder, InRange}
 
 -- `point <number> (<actor> <instruction> <side>)`
 abbrev pub point_text : Program → Point → List ℕ

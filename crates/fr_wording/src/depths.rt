@@ -1,5 +1,5 @@
 // What an actor can be deep in, and what is so of everything else: a state, as a picture of a run shows it.
-ghost use Rattle.fr_calls.specs.State.{IsWellFormed};
+ghost use Rattle.fr_rules.specs.State.{IsWellFormed};
 
 use crate::facts::{content_in, fact, put_content, suspension_in};
 use crate::lines::add_text;

@@ -1,9 +1,10 @@
 // What is so in a state, in words.
-ghost use Rattle.fr_calls.specs.State.{IsWellFormed};
+ghost use Rattle.std.specs.Prelude.{◌≡◌, ◌≤◌, IfSome, None, length};
+ghost use Rattle.fr_rules.specs.State.{IsWellFormed, content_of, suspension_of};
 
 use crate::lines::{put_three, put_two};
 use crate::shown::{actor_name, object_name, variable_name};
-use fr_calls::{Content, State, Stock};
+use fr_calls::{Content, State, Stock, value_in};
 use fr_notes::Subject;
 use fr_program::{ActorId, App, ObjId, VarId};
 use std::alloc::{AllocError, Global};
@@ -13,20 +14,11 @@ use std::fmt;
 /// The most values of a queue that are written out.
 const MOST_VALUES: usize = 8;
 
-/// The variable's value in the state; 0 where the application has no such variable.
-pub fn value_in(app: &App, state: &State, variable: VarId) -> i64
-    requires { IsWellFormed app.now state.now }
-{
-    if variable.0 < app.variables().len() {
-        state.value(variable)
-    } else {
-        0
-    }
-}
-
 /// What the object has in the state; None where the application has no such object.
 pub fn content_in<'a>(app: &App, state: &'a State, object: ObjId) -> Option<&'a Content>
     requires { IsWellFormed app.now state.now }
+    ensures some { IfSome result (λ content. content.now ≡ content_of state.now object.0) }
+    ensures none { result ≡ None → length app.now.objects ≤ object.0 }
 {
     if object.0 < app.objects().len() {
         Some(state.content(object))
@@ -38,6 +30,7 @@ pub fn content_in<'a>(app: &App, state: &'a State, object: ObjId) -> Option<&'a 
 /// How deep the actor has suspended the scheduler in the state; 0 where the application has no such actor.
 pub fn suspension_in(app: &App, state: &State, actor: ActorId) -> u32
     requires { IsWellFormed app.now state.now }
+    ensures { result ≡ suspension_of state.now actor.0 }
 {
     if actor.0 < app.actors().len() {
         state.suspension(actor)

@@ -18,7 +18,7 @@ mod told;
 pub use depths::{Depth, depth_in, depths_of, object_told, state_told};
 pub use facts::{
     content_in, fact, has_changed, put_content, put_critical, put_held, put_suspended,
-    suspension_in, value_in,
+    suspension_in,
 };
 pub use lines::{add_text, put_listed, put_three, put_two, text_of};
 pub use listing::{line_of_code, points_text};

@@ -1,7 +1,9 @@
 // Where actors stand, with their lines of code.
-ghost use Rattle.std.specs.Prelude.{IfOk};
-ghost use Rattle.fr_calls.specs.State.{IsWellFormed};
-ghost use Rattle.fr_wording.specs.Standings.{IsPlaced};
+ghost use Rattle.std.specs.Prelude.{◌≡◌, IfOk, Some, string_bytes};
+ghost use Rattle.fr_rules.specs.State.{IsWellFormed, place_of};
+ghost use Rattle.fr_calls.specs.View.{placed};
+ghost use Rattle.fr_wording.specs.Sources.{source_at};
+ghost use Rattle.fr_wording.specs.Standings.{IsPlaced, place_said};
 
 use crate::listing::line_of_code;
 use crate::sources::Sources;
@@ -21,7 +23,9 @@ pub fn standing_at(
     sources: &Sources,
     point: Point,
 ) -> Result<Standing, AllocError>
-    ensures { IfOk result (IsPlaced app.now point.actor) }
+    ensures placed { IfOk result (IsPlaced app.now point.actor) }
+    ensures point { IfOk result (λ s. s.point ≡ Some point) }
+    ensures source { IfOk result (λ s. string_bytes s.source ≡ source_at sources.now point) }
 {
     Ok(Standing {
         actor: point.actor,
@@ -34,6 +38,7 @@ pub fn standing_at(
 /// Where the actor stands in the state; done where the application has no such actor.
 pub fn actor_place(app: &App, state: &State, actor: ActorId) -> Place
     requires { IsWellFormed app.now state.now }
+    ensures { placed result ≡ place_of state.now actor.0 }
 {
     if actor.0 < app.actors().len() {
         state.place(actor)
@@ -55,7 +60,8 @@ pub fn standing_in(
     state: &State,
 ) -> Result<Standing, AllocError>
     requires { IsWellFormed app.now state.now }
-    ensures { IfOk result (IsPlaced app.now actor) }
+    ensures placed { IfOk result (IsPlaced app.now actor) }
+    ensures place { IfOk result (λ s. place_said s ≡ place_of state.now actor.0) }
 {
     match actor_place(app, state, actor) {
         Place::At { pc, side } => standing_at(alloc, app, sources, Point { actor, pc, side }),

@@ -1,6 +1,6 @@
 // Points and rules as reports show them.
 ghost use Rattle.std.specs.Prelude.{◌≡◌};
-ghost use Rattle.fr_program.specs.Lookup.{IsPoint, actor_at, object_at};
+ghost use Rattle.fr_program.specs.Lookup.{IsPoint, actor_at, object_at, variable_at};
 ghost use Rattle.fr_program.specs.Points.{point_number};
 ghost use Rattle.fr_wording.specs.Names.{rule_text};
 
@@ -35,7 +35,9 @@ pub fn object_name(app: &App, object: ObjId) -> &str
 }
 
 /// The name of a variable of the application, or no text where there is none.
-pub fn variable_name(app: &App, variable: VarId) -> &str {
+pub fn variable_name(app: &App, variable: VarId) -> &str
+    ensures { result.now ≡ (variable_at app.now variable.0).name }
+{
     match app.variables().get(variable.0) {
         Some(variable) => variable.name.as_str(),
         None => "",

@@ -31,7 +31,7 @@ fn moved_text(
     }
 }
 
-/// Whether what is tried works.
+/// That what is tried works or fails, in words.
 fn works_text(alloc: Global, what: &str, choice: i64) -> Result<String, AllocError> {
     let how = if choice == 0 { "fails" } else { "works" };
     format!(in alloc; "the {what} {how}")

@@ -1,5 +1,5 @@
 // Why a verdict is no, as values, and the lines that tell it.
-ghost use Rattle.std.specs.Prelude.{◌≡◌, [], IfOk, None, string_bytes};
+ghost use Rattle.std.specs.Prelude.{◌≡◌, [], IfOk, None, length, string_bytes};
 
 use crate::lines::{add_text, put_listed, put_three, put_two, text_of};
 use crate::shown::{actor_name, object_name};
@@ -271,7 +271,9 @@ impl Explanation {
     /// # Errors
     ///
     /// Only where memory is refused. The lines' form is this project's own.
-    pub fn lines(&self, alloc: Global, app: &App) -> Result<Vec<String>, AllocError> {
+    pub fn lines(&self, alloc: Global, app: &App) -> Result<Vec<String>, AllocError>
+        ensures { IfOk result (λ lines. length lines.items ≡ length self.now.items.items) }
+    {
         let mut lines = Vec::new(alloc);
         for item in &self.items {
             add_text(&mut lines, item.text(alloc, app)?)?;

@@ -7,7 +7,7 @@ use Rattle.std.proofs.lemmas.Bool.{eqb-true}
 use Rattle.fr_program.specs.declared.instr.Instr.TheVariants.{Goto}
 use Rattle.fr_program.specs.declared.ids.Side.TheVariants.{Before}
 use Rattle.fr_program.specs.declared.parts.Kind.TheVariants.{Mutex}
-use Rattle.fr_calls.specs.State.{State, At, Content, Free, Held, CanHave, Exists, IsWellFormed, kind_of, place_of, content_of, value_of, depth_in}
+use Rattle.fr_rules.specs.State.{State, At, Content, Free, Held, CanHave, Exists, IsWellFormed, kind_of, place_of, content_of, value_of, depth_in}
 use Rattle.fr_notes.specs.declared.claim.Claim.{Claim}
 use Rattle.fr_notes.specs.declared.claim.Claim.TheVariants.{NotHeld, Alive, Gone, HeldTimes}
 use Rattle.fr_notes.specs.Note.{Alternative, Meets, Within, HoldsOne, claim_of, range_of}

@@ -4,7 +4,7 @@ use Rattle.std.proofs.Common.{◌≡◌, ◌||◌, ℕ, zero, suc, ℤ, pos, neg
 use Rattle.std.proofs.lemmas.Int.{ints}
 use Rattle.fr_program.specs.declared.ids.ObjId.{ObjId}
 use Rattle.fr_program.specs.declared.range.Range.{Range}
-use Rattle.fr_calls.specs.State.{State, Free, Held, Dead, IsWellFormed, content_of, value_of}
+use Rattle.fr_rules.specs.State.{State, Free, Held, Dead, IsWellFormed, content_of, value_of}
 use Rattle.fr_notes.specs.declared.claim.Claim.TheVariants.{NotHeld, Alive, Gone, HeldTimes}
 use Rattle.fr_notes.specs.Note.{Alternative, Meets, Within, HoldsOne, claim_of, range_of}
 use Rattle.fr_notes.specs.Parts.{names, count_in, count_said, is_live_said, IsCount, IsNarrowing}

@@ -16,10 +16,10 @@ use Rattle.fr_program.specs.declared.ids.Side.TheVariants.{Before, Inside}
 use Rattle.fr_program.specs.declared.parts.Kind.TheVariants.{Mutex, Recursive}
 use Rattle.fr_program.specs.Program.{Program}
 use Rattle.fr_program.specs.Lookup.{instr_at}
-use Rattle.fr_calls.specs.State.{State, At, Dead, Values, Held, Bytes, place_of}
-use Rattle.fr_calls.specs.declared.rules.Rule.{Rule}
-use Rattle.fr_calls.specs.declared.rules.Rule.TheVariants.{OneWriter, OneReader, GivenByHolder, AllowedInCritical, IsLive, LifeInOrder, EndsInOrder, InRange}
-use Rattle.fr_calls.specs.Rule.{End, Writer, Reader, is_at_end, Stands, IsInside, SharesEnd, Breach, Breaches}
+use Rattle.fr_rules.specs.State.{State, At, Dead, Values, Held, Bytes, place_of}
+use Rattle.fr_rules.specs.declared.rules.Rule.{Rule}
+use Rattle.fr_rules.specs.declared.rules.Rule.TheVariants.{OneWriter, OneReader, GivenByHolder, AllowedInCritical, IsLive, LifeInOrder, EndsInOrder, InRange}
+use Rattle.fr_rules.specs.Rule.{End, Writer, Reader, is_at_end, Stands, IsInside, SharesEnd, Breach, Breaches}
 use Rattle.fr_worked.specs.WorkedSteps.{x, on_thing, of_one, seen, before, inside, add_one, create, delete, give, give_recursive, queue_send, stream_send, stream_receive, reset, ten, queue, stream}
 use Rattle.fr_worked.specs.WorkedRules.{two, both, both_inside, WorkedBreaches, WorkedLeast}
 

@@ -8,7 +8,7 @@ use Rattle.fr_program.specs.declared.instr.Instr.TheVariants.{Goto}
 use Rattle.fr_program.specs.declared.ids.Side.TheVariants.{Before, Inside}
 use Rattle.fr_program.specs.declared.parts.Kind.TheVariants.{Mutex}
 use Rattle.fr_program.specs.Lookup.{HasSide}
-use Rattle.fr_calls.specs.State.{Place, At, Done, Content, Free, Held, CanHave, Exists, place_of, content_of, kind_of}
+use Rattle.fr_rules.specs.State.{Place, At, Done, Content, Free, Held, CanHave, Exists, place_of, content_of, kind_of}
 use Rattle.fr_worked.specs.WorkedStates.{one_of, parts, Fits, WorkedFormed, WorkedContents, WorkedNew, WorkedStart}
 
 -- a state of the one task is well formed where its place exists, its mutex fits and so does the critical section

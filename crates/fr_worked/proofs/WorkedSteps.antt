@@ -14,15 +14,15 @@ use Rattle.fr_program.specs.declared.parts.Kind.TheVariants.{Binary, Counting, M
 use Rattle.fr_program.specs.declared.parts.ActorKind.TheVariants.{Interrupt}
 use Rattle.fr_program.specs.Program.{Program}
 use Rattle.fr_program.specs.Lookup.{instr_at}
-use Rattle.fr_calls.specs.State.{State, At, Dead, Values, Count, Free, Held, Bytes, Lengths, place_of, content_of, goes_to}
-use Rattle.fr_calls.specs.declared.rules.Rule.{Rule}
-use Rattle.fr_calls.specs.declared.rules.Rule.TheVariants.{GivenByHolder, AllowedInCritical, AllowedSuspended, AllowedInInterrupt, IsLive, SuitsSemaphore, DepthAboveZero, EndsInOrder}
-use Rattle.fr_calls.specs.Rule.{GivesUnheld, UsesDead, Breaches, used_object}
-use Rattle.fr_calls.specs.declared.way.Way.{Way}
-use Rattle.fr_calls.specs.declared.way.Way.TheVariants.{Then, Else}
-use Rattle.fr_calls.specs.Step.{Row, SuitsInside, Step, StepBy, landing, stops, sent_bytes, received_bytes, transition}
+use Rattle.fr_rules.specs.State.{State, At, Dead, Values, Count, Free, Held, Bytes, Lengths, place_of, content_of, goes_to}
+use Rattle.fr_rules.specs.declared.rules.Rule.{Rule}
+use Rattle.fr_rules.specs.declared.rules.Rule.TheVariants.{GivenByHolder, AllowedInCritical, AllowedSuspended, AllowedInInterrupt, IsLive, SuitsSemaphore, DepthAboveZero, EndsInOrder}
+use Rattle.fr_rules.specs.Rule.{GivesUnheld, UsesDead, Breaches, used_object}
+use Rattle.fr_rules.specs.declared.way.Way.{Way}
+use Rattle.fr_rules.specs.declared.way.Way.TheVariants.{Then, Else}
+use Rattle.fr_rules.specs.Step.{Row, SuitsInside, Step, StepBy, landing, stops, sent_bytes, received_bytes, transition}
 use Rattle.fr_worked.specs.WorkedSteps.{x, beside, of_one, seen, before, inside, next, other, Steps, ten, add_one, if_below, enter, exit, create, create_counting, delete, take, take_at_once, take_recursive, give, give_recursive, queue_send, queue_receive, queue_receive_at_once, stream_send, stream_receive, message_send, message_receive, reset, queue, stream, message, counts_once, WorkedInstrs, WorkedEnds, HasNoStep, WorkedStops, HasNoChoice, WorkedBounds, WorkedComparisons, WorkedRun}
-use Rattle.fr_calls.proofs.Free.{before-free, inside-free, no-use, live-use, least_here}
+use Rattle.fr_rules.proofs.Free.{before-free, inside-free, no-use, live-use, least_here}
 
 -- a step before the instruction, by its row
 before-steps : (kind : Kind) (i : Instr) (way : Way) (S : State) (c : ℤ) (mid S' : State) → place_of S 0 ≡ At 0 Before → least_here (of_one kind i) S 0 i ≡ None → (GivesUnheld (of_one kind i) S 0 i → ⊥) → (UsesDead S i Before → ⊥) → Row (of_one kind i) (transition S 0 c mid) Before i way → S' ≡ goes_to 0 (landing 0 Before i way) mid → Steps kind i S c S'

@@ -12,7 +12,7 @@ use Rattle.fr_program.specs.declared.instr.Instr.TheVariants.{Goto}
 use Rattle.fr_program.specs.declared.parts.Kind.TheVariants.{Mutex}
 use Rattle.fr_program.specs.declared.parts.ActorKind.TheVariants.{Task}
 use Rattle.fr_program.specs.Program.{Program, ActorOf}
-use Rattle.fr_calls.specs.State.{State, Dead, Free, Held}
+use Rattle.fr_rules.specs.State.{State, Dead, Free, Held}
 use Rattle.fr_notes.specs.declared.claim.Claim.{Claim}
 use Rattle.fr_notes.specs.declared.claim.Claim.TheVariants.{NotHeld, Alive, Gone, HeldTimes}
 use Rattle.fr_notes.specs.Note.{Alternative, Meets, Holds}

@@ -26,9 +26,9 @@ use Rattle.fr_program.specs.declared.parts.Kind.{Kind}
 use Rattle.fr_program.specs.declared.parts.Kind.TheVariants.{Binary, Mutex, Recursive}
 use Rattle.fr_program.specs.declared.parts.ActorKind.TheVariants.{Task}
 use Rattle.fr_program.specs.Program.{Program}
-use Rattle.fr_calls.specs.State.{State, Place, At, Content, Dead, Values, Held, Bytes}
-use Rattle.fr_calls.specs.declared.rules.Rule.TheVariants.{OneWriter, OneReader, GivenByHolder, AllowedInCritical, IsLive, LifeInOrder, EndsInOrder, InRange}
-use Rattle.fr_calls.specs.Rule.{Breach, number_of, first_forbidden}
+use Rattle.fr_rules.specs.State.{State, Place, At, Content, Dead, Values, Held, Bytes}
+use Rattle.fr_rules.specs.declared.rules.Rule.TheVariants.{OneWriter, OneReader, GivenByHolder, AllowedInCritical, IsLive, LifeInOrder, EndsInOrder, InRange}
+use Rattle.fr_rules.specs.Rule.{Breach, number_of, first_forbidden}
 use Rattle.fr_worked.specs.WorkedSteps.{x, call, tries, beside, of_one, seen, before, inside, add_one, enter, exit, create, delete, take, take_recursive, give, give_recursive, queue_send, stream_send, stream_receive, reset, queue, stream}
 
 -- two tasks, each with one instruction, and an object of this kind

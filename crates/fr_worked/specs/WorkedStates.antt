@@ -16,7 +16,7 @@ use Rattle.fr_program.specs.declared.parts.Kind.{Kind}
 use Rattle.fr_program.specs.declared.parts.Kind.TheVariants.{Queue, Binary, Counting, Mutex, Recursive, Stream, Message}
 use Rattle.fr_program.specs.declared.parts.ActorKind.TheVariants.{Task}
 use Rattle.fr_program.specs.Program.{Program}
-use Rattle.fr_calls.specs.State.{State, Place, At, Done, Content, Dead, Values, Count, Free, Held, Bytes, Lengths, CanHave, IsWellFormed, new_content, start}
+use Rattle.fr_rules.specs.State.{State, Place, At, Done, Content, Dead, Values, Count, Free, Held, Bytes, Lengths, CanHave, IsWellFormed, new_content, start}
 
 -- a task that goes round, a variable x, and an object of this kind, live at the start or dead
 abbrev pub one_of : Kind → Bool → Program

@@ -45,9 +45,9 @@ use Rattle.fr_program.specs.declared.parts.Kind.TheVariants.{Queue, Binary, Coun
 use Rattle.fr_program.specs.declared.parts.ActorKind.{ActorKind}
 use Rattle.fr_program.specs.declared.parts.ActorKind.TheVariants.{Task, Interrupt}
 use Rattle.fr_program.specs.Program.{Program}
-use Rattle.fr_calls.specs.State.{State, Place, At, Done, Content, Dead, Values, Count, Free, Held, Bytes, Lengths}
-use Rattle.fr_calls.specs.Step.{Step, compare}
-use Rattle.fr_calls.specs.Run.{IsRun}
+use Rattle.fr_rules.specs.State.{State, Place, At, Done, Content, Dead, Values, Count, Free, Held, Bytes, Lengths}
+use Rattle.fr_rules.specs.Step.{Step, compare}
+use Rattle.fr_rules.specs.Run.{IsRun}
 
 -- the variable
 abbrev pub x : VarId

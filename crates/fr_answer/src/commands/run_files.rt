@@ -4,7 +4,7 @@ ghost use Rattle.fr_outcome.specs.Checked.{fault_status};
 ghost use Rattle.fr_answer.specs.Commands.{AreRunWords, IsAnswered, IsSafeIn};
 ghost use Rattle.fr_inputs.specs.Inputs.{Reads};
 
-use fr_cert::MOST_BYTES as MOST_CERTIFICATE_BYTES;
+use fr_cert::MOST_CERTIFICATE_BYTES;
 use fr_findings::{WordsFault, ran_texts, words_of};
 use fr_inputs::{Files, application, input, refusal_of_texts};
 use fr_outcome::{AppText, CheckFault, Refusal, put};

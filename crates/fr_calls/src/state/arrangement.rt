@@ -2,7 +2,7 @@
 // the same.
 ghost use Rattle.std.specs.Prelude.{◌≡◌, ◌≤◌, ◌<◌, ◌↔◌, ◌≤ℤ◌, ℕ, ℤ, pos, length, sum, All, IsTrue, IsFalse, IfOk, OnOk};
 ghost use Rattle.fr_program.specs.Lookup.{IsPoint};
-ghost use Rattle.fr_calls.specs.State.{IsWellFormed, At, Done, CanHave, kind_of, write, becomes, suspend_at, critical_at, goes_to};
+ghost use Rattle.fr_rules.specs.State.{IsWellFormed, At, Done, CanHave, kind_of, write, becomes, suspend_at, critical_at, goes_to};
 
 use crate::content::{Content, Stock};
 use crate::state::{Place, State};

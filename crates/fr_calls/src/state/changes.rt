@@ -2,8 +2,8 @@
 ghost use Rattle.std.specs.Prelude.{◌≡◌, ◌≤◌, ◌<◌, ◌+◌, ◌-◌, ℤ, List, ◌∷◌, length, IfSome, IfNone, IsSome, OnOk, OnErr};
 ghost use Rattle.fr_program.specs.Limits.{KindInLimits};
 ghost use Rattle.fr_calls.specs.View.{placed};
-ghost use Rattle.fr_calls.specs.State.{Dead, Values, content_of, suspension_of, depth_of, count_held, new_content, write, becomes, suspend_at, in_critical, critical_at, goes_to};
-ghost use Rattle.fr_calls.specs.Step.{taken, given, queued, sent_bytes, received_bytes, sent_message, received_message, with_result, Puts};
+ghost use Rattle.fr_rules.specs.State.{Dead, Values, content_of, suspension_of, depth_of, count_held, new_content, write, becomes, suspend_at, in_critical, critical_at, goes_to};
+ghost use Rattle.fr_rules.specs.Step.{taken, given, queued, sent_bytes, received_bytes, sent_message, received_message, with_result, Puts};
 
 use crate::content::Content;
 use crate::state::{Place, State};

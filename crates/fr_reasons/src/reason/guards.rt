@@ -1,12 +1,12 @@
 // A guard, in words.
-ghost use Rattle.fr_calls.specs.State.{IsWellFormed};
+ghost use Rattle.fr_rules.specs.State.{IsWellFormed};
 
-use fr_calls::State;
+use fr_calls::{State, value_in};
 use fr_ends::Guard;
 use fr_notes::Subject;
 use fr_program::{ActorId, App, VarId};
 use fr_wording::{
-    actor_name, object_name, put_critical, put_held, put_three, put_two, value_in, variable_name,
+    actor_name, object_name, put_critical, put_held, put_three, put_two, variable_name,
 };
 use std::alloc::{AllocError, Global};
 use std::collections::BTreeMap;

@@ -1,6 +1,6 @@
 // What notes say, and what of it isn't so in a state.
 ghost use Rattle.std.specs.Prelude.{◌<◌, length};
-ghost use Rattle.fr_calls.specs.State.{IsWellFormed};
+ghost use Rattle.fr_rules.specs.State.{IsWellFormed};
 ghost use Rattle.fr_notes.specs.Fits.{AlternativeFits};
 ghost use Rattle.fr_ends.specs.Fits.{CertificateFits};
 ghost use Rattle.fr_reasons.specs.Shown.{IsSpot};
@@ -8,10 +8,10 @@ ghost use Rattle.fr_reasons.specs.Shown.{IsSpot};
 use super::add_item;
 use super::scene::{Scene, says_of};
 use super::words::{can_hold, otherwise_text, put_claim, put_said};
-use fr_calls::{State, is_at_end};
-use fr_ends::{Certificate, EndName};
+use fr_calls::State;
+use fr_ends::{Certificate, EndName, is_inside_end};
 use fr_notes::{Alternative, Claim, Spot, Subject};
-use fr_program::{ActorId, App, Call, Instr, ObjId, Point, Side};
+use fr_program::{ActorId, App, Call, Instr, ObjId, Point};
 use fr_witness::{claim_broken, spot_of};
 use fr_wording::{Explained, ShownState, add_text, subject_at, subject_count};
 use std::alloc::{AllocError, Global};
@@ -240,14 +240,7 @@ pub fn never_deleted(alloc: Global, app: &App) -> Result<Vec<ObjId>, AllocError>
 
 /// Whether an actor at this spot is inside a call at the end of a buffer, and its note doesn't say that it is never there.
 pub(super) fn is_inside(spot: &Spot, end: EndName) -> bool {
-    match (spot.point.side, spot.instr) {
-        (Side::Inside, Instr::Call(Call::On(call))) => {
-            call.object.0 == end.buffer.0
-                && is_at_end(end.end, call.act)
-                && !spot.note.alternatives().is_empty()
-        }
-        _ => false,
-    }
+    !spot.note.alternatives().is_empty() && is_inside_end(spot.app, spot.point, end)
 }
 
 /// The first point of another actor that can be inside a call at the end of the buffer.

@@ -1,5 +1,5 @@
 // Where all actors stand in a state.
-ghost use Rattle.fr_calls.specs.State.{IsWellFormed};
+ghost use Rattle.fr_rules.specs.State.{IsWellFormed};
 
 use super::add_item;
 use fr_calls::{Place, State};

@@ -1,16 +1,15 @@
 // Why a state breaches a rule, in words.
-ghost use Rattle.fr_calls.specs.State.{IsWellFormed};
+ghost use Rattle.fr_rules.specs.State.{IsWellFormed};
 
 use super::words::kind_name;
-use fr_calls::{Rule, State};
+use fr_calls::{Rule, State, span_of, value_in};
 use fr_notes::Spot;
 use fr_program::{
-    Act, ActorId, App, Attempt, Call, Instr, Kind, ObjId, ObjectCall, Operand, Operator, Range,
-    VarId,
+    Act, ActorId, App, Attempt, Call, Instr, Kind, ObjId, ObjectCall, Operand, Range, VarId,
 };
 use fr_wording::{
     actor_name, content_in, object_name, put_critical, put_suspended, put_three, put_two,
-    suspension_in, value_in,
+    suspension_in,
 };
 use std::alloc::{AllocError, Global};
 
@@ -21,15 +20,6 @@ fn operand_in(app: &App, state: &State, operand: Operand) -> i64
     match operand {
         Operand::Number(number) => number,
         Operand::Variable(variable) => value_in(app, state, variable),
-    }
-}
-
-/// What a `set` makes of its two operands.
-fn result_of(operator: Operator, left: i64, right: i64) -> Range {
-    match operator {
-        Operator::Plus => Range::only(left).add(Range::only(right)),
-        Operator::Minus => Range::only(left).sub(Range::only(right)),
-        Operator::Times => Range::only(left).scale(right),
     }
 }
 
@@ -77,7 +67,7 @@ fn put_out(text: &mut String, app: &App, instr: &Instr, state: &State) -> Result
                 operand_in(app, state, *left),
                 operand_in(app, state, *right),
             );
-            put_set(text, app, *target, result_of(*operator, left, right))
+            put_set(text, app, *target, span_of(*operator, left, right))
         }
         Instr::Call(
             Call::On(

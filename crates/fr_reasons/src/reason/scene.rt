@@ -1,6 +1,6 @@
 // What is shown of a state: the things that the notes, the step and the guard speak of.
 ghost use Rattle.std.specs.Prelude.{◌<◌, length};
-ghost use Rattle.fr_calls.specs.State.{IsWellFormed};
+ghost use Rattle.fr_rules.specs.State.{IsWellFormed};
 
 use fr_calls::State;
 use fr_notes::{Alternative, Claim, Note, Spot, Subject};

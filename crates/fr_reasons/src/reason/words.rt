@@ -1,12 +1,12 @@
 // What a note says, and what is so in its place, in words.
-ghost use Rattle.fr_calls.specs.State.{IsWellFormed};
+ghost use Rattle.fr_rules.specs.State.{IsWellFormed};
 
-use fr_calls::{Content, State};
+use fr_calls::{Content, State, value_in};
 use fr_notes::{Alternative, Claim, Subject};
 use fr_program::{ActorId, ActorKind, App, Kind, ObjId};
 use fr_wording::{
     actor_name, content_in, is_mutex, object_name, put_critical, put_held, put_suspended,
-    put_three, put_two, suspension_in, value_in, variable_name,
+    put_three, put_two, suspension_in, variable_name,
 };
 use std::alloc::{AllocError, Global};
 

@@ -7,7 +7,7 @@ use fr_ends::Certificate;
 use fr_judge::{Judging, Lists, Part, Verdict};
 use fr_lanes::{Body, Code, count_text, put_point};
 use fr_outcome::Judged;
-use fr_page::{PointShown, Reason, Standing};
+use fr_page::{PointShown, PointState, Reason};
 use fr_program::{App, ObjId, Point};
 use fr_reasons::{explain, never_deleted, note_told};
 use fr_report::part_text;
@@ -37,14 +37,14 @@ struct Tally {
 
 impl Tally {
     /// The tally with one more point.
-    fn with(self, standing: &Standing) -> Tally {
+    fn with(self, standing: &PointState) -> Tally {
         match standing {
-            Standing::Holds => self,
-            Standing::Fails(_) => Tally {
+            PointState::Holds => self,
+            PointState::Fails(_) => Tally {
                 failing: self.failing.saturating_add(1),
                 ..self
             },
-            Standing::Never => Tally {
+            PointState::Never => Tally {
                 never: self.never.saturating_add(1),
                 ..self
             },
@@ -101,11 +101,11 @@ fn standing_of(
     app: &App,
     notes: &[String],
     part: Option<Part>,
-) -> Result<Standing, AllocError> {
+) -> Result<PointState, AllocError> {
     match part {
-        Some(part) => Ok(Standing::Fails(part_text(alloc, app, part)?)),
-        None if notes.is_empty() => Ok(Standing::Never),
-        None => Ok(Standing::Holds),
+        Some(part) => Ok(PointState::Fails(part_text(alloc, app, part)?)),
+        None if notes.is_empty() => Ok(PointState::Never),
+        None => Ok(PointState::Holds),
     }
 }
 
@@ -164,7 +164,7 @@ fn put_points(
         }
         let explains = tally.failing == 0;
         let shown = point_shown(alloc, app, certificate, look, judging, number, explains)?;
-        if number < MOST_POINTS || matches!(&shown.standing, Standing::Fails(_)) {
+        if number < MOST_POINTS || matches!(&shown.standing, PointState::Fails(_)) {
             tally = tally.with(&shown.standing);
             put_point(body, app.point(number), shown)?;
         }

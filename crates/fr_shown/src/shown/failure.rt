@@ -46,18 +46,6 @@ fn words_of(alloc: Global, app: &App, items: &[Explained]) -> Result<String, All
     Ok(text)
 }
 
-/// The point with its line of code, if there is one.
-fn point_shown(
-    alloc: Global,
-    places: &Places,
-    point: Option<Point>,
-) -> Result<Option<PlaceShown>, AllocError> {
-    match point {
-        Some(point) => Ok(Some(places.shown(alloc, point)?)),
-        None => Ok(None),
-    }
-}
-
 /// What fails at a point, with the state that shows it and the step from there.
 fn failure_at(
     alloc: Global,
@@ -77,7 +65,7 @@ fn failure_at(
     );
     let text = part_text(alloc, app, part)?;
     let place = places.shown(alloc, point)?;
-    let other = point_shown(alloc, places, other_of(part))?;
+    let other = places.shown_if(alloc, other_of(part))?;
     Ok(Failure {
         rule: part_name(part),
         text,
@@ -106,8 +94,8 @@ fn may_deadlock(
         return Ok(None);
     };
     let text = order_line(alloc, places.app(), order)?;
-    let place = point_shown(alloc, places, point_of(edges.first()))?;
-    let other = point_shown(alloc, places, point_of(edges.get(1)))?;
+    let place = places.shown_if(alloc, point_of(edges.first()))?;
+    let other = places.shown_if(alloc, point_of(edges.get(1)))?;
     Ok(Some(Failure {
         rule: "may-deadlock",
         text,

@@ -105,4 +105,16 @@ impl<'a> Places<'a> {
             source: self.source_at(alloc, point)?,
         })
     }
+
+    /// The point with its line of code, if there is one.
+    pub(super) fn shown_if(
+        &self,
+        alloc: Global,
+        point: Option<Point>,
+    ) -> Result<Option<PlaceShown>, AllocError> {
+        match point {
+            Some(point) => Ok(Some(self.shown(alloc, point)?)),
+            None => Ok(None),
+        }
+    }
 }

@@ -8,18 +8,6 @@ use fr_report::{
 use fr_wording::Standing;
 use std::alloc::{AllocError, Global};
 
-/// Where an actor is; None where it is done.
-fn place_of(
-    alloc: Global,
-    places: &Places,
-    at: &Standing,
-) -> Result<Option<PlaceShown>, AllocError> {
-    match at.point {
-        Some(point) => Ok(Some(places.shown(alloc, point)?)),
-        None => Ok(None),
-    }
-}
-
 /// The steps of a run.
 fn steps_shown(
     alloc: Global,
@@ -29,7 +17,7 @@ fn steps_shown(
     let mut shown = Vec::new(alloc);
     for step in steps {
         shown.push(StepShown {
-            place: place_of(alloc, places, &step.before)?,
+            place: places.shown_if(alloc, step.before.point)?,
             choice: step.taken.choice,
             change: step.change(alloc)?,
         })?;
@@ -47,7 +35,7 @@ fn last_shown(
         Some(last) => {
             let line = last.line(alloc, places.app(), "")?;
             let state = line.text(alloc)?;
-            Ok((place_of(alloc, places, last)?, state))
+            Ok((places.shown_if(alloc, last.point)?, state))
         }
         None => Ok((None, String::new(alloc))),
     }

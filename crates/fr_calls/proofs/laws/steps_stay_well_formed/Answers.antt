@@ -1,6 +1,6 @@
 -- The state after the row is well formed, and so it is with the actor moved.
-use Rattle.fr_calls.proofs.Built.{is-built}
-use Rattle.fr_calls.proofs.Formed.{step-formed}
+use Rattle.fr_rules.proofs.Built.{is-built}
+use Rattle.fr_rules.proofs.Formed.{step-formed}
 use Rattle.fr_calls.proofs.laws.steps_stay_well_formed.Goals as goal
 
 pub returns : goal.returns

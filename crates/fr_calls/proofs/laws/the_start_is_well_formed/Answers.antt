@@ -1,6 +1,6 @@
 -- The start is well formed part by part.
-use Rattle.fr_calls.proofs.Built.{is-built}
-use Rattle.fr_calls.proofs.Formed.{start-formed}
+use Rattle.fr_rules.proofs.Built.{is-built}
+use Rattle.fr_rules.proofs.Formed.{start-formed}
 use Rattle.fr_calls.proofs.laws.the_start_is_well_formed.Goals as goal
 
 pub returns : goal.returns

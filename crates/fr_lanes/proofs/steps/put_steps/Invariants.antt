@@ -1,5 +1,5 @@
 -- The state is one of the application, after each step.
-use Rattle.fr_calls.specs.State.{IsWellFormed}
+use Rattle.fr_rules.specs.State.{IsWellFormed}
 use Rattle.fr_lanes.proofs.steps.put_steps.Given as goal
 
 abbrev pub invariant-loop-number : goal.invariant-loop-number

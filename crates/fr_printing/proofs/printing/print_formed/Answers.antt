@@ -17,5 +17,5 @@ pub returns-clause-text : goal.returns-clause-text
 returns-clause-text g c =
     let shown = c.in_ok-shown.shown in
     let path = string_bytes c.args.answer.now.application in
-    let shows : Shows path c.args.answer.now.what shown = record { application = c.in_ok-shown.ensures.application; kind = c.in_ok-shown.ensures.kind; first = c.in_ok-shown.ensures.report } in
+    let shows : Shows path c.args.answer.now.what shown = record { application = c.in_ok-shown.ensures.application; kind = c.in_ok-shown.ensures.kind; first = c.in_ok-shown.ensures.report; line = c.in_ok-shown.ensures.line } in
     formed c.args.format path c.args.answer.now.what _ _ shown _ c.put_report.result c.from_ref.ensures.value shows c.put_report.ensures.report

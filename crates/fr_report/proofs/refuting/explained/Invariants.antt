@@ -1,5 +1,5 @@
 use Rattle.std.proofs.Common.{◌≡◌, take}
-use Rattle.fr_calls.specs.State.{IsWellFormed}
+use Rattle.fr_rules.specs.State.{IsWellFormed}
 use Rattle.fr_report.specs.Refuted.{steps_in}
 use Rattle.fr_report.proofs.refuting.explained.Given as goal
 

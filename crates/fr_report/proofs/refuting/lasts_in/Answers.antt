@@ -7,4 +7,4 @@ pub returns-in_ok-push-in-Some : goal.returns-in_ok-push-in-Some
 returns-in_ok-push-in-Some c =
     let last = c.in_ok-standing_in-in-Some.field-0 in
     let pushed : c.push.new.self.items ≡ last ∷ [] = search rules in
-    subst (λ named. IsLast c.args.app.now named c.push.new.self.items) (sym c.in-Some.is) (last, pushed, c.in_ok-standing_in-in-Some.ensures)
+    subst (λ named. IsLast c.args.app.now named c.push.new.self.items) (sym c.in-Some.is) (last, pushed, c.in_ok-standing_in-in-Some.ensures.placed)

@@ -1,5 +1,5 @@
 use Rattle.std.proofs.Common.{◌≡◌, ◌<◌, ◌≤◌, ℕ}
-use Rattle.fr_calls.specs.State.{Done, place_of}
+use Rattle.fr_rules.specs.State.{Done, place_of}
 use Rattle.fr_runner.proofs.rest.first_waiting.Given as goal
 
 -- each actor that was passed is done

@@ -7,11 +7,12 @@ use mir.Syntax.{w64}
 use mir.Val.{SFits, to_z, of_z}
 use Rattle.fr_program.specs.Program.{Program}
 use Rattle.fr_calls.specs.declared.moves.Moves.{Moves}
-use Rattle.fr_calls.specs.State.{State}
-use Rattle.fr_calls.specs.declared.rules.Rule.TheVariants.{InRange}
-use Rattle.fr_calls.specs.Rule.{Breach}
-use Rattle.fr_calls.specs.Step.{Step}
-use Rattle.fr_calls.specs.Choices.{IsAmong, IsRising, CanChoose}
+use Rattle.fr_rules.specs.State.{State}
+use Rattle.fr_rules.specs.declared.rules.Rule.TheVariants.{InRange}
+use Rattle.fr_rules.specs.Rule.{Breach}
+use Rattle.fr_rules.specs.Step.{Step}
+use Rattle.fr_rules.specs.Choices.{CanChoose}
+use Rattle.fr_calls.specs.Moves.{IsAmong, IsRising}
 use Rattle.fr_runner.specs.Listed.{listed}
 use Rattle.fr_runner.specs.Trace.{AreChoices, IsChosen}
 use Rattle.fr_runner.proofs.Listing.{are-choices, contains-at}

@@ -1,4 +1,4 @@
-use Rattle.fr_calls.specs.State.{IsWellFormed}
+use Rattle.fr_rules.specs.State.{IsWellFormed}
 use Rattle.fr_trail.proofs.replay.replay.Given as goal
 
 -- the steps so far lead to a state of the application

@@ -2,8 +2,8 @@
 use Rattle.std.proofs.Common.{◌++◌, [], ◌∷◌, get_or, string_bytes, subst, sym, take}
 use Rattle.std.proofs.lemmas.List.{take_more}
 use Rattle.std.specs.Prelude.{pos}
-use Rattle.fr_follower.specs.declared.item.Item.{Item}
-use Rattle.fr_follower.specs.declared.item.Item.TheVariants.{Step}
+use Rattle.fr_explained.specs.declared.item.Item.{Item}
+use Rattle.fr_explained.specs.declared.item.Item.TheVariants.{Step}
 use Rattle.fr_trail.specs.Runs.{IsRunText}
 use Rattle.fr_trail.proofs.RunLaws.{run-more}
 use Rattle.fr_trail.proofs.run_text.run_text.Goals as goal

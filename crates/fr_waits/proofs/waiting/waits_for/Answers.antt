@@ -1,7 +1,7 @@
 -- An actor that waits is inside one call alone, and that call decides.
 use Rattle.std.proofs.Common.{◌≡◌, None, refl, subst}
-use Rattle.fr_calls.specs.State.{Held, content_of, kind_of}
-use Rattle.fr_calls.specs.Step.{taken}
+use Rattle.fr_rules.specs.State.{Held, content_of, kind_of}
+use Rattle.fr_rules.specs.Step.{taken}
 use Rattle.fr_waits.proofs.Whom.{waits, stands, named, takes-here, same-mutex}
 use Rattle.fr_waits.proofs.waiting.waits_for.Goals as goal
 

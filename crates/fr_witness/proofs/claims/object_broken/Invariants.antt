@@ -1,5 +1,5 @@
 use Rattle.std.proofs.Common.{◌<◌, ℕ}
-use Rattle.fr_calls.specs.State.{content_of}
+use Rattle.fr_rules.specs.State.{content_of}
 use Rattle.fr_notes.specs.Note.{Meets, claim_of}
 use Rattle.fr_witness.proofs.claims.object_broken.Given as goal
 

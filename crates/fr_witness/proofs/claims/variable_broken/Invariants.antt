@@ -1,5 +1,5 @@
 use Rattle.std.proofs.Common.{◌<◌, ℕ}
-use Rattle.fr_calls.specs.State.{value_of}
+use Rattle.fr_rules.specs.State.{value_of}
 use Rattle.fr_notes.specs.Note.{Within, range_of}
 use Rattle.fr_witness.proofs.claims.variable_broken.Given as goal
 

@@ -1,4 +1,4 @@
-use Rattle.fr_calls.specs.State.{IsWellFormed}
+use Rattle.fr_rules.specs.State.{IsWellFormed}
 use Rattle.fr_witness.proofs.scene.put_objects.Given as goal
 
 -- the state fits the application all along

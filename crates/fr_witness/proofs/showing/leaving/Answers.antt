@@ -2,7 +2,7 @@
 use Rattle.std.proofs.Common.{◌≡◌, ◌∙◌, get_or, subst, rules, All}
 use Rattle.std.specs.Prelude.{List, IfSome, Contains}
 use Rattle.fr_program.specs.Program.{Program}
-use Rattle.fr_calls.specs.declared.way.Way.{Way}
+use Rattle.fr_rules.specs.declared.way.Way.{Way}
 use Rattle.fr_notes.specs.Note.{Alternative, Note}
 use Rattle.fr_notes.specs.Noted.{IsAt, NotedBy}
 use Rattle.fr_notes.specs.declared.case.Spot.{Spot}

@@ -7,7 +7,7 @@ use Rattle.fr_answer.proofs.commands.check.check_one.Goals as goal
 
 pub check_looked-requires : goal.check_looked-requires
 check_looked-requires g c =
-    let may = may-of (λ p. g.F.Files.May c.args.files.now p) c.output_at-output.result (option_copied c.args.asked.now.html) c.output_at-output.ensures (λ o is. c.in_default.ensures 0 o (rw is refl)) in
+    let may = may-of (λ p. g.F.Files.May c.args.files.now p) c.output_at-output.result (option_copied c.args.asked.now.html) c.output_at-output.ensures.path (λ o is. c.in_default.ensures 0 o (rw is refl)) in
     search rules
 
 pub returns-in-Err-clause-answered : goal.returns-in-Err-clause-answered

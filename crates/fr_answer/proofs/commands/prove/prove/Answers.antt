@@ -7,8 +7,8 @@ use Rattle.fr_answer.proofs.commands.prove.prove.Goals as goal
 
 pub prove_looked-requires : goal.prove_looked-requires
 prove_looked-requires g c =
-    let out = may-of (λ p. g.F.Files.May c.args.files.now p) c.output_at-certificate.result (option_copied c.args.asked.now.out) c.output_at-certificate.ensures (λ o is. c.in_default.ensures 0 o (rw is refl)) in
-    let html = may-of (λ p. g.F.Files.May c.args.files.now p) c.output_at-html.result (option_copied c.args.asked.now.html) c.output_at-html.ensures (λ o is. c.in_default.ensures 1 o (rw is refl)) in
+    let out = may-of (λ p. g.F.Files.May c.args.files.now p) c.output_at-certificate.result (option_copied c.args.asked.now.out) c.output_at-certificate.ensures.path (λ o is. c.in_default.ensures 0 o (rw is refl)) in
+    let html = may-of (λ p. g.F.Files.May c.args.files.now p) c.output_at-html.result (option_copied c.args.asked.now.html) c.output_at-html.ensures.path (λ o is. c.in_default.ensures 1 o (rw is refl)) in
     search rules
 
 pub returns-in-Err-clause-files : goal.returns-in-Err-clause-files

@@ -7,7 +7,7 @@ use Rattle.fr_answer.proofs.commands.refute.refute.Goals as goal
 
 pub refute_looked-requires : goal.refute_looked-requires
 refute_looked-requires g c =
-    let may = may-of (λ p. g.F.Files.May c.args.files.now p) c.output_at-html.result (option_copied c.args.asked.now.html) c.output_at-html.ensures (λ o is. c.in_default.ensures 0 o (rw is refl)) in
+    let may = may-of (λ p. g.F.Files.May c.args.files.now p) c.output_at-html.result (option_copied c.args.asked.now.html) c.output_at-html.ensures.path (λ o is. c.in_default.ensures 0 o (rw is refl)) in
     search rules
 
 pub returns-in-Err-clause-answered : goal.returns-in-Err-clause-answered

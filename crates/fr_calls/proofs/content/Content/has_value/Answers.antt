@@ -2,7 +2,7 @@
 use Rattle.std.proofs.Common.{◌≡◌, ◌↔◌, ℕ, zero, suc, ℤ, List, [], ◌∷◌, IsTrue, Bool, true, false, sym, ap, ◌∙◌, length, arith}
 use Rattle.std.specs.Prelude.{not, nat_eq}
 use Rattle.std.proofs.lemmas.Bool.{ne_eqb}
-use Rattle.fr_calls.specs.State.{Content, Values}
+use Rattle.fr_rules.specs.State.{Content, Values}
 use Rattle.fr_calls.specs.View.{content_kept}
 use Rattle.fr_calls.proofs.content.Content.has_value.Goals as goal
 

@@ -4,7 +4,7 @@ use Rattle.std.proofs.lemmas.Bool.{false≢true}
 use Rattle.std.proofs.lemmas.List.{length-map}
 use Rattle.fr_program.specs.View.{actor_of}
 use Rattle.fr_program.specs.declared.instr.ObjectCall.{ObjectCall}
-use Rattle.fr_calls.specs.Rule.{is_at_end, IsInside}
+use Rattle.fr_rules.specs.Rule.{is_at_end, IsInside}
 use Rattle.fr_calls.proofs.Breached.{stands-below}
 use Rattle.fr_calls.proofs.state.State.another_inside.Goals as goal
 use Rattle.fr_calls.proofs.state.State.another_inside.Goals.{else-other-actor-via-then-other-actor+else-is_inside, else-other-actor-via-else-other-actor}

@@ -1,6 +1,6 @@
 use Rattle.std.proofs.Common.{◌≢◌, ◌<◌, ℕ, IsTrue, IfSome}
 use Rattle.fr_program.specs.declared.instr.ObjectCall.{ObjectCall}
-use Rattle.fr_calls.specs.Rule.{is_at_end, IsInside}
+use Rattle.fr_rules.specs.Rule.{is_at_end, IsInside}
 use Rattle.fr_calls.proofs.state.State.another_inside.Given as goal
 
 -- none of the actors so far is another one inside such a call

@@ -2,7 +2,7 @@
 use Rattle.std.proofs.Common.{◌≡◌, ◌<◌, length, sym, ap, ◌∙◌, arith, below_more}
 use Rattle.std.proofs.lemmas.List.{length-map}
 use Rattle.fr_program.specs.View.{actor_of}
-use Rattle.fr_calls.specs.Rule.{Breach}
+use Rattle.fr_rules.specs.Rule.{Breach}
 use Rattle.fr_calls.proofs.Breached.{stands-below}
 use Rattle.fr_calls.proofs.state.State.first_to_breach.Goals as goal
 

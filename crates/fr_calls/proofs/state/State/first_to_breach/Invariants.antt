@@ -1,5 +1,5 @@
 use Rattle.std.proofs.Common.{◌<◌, ℕ}
-use Rattle.fr_calls.specs.Rule.{Breach}
+use Rattle.fr_rules.specs.Rule.{Breach}
 use Rattle.fr_calls.proofs.state.State.first_to_breach.Given as goal
 
 -- none of the actors so far breaches the rule

@@ -2,7 +2,7 @@
 use Rattle.std.proofs.Common.{ap, ◌∙◌}
 use Rattle.std.proofs.lemmas.List.{map-set}
 use Rattle.fr_calls.specs.View.{placed, state_of}
-use Rattle.fr_calls.specs.State.{goes_to}
+use Rattle.fr_rules.specs.State.{goes_to}
 use Rattle.fr_calls.proofs.state.State.go_to.Goals as goal
 
 pub returns : goal.returns

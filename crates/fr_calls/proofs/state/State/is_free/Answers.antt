@@ -1,6 +1,6 @@
 -- What holds an actor back, and what is asked on either side of an instruction.
 use Rattle.std.proofs.Common.{inl, inr, ap, ◌∙◌}
-use Rattle.fr_calls.specs.Rule.{first_forbidden}
+use Rattle.fr_rules.specs.Rule.{first_forbidden}
 use Rattle.fr_calls.proofs.Unforbidden.{held-back, free-before}
 use Rattle.fr_calls.proofs.state.State.is_free.Goals as goal
 use Rattle.fr_calls.proofs.state.State.is_free.Goals.{then-gives_unheld-via-then-gives_unheld, then-gives_unheld-via-else-gives_unheld+then-uses_dead}

@@ -1,6 +1,6 @@
 use Rattle.std.proofs.Common.{subst, rules}
-use Rattle.fr_calls.specs.State.{CanHave}
-use Rattle.fr_calls.proofs.Formed.{becomes-mid}
+use Rattle.fr_rules.specs.State.{CanHave}
+use Rattle.fr_rules.proofs.Formed.{becomes-mid}
 use Rattle.fr_calls.proofs.state.State.set_content.Goals as goal
 
 pub returns-then-can-clause-formed : goal.returns-then-can-clause-formed

@@ -2,7 +2,7 @@
 use Rattle.std.proofs.Common.{◌≡◌, refl, sym, ap, ◌∙◌, subst, IsTrue}
 use Rattle.std.proofs.lemmas.Bool.{false≢true}
 use Rattle.std.proofs.lemmas.Option.{same_Some}
-use Rattle.fr_calls.specs.Rule.{is_at_end}
+use Rattle.fr_rules.specs.Rule.{is_at_end}
 use Rattle.fr_calls.proofs.state.State.shares_end.Goals as goal
 
 pub returns-then-is_at_end : goal.returns-then-is_at_end

@@ -8,7 +8,7 @@ use mir.Syntax.{w64, w128}
 use Rattle.fr_program.specs.declared.parts.Kind.{Kind}
 use Rattle.fr_program.specs.Program.{Program}
 use Rattle.fr_program.specs.View.{actor_of}
-use Rattle.fr_calls.specs.State.{CanHave, Content}
+use Rattle.fr_rules.specs.State.{CanHave, Content}
 use Rattle.fr_calls.specs.View.{content_kept}
 use Rattle.fr_calls.proofs.state.arrangement.can_have.Goals as goal
 

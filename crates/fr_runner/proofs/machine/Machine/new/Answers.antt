@@ -1,6 +1,6 @@
 -- No entry leads from the start to the start, which keeps the notes, and takes no poll.
 use Rattle.std.proofs.Common.{◌≡◌, sym, ◌∙◌, ap, subst}
-use Rattle.fr_calls.specs.State.{start}
+use Rattle.fr_rules.specs.State.{start}
 use Rattle.fr_judge.specs.Sound.{KeepsNotes}
 use Rattle.fr_runner.specs.Trace.{Replays}
 use Rattle.fr_runner.proofs.Replaying.{polls-at-first}

@@ -1,7 +1,7 @@
 -- The new entry is true from the state before it, so that with it the entries replay to the state after it; and it takes a
 -- poll that was left.
 use Rattle.std.proofs.Common.{◌≡◌, ◌<◌, ◌+◌, ◌-◌, ◌++◌, ◌∷◌, [], length, sym, ◌∙◌, ap, subst, arith}
-use Rattle.fr_calls.specs.State.{start}
+use Rattle.fr_rules.specs.State.{start}
 use Rattle.fr_runner.specs.Machine.{MachineOf}
 use Rattle.fr_runner.specs.Trace.{IsEntry, Replays, word_at}
 use Rattle.fr_runner.proofs.Replaying.{replays-push, polls-add-up}

@@ -1,7 +1,7 @@
 -- A state that keeps the notes of a certified application has no breach.
 use Rattle.std.proofs.Common.{ℕ, subst}
-use Rattle.fr_calls.specs.declared.rules.Rule.{Rule}
-use Rattle.fr_calls.specs.Rule.{Breach}
+use Rattle.fr_rules.specs.declared.rules.Rule.{Rule}
+use Rattle.fr_rules.specs.Rule.{Breach}
 use Rattle.fr_runner.proofs.machine.Machine.state.Goals as goal
 
 pub returns-clause-safe : goal.returns-clause-safe

@@ -1,6 +1,6 @@
 use Rattle.std.proofs.Common.{arith, ap, length, ◌≡◌, ◌∷◌, [], None, sym, subst}
 use Rattle.std.specs.Prelude.{IfSome}
-use Rattle.fr_calls.specs.declared.way.Way.TheVariants.{Then, Else}
+use Rattle.fr_rules.specs.declared.way.Way.TheVariants.{Then, Else}
 use Rattle.fr_witness.specs.Hunt.{IsFound, AreFound, UndoAll}
 use Rattle.fr_witness.proofs.Found.{single, several}
 use Rattle.fr_witness.proofs.hunt.Hunt.steps.Goals as goal
