@@ -45,12 +45,24 @@ pub(crate) fn reached(alloc: Global, lines: &[Line]) -> Result<Vec<bool>, AllocE
     Ok(seen)
 }
 
-/// The number of a line after the line with the number `gone` was taken out.
-fn moved_up(number: usize, gone: usize) -> usize {
-    if number > gone {
-        number.saturating_sub(1)
-    } else {
-        number
+/// The numbers that lines have after some were taken out: that of the next line that is left for one that wasn't.
+fn numbers_after(alloc: Global, gone: &[Option<Heir>]) -> Result<Vec<usize>, AllocError> {
+    let (mut numbers, mut next) = (Vec::new(alloc), 0usize);
+    for heir in gone {
+        numbers.push(next)?;
+        if heir.is_none() {
+            next = next.saturating_add(1);
+        }
+    }
+    numbers.push(next)?;
+    Ok(numbers)
+}
+
+/// The number of a line after some were taken out, by these numbers.
+fn number_after(numbers: &[usize], number: usize) -> usize {
+    match numbers.get(number) {
+        Some(now) => *now,
+        None => number,
     }
 }
 
@@ -64,6 +76,15 @@ enum Change {
     TakeOut,
     /// It goes to where the goto after it goes, if its comparison doesn't hold, and the goto is taken out.
     Turn(usize),
+}
+
+/// The end of all jumps that come to these lines is this one.
+fn note_end(ends: &mut [Option<usize>], way: &[usize], end: usize) {
+    for number in way {
+        if let Some(place) = ends.get_mut(*number) {
+            *place = Some(end);
+        }
+    }
 }
 
 impl Tidying<'_> {
@@ -87,17 +108,41 @@ impl Tidying<'_> {
         least
     }
 
-    /// Where a jump to a line comes to in the end, through further gotos. Of gotos that go around for ever that is the one
-    /// with the least number, whichever of them the way begins at.
-    fn end_of_jumps(&self, first: usize) -> usize {
+    /// Where a jump to a line comes to in the end, through further gotos, which are added to the way. Of gotos that go around for
+    /// ever that is the one with the least number, whichever of them the way begins at. `ends` has what is known of lines.
+    fn end_of_jumps(
+        &self,
+        ends: &[Option<usize>],
+        first: usize,
+        way: &mut Vec<usize>,
+    ) -> Result<usize, AllocError> {
         let mut target = first;
         for _ in 0..self.kept.len() {
+            if let Some(Some(end)) = ends.get(target) {
+                return Ok(*end);
+            }
             match self.through(target) {
-                Some(next) if next != target => target = next,
-                _ => return target,
+                Some(next) if next != target => {
+                    way.push(target)?;
+                    target = next;
+                }
+                _ => return Ok(target),
             }
         }
-        self.least_after(target)
+        Ok(self.least_after(target))
+    }
+
+    /// Where a jump to each line comes to in the end.
+    fn ends_of_jumps(&self, alloc: Global) -> Result<Vec<Option<usize>>, AllocError> {
+        let mut ends = vec![in alloc; None; self.kept.len()]?;
+        let mut way = Vec::new(alloc);
+        for number in 0..self.kept.len() {
+            let end = self.end_of_jumps(&ends, number, &mut way)?;
+            way.push(number)?;
+            note_end(&mut ends, &way, end);
+            way.clear();
+        }
+        Ok(ends)
     }
 
     /// Whether the line is a goto, and the line at the end of all jumps a return.
@@ -109,8 +154,8 @@ impl Tidying<'_> {
     }
 
     /// Lets each jump go to its end at once, and makes a goto to a return the return. Answers whether a line changed.
-    fn shorten_jumps(&mut self) -> bool {
-        let mut has_changed = false;
+    fn shorten_jumps(&mut self, alloc: Global) -> Result<bool, AllocError> {
+        let (ends, mut has_changed) = (self.ends_of_jumps(alloc)?, false);
         for number in 0..self.kept.len() {
             let Some(line) = made_at(self.plain, &self.kept, number) else {
                 break;
@@ -118,7 +163,7 @@ impl Tidying<'_> {
             let Some(first) = line.to else {
                 continue;
             };
-            let target = self.end_of_jumps(first);
+            let target = ends.get(first).copied().flatten().unwrap_or(first);
             let returns = self.leads_to_return(line, target);
             has_changed = has_changed || returns || target != first;
             if let Some(slot) = self.kept.get_mut(number) {
@@ -126,21 +171,24 @@ impl Tidying<'_> {
                 slot.form = if returns { Form::Returns } else { slot.form };
             }
         }
-        has_changed
+        Ok(has_changed)
     }
 
-    /// Whether a jump comes to the line with this number.
-    fn is_aimed(&self, number: usize) -> bool {
+    /// For each line whether a jump comes to it.
+    fn aimed(&self, alloc: Global) -> Result<Vec<bool>, AllocError> {
+        let mut aimed = vec![in alloc; false; self.kept.len()]?;
         for Kept { to, .. } in &self.kept {
-            if *to == Some(number) {
-                return true;
+            if let Some(target) = *to {
+                if let Some(is_aimed) = aimed.get_mut(target) {
+                    *is_aimed = true;
+                }
             }
         }
-        false
+        Ok(aimed)
     }
 
-    /// What can be done at the line with this number.
-    fn change_at(&self, number: usize) -> Change {
+    /// What can be done at the line with this number, where jumps come to these lines.
+    fn change_at(&self, aimed: &[bool], number: usize) -> Change {
         let next = number.saturating_add(1);
         let Some(
             Line {
@@ -162,7 +210,9 @@ impl Tidying<'_> {
                 let can_turn = matches!(after.action, Action::Goto)
                     && target == next.saturating_add(1);
                 match after.to {
-                    Some(other) if can_turn && !self.is_aimed(next) => Change::Turn(other),
+                    Some(other) if can_turn && aimed.get(next) == Some(&false) => {
+                        Change::Turn(other)
+                    }
                     _ if leads_on && !self.program.looks_at_shared(left, right) => Change::TakeOut,
                     _ => Change::Keep,
                 }
@@ -172,97 +222,120 @@ impl Tidying<'_> {
         }
     }
 
-    /// Takes out a line. Who came to it comes to the line after it; the lines that it goes on for are those of `heir` then.
-    fn take_out(&mut self, number: usize, heir: Heir) {
-        if number >= self.kept.len() {
-            return;
-        }
-        let _ = self.kept.remove(number);
-        for one in self.kept.iter_mut() {
-            if let Some(target) = one.to {
-                one.to = Some(moved_up(target, number));
+    /// Takes out the lines that have an heir here: what went on at one of them goes on there. Who came to one comes to the next line
+    /// that is left. All numbers are those of the lines before.
+    fn take_out(&mut self, alloc: Global, gone: &[Option<Heir>]) -> Result<(), AllocError> {
+        let numbers = numbers_after(alloc, gone)?;
+        let mut left = Vec::new(alloc);
+        for (one, heir) in self.kept.iter().zip(gone) {
+            if heir.is_none() {
+                let to = one.to.map(|target| number_after(&numbers, target));
+                left.push(Kept { to, ..*one })?;
             }
         }
+        self.kept = left;
+        self.renumber_heirs(gone, &numbers);
+        Ok(())
+    }
+
+    /// Gives each plain line its heir after these lines were taken out.
+    fn renumber_heirs(&mut self, gone: &[Option<Heir>], numbers: &[usize]) {
         for slot in self.heirs.iter_mut() {
-            let now = match *slot {
-                Heir::Line(there) if there == number => heir,
-                there => there,
+            let heir = match *slot {
+                Heir::Line(there) => match gone.get(there) {
+                    Some(Some(heir)) => *heir,
+                    _ => *slot,
+                },
+                _ => *slot,
             };
-            *slot = match now {
-                Heir::Line(there) => Heir::Line(moved_up(there, number)),
-                _ => now,
+            *slot = match heir {
+                Heir::Line(there) => Heir::Line(number_after(numbers, there)),
+                _ => heir,
             };
         }
     }
 
-    /// What goes on for a line that no way leads to any more: where its jump leads, if a way leads there. `lines` are those
-    /// before any was taken out.
-    fn heir_of_unreached(&self, lines: &[Line], seen: &[bool], number: usize) -> Heir {
-        let (Some(line), Some(now)) = (lines.get(number), self.kept.get(number)) else {
+    /// What goes on for a line that no way leads to any more: where its jump leads, if a way leads there.
+    fn heir_of_unreached(&self, seen: &[bool], number: usize) -> Heir {
+        let Some(line) = made_at(self.plain, &self.kept, number) else {
             return Heir::Nowhere;
         };
-        match (line.action, line.to, now.to) {
-            (Action::Return, _, _) => Heir::Returns,
-            (Action::Goto, Some(was), Some(target)) if seen.get(was) == Some(&true) => {
-                Heir::Line(target)
-            }
+        match (line.action, line.to) {
+            (Action::Return, _) => Heir::Returns,
+            (Action::Goto, Some(target)) if seen.get(target) == Some(&true) => Heir::Line(target),
             _ => Heir::Nowhere,
         }
     }
 
     /// Takes out the lines that no way leads to. Whether there were any.
     fn take_out_unreached(&mut self, alloc: Global) -> Result<bool, AllocError> {
-        let lines = made_of(alloc, self.plain, &self.kept)?;
-        let seen = reached(alloc, &lines)?;
-        let mut has_changed = false;
-        for number in (0..seen.len()).rev() {
-            if seen.get(number) == Some(&false) {
-                let heir = self.heir_of_unreached(&lines, &seen, number);
-                self.take_out(number, heir);
+        let seen = reached(alloc, &made_of(alloc, self.plain, &self.kept)?)?;
+        let (mut gone, mut has_changed) = (Vec::new(alloc), false);
+        for (number, is_seen) in seen.iter().enumerate() {
+            if *is_seen {
+                gone.push(None)?;
+            } else {
+                gone.push(Some(self.heir_of_unreached(&seen, number)))?;
                 has_changed = true;
             }
+        }
+        if has_changed {
+            self.take_out(alloc, &gone)?;
         }
         Ok(has_changed)
     }
 
-    /// Makes the changes that can be made, up to the first one that takes out a line. Answers whether one was made.
-    fn change_one(&mut self) -> bool {
+    /// Makes the change at the line with this number, but that lines aren't taken out yet: those that are to be get an heir. Answers
+    /// whether it is one.
+    fn change(&mut self, gone: &mut [Option<Heir>], number: usize, change: Change) -> bool {
+        let Some(slot) = self.kept.get_mut(number) else {
+            return false;
+        };
+        let (line, heir) = match change {
+            Change::Keep => return false,
+            Change::Forget => {
+                slot.to = None;
+                return true;
+            }
+            Change::TakeOut => (number, Heir::Line(number)),
+            Change::Turn(target) => {
+                slot.to = Some(target);
+                slot.form = match slot.form {
+                    Form::Turned => Form::Same,
+                    _ => Form::Turned,
+                };
+                (number.saturating_add(1), Heir::Line(target))
+            }
+        };
+        if let Some(place) = gone.get_mut(line) {
+            *place = Some(heir);
+        }
+        true
+    }
+
+    /// Makes the changes that can be made at each line, one after the other. Answers whether one was made.
+    fn change_each(&mut self, alloc: Global) -> Result<bool, AllocError> {
+        let aimed = self.aimed(alloc)?;
+        let mut gone = vec![in alloc; None; self.kept.len()]?;
         let mut has_changed = false;
-        for number in 0..self.kept.len() {
-            let change = self.change_at(number);
-            let Some(slot) = self.kept.get_mut(number) else {
-                break;
-            };
-            match change {
-                Change::Keep => {}
-                Change::Forget => {
-                    slot.to = None;
-                    has_changed = true;
-                }
-                Change::TakeOut => {
-                    self.take_out(number, Heir::Line(number.saturating_add(1)));
-                    return true;
-                }
-                Change::Turn(target) => {
-                    slot.to = Some(target);
-                    slot.form = match slot.form {
-                        Form::Turned => Form::Same,
-                        _ => Form::Turned,
-                    };
-                    self.take_out(number.saturating_add(1), Heir::Line(target));
-                    return true;
-                }
+        for number in 0..gone.len() {
+            if gone[number].is_none() {
+                let change = self.change_at(&aimed, number);
+                has_changed = self.change(&mut gone, number, change) || has_changed;
             }
         }
-        has_changed
+        if has_changed {
+            self.take_out(alloc, &gone)?;
+        }
+        Ok(has_changed)
     }
 
     /// Makes all changes that can be made.
     fn tidy(&mut self, alloc: Global) -> Result<(), AllocError> {
         for _ in 0..=self.kept.len().saturating_mul(4) {
-            let is_shorter = self.shorten_jumps();
+            let is_shorter = self.shorten_jumps(alloc)?;
             let is_smaller = self.take_out_unreached(alloc)?;
-            let is_changed = self.change_one();
+            let is_changed = self.change_each(alloc)?;
             if !is_shorter && !is_smaller && !is_changed {
                 break;
             }
