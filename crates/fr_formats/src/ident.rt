@@ -136,7 +136,7 @@ const IDENTS: [Ident; 33] = [
     Ident {
         name: "may-deadlock",
         short: "No order of the mutexes excludes a deadlock",
-        help: "Mutexes are taken in different orders, and no run into a deadlock was found. Let all take them in one order, or give the takes a block time.",
+        help: "By the certificate, mutexes are taken in different orders; whether a run deadlocks it doesn't say. Let all take them in one order, or give the takes a block time.",
     },
     Ident {
         name: "held-while-waiting",
@@ -181,7 +181,7 @@ const IDENTS: [Ident; 33] = [
     Ident {
         name: "breach",
         short: "The firmware was seen breaking a rule",
-        help: "A run of the application has the events up to this line, and breaks the rule there. The firmware did so: fix it, and then the application's file.",
+        help: "A run of the application has the events up to this line, and breaks the rule there. If the application's file is right, the firmware did so, as far as the search saw: fix it, and then the file.",
     },
 ];
 
