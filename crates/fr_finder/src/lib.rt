@@ -18,5 +18,5 @@ pub use fault::FindFault;
 pub use finding::{find, is_rounds};
 pub use guards::{all_ends, ends_of_most};
 pub use landing::{left_to_mover, left_to_other};
-pub use merging::add;
+pub use merging::{add, can_be_one, common_claims};
 pub use start::claims_at_start;

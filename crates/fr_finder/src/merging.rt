@@ -21,8 +21,8 @@ fn hold_the_same(claims: &[Claim], others: &[Claim]) -> bool {
         .all(|(claim, other)| claim.count() == other.count())
 }
 
-/// Whether both alternatives have the same held mutexes and depths, so that they can be one.
-fn can_be_one(alternative: &Alternative, other: &Alternative) -> bool {
+/// Whether both alternatives have the same held mutexes and depths: only then they can be one.
+pub fn can_be_one(alternative: &Alternative, other: &Alternative) -> bool {
     alternative.critical() == other.critical()
         && alternative.suspended() == other.suspended()
         && hold_the_same(alternative.claims(), other.claims())
@@ -53,8 +53,8 @@ fn grown(range: Range, other: Range, declared: Range, growth: Growth) -> Range {
     Range { lo, hi }
 }
 
-/// What both alternatives say of the objects.
-fn common_claims(
+/// What both lists of claims say of the objects. Its error is that an allocation was refused.
+pub fn common_claims(
     alloc: Global,
     claims: &[Claim],
     others: &[Claim],

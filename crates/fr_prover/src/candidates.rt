@@ -1,9 +1,9 @@
-// Divisions that are worth a try, by the points at which a certificate fails.
-use crate::division::{Division, Split};
+// Separations that are worth a try, by the points at which a certificate fails.
 use crate::lists::{add_once, insert_inside, is_marked, list_at, mark};
 use crate::measure::Failure;
 use crate::place::{changed_life, place_at};
 use crate::plan::Plan;
+use crate::separation::{Separation, Split};
 use fr_judge::Part;
 use fr_notes::MOST_ALTERNATIVES;
 use fr_program::{App, Point, Range, VarId};
@@ -135,18 +135,18 @@ fn cuts_around(alloc: Global, range: Range, numbers: &[i128]) -> Result<Vec<i128
     Ok(cuts)
 }
 
-/// Divisions in the order in which they are tried.
+/// Separations in the order in which they are tried.
 #[derive(Drop)]
 struct Candidates<'a> {
     plan: &'a Plan<'a>,
-    list: Vec<Division>,
+    list: Vec<Separation>,
 }
 
 impl<'a> Candidates<'a> {
-    /// Adds a division, unless it is there.
-    fn add(&mut self, division: Division) -> Result<(), AllocError> {
-        if !self.list.contains(&division) {
-            self.list.push(division)?;
+    /// Adds a separation, unless it is there.
+    fn add(&mut self, separation: Separation) -> Result<(), AllocError> {
+        if !self.list.contains(&separation) {
+            self.list.push(separation)?;
         }
         Ok(())
     }
@@ -162,7 +162,7 @@ impl<'a> Candidates<'a> {
             return Ok(());
         }
         let actors = Vec::from_slice(alloc, self.plan.users.row(variable))?;
-        self.add(Division {
+        self.add(Separation {
             split: Split::Cuts(variable, cuts),
             actors,
         })
@@ -229,7 +229,7 @@ impl<'a> Candidates<'a> {
         Ok(())
     }
 
-    /// Adds divisions by the lives of the objects, for the actors that the failures have to do with.
+    /// Adds separations by the lives of the objects, for the actors that the failures have to do with.
     fn add_objects(&mut self, alloc: Global, concern: &Concern) -> Result<(), AllocError> {
         let mut marks = vec![in alloc; false; self.plan.app.actors().len()]?;
         for actor in &concern.actors {
@@ -239,7 +239,7 @@ impl<'a> Candidates<'a> {
             if is_marked(&concern.objects, object) {
                 let actors = Vec::from_slice(alloc, &marks)?;
                 let split = Split::Life(object);
-                self.add(Division { split, actors })?;
+                self.add(Separation { split, actors })?;
             }
         }
         Ok(())
@@ -258,13 +258,13 @@ impl<'a> Candidates<'a> {
     }
 }
 
-/// Divisions that are worth a try, in their order: by the variables that the actors test which the first
+/// Separations that are worth a try, in their order: by the variables that the actors test which the first
 /// failures have to do with, by the lives of objects, and by all variables that these actors name.
 pub fn worth_trying(
     alloc: Global,
     plan: &Plan,
     failures: &[Failure],
-) -> Result<Vec<Division>, AllocError> {
+) -> Result<Vec<Separation>, AllocError> {
     let concern = concern_of(alloc, plan.app, failures)?;
     let mut candidates = Candidates {
         plan,

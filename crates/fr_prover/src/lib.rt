@@ -5,7 +5,6 @@
 
 mod candidates;
 mod closing;
-mod division;
 mod effect;
 mod growth;
 mod learning;
@@ -19,6 +18,7 @@ mod plan;
 mod pool;
 mod rising;
 mod search;
+mod separation;
 mod settling;
 mod stepping;
 mod table;

@@ -3,9 +3,9 @@ ghost use Rattle.std.specs.Prelude.{◌≡◌, ◌<◌, All, IfOk, length};
 ghost use Rattle.fr_notes.specs.Fits.{AlternativeFits, NoteFits, NotesFit};
 ghost use Rattle.fr_ends.specs.Fits.{CertificateFits};
 
-use crate::division::{Division, copied_all};
 use crate::lists::list_at;
 use crate::pool::Pool;
+use crate::separation::{Separation, copied_all};
 use crate::trial::Trial;
 use fr_ends::{Certificate, Ends};
 use fr_finder::{add, all_ends, ends_of_most};
@@ -22,11 +22,11 @@ pub struct Failure {
     pub part: Part,
 }
 
-/// A certificate that was tried, with the divisions of the try and the points at which it fails.
+/// A certificate that was tried, with the separations of the try and the points at which it fails.
 #[derive(Drop)]
 pub struct Measured {
     pub certificate: Certificate,
-    pub divisions: Vec<Division>,
+    pub separations: Vec<Separation>,
     pub failures: Vec<Failure>,
 }
 
@@ -34,7 +34,7 @@ impl Measured {
     /// Notes the try in the meter, if there is one.
     pub fn note(&self, meter: Option<&Meter>) {
         if let Some(meter) = meter {
-            meter.note_try(self.divisions.len(), self.failures.len());
+            meter.note_try(self.separations.len(), self.failures.len());
         }
     }
 }
@@ -185,12 +185,12 @@ pub fn measure(alloc: Global, trial: &Trial, bar: &[Failure]) -> Result<Box<Meas
     ensures { IfOk result (λ m. CertificateFits trial.now.pool.app.now m.value.certificate) }
 {
     let app = trial.pool.app();
-    let divisions = copied_all(alloc, trial.divisions)?;
+    let separations = copied_all(alloc, trial.separations)?;
     let certificate = certificate_of(alloc, &trial.pool, &trial.notes)?;
     let failures = failures(alloc, app, &certificate, bar)?;
     let measured = Measured {
         certificate,
-        divisions,
+        separations,
         failures,
     };
     Ok(Box::new(alloc, measured)?)

@@ -1,7 +1,8 @@
 // Merging what a step leaves into a point's note.
-use crate::division::{can_be_one, part_print};
 use crate::growth::{Growth, touch};
+use crate::separation::part_print;
 use crate::trial::Trial;
+use fr_finder::can_be_one;
 use fr_notes::{Alternative, Claim, MOST_ALTERNATIVES};
 use fr_program::{ObjId, VarId};
 use std::alloc::{AllocError, Global};
@@ -54,10 +55,10 @@ fn cheaper(best: Option<Pair>, pair: Pair) -> Pair {
 }
 
 impl<'a> Trial<'a> {
-    /// Whether a division cuts the variable's numbers for this actor.
+    /// Whether a separation cuts the variable's numbers for this actor.
     fn is_cut(&self, actor: usize, variable: usize) -> bool {
-        for division in self.divisions {
-            if division.cuts_variable(actor, variable) {
+        for separation in self.separations {
+            if separation.cuts_variable(actor, variable) {
                 return true;
             }
         }
@@ -229,7 +230,7 @@ impl<'a> Trial<'a> {
         let Some(facts) = self.pool.get(facts) else {
             return Ok(Growth::Whole);
         };
-        let print = part_print(self.divisions, actor, number, facts);
+        let print = part_print(self.separations, actor, number, facts);
         match self.count_growth(print)? {
             count if count > MOST_GROWTHS => Ok(Growth::Whole),
             count if count > EXACT && widen => Ok(Growth::Threshold),
@@ -247,7 +248,7 @@ impl<'a> Trial<'a> {
         false
     }
 
-    /// The place in the point's note of the alternative that the divisions keep together with this one.
+    /// The place in the point's note of the alternative that the separations keep together with this one.
     fn place_alike(&self, actor: usize, number: usize, facts: usize) -> Option<usize> {
         for (place, other) in self.note(number).iter().enumerate() {
             if self.are_alike(actor, *other, facts) {
@@ -258,7 +259,7 @@ impl<'a> Trial<'a> {
     }
 
     /// Merges an alternative into the note of the actor's point: nothing changes where it implies one
-    /// that is there; it is joined to the one that the divisions keep it together with; else it is added.
+    /// that is there; it is joined to the one that the separations keep it together with; else it is added.
     /// Where `widen` says so, ends that move again and again go to thresholds. Whether the note changed.
     pub fn merge(
         &mut self,

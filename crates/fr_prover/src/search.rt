@@ -1,14 +1,14 @@
-// The search for a certificate: notes that are stable, then divisions until none fails.
+// The search for a certificate: notes that are stable, then separations until none fails.
 ghost use Rattle.std.specs.Prelude.{IfOk};
 ghost use Rattle.fr_ends.specs.Fits.{CertificateFits};
 
 use crate::candidates::worth_trying;
-use crate::division::{Division, copied_all};
 use crate::learning::{Lesson, learn, lessons};
 use crate::measure::{Failure, Measured, fitting, measure};
 use crate::place::place_at;
 use crate::plan::Plan;
 use crate::rising::rise;
+use crate::separation::{Separation, copied_all};
 use crate::table::TruthTable;
 use crate::thresholds::thresholds;
 use crate::trial::Trial;
@@ -20,11 +20,11 @@ use std::alloc::{AllocError, Global};
 /// The most steps that a search looks at.
 pub const MOST_STEPS: u64 = 40_000_000;
 
-/// The most steps that a search looks at with divisions: a hundred times what any row needs, and seconds where an application is as
+/// The most steps that a search looks at with separations: a hundred times what any row needs, and seconds where an application is as
 /// large as may be.
 const MOST_DIVIDED: u64 = 1_000_000;
 
-/// So often divisions are added to those that served best, for each actor that fails first.
+/// So often separations are added to those that served best, for each actor that fails first.
 const MOST_DIVISIONS: usize = 6;
 
 /// The most actors of an application.
@@ -59,18 +59,18 @@ fn tried(
 }
 
 impl<'a> Search<'a> {
-    /// One try with these divisions. Where it fails at all points of `bar`, no others are looked for.
+    /// One try with these separations. Where it fails at all points of `bar`, no others are looked for.
     fn try_once(
         &mut self,
         alloc: Global,
-        divisions: &[Division],
+        separations: &[Separation],
         bar: &[Failure],
     ) -> Result<Box<Measured>, AllocError> {
         let mut trial = Trial::new(
             alloc,
             self.plan,
             &self.thresholds,
-            divisions,
+            separations,
             &self.kept,
             self.left,
         )?;
@@ -90,18 +90,18 @@ impl<'a> Search<'a> {
         Ok(learned)
     }
 
-    /// The better one of a try with these divisions, and of another with what the first teaches.
+    /// The better one of a try with these separations, and of another with what the first teaches.
     fn solve(
         &mut self,
         alloc: Global,
-        divisions: &[Division],
+        separations: &[Separation],
         bar: &[Failure],
     ) -> Result<Box<Measured>, AllocError> {
-        let first = self.try_once(alloc, divisions, bar)?;
+        let first = self.try_once(alloc, separations, bar)?;
         if !self.learn(&first)? {
             return Ok(first);
         }
-        let second = self.try_once(alloc, divisions, bar)?;
+        let second = self.try_once(alloc, separations, bar)?;
         if self.left > 0 && second.failures.len() < first.failures.len() {
             Ok(second)
         } else {
@@ -109,17 +109,17 @@ impl<'a> Search<'a> {
         }
     }
 
-    /// The try with one division more.
+    /// The try with one separation more.
     fn with(
         &mut self,
         alloc: Global,
-        divisions: &[Division],
-        division: &Division,
+        separations: &[Separation],
+        separation: &Separation,
         bar: &[Failure],
     ) -> Result<Box<Measured>, AllocError> {
-        let mut divisions = copied_all(alloc, divisions)?;
-        divisions.push(division.copied(alloc)?)?;
-        self.solve(alloc, &divisions, bar)
+        let mut separations = copied_all(alloc, separations)?;
+        separations.push(separation.copied(alloc)?)?;
+        self.solve(alloc, &separations, bar)
     }
 
     /// The actor of the first point that fails.
@@ -136,20 +136,25 @@ impl<'a> Search<'a> {
         }
     }
 
-    /// Tries one division more, and keeps the try where it is better than the best so far. Whether no others are worth a try.
-    fn try_division(
+    /// Tries one separation more, and keeps the try where it is better than the best so far. Whether no others are worth a try.
+    fn try_separation(
         &mut self,
         alloc: Global,
         old: &Measured,
-        division: &Division,
+        separation: &Separation,
         better: &mut Option<Box<Measured>>,
         meter: Option<&Meter>,
     ) -> Result<bool, AllocError> {
-        if self.left == 0 || old.divisions.contains(division) {
+        if self.left == 0 || old.separations.contains(separation) {
             return Ok(self.left == 0);
         }
         let failures = &old.failures;
-        let tried = self.with(alloc, &old.divisions, division, bar_of(failures, better))?;
+        let tried = self.with(
+            alloc,
+            &old.separations,
+            separation,
+            bar_of(failures, better),
+        )?;
         tried.note(meter);
         if self.left == 0 {
             return Ok(true);
@@ -162,7 +167,7 @@ impl<'a> Search<'a> {
         Ok(is_over)
     }
 
-    /// The best try with one division more than these failures have, if one is better.
+    /// The best try with one separation more than these failures have, if one is better.
     fn improved(
         &mut self,
         alloc: Global,
@@ -170,8 +175,8 @@ impl<'a> Search<'a> {
         meter: Option<&Meter>,
     ) -> Result<Option<Box<Measured>>, AllocError> {
         let mut better = None;
-        for division in &worth_trying(alloc, self.plan, &best.failures)? {
-            if self.try_division(alloc, best, division, &mut better, meter)? {
+        for separation in &worth_trying(alloc, self.plan, &best.failures)? {
+            if self.try_separation(alloc, best, separation, &mut better, meter)? {
                 break;
             }
         }
@@ -179,7 +184,7 @@ impl<'a> Search<'a> {
     }
 
     /// The best try that is found from this one on. Once the first actor of those that fail doesn't fail any more, the next one has as
-    /// many divisions.
+    /// many separations.
     fn divided(
         &mut self,
         alloc: Global,
@@ -204,7 +209,7 @@ impl<'a> Search<'a> {
         Ok(best)
     }
 
-    /// The best try that is found: without divisions, and with them as far as their share of the steps lasts.
+    /// The best try that is found: without separations, and with them as far as their share of the steps lasts.
     fn run(&mut self, alloc: Global, meter: Option<&Meter>) -> Result<Box<Measured>, AllocError> {
         let first = self.solve(alloc, &[], &[])?;
         first.note(meter);
@@ -216,7 +221,7 @@ impl<'a> Search<'a> {
     }
 }
 
-/// The failures all of which a try has that is no better: those without its division. None where the best so far has more.
+/// The failures all of which a try has that is no better: those without its separation. None where the best so far has more.
 fn bar_of<'a>(old: &'a [Failure], better: &Option<Box<Measured>>) -> &'a [Failure] {
     match better {
         Some(better) if better.failures.len() > old.len() => &[],
@@ -224,7 +229,7 @@ fn bar_of<'a>(old: &'a [Failure], better: &Option<Box<Measured>>) -> &'a [Failur
     }
 }
 
-/// Whether a try is better than the best so far, where these were the failures without its division.
+/// Whether a try is better than the best so far, where these were the failures without its separation.
 fn is_better(new: &[Failure], old: &[Failure], better: &Option<Box<Measured>>) -> bool {
     match (better, new.first(), old.first()) {
         (Some(better), _, _) => new.len() < better.failures.len(),

@@ -1,5 +1,6 @@
-// Divisions: what keeps a note's alternatives apart.
+// Separations: what keeps a note's alternatives apart.
 use crate::lists::is_marked;
+use fr_finder::can_be_one;
 use fr_notes::{Alternative, Claim};
 use fr_program::{ObjId, VarId};
 use std::alloc::{AllocError, Global};
@@ -16,7 +17,7 @@ pub enum Split {
 
 /// A split with the actors whose notes it divides.
 #[derive(Drop, PartialEq, Eq)]
-pub struct Division {
+pub struct Separation {
     pub split: Split,
     pub actors: Vec<bool>,
 }
@@ -65,15 +66,15 @@ impl Split {
     }
 }
 
-impl Division {
+impl Separation {
     /// Whether it divides the notes of this actor.
     pub fn is_of(&self, actor: usize) -> bool {
         is_marked(&self.actors, actor)
     }
 
-    /// The same division once more.
-    pub fn copied(&self, alloc: Global) -> Result<Division, AllocError> {
-        Ok(Division {
+    /// The same separation once more.
+    pub fn copied(&self, alloc: Global) -> Result<Separation, AllocError> {
+        Ok(Separation {
             split: self.split.copied(alloc)?,
             actors: Vec::from_slice(alloc, &self.actors)?,
         })
@@ -88,35 +89,21 @@ impl Division {
     }
 }
 
-/// The divisions once more.
-pub fn copied_all(alloc: Global, divisions: &[Division]) -> Result<Vec<Division>, AllocError> {
-    let mut copies = Vec::with_capacity(alloc, divisions.len())?;
-    for division in divisions {
-        copies.push(division.copied(alloc)?)?;
+/// The separations once more.
+pub fn copied_all(
+    alloc: Global,
+    separations: &[Separation],
+) -> Result<Vec<Separation>, AllocError> {
+    let mut copies = Vec::with_capacity(alloc, separations.len())?;
+    for separation in separations {
+        copies.push(separation.copied(alloc)?)?;
     }
     Ok(copies)
 }
 
-/// Whether both alternatives have the same held mutexes.
-fn hold_the_same(one: &Alternative, other: &Alternative) -> bool {
-    for (object, claim) in one.claims().iter().enumerate() {
-        if claim.count() != other.claim(ObjId(object)).count() {
-            return false;
-        }
-    }
-    true
-}
-
-/// Whether both alternatives have the same depths and held mutexes: only then they can be one.
-pub fn can_be_one(one: &Alternative, other: &Alternative) -> bool {
-    one.critical() == other.critical()
-        && one.suspended() == other.suspended()
-        && hold_the_same(one, other)
-}
-
-/// Whether the divisions keep the two alternatives of the actor together.
+/// Whether the separations keep the two alternatives of the actor together.
 pub fn are_alike(
-    divisions: &[Division],
+    separations: &[Separation],
     actor: usize,
     one: &Alternative,
     other: &Alternative,
@@ -124,16 +111,21 @@ pub fn are_alike(
     if !can_be_one(one, other) {
         return false;
     }
-    for division in divisions {
-        if division.is_of(actor) && division.split.parts(one) != division.split.parts(other) {
+    for separation in separations {
+        if separation.is_of(actor) && separation.split.parts(one) != separation.split.parts(other) {
             return false;
         }
     }
     true
 }
 
-/// A number that the alternatives of a point have in common which the divisions keep together.
-pub fn part_print(divisions: &[Division], actor: usize, number: usize, facts: &Alternative) -> u64 {
+/// A number that the alternatives of a point have in common which the separations keep together.
+pub fn part_print(
+    separations: &[Separation],
+    actor: usize,
+    number: usize,
+    facts: &Alternative,
+) -> u64 {
     let mut hasher = FoldHasher::default();
     number.hash(&mut hasher);
     facts.critical().hash(&mut hasher);
@@ -141,9 +133,9 @@ pub fn part_print(divisions: &[Division], actor: usize, number: usize, facts: &A
     for claim in facts.claims() {
         claim.count().hash(&mut hasher);
     }
-    for division in divisions {
-        if division.is_of(actor) {
-            let (first, last) = division.split.parts(facts);
+    for separation in separations {
+        if separation.is_of(actor) {
+            let (first, last) = separation.split.parts(facts);
             first.hash(&mut hasher);
             last.hash(&mut hasher);
         }
@@ -151,10 +143,13 @@ pub fn part_print(divisions: &[Division], actor: usize, number: usize, facts: &A
     hasher.finish()
 }
 
-/// What a division asks of thresholds: each cut, and the number before it, of the variable.
-pub fn add_cuts(thresholds: &mut Vec<Vec<i128>>, divisions: &[Division]) -> Result<(), AllocError> {
-    for division in divisions {
-        if let Split::Cuts(variable, cuts) = &division.split {
+/// What a separation asks of thresholds: each cut, and the number before it, of the variable.
+pub fn add_cuts(
+    thresholds: &mut Vec<Vec<i128>>,
+    separations: &[Separation],
+) -> Result<(), AllocError> {
+    for separation in separations {
+        if let Split::Cuts(variable, cuts) = &separation.split {
             if let Some(numbers) = thresholds.get_mut(*variable) {
                 add_each(numbers, cuts)?;
             }

@@ -1,16 +1,17 @@
-// One try: what is known so far of each point, with certain divisions.
+// One try: what is known so far of each point, with certain separations.
 ghost use Rattle.std.specs.Prelude.{IfOk, IfSome};
 ghost use Rattle.fr_notes.specs.Fits.{AlternativeFits};
 
-use crate::division::{Division, add_cuts, are_alike};
 use crate::growth::{Growth, grown};
 use crate::lists::{empty_lists, is_marked, list_at};
 use crate::place::{place_at, ways};
 use crate::plan::Plan;
 use crate::pool::Pool;
+use crate::separation::{Separation, add_cuts, are_alike};
 use crate::table::TruthTable;
-use fr_notes::{Alternative, Claim, Known, keeps};
-use fr_program::{App, ObjId, Range, VarId};
+use fr_finder::common_claims;
+use fr_notes::{Alternative, Known, keeps};
+use fr_program::{App, Range, VarId};
 use fr_rules::Way;
 use std::alloc::{AllocError, Global};
 use std::collections::HashMap;
@@ -27,7 +28,7 @@ pub struct Item {
 pub struct Trial<'a> {
     pub plan: &'a Plan<'a>,
     /// What keeps alternatives apart.
-    pub divisions: &'a [Division],
+    pub separations: &'a [Separation],
     /// By actor and variable: whether the actor's notes speak of the variable.
     pub kept: &'a TruthTable,
     /// By variable: whether the notes of several actors speak of it.
@@ -43,17 +44,17 @@ pub struct Trial<'a> {
     pub left: u64,
 }
 
-/// By variable: these thresholds, and those that the divisions ask for.
+/// By variable: these thresholds, and those that the separations ask for.
 fn thresholds_for(
     alloc: Global,
     lists: &[Vec<i128>],
-    divisions: &[Division],
+    separations: &[Separation],
 ) -> Result<Vec<Vec<i128>>, AllocError> {
     let mut thresholds = Vec::with_capacity(alloc, lists.len())?;
     for numbers in lists {
         thresholds.push(Vec::from_slice(alloc, numbers)?)?;
     }
-    add_cuts(&mut thresholds, divisions)?;
+    add_cuts(&mut thresholds, separations)?;
     Ok(thresholds)
 }
 
@@ -66,35 +67,22 @@ fn felt_in(alloc: Global, app: &App, kept: &TruthTable) -> Result<Vec<bool>, All
     Ok(felt)
 }
 
-/// What both alternatives say of the objects.
-fn common_claims(
-    alloc: Global,
-    one: &Alternative,
-    other: &Alternative,
-) -> Result<Vec<Claim>, AllocError> {
-    let mut claims = Vec::with_capacity(alloc, one.claims().len())?;
-    for (object, claim) in one.claims().iter().enumerate() {
-        claims.push(claim.common(other.claim(ObjId(object))))?;
-    }
-    Ok(claims)
-}
-
 impl<'a> Trial<'a> {
     /// A try in which nothing is known of any point yet.
     pub fn new(
         alloc: Global,
         plan: &'a Plan<'a>,
         thresholds: &[Vec<i128>],
-        divisions: &'a [Division],
+        separations: &'a [Separation],
         kept: &'a TruthTable,
         left: u64,
     ) -> Result<Trial<'a>, AllocError> {
         Ok(Trial {
             plan,
-            divisions,
+            separations,
             kept,
             felt: felt_in(alloc, plan.app, kept)?,
-            thresholds: thresholds_for(alloc, thresholds, divisions)?,
+            thresholds: thresholds_for(alloc, thresholds, separations)?,
             notes: empty_lists(alloc, plan.app.points())?,
             pool: Pool::new(alloc, plan.app),
             growths: HashMap::new(alloc),
@@ -137,10 +125,10 @@ impl<'a> Trial<'a> {
         }
     }
 
-    /// Whether the divisions keep the two alternatives of the actor together, by their numbers.
+    /// Whether the separations keep the two alternatives of the actor together, by their numbers.
     pub fn are_alike(&self, actor: usize, one: usize, other: usize) -> bool {
         match (self.pool.get(one), self.pool.get(other)) {
-            (Some(one), Some(other)) => are_alike(self.divisions, actor, one, other),
+            (Some(one), Some(other)) => are_alike(self.separations, actor, one, other),
             _ => false,
         }
     }
@@ -178,7 +166,7 @@ impl<'a> Trial<'a> {
         let (Some(one), Some(other)) = (self.pool.get(one), self.pool.get(other)) else {
             return Ok(None);
         };
-        let claims = common_claims(alloc, one, other)?;
+        let claims = common_claims(alloc, one.claims(), other.claims())?;
         let ranges = self.grown_ranges(alloc, one, other, growth)?;
         let (app, crit, susp) = (self.pool.app(), one.critical(), one.suspended());
         Ok(Alternative::fitting(app, crit, susp, claims, ranges))
