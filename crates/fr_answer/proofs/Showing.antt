@@ -1,14 +1,15 @@
 -- What a command shows is what it found.
-use Rattle.std.proofs.Common.{◌≡◌, ◌≤◌, inl, inr, ℕ, List, Bool, Option, None, Some, Result, Ok, Err, IfOk, IfErr, String, string_bytes, refl, sym, subst}
+use Rattle.std.proofs.Common.{◌≡◌, ◌≤◌, ◌∙◌, ap, arith, inl, inr, ℕ, List, Bool, Option, None, Some, Result, Ok, Err, IfOk, IfErr, String, string_bytes, refl, sym, subst}
 use Rattle.std.proofs.lemmas.Bool.{false≢true}
 use Rattle.std.proofs.lemmas.Option.{same_Some}
 use Rattle.std.specs.Prelude.{IsErr}
 use Rattle.fr_answer.proofs.Terms.{Global, TellsVerdict, Yes, Program, beside, Format, Reading, What, Judged, Searched, Refused, HasFound, IsProofOf, IsSettledIn, IsVerdictOn, IsYes, what_status}
-use Rattle.fr_answer.proofs.Terms.{IsAnswerBy, IsGiven, IsKept, IsLineAnswer, IsPaged, IsPrinted, IsProofAt, IsShown}
+use Rattle.fr_answer.proofs.Terms.{IsAnswerBy, IsGiven, IsKept, IsLineAnswer, IsPaged, IsPrinted, IsProofAt, IsShown, PutsYes}
 use Rattle.fr_text.specs.Texts.{IsJudged}
 use Rattle.fr_outcome.specs.declared.answer.Answer.{Answer}
 use Rattle.fr_outcome.specs.declared.answer.Refusal.{Refusal}
-use Rattle.fr_printing.proofs.Showing.{paged-as}
+use Rattle.fr_printing.specs.Printing.{PutsPage}
+use Rattle.fr_printing.proofs.Showing.{page-as, paged-as}
 
 -- what holds of all that is found holds of what was
 pub from-found : {X E : Type 0} (Is : What → Type 0) (found : Result (X × What) E) (what : What) → IfOk found (λ r. Is r.1) → HasFound found what → Is what
@@ -39,14 +40,26 @@ line-found Is found (Err e) has h = tt
 
 -- files that are as they were
 pub paged-same : {Z : Type 0} (puts : Z → List ℕ → List ℕ → Z → Type 0) (Is : What → Type 0) (path : Option (List ℕ)) (old new : Z) → new ≡ old → IsPaged puts Is path old new
-paged-same puts Is None old new same = same
-paged-same puts Is (Some p) old new same = inl same
+paged-same puts Is path old new same = inl same
 
 -- the page of an answer that is shown is that of what was found
 pub paged-found : {X E Z : Type 0} (puts : Z → List ℕ → List ℕ → Z → Type 0) (Is : What → Type 0) (found : Result (X × What) E) (shown path : Option (List ℕ)) (old new : Z)
     → shown ≡ path → IfOk found (λ x. Is x.1) → IsPaged puts (HasFound found) shown old new → IsPaged puts Is path old new
 paged-found puts Is found shown path old new same h paged =
     subst (λ p. IsPaged puts Is p old new) same (paged-as puts (HasFound found) Is shown old new (λ w le has. from-found Is found w h has) paged)
+
+-- it was written where there is a verdict
+pub page-found : {X E Y Z : Type 0} (puts : Z → List ℕ → List ℕ → Z → Type 0) (Is : What → Type 0) (found : Result (X × What) E) (shown path : Option (List ℕ)) (old new : Z)
+    (r : Result ℕ Y) → shown ≡ path → IfOk found (λ x. Is x.1) → IfOk r (λ s. s ≤ 2 → PutsPage puts (HasFound found) s shown old new)
+    → IfOk r (λ s. s ≤ 1 → PutsPage puts Is s path old new)
+page-found puts Is found shown path old new (Ok s) same h written =
+    λ le. subst (λ p. PutsPage puts Is s p old new) same (page-as puts (HasFound found) Is s shown old new (λ w low has. from-found Is found w h has) (written (omega (arith, le))))
+page-found puts Is found shown path old new (Err e) same h written = tt
+
+-- where there is none, nothing is promised
+pub none-done : {Y : Type 0} (A : ℕ → Type 0) (r : Result ℕ Y) → IfOk r (λ s. 2 ≤ s) → IfOk r (λ s. s ≤ 1 → A s)
+none-done A (Ok s) least = λ le. absurd (omega (arith, least, le))
+none-done A (Err e) least = tt
 
 module _ (reads : Reading → List ℕ → List ℕ → Type 0) (asks : Bool) where
   -- a line of a list
@@ -96,3 +109,21 @@ module _ (reads : Reading → List ℕ → List ℕ → Type 0) (asks : Bool) wh
   proof-found app searches (Ok all) (Ok r) h same none = (string_bytes all.2, subst (λ w. IsProofAt reads asks app searches (string_bytes all.2) w) (sym same) h)
   proof-found app searches (Err e) (Ok r) h same none = absurd (false≢true none)
   proof-found app searches proof (Err e) h same none = tt
+
+  -- what is shown of a proof has the exit status of the answer, and the certificate and the page that were written are its own
+  pub prove-done : {V Z : Type 0} (puts : Z → List ℕ → List ℕ → Z → Type 0) (app : List ℕ) (searches : Bool) (out shown path : Option (List ℕ)) (proof : Result (V × What × String Global) Refusal)
+      (found : Result (V × What) Refusal) (format : Option Format) (named : List ℕ) (r : Result ℕ Refusal) (old mid new : Z) (before after : Option (List ℕ)) → shown ≡ path
+      → IfOk proof (λ all. IsProofAt reads asks app searches (string_bytes all.2) all.1) → IfOk found (λ r. IfOk proof (λ all. r.1 ≡ all.1)) → IfErr proof (λ refusal. IsErr found)
+      → IfOk found (λ _. IfOk proof (λ all. PutsYes puts out all.1 (string_bytes all.2) old mid)) → IfOk r (λ s. IsShown (HasFound found) format named s before after)
+      → IfOk r (λ s. s ≤ 2 → PutsPage puts (HasFound found) s shown mid new)
+      → IfOk r (λ s. s ≤ 1 → (what : What) × (certificate : List ℕ) × IsProofAt reads asks app searches certificate what × (s ≡ what_status what)
+      × (between : Z) × PutsYes puts out what certificate old between × PutsPage puts (λ w. w ≡ what) s path between new)
+  prove-done puts app searches out shown path (Ok all) (Ok f) format named (Ok s) old mid new before after is h same none given shows written = λ le. (
+      let what = shows.0 in
+      let found-is : what ≡ f.1 = shows.1 (subst (λ m. m ≤ 1) shows.2 le) in
+      let page = page-as puts (λ w. w ≡ f.1) (λ w. w ≡ all.1) s shown mid new (λ w low has. has ∙ same) (written (omega (arith, le))) in
+      (all.1, string_bytes all.2, h, shows.2 ∙ ap what_status (found-is ∙ same), mid, given, subst (λ p. PutsPage puts (λ w. w ≡ all.1) s p mid new) is page))
+  prove-done puts app searches out shown path (Err e) (Ok f) format named (Ok s) old mid new before after is h same none given shows written = absurd (false≢true none)
+  prove-done puts app searches out shown path proof (Err e) format named (Ok s) old mid new before after is h same none given shows written =
+      λ le. absurd (shows.1 (subst (λ m. m ≤ 1) shows.2 le))
+  prove-done puts app searches out shown path proof found format named (Err e) old mid new before after is h same none given shows written = tt

@@ -23,5 +23,5 @@ pub use Rattle.fr_inputs.proofs.Looking.{may-of}
 pub use Rattle.fr_wording.specs.Lines.{lines_text}
 pub use Rattle.fr_answer.specs.Commands.{AreAnswered, AreLinesPrinted, IsLineAdded, IsLineAnswer, IsLinePrinted, IsLineText, LineAnswer, greater_status, AreEachSafe, AreNamedSafe, IsAnswerBy}
 pub use Rattle.fr_printing.specs.Printing.{Shows}
-pub use Rattle.fr_answer.specs.Commands.{IsCheckAnswered, IsCheckOf, IsProofAt, IsSafeAt, IsSearchAt, IsGiven, IsKept, AreShown, IsListed, AreMore}
+pub use Rattle.fr_answer.specs.Commands.{IsCheckAnswered, IsCheckOf, IsProofAt, IsSafeAt, IsSearchAt, IsGiven, IsKept, AreShown, IsListed, AreMore, PutsYes}
 pub use Rattle.fr_printing.specs.Printing.{IsShown, IsPaged, IsPrinted}

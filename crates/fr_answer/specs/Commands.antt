@@ -16,7 +16,10 @@
 -- | IsAnswered                        | the exit status, and what was written, are those of the request                |
 -- | IsSafeIn, IsSafeAt, AreSafe       | the application in a file is safe; each that a verdict is asked for on         |
 -- | IsText                            | the answer is a text about one application                                     |
--- | PutsFound, PutsTranslated, PutsOutput, IsDone | the file that is asked for was given what was found, or what a source means |
+-- | PutsFound, PutsTranslated, PutsOutput | the file that is asked for was given what was found, or what a source means |
+-- | PutsYes, IsProveDone              | a certificate with a yes was written, and the page of that answer              |
+-- | IsCheckDone                       | the page of a verdict was written                                              |
+-- | IsDone                            | the files that the request names were given what it asks for                   |
 -- | IsKept, IsWritten                 | the files are as they were, but for a certificate with a yes; for what the request names |
 use Rattle.std.specs.Prelude.{◌≡◌, ◌≤◌, ◌⊎◌, ◌++◌, ℕ, Bool, true, false, IsTrue, List, [], ◌∷◌, All, Option, None, Some, codes, fold, length, map, max, option_copied}
 use Rattle.std.specs.List.{concat}
@@ -37,6 +40,7 @@ use Rattle.fr_request.specs.declared.detail.Detail.TheVariants.{Relevant}
 use Rattle.fr_request.specs.declared.format.Format.{Format}
 use Rattle.fr_request.specs.declared.request.CheckedFiles.{CheckedFiles as Named}
 use Rattle.fr_request.specs.declared.request.CheckedFiles.TheVariants.{One, Listed}
+use Rattle.fr_request.specs.declared.request.ProveRequest.{ProveRequest}
 use Rattle.fr_request.specs.declared.request.Request.{Request}
 use Rattle.fr_request.specs.declared.request.Request.TheVariants.{Check, Find, Prove, Points, Refute, Run, Translate, Follow}
 use Rattle.fr_outcome.specs.declared.answer.What.{What}
@@ -44,12 +48,12 @@ use Rattle.fr_findings.specs.declared.found.Found.{Found}
 use Rattle.fr_inputs.specs.Inputs.{Reading, AsApp, AsCertificate, AsList, AsSource}
 use Rattle.fr_outcome.specs.Answers.{AreLinesOf, IsProofOf, IsSearchOf, IsVerdictOn, IsYes, first_line, second_text, what_status}
 use Rattle.fr_outcome.specs.Checked.{IsFreeText, IsSafeText}
-use Rattle.fr_printing.specs.Printing.{Shows, IsShown, IsPaged}
+use Rattle.fr_printing.specs.Printing.{Shows, IsShown, IsPaged, PutsPage}
 use Rattle.fr_findings.specs.Found.{IsCertificateFor, IsFound, found_line, found_status}
 use Rattle.fr_findings.specs.Ran.{IsRunText}
 use Rattle.fr_outcome.specs.Heading.{heading}
 use Rattle.fr_outcome.specs.Each.{Each, IsAdded}
-use Rattle.fr_traces.specs.Traces.{IsTracesAnswered, PutsBoth}
+use Rattle.fr_traces.specs.Traces.{IsFollowDone, IsFollowWritten, IsTracesAnswered}
 use Rattle.fr_findings.specs.Words.{AreWords}
 
 -- what is asked for, and where a machine reads the answer never less than what matters
@@ -262,16 +266,35 @@ abbrev pub PutsOutput : {Z : Type 0} → (Reading → List ℕ → List ℕ → 
 PutsOutput reads puts source None old new = new ≡ old
 PutsOutput reads puts source (Some path) old new = PutsTranslated reads puts source path old new
 
--- what an exit status of 0 promises of the file that is asked for: it was given the certificate that was found, or the application
-abbrev pub IsDone : {Z : Type 0} → (Reading → List ℕ → List ℕ → Type 0) → (Z → List ℕ → List ℕ → Z → Type 0) → Request → Z → Z → Type 0
-IsDone reads puts (Find asked) old new = PutsFound reads puts asked.app.now asked.out.now old new
-IsDone reads puts (Translate asked) old new = PutsOutput reads puts asked.source.now (option_copied asked.out) old new
-IsDone reads puts (Check asked) old new = Unit {0}
-IsDone reads puts (Prove asked) old new = Unit {0}
-IsDone reads puts (Refute asked) old new = Unit {0}
-IsDone reads puts (Points app explains) old new = Unit {0}
-IsDone reads puts (Run asked) old new = Unit {0}
-IsDone reads puts (Follow asked) old new = Unit {0}
+-- where the verdict is yes, the file at the path was given this text; where it isn't, or there is no path, the files are as they were
+abbrev pub PutsYes : {Z : Type 0} → (Z → List ℕ → List ℕ → Z → Type 0) → Option (List ℕ) → What → List ℕ → Z → Z → Type 0
+PutsYes puts None what text old new = new ≡ old
+PutsYes puts (Some path) what text old new = (IsYes what × puts old path text new) ⊎ ((IsYes what → ⊥) × (new ≡ old))
+
+-- the answer with this exit status is a proof, or a run in its place; the certificate of a yes was written to the file for it, and the
+-- page of this answer to its own, where they are asked for
+abbrev pub IsProveDone : {Z : Type 0} → (Reading → List ℕ → List ℕ → Type 0) → (Z → List ℕ → List ℕ → Z → Type 0) → ProveRequest → ℕ → Z → Z → Type 0
+IsProveDone {Z} reads puts asked status old new =
+    (what : What) × (certificate : List ℕ) × IsProofAt reads asked.deadlock asked.app.now asked.searches certificate what × (status ≡ what_status what)
+    × (mid : Z) × PutsYes puts (option_copied asked.out) what certificate old mid
+    × PutsPage puts (λ w. w ≡ what) status (option_copied asked.html) mid new
+
+-- the page of the verdict on two files was written; for a list there is none
+abbrev pub IsCheckDone : {Z : Type 0} → (Reading → List ℕ → List ℕ → Type 0) → (Z → List ℕ → List ℕ → Z → Type 0) → Bool → Named → Option (List ℕ) → ℕ → Z → Z → Type 0
+IsCheckDone reads puts asks (One app certificate) html status old new = PutsPage puts (IsCheckOf reads asks app.now certificate.now) status html old new
+IsCheckDone reads puts asks (Listed list) html status old new = Unit {0}
+
+-- what an exit status of 0 or 1 promises of the files that are asked for: each was given what belongs there, the page that of an answer
+-- with this status; for `find` and `translate` it is the status 0 that promises so
+abbrev pub IsDone : {Z : Type 0} → (Reading → List ℕ → List ℕ → Type 0) → (Z → List ℕ → List ℕ → Z → Type 0) → Request → ℕ → Z → Z → Type 0
+IsDone reads puts (Find asked) status old new = status ≡ 0 → PutsFound reads puts asked.app.now asked.out.now old new
+IsDone reads puts (Translate asked) status old new = status ≡ 0 → PutsOutput reads puts asked.source.now (option_copied asked.out) old new
+IsDone reads puts (Check asked) status old new = IsCheckDone reads puts asked.deadlock asked.files (option_copied asked.html) status old new
+IsDone reads puts (Prove asked) status old new = IsProveDone reads puts asked status old new
+IsDone reads puts (Refute asked) status old new = PutsPage puts (IsSearchAt reads asked.deadlock asked.app.now) status (option_copied asked.html) old new
+IsDone reads puts (Points app explains) status old new = Unit {0}
+IsDone reads puts (Run asked) status old new = Unit {0}
+IsDone reads puts (Follow asked) status old new = IsFollowDone reads puts asked status old new
 
 -- the files are as they were, but that those that the request names were given what it asks for
 abbrev pub IsWritten : {Z : Type 0} → (Reading → List ℕ → List ℕ → Type 0) → (Z → List ℕ → List ℕ → Z → Type 0) → Request → Z → Z → Type 0
@@ -283,5 +306,5 @@ IsWritten reads puts (Refute asked) old new = IsPaged puts (IsSearchAt reads ask
 IsWritten reads puts (Find asked) old new = (new ≡ old) ⊎ PutsFound reads puts asked.app.now asked.out.now old new
 IsWritten reads puts (Points app explains) old new = new ≡ old
 IsWritten reads puts (Run asked) old new = new ≡ old
-IsWritten reads puts (Follow asked) old new = PutsBoth reads puts asked old new
+IsWritten reads puts (Follow asked) old new = IsFollowWritten reads puts asked old new
 IsWritten reads puts (Translate asked) old new = (new ≡ old) ⊎ PutsOutput reads puts asked.source.now (option_copied asked.out) old new

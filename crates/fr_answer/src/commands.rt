@@ -42,8 +42,8 @@ fn answered<R: Threads + Wait + Sync, F: Files, O: Write, E: Write>(
     ensures answered { IfOk result
         (λ status. IsAnswered (Reads (F.Gives files.old) F.Means) request.now status (O.contents out.old) (O.contents out.new)) }
     ensures safe { IfOk result (λ status. status ≡ 0 → AreSafe (Reads (F.Gives files.old) F.Means) request.now) }
-    ensures done { IfOk result (λ status. status ≡ 0
-        → IsDone (Reads (F.Gives files.old) F.Means) F.Puts request.now files.old files.new) }
+    ensures done { IfOk result (λ status. status ≤ 1
+        → IsDone (Reads (F.Gives files.old) F.Means) F.Puts request.now status files.old files.new) }
     ensures kept { IfOk result (λ status. 2 ≤ status → IsText request.now → out.new ≡ out.old) }
     ensures refused { IfErr result (λ refusal. fault_status refusal.fault ≡ 2 → out.new ≡ out.old) }
     ensures most { IfOk result (λ status. status ≤ 3) }
@@ -85,7 +85,7 @@ pub fn run<R: Threads + Wait + Sync, F: Files, O: Write, E: Write>(
     ensures answered { IsAnswered (Reads (F.Gives files.old) F.Means) request.now result (O.contents out.old) (O.contents out.new)
         ⊎ (2 ≤ result × (result ≡ 2 → out.new ≡ out.old)) }
     ensures safe { result ≡ 0 → AreSafe (Reads (F.Gives files.old) F.Means) request.now }
-    ensures done { result ≡ 0 → IsDone (Reads (F.Gives files.old) F.Means) F.Puts request.now files.old files.new }
+    ensures done { result ≤ 1 → IsDone (Reads (F.Gives files.old) F.Means) F.Puts request.now result files.old files.new }
     ensures kept { result ≡ 2 → IsText request.now → out.new ≡ out.old }
     ensures most { result ≤ 3 }
     ensures files { IsWritten (Reads (F.Gives files.old) F.Means) F.Puts request.now files.old files.new }

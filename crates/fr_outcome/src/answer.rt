@@ -306,7 +306,8 @@ impl What {
 
     /// Whether it is the verdict yes.
     pub fn is_yes(&self) -> bool
-        ensures { IsTrue result → IsYes self.now }
+        ensures yes { IsTrue result → IsYes self.now }
+        ensures no { IsYes self.now → IsTrue result }
     {
         match self {
             What::Judged(judged) => matches!(judged.get().verdict(), Verdict::Yes),

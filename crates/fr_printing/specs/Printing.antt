@@ -6,7 +6,8 @@
 -- | IsTextPrinted | an answer's text was written                                                                             |
 -- | IsPrinted     | an answer was written: its text, or a report that shows it                                               |
 -- | IsShown       | such an answer has this exit status, and was printed                                                     |
--- | IsPaged       | the files are as they were, but for a page                                                               |
+-- | PutsPage      | the page of an answer with this exit status was written to the file that is named for it                 |
+-- | IsPaged       | the files are as they were, or that was                                                                  |
 use Rattle.std.specs.Prelude.{◌≡◌, ◌≤◌, ◌⊎◌, ℕ, List, [], ◌∷◌, Option, None, Some, string_bytes}
 use Rattle.std.specs.Io.KnownBytes.{Appends}
 use Rattle.fr_formats.specs.declared.answer.AnswerShown.{AnswerShown}
@@ -38,9 +39,13 @@ IsPrinted (Some format) path what old new =
 abbrev pub IsShown : (What → Type 0) → Option Format → List ℕ → ℕ → Option (List ℕ) → Option (List ℕ) → Type 0
 IsShown Is format path status old new = (what : What) × (what_status what ≤ 1 → Is what) × (status ≡ what_status what) × IsPrinted format path what old new
 
--- the files are as they were, but that the one for the page may have been given a page, which begins with the heading and the first
--- line of an answer; where that is a verdict, this is so of it
+-- the file at the path was given a page, which begins with the heading and the first line of an answer with this exit status; where that
+-- is a verdict, this is so of it; where there is no path, the files are as they were
+abbrev pub PutsPage : {Z : Type 0} → (Z → List ℕ → List ℕ → Z → Type 0) → (What → Type 0) → ℕ → Option (List ℕ) → Z → Z → Type 0
+PutsPage puts Is status None old new = new ≡ old
+PutsPage puts Is status (Some path) old new =
+    (what : What) × (text : List ℕ) × (what_status what ≤ 1 → Is what) × (status ≡ what_status what) × IsPageOf what text × puts old path text new
+
+-- the files are as they were, but that the one for the page may have been given that of such an answer
 abbrev pub IsPaged : {Z : Type 0} → (Z → List ℕ → List ℕ → Z → Type 0) → (What → Type 0) → Option (List ℕ) → Z → Z → Type 0
-IsPaged puts Is None old new = new ≡ old
-IsPaged puts Is (Some path) old new =
-    (new ≡ old) ⊎ ((what : What) × (text : List ℕ) × (what_status what ≤ 1 → Is what) × IsPageOf what text × puts old path text new)
+IsPaged puts Is path old new = (new ≡ old) ⊎ ((status : ℕ) × PutsPage puts Is status path old new)

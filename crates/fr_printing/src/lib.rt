@@ -2,8 +2,8 @@
 // one is wanted. What is printed for a refusal goes to standard error.
 #![tactic(auto)]
 
-mod asked;
 mod printing;
+mod ways;
 
-pub use asked::Asked;
 pub use printing::{refuse, show_found, show_outputs_refused, warn};
+pub use ways::PrintWays;

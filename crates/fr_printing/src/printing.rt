@@ -3,9 +3,9 @@ ghost use Rattle.std.specs.Prelude.{◌≡◌, ◌≤◌, ◌⊎◌, ℕ, List, 
 ghost use Rattle.std.specs.Io.KnownBytes.{Appends};
 ghost use Rattle.fr_outcome.specs.Answers.{HasFound, IsTextOf, what_status};
 ghost use Rattle.fr_outcome.specs.Checked.{fault_status};
-ghost use Rattle.fr_printing.specs.Printing.{IsPaged, IsPrinted, IsShown, IsTextPrinted};
+ghost use Rattle.fr_printing.specs.Printing.{IsPaged, IsPrinted, IsShown, IsTextPrinted, PutsPage};
 
-use crate::asked::Asked;
+use crate::ways::PrintWays;
 use fr_files::OutputFault;
 use fr_formats::Source;
 use fr_inputs::{Files, refusal_of_file, refusal_of_outputs};
@@ -58,7 +58,7 @@ pub fn refuse<E: Write>(alloc: Global, refusal: Refusal, err: &mut E) -> u8
 }
 
 /// Whether it is printed where a fault is: always of a file and of a source.
-fn shows_place(fault: &CheckFault, asked: Asked) -> bool {
+fn shows_place(fault: &CheckFault, asked: PrintWays) -> bool {
     match fault {
         CheckFault::File | CheckFault::Source { .. } => true,
         CheckFault::App(fault) if asked.words => asked.explains || is_unknown_word(fault),
@@ -67,7 +67,7 @@ fn shows_place(fault: &CheckFault, asked: Asked) -> bool {
 }
 
 /// What is printed of an answer without a verdict: the fault's line, and where it is.
-fn refusal_text(alloc: Global, what: &What, asked: Asked) -> Result<String, AllocError> {
+fn refusal_text(alloc: Global, what: &What, asked: PrintWays) -> Result<String, AllocError> {
     match what {
         What::Refused(refusal) if !shows_place(&refusal.get().fault, asked) => {
             let line = what.line(alloc)?;
@@ -81,7 +81,7 @@ fn refusal_text(alloc: Global, what: &What, asked: Asked) -> Result<String, Allo
 fn print_text<O: Write, E: Write>(
     alloc: Global,
     what: &What,
-    asked: Asked,
+    asked: PrintWays,
     out: &mut O,
     err: &mut E,
 ) -> Result<(), CheckFault>
@@ -115,7 +115,7 @@ fn print_formed<O: Write>(
 fn print<O: Write, E: Write>(
     alloc: Global,
     answer: &Answer,
-    asked: Asked,
+    asked: PrintWays,
     out: &mut O,
     err: &mut E,
 ) -> Result<(), CheckFault>
@@ -134,11 +134,13 @@ fn print<O: Write, E: Write>(
 fn put_page<F: Files>(
     alloc: Global,
     answer: &Answer,
-    asked: Asked,
+    asked: PrintWays,
     files: &mut F,
 ) -> Result<(), Refusal>
     requires may { (path : List ℕ) → option_copied asked.html ≡ Some path → F.May files.old path }
     ensures paged { IsPaged F.Puts (λ what. what ≡ answer.now.what) (option_copied asked.entry.html) files.old files.new }
+    ensures written { IfOk result (λ _. what_status answer.now.what ≤ 2
+        → PutsPage F.Puts (λ what. what ≡ answer.now.what) (what_status answer.now.what) (option_copied asked.entry.html) files.old files.new) }
     ensures fault { IfErr result (λ refusal. fault_status refusal.fault ≡ 3) }
 {
     let Some(path) = asked.html else {
@@ -174,7 +176,7 @@ pub fn warn<E: Write>(
 pub fn show<F: Files, O: Write, E: Write>(
     alloc: Global,
     answer: &Answer,
-    asked: Asked,
+    asked: PrintWays,
     files: &mut F,
     out: &mut O,
     err: &mut E,
@@ -185,6 +187,8 @@ pub fn show<F: Files, O: Write, E: Write>(
         (λ status. IsPrinted asked.entry.format (string_bytes answer.now.application) answer.now.what (O.contents out.old) (O.contents out.new)) }
     ensures kept { asked.entry.format ≡ None → 2 ≤ what_status answer.now.what → out.new ≡ out.old }
     ensures paged { IsPaged F.Puts (λ what. what ≡ answer.now.what) (option_copied asked.entry.html) files.old files.new }
+    ensures written { IfOk result (λ _. what_status answer.now.what ≤ 2
+        → PutsPage F.Puts (λ what. what ≡ answer.now.what) (what_status answer.now.what) (option_copied asked.entry.html) files.old files.new) }
     ensures fault { IfErr result (λ refusal. fault_status refusal.fault ≡ 3) }
 {
     print(alloc, answer, asked, out, err)?;
@@ -202,7 +206,7 @@ pub fn show_found<F: Files, O: Write, E: Write>(
     source: Source,
     found: Result<(AppText, What), Refusal>,
     warns: Warns,
-    asked: Asked,
+    asked: PrintWays,
     files: &mut F,
     out: &mut O,
     err: &mut E,
@@ -215,6 +219,8 @@ pub fn show_found<F: Files, O: Write, E: Write>(
         (λ status. 2 ≤ status → asked.entry.format ≡ None → out.new ≡ out.old) }
     ensures most { IfOk result (λ status. status ≤ 3) }
     ensures paged { IsPaged F.Puts (HasFound found) (option_copied asked.entry.html) files.old files.new }
+    ensures written { IfOk result (λ status. status ≤ 2
+        → PutsPage F.Puts (HasFound found) status (option_copied asked.entry.html) files.old files.new) }
     ensures fault { IfErr result (λ refusal. fault_status refusal.fault ≡ 3) }
 {
     let answer = answer_to(alloc, source, found, warns)?;
@@ -226,7 +232,7 @@ pub fn show_outputs_refused<F: Files, O: Write, E: Write>(
     alloc: Global,
     source: Source,
     fault: &OutputFault,
-    asked: Asked,
+    asked: PrintWays,
     files: &mut F,
     out: &mut O,
     err: &mut E,
@@ -240,7 +246,7 @@ pub fn show_outputs_refused<F: Files, O: Write, E: Write>(
     ensures fault { IfErr result (λ refusal. fault_status refusal.fault ≡ 3) }
 {
     let found = Err(refusal_of_outputs(alloc, fault, asked.names));
-    let asked = Asked {
+    let asked = PrintWays {
         html: None,
         ..asked
     };

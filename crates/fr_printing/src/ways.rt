@@ -3,7 +3,7 @@ use fr_request::Format;
 
 /// How an answer is to be printed.
 #[derive(Clone, Copy)]
-pub struct Asked<'a> {
+pub struct PrintWays<'a> {
     /// The form; None where it is a text for a person.
     pub format: Option<Format>,
     /// The file for the page, where one is wanted.

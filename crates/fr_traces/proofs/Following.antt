@@ -1,9 +1,8 @@
 -- The answers to traces: to one alone, to one more, and what is written of them.
-use Rattle.std.proofs.Common.{◌≡◌, ◌≤◌, ◌++◌, ◌⊎◌, ◌∙◌, ℕ, List, [], ◌∷◌, Bool, true, false, Option, Some, None, Result, Ok, Err, String, IfOk, IfSome, append-nil, ap, arith, inl, inr, map, max, option_map, refl, string_bytes, subst, sym}
-use Rattle.std.specs.Prelude.{option_copied}
-use Rattle.std.proofs.lemmas.Option.{same_Some}
-use Rattle.fr_traces.proofs.Terms.{Global, map-append, Appends-trans, kind_status, lines_text, TraceAnswer, Each, Reading, AreTraces, AreTracesPrinted, IsAnswerAt, IsPageAt, IsReadAs}
-use Rattle.fr_traces.proofs.Terms.{IsRunAt, IsTrailPage, PutsAnswer, PutsBoth, ShowsTrace, TraceAnswerAt, answered_at, greater_of, text_at, each-more}
+use Rattle.std.proofs.Common.{◌≡◌, ◌≤◌, ◌++◌, ◌∙◌, ℕ, List, [], ◌∷◌, Bool, true, false, Option, Some, None, Result, Ok, Err, IfNone, IfOk, IfSome, append-nil, ap, arith, inl, inr, length, map, max, refl, subst, sym}
+use Rattle.std.proofs.lemmas.Bool.{false≢true}
+use Rattle.fr_traces.proofs.Terms.{map-append, Appends-trans, kind_status, TraceAnswer, Each, Reading, AreTraces, AreTracesPrinted, IsAnswerAt, IsFollowDone, IsFollowWritten, IsReadAs}
+use Rattle.fr_traces.proofs.Terms.{PutsAnswerOf, PutsSomeOf, ShowsTrace, TraceAnswerAt, answered_at, greater_of, is_several, text_at, each-more}
 use Rattle.std.proofs.lemmas.List.Elements.{All-append, All-cons, All-nil}
 use Rattle.std.proofs.lemmas.List.Folds.{concat-append}
 use Rattle.std.proofs.lemmas.List.Sums.{fold-append}
@@ -21,6 +20,11 @@ use Rattle.fr_request.specs.declared.request.FollowRequest.{FollowRequest}
 pub refused-least : (b : Bool) → 2 ≤ kind_status (if b then Refused else Machine)
 refused-least true = omega arith
 refused-least false = omega arith
+
+-- what holds where all went well holds of more
+pub ok-map : {X Y : Type 0} (A B : Type 0) (r : Result X Y) → (A → B) → IfOk r (λ _. A) → IfOk r (λ _. B)
+ok-map A B (Ok x) on h = on h
+ok-map A B (Err y) on h = tt
 
 pub max-none : (n : ℕ) → max 0 n ≡ n
 max-none n = omega arith
@@ -87,34 +91,19 @@ module _ (reads : Reading → List ℕ → List ℕ → Type 0) (asked : FollowR
       → AreTraces reads asked P other t Is
   answers-at one other s t Is same next h = (h.0, h.1 ∙ sym same, h.2, next ∙ h.3, h.4)
 
-  -- what was put into the files are the lines of the run that was found, and the page of the answer
-  pub puts-both : {Z : Type 0} (puts : Z → List ℕ → List ℕ → Z → Type 0) (answer : Option TraceAnswer) (old new : Z) → IsReadAs reads asked.app.now P
-      → IfSome answer (λ a. (path : List ℕ) × (map (λ s. s.now) asked.traces.now ≡ path ∷ [])
-      × IsAnswerAt reads asked P (record { path = path; kind = a.kind; line = string_bytes a.line; more = lines_text a.why.items }))
-      → IfSome answer (λ a. IfSome a.run (λ text. IsRunAt reads asked P (map (λ s. s.now) asked.traces.now) (string_bytes text)))
-      → PutsAnswer puts asked answer old new → PutsBoth reads puts asked old new
-  puts-both puts None old new read by run same = (old, inl refl, inl same)
-  puts-both {Z} puts (Some answer) old new read by run (mid, first, second) =
-      (mid, ran answer.run run first, paged second)
-    where
-      Runs : Z → Type 0
-      Runs mid = (mid ≡ old) ⊎ ((path text : List ℕ) × (option_copied asked.run ≡ Some path) × (Q : Program) × IsReadAs reads asked.app.now Q
-          × IsRunAt reads asked Q (map (λ s. s.now) asked.traces.now) text × puts old path text mid)
+  -- what a command knows of the answer, where one trace is named
+  abbrev pub IsNamed : ℕ → TraceAnswer → Type 0
+  IsNamed status a = (path : List ℕ) × (map (λ s. s.now) asked.traces.now ≡ path ∷ []) × IsAnswerAt reads asked P (answered_at path a) × (status ≡ kind_status a.kind)
 
-      ran : (found : Option (String Global)) → IfSome found (λ text. IsRunAt reads asked P (map (λ s. s.now) asked.traces.now) (string_bytes text))
-          → ((mid ≡ old) ⊎ ((path text : List ℕ) × (option_copied asked.run ≡ Some path) × (option_map string_bytes found ≡ Some text) × puts old path text mid))
-          → Runs mid
-      ran found own (inl same) = inl same
-      ran (Some found) own (inr p) =
-          inr (p.0, p.1, p.2, P, read, subst (IsRunAt reads asked P (map (λ s. s.now) asked.traces.now)) (same_Some (string_bytes found) p.1 p.3) own, p.4)
-      ran None own (inr p) =
-          let is : option_map (λ (t : String Global). string_bytes t) None ≡ Some p.1 = p.3 in
-          let no : ⊥ = cc in absurd no
+  -- what was put into the files is of that answer
+  pub written-of : {Z : Type 0} (puts : Z → List ℕ → List ℕ → Z → Type 0) (answer : Option TraceAnswer) (status : ℕ) (old new : Z) → IsReadAs reads asked.app.now P
+      → IfSome answer (IsNamed status) → PutsSomeOf puts asked answer old new → IsFollowWritten reads puts asked old new
+  written-of puts None status old new read by same = inl same
+  written-of puts (Some a) status old new read by put = inr (P, read, answered_at by.0 a, by.1, by.2, put)
 
-      Pages : Z → Type 0
-      Pages mid = (new ≡ mid) ⊎ ((path text : List ℕ) × (option_copied asked.html ≡ Some path) × (Q : Program) × IsReadAs reads asked.app.now Q
-          × IsPageAt reads asked Q (map (λ s. s.now) asked.traces.now) text × puts mid path text new)
-
-      paged : ((new ≡ mid) ⊎ ((path text : List ℕ) × (option_copied asked.html ≡ Some path) × IsTrailPage answer.kind (string_bytes answer.line) text × puts mid path text new)) → Pages mid
-      paged (inl same) = inl same
-      paged (inr p) = inr (p.0, p.1, p.2, P, read, (record { path = by.0; kind = answer.kind; line = string_bytes answer.line; more = lines_text answer.why.items }, by.1, by.2, p.3), p.4)
+  -- so it is where all was put
+  pub done-of : {Z : Type 0} (puts : Z → List ℕ → List ℕ → Z → Type 0) (answer : Option TraceAnswer) (status : ℕ) (old new : Z) → IsReadAs reads asked.app.now P
+      → IfSome answer (IsNamed status) → IfNone answer (is_several (length asked.traces.now) ≡ true) → PutsAnswerOf puts asked answer old new
+      → IsFollowDone reads puts asked status old new
+  done-of puts None status old new read by several same = λ one. absurd (false≢true (sym one ∙ several))
+  done-of puts (Some a) status old new read by several put = λ one. (P, read, answered_at by.0 a, by.1, by.2, by.3, put)

@@ -9,5 +9,5 @@ pub use Rattle.fr_outcome.specs.Each.{Each}
 pub use Rattle.fr_inputs.specs.Inputs.{Reading, Reads}
 pub use Rattle.fr_outcome.proofs.Printed.{each-more, status-most}
 pub use Rattle.fr_formats.specs.declared.answer.AnswerKind.{AnswerKind}
-pub use Rattle.fr_traces.specs.Traces.{AreTraces, AreTracesPrinted, IsAnswerAt, IsPageAt, IsReadAs, IsRunAt, IsTrailPage, PutsAnswer, PutsBoth, ShowsTrace, TraceAnswerAt, answered_at, greater_of}
+pub use Rattle.fr_traces.specs.Traces.{AreTraces, AreTracesPrinted, IsAnswerAt, IsFollowDone, IsFollowWritten, IsReadAs, IsTrailPage, PutsAnswerOf, PutsSomeOf, ShowsTrace, TraceAnswerAt, answered_at, greater_of, is_several}
 pub use Rattle.fr_traces.specs.Traces.{text_at}

@@ -1,14 +1,14 @@
 // The answer to the text of a trace: it is read, followed by runs of the application, and answered.
-ghost use Rattle.std.specs.Prelude.{◌≡◌, ◌≤◌, ◌++◌, ℕ, List, IfErr, IfOk, IfSome, string_bytes};
+ghost use Rattle.std.specs.Prelude.{◌≡◌, ◌≤◌, ◌++◌, ℕ, List, IfErr, IfOk, option_map, string_bytes};
 ghost use Rattle.fr_formats.specs.Answers.{status_of};
 ghost use Rattle.fr_instr.specs.AppNames.{names_in};
 ghost use Rattle.fr_trace.specs.Means.{IsPresent, TraceMeans, said_in};
 ghost use Rattle.fr_events.specs.declared.trace.Trace.{Trace as TraceOf};
 ghost use Rattle.fr_explained.specs.Follows.{IsFollowed};
 ghost use Rattle.fr_explained.specs.declared.followed.Followed.{Followed as FollowedOf};
-ghost use Rattle.fr_explained.specs.declared.item.Item.{Item as ItemOf};
-ghost use Rattle.fr_trail.specs.Answered.{IsAsked, IsTraceAnswer, followed_end, followed_head, followed_kind};
-ghost use Rattle.fr_trail.specs.Runs.{IsRunIn, IsRunOf, IsRunText};
+ghost use Rattle.fr_trail.specs.Answered.{IsAsked, followed_end, followed_event, followed_head, followed_kind};
+ghost use Rattle.fr_trail.specs.Runs.{IsRunFor};
+ghost use Rattle.fr_traces.specs.Traces.{IsTraceAnswer};
 
 use fr_events::Trace;
 use fr_follower::follow;
@@ -42,10 +42,8 @@ fn answer_as_asked(
 ) -> Result<TraceAnswer, AllocError>
     ensures answer { IfOk result (λ answer. (u : TraceOf) × IsAsked asked.any_times trace u
         × (f : FollowedOf) × IsFollowed app.now u f × (answer.kind ≡ followed_kind f)
-        × (rest : List ℕ) × (string_bytes answer.line ≡ followed_head app.now u f ++ (rest ++ followed_end f))) }
-    ensures run { IfOk result (λ answer. (u : TraceOf) × IsAsked asked.any_times trace u
-        × (f : FollowedOf) × IsFollowed app.now u f
-        × IfSome answer.run (λ text. (items : List ItemOf) × IsRunIn f items × IsRunText app.now items (string_bytes text))) }
+        × (rest : List ℕ) × (string_bytes answer.line ≡ followed_head app.now u f ++ (followed_event u f ++ (rest ++ followed_end f)))
+        × IsRunFor asked.writes app.now f (option_map string_bytes answer.run)) }
     ensures most { IfOk result (λ answer. status_of answer.kind ≤ 1) }
 {
     let timed = as_asked(alloc, trace, asked.any_times)?;
@@ -66,9 +64,8 @@ pub(crate) fn answered(
     asked: Asked,
 ) -> Result<TraceAnswer, NoAnswer>
     ensures answer { IfOk result (λ answer.
-        IsTraceAnswer asked.any_times asked.from_anywhere app.now bytes.now answer.kind (string_bytes answer.line)) }
-    ensures run { IfOk result (λ answer. IfSome answer.run (λ text.
-        IsRunOf asked.any_times asked.from_anywhere app.now bytes.now (string_bytes text))) }
+        IsTraceAnswer asked.any_times asked.from_anywhere asked.writes app.now bytes.now answer.kind (string_bytes answer.line)
+        (option_map string_bytes answer.run)) }
     ensures most { IfOk result (λ answer. status_of answer.kind ≤ 1) }
 {
     match trace_in(alloc, app, bytes, asked.from_anywhere) {

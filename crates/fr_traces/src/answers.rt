@@ -1,10 +1,10 @@
 // The answers to traces in files.
-ghost use Rattle.std.specs.Prelude.{◌≡◌, ◌≤◌, ◌∷◌, [], IfErr, IfOk, IfSome, None, string_bytes};
+ghost use Rattle.std.specs.Prelude.{◌≡◌, ◌≤◌, IfErr, IfOk, None};
 ghost use Rattle.fr_formats.specs.Answers.{status_of as kind_status};
 ghost use Rattle.fr_outcome.specs.Answers.{kind_of};
 ghost use Rattle.fr_outcome.specs.Checked.{fault_status};
 ghost use Rattle.fr_inputs.specs.Inputs.{Reads};
-ghost use Rattle.fr_traces.specs.Traces.{IsAnswerAt, IsRunAt, answered_at};
+ghost use Rattle.fr_traces.specs.Traces.{IsAnswerAt, answered_at};
 
 use crate::answered::answered;
 use fr_escape::place_of_texts;
@@ -51,8 +51,6 @@ fn answer_at<F: Files>(
 ) -> Result<TraceAnswer, Refusal>
     ensures by { IfOk result (λ answer. IsAnswerAt (Reads (F.Gives files.now) F.Means) asked.now app.now
         (answered_at path.now answer)) }
-    ensures run { IfOk result (λ answer. IfSome answer.run (λ text.
-        IsRunAt (Reads (F.Gives files.now) F.Means) asked.now app.now (path.now ∷ []) (string_bytes text))) }
     ensures most { IfOk result (λ answer. kind_status answer.kind ≤ 1) }
     ensures fault { IfErr result (λ refusal. 2 ≤ fault_status refusal.fault) }
 {
@@ -114,8 +112,6 @@ pub(crate) fn answer_shown<F: Files>(
 ) -> Result<Boxed<TraceAnswer>, AllocError>
     ensures by { IfOk result (λ answer. IsAnswerAt (Reads (F.Gives files.now) F.Means) asked.now app.now
         (answered_at path.now answer)) }
-    ensures run { IfOk result (λ answer. IfSome answer.run (λ text.
-        IsRunAt (Reads (F.Gives files.now) F.Means) asked.now app.now (path.now ∷ []) (string_bytes text))) }
 {
     match answer_at(alloc, app, path, asked, files) {
         Ok(answer) => Boxed::new(alloc, answer),
@@ -133,8 +129,6 @@ pub(crate) fn answer_one<F: Files>(
 ) -> Result<Boxed<TraceAnswer>, Refusal>
     ensures by { IfOk result (λ answer. IsAnswerAt (Reads (F.Gives files.now) F.Means) asked.now app.now
         (answered_at path.now answer)) }
-    ensures run { IfOk result (λ answer. IfSome answer.run (λ text.
-        IsRunAt (Reads (F.Gives files.now) F.Means) asked.now app.now (path.now ∷ []) (string_bytes text))) }
     ensures kept { IfOk result (λ answer. asked.now.format ≡ None → kind_status answer.kind ≤ 1) }
     ensures fault { IfErr result (λ refusal. 2 ≤ fault_status refusal.fault) }
 {

@@ -1,9 +1,9 @@
 // The command `follow`.
-ghost use Rattle.std.specs.Prelude.{◌≡◌, ◌≤◌, ◌∷◌, [], ℕ, List, IfErr, IfNone, IfOk, IfSome, None, Some, false, length, map, string_bytes, true};
+ghost use Rattle.std.specs.Prelude.{◌≡◌, ◌≤◌, ◌∷◌, [], ℕ, List, IfErr, IfNone, IfOk, IfSome, None, Some, false, length, map, true};
 ghost use Rattle.fr_formats.specs.Answers.{status_of as kind_status};
 ghost use Rattle.fr_outcome.specs.Checked.{fault_status};
 ghost use Rattle.fr_inputs.specs.Inputs.{Reads};
-ghost use Rattle.fr_traces.specs.Traces.{AreCovered, AreTraces, AreTracesPrinted, IsAnswerAt, IsReadAs, IsRunAt, IsTracesAnswered, PutsBoth, answered_at, is_several};
+ghost use Rattle.fr_traces.specs.Traces.{AreCovered, AreTraces, AreTracesPrinted, IsAnswerAt, IsFollowDone, IsFollowWritten, IsReadAs, IsTracesAnswered, answered_at, is_several};
 
 use crate::answers::answer_one;
 use crate::outputs::{look_at_outputs, put_outputs};
@@ -64,8 +64,6 @@ fn follow_one<F: Files, O: Write>(
         (AreTracesPrinted asked.now.format asked.now.app.now false (O.contents out.old) (O.contents out.new))) }
     ensures by { IfOk result (λ answer. IsAnswerAt (Reads (F.Gives files.now) F.Means) asked.now app.now
         (answered_at path.now answer)) }
-    ensures run { IfOk result (λ answer. IfSome answer.run (λ text.
-        IsRunAt (Reads (F.Gives files.now) F.Means) asked.now app.now (path.now ∷ []) (string_bytes text))) }
     ensures kept { IfOk result (λ answer. asked.now.format ≡ None → kind_status answer.kind ≤ 1) }
     ensures refused { IfErr result (λ refusal. fault_status refusal.fault ≡ 2 → out.new ≡ out.old) }
 {
@@ -88,10 +86,8 @@ fn follow_named<F: Files, O: Write>(
     ensures answered { IfOk result (λ r. AreTraces (Reads (F.Gives files.now) F.Means) asked.now app.now (map (λ s. s.now) asked.now.traces.now) r.0
         (AreTracesPrinted asked.now.format asked.now.app.now (is_several (length asked.now.traces.now)) (O.contents out.old) (O.contents out.new))) }
     ensures by { IfOk result (λ r. IfSome r.1 (λ answer. (path : List ℕ) × (map (λ s. s.now) asked.now.traces.now ≡ path ∷ [])
-        × IsAnswerAt (Reads (F.Gives files.now) F.Means) asked.now app.now
-        (answered_at path answer))) }
-    ensures run { IfOk result (λ r. IfSome r.1 (λ answer. IfSome answer.run (λ text.
-        IsRunAt (Reads (F.Gives files.now) F.Means) asked.now app.now (map (λ s. s.now) asked.now.traces.now) (string_bytes text)))) }
+        × IsAnswerAt (Reads (F.Gives files.now) F.Means) asked.now app.now (answered_at path answer) × (r.0 ≡ kind_status answer.kind))) }
+    ensures several { IfOk result (λ r. IfNone r.1 (is_several (length asked.now.traces.now) ≡ true)) }
     ensures most { IfOk result (λ r. r.0 ≤ 3) }
     ensures kept { IfOk result (λ r. asked.now.format ≡ None → length asked.now.traces.now ≡ 1 → r.0 ≤ 1) }
     ensures refused { IfErr result (λ refusal. fault_status refusal.fault ≡ 2 → out.new ≡ out.old) }
@@ -138,7 +134,8 @@ pub fn follow_traces<F: Files, O: Write>(
     ensures most { IfOk result (λ status. status ≤ 3) }
     ensures kept { IfOk result (λ status. 2 ≤ status → asked.now.format ≡ None → length asked.now.traces.now ≡ 1 → out.new ≡ out.old) }
     ensures refused { IfErr result (λ refusal. fault_status refusal.fault ≡ 2 → out.new ≡ out.old) }
-    ensures files { PutsBoth (Reads (F.Gives files.old) F.Means) F.Puts asked.now files.old files.new }
+    ensures files { IsFollowWritten (Reads (F.Gives files.old) F.Means) F.Puts asked.now files.old files.new }
+    ensures done { IfOk result (λ status. IsFollowDone (Reads (F.Gives files.old) F.Means) F.Puts asked.now status files.old files.new) }
 {
     look_at_outputs(alloc, asked, files)?;
     let (app, text) = app_asked(alloc, asked, files)?;

@@ -1,7 +1,7 @@
 // The files that `follow` writes: the run that was found for a trace, and the page of the answer to it.
 ghost use Rattle.std.specs.Prelude.{◌≡◌, ◌≤◌, ◌⊎◌, ℕ, List, IfErr, IfOk, Some, option_copied, option_map, string_bytes};
 ghost use Rattle.fr_outcome.specs.Checked.{fault_status};
-ghost use Rattle.fr_traces.specs.Traces.{IsTrailPage, PutsAnswer};
+ghost use Rattle.fr_traces.specs.Traces.{PutsAnswerOf, PutsRun, PutsSomeOf, PutsTrailPage};
 
 use crate::page::trail_page;
 use fr_files::Holds;
@@ -56,11 +56,15 @@ fn put_run<F: Files>(
 ) -> Result<(), Refusal>
     requires may { (path : List ℕ) → option_copied asked.now.run ≡ Some path → F.May files.old path }
     ensures may { (other : List ℕ) → F.May files.old other → F.May files.new other }
-    ensures put { (files.new ≡ files.old) ⊎ ((path text : List ℕ) × (option_copied asked.now.run ≡ Some path)
-        × (option_map string_bytes run.now ≡ Some text) × F.Puts files.old path text files.new) }
+    ensures put { (files.new ≡ files.old)
+        ⊎ PutsRun F.Puts (option_copied asked.now.run) (option_map string_bytes run.now) files.old files.new }
+    ensures done { IfOk result (λ _. PutsRun F.Puts (option_copied asked.now.run) (option_map string_bytes run.now) files.old files.new) }
     ensures fault { IfErr result (λ refusal. fault_status refusal.fault ≡ 3) }
 {
-    let (Some(path), Some(text)) = (asked.run, run) else {
+    let Some(path) = asked.run else {
+        return Ok(());
+    };
+    let Some(text) = run else {
         return Ok(());
     };
     match files.replace(path, text.as_bytes()) {
@@ -79,8 +83,10 @@ fn put_page<F: Files>(
     files: &mut F,
 ) -> Result<(), Refusal>
     requires may { (path : List ℕ) → option_copied asked.now.html ≡ Some path → F.May files.old path }
-    ensures put { (files.new ≡ files.old) ⊎ ((path page : List ℕ) × (option_copied asked.now.html ≡ Some path)
-        × IsTrailPage answer.now.kind (string_bytes answer.now.line) page × F.Puts files.old path page files.new) }
+    ensures put { (files.new ≡ files.old)
+        ⊎ PutsTrailPage F.Puts (option_copied asked.now.html) answer.now.kind (string_bytes answer.now.line) files.old files.new }
+    ensures done { IfOk result (λ _. PutsTrailPage F.Puts (option_copied asked.now.html) answer.now.kind (string_bytes answer.now.line)
+        files.old files.new) }
     ensures fault { IfErr result (λ refusal. fault_status refusal.fault ≡ 3) }
 {
     let Some(path) = asked.html else {
@@ -106,7 +112,8 @@ pub(crate) fn put_outputs<F: Files>(
 ) -> Result<(), Refusal>
     requires run { (path : List ℕ) → option_copied asked.now.run ≡ Some path → F.May files.old path }
     requires html { (path : List ℕ) → option_copied asked.now.html ≡ Some path → F.May files.old path }
-    ensures put { PutsAnswer F.Puts asked.now answer.now files.old files.new }
+    ensures put { PutsSomeOf F.Puts asked.now answer.now files.old files.new }
+    ensures done { IfOk result (λ _. PutsAnswerOf F.Puts asked.now answer.now files.old files.new) }
     ensures fault { IfErr result (λ refusal. fault_status refusal.fault ≡ 3) }
 {
     let Some(answer) = answer else {

@@ -1,21 +1,32 @@
 // The answer to a trace.
-ghost use Rattle.std.specs.Prelude.{◌≡◌, ◌≤◌, ◌++◌, ℕ, List, None, IfOk, IfSome, codes, string_bytes};
+ghost use Rattle.std.specs.Prelude.{◌≡◌, ◌≤◌, ◌++◌, ℕ, List, None, IfNone, IfOk, IfSome, codes, option_map, string_bytes};
 ghost use Rattle.fr_formats.specs.Answers.{status_of};
 ghost use Rattle.fr_formats.specs.declared.answer.AnswerKind.TheVariants.{NotListed as NotListedKind};
 ghost use Rattle.fr_explained.specs.declared.item.Item.{Item as ItemOf};
-ghost use Rattle.fr_trail.specs.Answered.{followed_end, followed_head, followed_kind};
-ghost use Rattle.fr_trail.specs.Runs.{IsRunIn, IsRunText};
+ghost use Rattle.fr_trail.specs.Answered.{
+  IsLineRefused,
+  IsRefusedAs,
+  IsWholeRefused,
+  event_words,
+  followed_end,
+  followed_event,
+  followed_head,
+  followed_kind,
+};
+ghost use Rattle.fr_trail.specs.Runs.{IsRunFor, IsRunIn};
 
 use crate::rows::{TrailRow, rows_of};
 use crate::run_text::run_text;
-use crate::texts::{event_shown, fault_text, line_of, marked, unlisted_text, unlisted_texts};
+use crate::texts::{
+    event_number, fault_text, line_of, line_of_event, marked, unlisted_text, unlisted_texts,
+};
 use crate::why::why;
 use fr_escape::place_of_texts;
 use fr_events::{Happening, Trace};
 use fr_explained::{Followed, Item};
 use fr_formats::AnswerKind;
 use fr_program::App;
-use fr_trace::{NoTrace, NotListed};
+use fr_trace::{NoTrace, NotListed, TraceFault};
 use fr_wording::{actor_name, rule_text};
 use std::alloc::{AllocError, Global};
 
@@ -84,7 +95,7 @@ impl From<AllocError> for NoAnswer {
     }
 }
 
-/// What the line says after its head, without its end.
+/// What the line says after its head and the event that it names, without its end.
 fn rest_of(
     alloc: Global,
     bytes: &[u8],
@@ -98,28 +109,47 @@ fn rest_of(
             format!(in alloc; ", {ignored} of others ignored")
         }
         Followed::Whole { .. } | Followed::UpToLost { .. } => Ok(String::new(alloc)),
-        Followed::Strays { event, .. } => event_shown(alloc, bytes, trace, *event),
-        Followed::Stops { event, .. } => event_shown(alloc, bytes, trace, *event),
-        Followed::Breaks { event, .. } => {
-            let place = event_shown(alloc, bytes, trace, *event)?;
-            format!(in alloc; ", at event {place}")
-        }
-        Followed::GaveUp { event } => {
-            format!(in alloc; "more than {states} states after event {event}")
-        }
+        Followed::Strays { event, .. } => line_of_event(alloc, bytes, trace, *event),
+        Followed::Stops { event, .. } => line_of_event(alloc, bytes, trace, *event),
+        Followed::Breaks { event, .. } => line_of_event(alloc, bytes, trace, *event),
+        Followed::GaveUp { .. } => format!(in alloc; "{states}"),
     }
 }
 
 /// How the line ends.
-fn end_of(followed: &Followed) -> &'static str
-    ensures { result.now ≡ followed_end followed.now }
+fn end_of(alloc: Global, followed: &Followed) -> Result<String, AllocError>
+    ensures { IfOk result (λ end. string_bytes end ≡ followed_end followed.now) }
 {
     match followed {
         Followed::Stops {
             is_proved: false,
             ..
-        } => " (as far as the search saw)",
-        _ => "",
+        } => String::from_str(alloc, " (as far as the search saw)"),
+        Followed::GaveUp { event } => format!(in alloc; " states after event {event}"),
+        _ => Ok(String::new(alloc)),
+    }
+}
+
+/// Which one of all events the one with this number, from 0, is.
+fn event_words(alloc: Global, trace: &Trace, event: usize) -> Result<String, AllocError>
+    ensures { IfOk result (λ words. string_bytes words ≡ event_words trace.now event) }
+{
+    let (number, total) = (event_number(event), trace.events.len());
+    format!(in alloc; "{number} of {total}")
+}
+
+/// Which event the line names after its head.
+fn event_of(alloc: Global, trace: &Trace, followed: &Followed) -> Result<String, AllocError>
+    ensures { IfOk result (λ words. string_bytes words ≡ followed_event trace.now followed.now) }
+{
+    match followed {
+        Followed::Strays { event, .. } => event_words(alloc, trace, *event),
+        Followed::Stops { event, .. } => event_words(alloc, trace, *event),
+        Followed::Breaks { event, .. } => {
+            let words = event_words(alloc, trace, *event)?;
+            format!(in alloc; ", at event {words}")
+        }
+        _ => Ok(String::new(alloc)),
     }
 }
 
@@ -145,7 +175,7 @@ fn head_of(
             let actor = actor_name(app, *actor);
             format!(in alloc; "breach: rule {number}: {rule}: {actor}")
         }
-        Followed::GaveUp { .. } => String::from_str(alloc, "gave up: "),
+        Followed::GaveUp { .. } => String::from_str(alloc, "gave up: more than "),
     }
 }
 
@@ -176,7 +206,8 @@ pub(crate) fn stop_in(followed: &Followed) -> Option<usize> {
 
 /// The run that was found.
 pub(crate) fn run_in(followed: &Followed) -> Option<&[Item]>
-    ensures { IfSome result (λ run. IsRunIn followed.now run.now) }
+    ensures some { IfSome result (λ run. IsRunIn followed.now run.now) }
+    ensures none { IfNone result ((items : List ItemOf) → IsRunIn followed.now items → ⊥) }
 {
     match followed {
         Followed::Whole { run } => Some(run),
@@ -197,12 +228,14 @@ fn lines_of(
     followed: &Followed,
     asks: bool,
 ) -> Result<Option<String>, AllocError>
-    ensures { IfOk result (λ found. IfSome found (λ text.
-        (items : List ItemOf) × IsRunIn followed.now items × IsRunText app.now items (string_bytes text))) }
+    ensures { IfOk result (λ found. IsRunFor asks app.now followed.now (option_map string_bytes found)) }
 {
+    if !asks {
+        return Ok(None);
+    }
     match run_in(followed) {
-        Some(run) if asks => Ok(Some(run_text(alloc, app, bytes, trace, run)?)),
-        _ => Ok(None),
+        Some(run) => Ok(Some(run_text(alloc, app, bytes, trace, run)?)),
+        None => Ok(None),
     }
 }
 
@@ -300,15 +333,18 @@ pub fn answer_of(
 ) -> Result<TraceAnswer, AllocError>
     ensures kind { IfOk result (λ answer. answer.kind ≡ followed_kind followed) }
     ensures line { IfOk result (λ answer. (rest : List ℕ) ×
-        (string_bytes answer.line ≡ followed_head app.now trace.now followed ++ (rest ++ followed_end followed))) }
-    ensures run { IfOk result (λ answer. IfSome answer.run (λ text.
-        (items : List ItemOf) × IsRunIn followed items × IsRunText app.now items (string_bytes text))) }
+        (string_bytes answer.line ≡ followed_head app.now trace.now followed ++ (followed_event trace.now followed
+        ++ (rest ++ followed_end followed)))) }
+    ensures run { IfOk result (λ answer. IsRunFor asked.writes app.now followed (option_map string_bytes answer.run)) }
     ensures most { IfOk result (λ answer. status_of answer.kind ≤ 1) }
 {
-    let head = head_of(alloc, app, trace, &followed)?;
+    let (head, event) = (
+        head_of(alloc, app, trace, &followed)?,
+        event_of(alloc, trace, &followed)?,
+    );
     let (rest, end) = (
         rest_of(alloc, bytes, trace, &followed, asked.states)?,
-        end_of(&followed),
+        end_of(alloc, &followed)?,
     );
     let why = why_lines(alloc, app, bytes, trace, &followed, asked)?;
     let run = lines_of(alloc, app, bytes, trace, &followed, asked.writes)?;
@@ -316,7 +352,7 @@ pub fn answer_of(
     let begun = begun_in(alloc, app, trace, &followed)?;
     Ok(TraceAnswer {
         kind: kind_of(&followed),
-        line: format!(in alloc; "{head}{rest}{end}")?,
+        line: format!(in alloc; "{head}{event}{rest}{end}")?,
         why,
         stop: stop_in(&followed).map(|event| line_of(trace, event)),
         followed: Some(followed),
@@ -326,35 +362,53 @@ pub fn answer_of(
     })
 }
 
+/// That the whole text is no trace, in these words.
+fn whole_refused(alloc: Global, words: &str) -> Result<NoAnswer, AllocError>
+    ensures { IfOk result (IsWholeRefused words.now) }
+{
+    Ok(NoAnswer::Refused {
+        text: String::from_str(alloc, words)?,
+        line: None,
+        place: Vec::new(alloc),
+    })
+}
+
+/// That a line of the text is at fault.
+fn line_refused(
+    alloc: Global,
+    bytes: &[u8],
+    line: usize,
+    column: usize,
+    fault: TraceFault,
+) -> Result<NoAnswer, AllocError>
+    ensures { IfOk result (IsLineRefused line column) }
+{
+    let said = fault_text(fault);
+    Ok(NoAnswer::Refused {
+        text: format!(in alloc; "refused: trace line {line}, column {column}: {said}")?,
+        line: Some(line),
+        place: marked(alloc, bytes, line, column)?,
+    })
+}
+
 /// Why the bytes are no trace.
 ///
 /// # Errors
 ///
 /// Where memory is refused, also while the trace was read.
-pub fn no_answer(alloc: Global, bytes: &[u8], why: NoTrace) -> Result<NoAnswer, AllocError> {
-    let (text, line, place) = match why {
-        NoTrace::TooLong => (
-            String::from_str(alloc, "refused: trace 1 TooLong")?,
-            None,
-            Vec::new(alloc),
-        ),
-        NoTrace::NotText => (
-            String::from_str(alloc, "refused: trace 2 NotText")?,
-            None,
-            Vec::new(alloc),
-        ),
+pub fn no_answer(alloc: Global, bytes: &[u8], why: NoTrace) -> Result<NoAnswer, AllocError>
+    ensures { IfOk result (IsRefusedAs why.entry) }
+{
+    match why {
+        NoTrace::TooLong => whole_refused(alloc, "refused: trace 1 TooLong"),
+        NoTrace::NotText => whole_refused(alloc, "refused: trace 2 NotText"),
         NoTrace::Faulty {
             line,
             column,
             fault,
-        } => {
-            let said = fault_text(fault);
-            let text = format!(in alloc; "refused: trace line {line}, column {column}: {said}")?;
-            (text, Some(line), marked(alloc, bytes, line, column)?)
-        }
-        NoTrace::Memory | NoTrace::NotListed(_) => return Err(AllocError),
-    };
-    Ok(NoAnswer::Refused { text, line, place })
+        } => line_refused(alloc, bytes, line, column, fault),
+        NoTrace::Memory | NoTrace::NotListed(_) => Err(AllocError),
+    }
 }
 
 /// What is answered of a trace that has something that the application doesn't list.

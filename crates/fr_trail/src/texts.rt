@@ -1,4 +1,7 @@
 // A trace's lines, and what is printed of them.
+ghost use Rattle.std.specs.Prelude.{◌≡◌};
+ghost use Rattle.fr_trail.specs.Answered.{event_number};
+
 use fr_escape::push_plain;
 use fr_events::Trace;
 use fr_program::App;
@@ -65,8 +68,15 @@ pub(crate) fn line_of(trace: &Trace, event: usize) -> usize {
     }
 }
 
-/// Which one of all events the one with this number, from 0, is, with its line of the trace.
-pub(crate) fn event_shown(
+/// The number, from 1, of the event with this one from 0.
+pub(crate) fn event_number(event: usize) -> usize
+    ensures { result ≡ event_number event }
+{
+    event.saturating_add(1)
+}
+
+/// The trace's line of the event with this number, from 0, as it stands after the event's number.
+pub(crate) fn line_of_event(
     alloc: Global,
     bytes: &[u8],
     trace: &Trace,
@@ -74,8 +84,19 @@ pub(crate) fn event_shown(
 ) -> Result<String, AllocError> {
     let number = line_of(trace, event);
     let line = line_shown(alloc, bytes, number)?;
-    let (place, total) = (event.saturating_add(1), trace.events.len());
-    format!(in alloc; "{place} of {total}, line {number}: {line}")
+    format!(in alloc; ", line {number}: {line}")
+}
+
+/// Which one of all events the one with this number, from 0, is, with its line of the trace.
+pub(crate) fn event_shown(
+    alloc: Global,
+    bytes: &[u8],
+    trace: &Trace,
+    event: usize,
+) -> Result<String, AllocError> {
+    let line = line_of_event(alloc, bytes, trace, event)?;
+    let (number, total) = (event_number(event), trace.events.len());
+    format!(in alloc; "{number} of {total}{line}")
 }
 
 /// The last events before the one with this number, from 0, a text each.

@@ -2,8 +2,8 @@
 ghost use Rattle.std.specs.Prelude.{◌≡◌, ◌≤◌, ℕ, List, IfErr, IfOk, None, Some, option_copied};
 ghost use Rattle.std.specs.Option.{is_some};
 ghost use Rattle.fr_outcome.specs.Checked.{fault_status};
-ghost use Rattle.fr_answer.specs.Commands.{IsCheckAnswered, IsCheckOf, IsNamedAnswer, IsNamedText};
-ghost use Rattle.fr_printing.specs.Printing.{IsPaged, IsShown};
+ghost use Rattle.fr_answer.specs.Commands.{IsCheckAnswered, IsCheckOf, IsDone, IsNamedAnswer, IsNamedText};
+ghost use Rattle.fr_printing.specs.Printing.{IsPaged, IsShown, PutsPage};
 ghost use Rattle.fr_inputs.specs.Inputs.{Reads};
 
 use crate::commands::list::check_list;
@@ -14,8 +14,8 @@ use fr_findings::Ways;
 use fr_formats::{Command, Source};
 use fr_inputs::{Files, output_at};
 use fr_outcome::Refusal;
-use fr_printing::{Asked, show_found, show_outputs_refused};
-use fr_request::{CheckRequest, CheckedFiles, Warns};
+use fr_printing::{PrintWays, show_found, show_outputs_refused};
+use fr_request::{CheckRequest, CheckedFiles, Request, Warns};
 use std::alloc::Global;
 use std::io::Write;
 use std::sync::Wait;
@@ -43,11 +43,11 @@ fn ways_of(asked: &CheckRequest) -> Ways
 }
 
 /// How the answer is to be printed.
-fn asked_of<'a>(asked: &CheckRequest<'a>, ways: Ways) -> Asked<'a>
+fn asked_of<'a>(asked: &CheckRequest<'a>, ways: Ways) -> PrintWays<'a>
     ensures format { result.format ≡ asked.now.format }
     ensures html { result.html ≡ asked.now.html }
 {
-    Asked {
+    PrintWays {
         format: asked.format,
         html: asked.html,
         explains: ways.detail.is_some(),
@@ -76,6 +76,9 @@ fn check_looked<R: Threads + Wait + Sync, F: Files, O: Write, E: Write>(
     ensures fault { IfErr result (λ refusal. fault_status refusal.fault ≡ 3) }
     ensures files { IsPaged F.Puts (IsCheckOf (Reads (F.Gives files.old) F.Means) asked.now.deadlock app.now certificate.now)
         (option_copied asked.now.html) files.old files.new }
+    ensures done { IfOk result (λ status. status ≤ 1
+        → PutsPage F.Puts (IsCheckOf (Reads (F.Gives files.old) F.Means) asked.now.deadlock app.now certificate.now) status
+        (option_copied asked.now.html) files.old files.new) }
 {
     let ways = ways_of(asked);
     let found = checked_files(rt, alloc, files, app, certificate, ways);
@@ -107,6 +110,9 @@ fn check_one<R: Threads + Wait + Sync, F: Files, O: Write, E: Write>(
     ensures fault { IfErr result (λ refusal. fault_status refusal.fault ≡ 3) }
     ensures files { IsPaged F.Puts (IsCheckOf (Reads (F.Gives files.old) F.Means) asked.now.deadlock app.now certificate.now)
         (option_copied asked.now.html) files.old files.new }
+    ensures done { IfOk result (λ status. status ≤ 1
+        → PutsPage F.Puts (IsCheckOf (Reads (F.Gives files.old) F.Means) asked.now.deadlock app.now certificate.now) status
+        (option_copied asked.now.html) files.old files.new) }
 {
     let output = output_at(asked.html, Holds::Page);
     if let Err(fault) = files.check_outputs(&[app, certificate], &[output]) {
@@ -138,6 +144,8 @@ pub(crate) fn check<R: Threads + Wait + Sync, F: Files, O: Write, E: Write>(
     ensures most { IfOk result (λ status. status ≤ 3) }
     ensures files { IsPaged F.Puts (IsNamedAnswer (Reads (F.Gives files.old) F.Means) asked.now.deadlock asked.now.files)
         (option_copied asked.now.html) files.old files.new }
+    ensures done { IfOk result (λ status. status ≤ 1
+        → IsDone (Reads (F.Gives files.old) F.Means) F.Puts (Request.Check asked.now) status files.old files.new) }
 {
     match asked.files {
         CheckedFiles::Listed(list) => check_list(rt, alloc, list, asked, files, out, err),

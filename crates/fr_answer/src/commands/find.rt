@@ -24,8 +24,8 @@ pub(crate) fn find<R: Threads + Sync, F: Files, O: Write>(
 ) -> Result<u8, Refusal>
     ensures answered { IfOk result (λ status. IsAnswered (Reads (F.Gives files.old) F.Means)
         (Request.Find asked.now) status (O.contents out.old) (O.contents out.new)) }
-    ensures done { IfOk result (λ status. status ≡ 0
-        → IsDone (Reads (F.Gives files.old) F.Means) F.Puts (Request.Find asked.now) files.old files.new) }
+    ensures done { IfOk result (λ status. status ≤ 1
+        → IsDone (Reads (F.Gives files.old) F.Means) F.Puts (Request.Find asked.now) status files.old files.new) }
     ensures most { IfOk result (λ status. status ≤ 1) }
     ensures refused { IfErr result (λ refusal. fault_status refusal.fault ≡ 2 → out.new ≡ out.old) }
     ensures files { IsWritten (Reads (F.Gives files.old) F.Means) F.Puts (Request.Find asked.now) files.old files.new }

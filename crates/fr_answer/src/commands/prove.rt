@@ -1,7 +1,7 @@
 // The command `prove`.
 ghost use Rattle.std.specs.Prelude.{◌≡◌, ◌≤◌, ℕ, List, IfErr, IfOk, IsErr, None, Some, option_copied, string_bytes};
 ghost use Rattle.fr_outcome.specs.Checked.{fault_status};
-ghost use Rattle.fr_answer.specs.Commands.{IsAnswered, IsGiven, IsWritten};
+ghost use Rattle.fr_answer.specs.Commands.{IsAnswered, IsDone, IsGiven, IsWritten, PutsYes};
 ghost use Rattle.fr_inputs.specs.Inputs.{Reads};
 
 use crate::reading::proved_file;
@@ -11,7 +11,7 @@ use fr_findings::Ways;
 use fr_formats::{Command, Source};
 use fr_inputs::{Files, output_at, refusal_of_file};
 use fr_outcome::{AppText, Refusal, What};
-use fr_printing::{Asked, show_found, show_outputs_refused};
+use fr_printing::{PrintWays, show_found, show_outputs_refused};
 use fr_request::{ProveRequest, Request, Warns};
 use std::alloc::Global;
 use std::io::Write;
@@ -34,16 +34,20 @@ fn kept<F: Files>(
     ensures files { IfOk found
         (λ all. IsGiven F.Puts (option_copied out.entry) all.1 (string_bytes all.2) files.old files.new) }
     ensures same { IfErr found (λ _. files.new ≡ files.old) }
+    ensures done { IfOk result (λ _. IfOk found
+        (λ all. PutsYes F.Puts (option_copied out.entry) all.1 (string_bytes all.2) files.old files.new)) }
 {
     let (text, what, certificate) = found?;
-    if what.is_yes()
-        && let Some(path) = out
-    {
-        if let Err(fault) = files.replace(path, certificate.as_bytes()) {
-            return Err(refusal_of_file(alloc, &fault, true));
-        }
+    if !what.is_yes() {
+        return Ok((text, what));
     }
-    Ok((text, what))
+    let Some(path) = out else {
+        return Ok((text, what));
+    };
+    match files.replace(path, certificate.as_bytes()) {
+        Ok(()) => Ok((text, what)),
+        Err(fault) => Err(refusal_of_file(alloc, &fault, true)),
+    }
 }
 
 /// How `prove` does its work.
@@ -68,11 +72,11 @@ fn ways_of(asked: &ProveRequest) -> Ways
 }
 
 /// How the answer is to be printed.
-fn asked_of<'a>(asked: &ProveRequest<'a>) -> Asked<'a>
+fn asked_of<'a>(asked: &ProveRequest<'a>) -> PrintWays<'a>
     ensures format { result.format ≡ asked.now.format }
     ensures html { result.html ≡ asked.now.html }
 {
-    Asked {
+    PrintWays {
         format: asked.format,
         html: asked.html,
         explains: asked.detail.is_some(),
@@ -110,6 +114,8 @@ fn prove_looked<R: Threads + Wait + Sync, F: Files, O: Write, E: Write>(
     ensures refused { IfErr result (λ refusal. fault_status refusal.fault ≡ 3) }
     ensures most { IfOk result (λ status. status ≤ 3) }
     ensures files { IsWritten (Reads (F.Gives files.old) F.Means) F.Puts (Request.Prove asked.now) files.old files.new }
+    ensures done { IfOk result (λ status. status ≤ 1
+        → IsDone (Reads (F.Gives files.old) F.Means) F.Puts (Request.Prove asked.now) status files.old files.new) }
 {
     let ways = ways_of(asked);
     let proof = proved_file(rt, alloc, files, asked.app, asked.searches, ways);
@@ -137,6 +143,8 @@ pub(crate) fn prove<R: Threads + Wait + Sync, F: Files, O: Write, E: Write>(
     ensures refused { IfErr result (λ refusal. fault_status refusal.fault ≡ 3) }
     ensures most { IfOk result (λ status. status ≤ 3) }
     ensures files { IsWritten (Reads (F.Gives files.old) F.Means) F.Puts (Request.Prove asked.now) files.old files.new }
+    ensures done { IfOk result (λ status. status ≤ 1
+        → IsDone (Reads (F.Gives files.old) F.Means) F.Puts (Request.Prove asked.now) status files.old files.new) }
 {
     let certificate = output_at(asked.out, Holds::Certificate);
     let html = output_at(asked.html, Holds::Page);

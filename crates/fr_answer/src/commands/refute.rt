@@ -1,7 +1,7 @@
 // The command `refute`.
 ghost use Rattle.std.specs.Prelude.{◌≡◌, ◌≤◌, ℕ, List, IfErr, IfOk, None, Some, option_copied};
 ghost use Rattle.fr_outcome.specs.Checked.{fault_status};
-ghost use Rattle.fr_answer.specs.Commands.{IsAnswered, IsSearchAt};
+ghost use Rattle.fr_answer.specs.Commands.{IsAnswered, IsDone, IsSearchAt};
 ghost use Rattle.fr_printing.specs.Printing.{IsPaged};
 ghost use Rattle.fr_inputs.specs.Inputs.{Reads};
 
@@ -12,7 +12,7 @@ use fr_findings::Ways;
 use fr_formats::{Command, Source};
 use fr_inputs::{Files, output_at};
 use fr_outcome::Refusal;
-use fr_printing::{Asked, show_found, show_outputs_refused};
+use fr_printing::{PrintWays, show_found, show_outputs_refused};
 use fr_request::{Detail, RefuteRequest, Request, Warns};
 use std::alloc::Global;
 use std::io::Write;
@@ -36,11 +36,11 @@ fn ways_of(asked: &RefuteRequest) -> Ways
 }
 
 /// How the answer is to be printed.
-fn asked_of<'a>(asked: &RefuteRequest<'a>) -> Asked<'a>
+fn asked_of<'a>(asked: &RefuteRequest<'a>) -> PrintWays<'a>
     ensures format { result.format ≡ asked.now.format }
     ensures html { result.html ≡ asked.now.html }
 {
-    Asked {
+    PrintWays {
         format: asked.format,
         html: asked.html,
         explains: asked.explains,
@@ -78,6 +78,8 @@ fn refute_looked<R: Threads + Sync, F: Files, O: Write, E: Write>(
     ensures most { IfOk result (λ status. status ≤ 3) }
     ensures files { IsPaged F.Puts (IsSearchAt (Reads (F.Gives files.old) F.Means) asked.now.deadlock asked.now.app.now)
         (option_copied asked.now.html) files.old files.new }
+    ensures done { IfOk result (λ status. status ≤ 1
+        → IsDone (Reads (F.Gives files.old) F.Means) F.Puts (Request.Refute asked.now) status files.old files.new) }
 {
     let ways = ways_of(asked);
     let found = searched_file(rt, alloc, files, asked.app, ways);
@@ -104,6 +106,8 @@ pub(crate) fn refute<R: Threads + Sync, F: Files, O: Write, E: Write>(
     ensures most { IfOk result (λ status. status ≤ 3) }
     ensures files { IsPaged F.Puts (IsSearchAt (Reads (F.Gives files.old) F.Means) asked.now.deadlock asked.now.app.now)
         (option_copied asked.now.html) files.old files.new }
+    ensures done { IfOk result (λ status. status ≤ 1
+        → IsDone (Reads (F.Gives files.old) F.Means) F.Puts (Request.Refute asked.now) status files.old files.new) }
 {
     let html = output_at(asked.html, Holds::Page);
     if let Err(fault) = files.check_outputs(&[asked.app], &[html]) {

@@ -106,7 +106,8 @@ pub(crate) fn translate<F: Files, O: Write, E: Write>(
 ) -> Result<u8, Refusal>
     ensures answered { IfOk result (λ status. IsAnswered (Reads (F.Gives files.old) F.Means)
         (Request.Translate asked.now) status (O.contents out.old) (O.contents out.new)) }
-    ensures done { IfOk result (λ _. IsDone (Reads (F.Gives files.old) F.Means) F.Puts (Request.Translate asked.now) files.old files.new) }
+    ensures done { IfOk result (λ status. status ≤ 1
+        → IsDone (Reads (F.Gives files.old) F.Means) F.Puts (Request.Translate asked.now) status files.old files.new) }
     ensures refused { IfErr result (λ refusal. fault_status refusal.fault ≡ 2 → out.new ≡ out.old) }
     ensures files { IsWritten (Reads (F.Gives files.old) F.Means) F.Puts (Request.Translate asked.now) files.old files.new }
 {

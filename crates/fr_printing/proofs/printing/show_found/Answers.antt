@@ -2,7 +2,7 @@
 use Rattle.std.proofs.Common.{◌≡◌, ◌≤◌, subst, sym}
 use Rattle.std.specs.Prelude.{option_copied}
 use Rattle.fr_outcome.specs.Answers.{HasFound, what_status}
-use Rattle.fr_printing.proofs.Showing.{kept-found, most-found, paged-as, refused-found, shown-found}
+use Rattle.fr_printing.proofs.Showing.{kept-found, most-found, page-found, paged-as, refused-found, shown-found}
 use Rattle.fr_printing.proofs.printing.show_found.Goals as goal
 
 pub returns-clause-answered : goal.returns-clause-answered
@@ -23,3 +23,10 @@ returns-clause-paged g c =
     let what = c.in_ok-answer.answer.what in
     paged-as g.F.Files.Puts (λ w. w ≡ what) (HasFound c.args.found) (option_copied c.args.asked.html) _ _
     (λ w le same. subst (HasFound c.args.found) (sym same) (c.in_ok-answer.ensures.found (subst (λ v. what_status v ≤ 1) same le))) c.show.ensures.paged
+
+pub returns-clause-written : goal.returns-clause-written
+returns-clause-written g c =
+    let what = c.in_ok-answer.answer.what in
+    page-found g.F.Files.Puts (λ w. w ≡ what) (HasFound c.args.found) (option_copied c.args.asked.html) _ _ c.show.result (what_status what)
+    (λ w le same. subst (HasFound c.args.found) (sym same) (c.in_ok-answer.ensures.found (subst (λ v. what_status v ≤ 1) same le)))
+    c.show.ensures.status c.show.ensures.written

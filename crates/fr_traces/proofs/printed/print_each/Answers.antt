@@ -1,5 +1,5 @@
 -- One trace more is answered and printed.
-use Rattle.std.proofs.Common.{◌≡◌, ◌≤◌, ◌∙◌, None, true, ap, arith, map, max, string_bytes, take}
+use Rattle.std.proofs.Common.{◌≡◌, ◌≤◌, ◌∙◌, None, true, ap, arith, map, max, option_map, string_bytes, take}
 use Rattle.fr_traces.proofs.Terms.{Appends-nil, map-append, take_more, kind_status, lines_text, Reads, AreTracesPrinted, TraceAnswerAt, status-most}
 use Rattle.fr_traces.proofs.Following.{answers-at, none-yet, of-same, printed-trace}
 use Rattle.fr_traces.proofs.printed.print_each.Goals as goal
@@ -15,7 +15,7 @@ loop-path-preserved g c =
     let before = take c.loop-path.path-index c.args.paths.now in
     let answer = c.get.result.now in
     let by = of-same reads c.args.asked.now c.args.app.now _ _ answer c.get.ensures c.in_ok-answer.ensures.by in
-    let t : TraceAnswerAt = record { path = _; kind = answer.kind; line = string_bytes answer.line; more = lines_text answer.why.items } in
+    let t : TraceAnswerAt = record { path = _; kind = answer.kind; line = string_bytes answer.line; more = lines_text answer.why.items; run = option_map string_bytes answer.run } in
     let more = printed-trace reads c.args.asked.now c.args.app.now true (map (λ s. s.now) before) c.loop-path.greatest t _ _ _ c.loop-path.invariant.0 by c.in_ok-status.ensures.printed in
     let on = ap (map (λ s. s.now)) (take_more c.args.paths.now c.loop-path.path-index _ c.loop-path-test.true) ∙ map-append (λ s. s.now) before _ in
     let next : c.max-greatest.result ≡ max c.loop-path.greatest (kind_status answer.kind) = c.max-greatest.ensures ∙ ap (max c.loop-path.greatest) c.in_ok-status.ensures.status in

@@ -1,5 +1,5 @@
 -- One trace more is answered and shown.
-use Rattle.std.proofs.Common.{◌≡◌, ◌≤◌, ◌∙◌, ap, arith, map, max, string_bytes, take}
+use Rattle.std.proofs.Common.{◌≡◌, ◌≤◌, ◌∙◌, ap, arith, map, max, option_map, string_bytes, take}
 use Rattle.fr_traces.proofs.Terms.{map-append, take_more, kind_status, lines_text, Each, Reads, ShowsTrace, TraceAnswerAt, status-most}
 use Rattle.fr_traces.proofs.Following.{answers-at, none-yet, of-same, shown-trace}
 use Rattle.fr_traces.proofs.printed.shown_each.Goals as goal
@@ -15,7 +15,7 @@ loop-path-preserved g c =
     let before = take c.loop-path.path-index c.args.paths.now in
     let answer = c.get.result.now in
     let by = of-same reads c.args.asked.now c.args.app.now _ _ answer c.get.ensures c.in_ok-answer.ensures.by in
-    let t : TraceAnswerAt = record { path = _; kind = answer.kind; line = string_bytes answer.line; more = lines_text answer.why.items } in
+    let t : TraceAnswerAt = record { path = _; kind = answer.kind; line = string_bytes answer.line; more = lines_text answer.why.items; run = option_map string_bytes answer.run } in
     let s = c.in_ok-status.ensures.added in
     let more = shown-trace reads c.args.asked.now c.args.app.now (map (λ s. s.now) before) c.loop-path.greatest t c.loop-path.answers.items _ s.0 s.2 c.loop-path.invariant.0 by s.1 in
     let on = ap (map (λ s. s.now)) (take_more c.args.paths.now c.loop-path.path-index _ c.loop-path-test.true) ∙ map-append (λ s. s.now) before _ in

@@ -2,7 +2,7 @@
 use Rattle.std.proofs.Common.{refl, rules}
 use Rattle.std.specs.Prelude.{option_copied, ℕ, List}
 use Rattle.fr_answer.proofs.Terms.{Reads, IsProofAt, may-of}
-use Rattle.fr_answer.proofs.Showing.{kept-same, paged-same, shown-none}
+use Rattle.fr_answer.proofs.Showing.{kept-same, none-done, paged-same, shown-none}
 use Rattle.fr_answer.proofs.commands.prove.prove.Goals as goal
 
 pub prove_looked-requires : goal.prove_looked-requires
@@ -23,3 +23,6 @@ pub returns-in-Err-clause-answered : goal.returns-in-Err-clause-answered
 returns-in-Err-clause-answered g c =
     shown-none (λ what. (certificate : List ℕ) × IsProofAt (Reads (g.F.Files.Gives c.args.files.now) g.F.Files.Means) c.args.asked.now.deadlock c.args.asked.now.app.now c.args.asked.now.searches certificate what) _ c.args.asked.now.format _ _ _ _
     c.show_outputs_refused.result c.source_of-source.ensures c.asked_of-shown.ensures.format c.show_outputs_refused.ensures.answered
+
+pub returns-in-Err-clause-done : goal.returns-in-Err-clause-done
+returns-in-Err-clause-done g c = none-done _ c.show_outputs_refused.result c.show_outputs_refused.ensures.refused
