@@ -66,14 +66,14 @@ fn answered<R: Threads + Wait + Sync, F: Files, O: Write, E: Write>(
 ///
 /// It is 0 for `check`, `prove`, `refute` and `run` only where each application that is named breaks none of the twelve rules in any
 /// state of any run, and where that is asked is never deadlocked: for a list, each of its lines. Where a file's name ends in `.frc`, the
-/// application is the one that the source in it means. It is 0 for `find` and `translate` only where the file that is named was written. It
-/// is 1 where that isn't shown; for `find`, where no certificate was found. It is 2 where the words, a file or an output is refused. Then either the answer was written all the same, as a report that says what is
-/// refused, or as the lines of a list, of which each is answered; or nothing was written to `out`, and `err` says why. So it is where the
-/// answer is a text for a person about one application. It is 3 where the machine failed: what was written then is open, unless it is
-/// such an answer.
+/// application is the one that the source in it means. It is 1 where that isn't shown; for `find`, where no certificate was found. It is 2
+/// where the words, a file or an output is refused. Then either the answer was written all the same, as a report that says what is refused,
+/// or as the lines of a list, of which each is answered; or nothing was written to `out`, and `err` says why. So it is where the answer is a
+/// text for a person about one application. It is 3 where the machine failed: what was written then is open, unless it is such an answer.
 ///
 /// A file is replaced only by a certificate on which the verdict is yes, by a page, by the certificate that `find` was asked for, by the
-/// application that a source means, or by the run that was found for a trace.
+/// application that a source means, or by the run that was found for a trace. With 0 or 1 all of these that are asked for were written, and
+/// are those of the answer with this status; for `find` and `translate` with 0.
 pub fn run<R: Threads + Wait + Sync, F: Files, O: Write, E: Write>(
     rt: &R,
     alloc: Global,
