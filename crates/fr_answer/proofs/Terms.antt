@@ -22,6 +22,6 @@ pub use Rattle.fr_outcome.specs.declared.answer.What.TheVariants.{Judged, Search
 pub use Rattle.fr_inputs.proofs.Looking.{may-of}
 pub use Rattle.fr_wording.specs.Lines.{lines_text}
 pub use Rattle.fr_answer.specs.Commands.{AreAnswered, AreLinesPrinted, IsLineAdded, IsLineAnswer, IsLinePrinted, IsLineText, LineAnswer, greater_status, AreEachSafe, AreNamedSafe, IsAnswerBy}
-pub use Rattle.fr_printing.specs.Printing.{Shows}
+pub use Rattle.fr_shown.specs.Shows.{Shows}
 pub use Rattle.fr_answer.specs.Commands.{IsCheckAnswered, IsCheckOf, IsProofAt, IsSafeAt, IsSearchAt, IsGiven, IsKept, AreShown, IsListed, AreMore, PutsYes}
 pub use Rattle.fr_printing.specs.Printing.{IsShown, IsPaged, IsPrinted}

@@ -48,7 +48,8 @@ use Rattle.fr_findings.specs.declared.found.Found.{Found}
 use Rattle.fr_inputs.specs.Inputs.{Reading, AsApp, AsCertificate, AsList, AsSource}
 use Rattle.fr_outcome.specs.Answers.{AreLinesOf, IsProofOf, IsSearchOf, IsVerdictOn, IsYes, first_line, second_text, what_status}
 use Rattle.fr_outcome.specs.Checked.{IsFreeText, IsSafeText}
-use Rattle.fr_printing.specs.Printing.{Shows, IsShown, IsPaged, PutsPage}
+use Rattle.fr_printing.specs.Printing.{IsShown, IsPaged, PutsPage}
+use Rattle.fr_shown.specs.Shows.{Shows}
 use Rattle.fr_findings.specs.Found.{IsCertificateFor, IsFound, found_line, found_status}
 use Rattle.fr_findings.specs.Ran.{IsRunText}
 use Rattle.fr_outcome.specs.Heading.{heading}

@@ -10,6 +10,7 @@
 -- | waits_text, second_text         | the line that says whether actors can deadlock, where it is asked                |
 -- | judged_line, shown_line         | the line that a report shows                                                     |
 -- | place_text, AreJudgedLines, AreLinesOf | the lines that follow it                                                  |
+-- | AreShownLinesOf                 | the lines that follow the one that a report shows                                |
 -- | IsTextOf                        | the text of an answer, to the letter                                             |
 -- | IsAnsweredFor                   | whether actors can deadlock is answered exactly where that is asked              |
 -- | IsVerdictOn                     | the verdict on the application and the certificate that bytes mean               |
@@ -129,6 +130,15 @@ abbrev pub AreLinesOf : What → List ℕ → Type 0
 AreLinesOf (Judged j) more = AreJudgedLines j more
 AreLinesOf (Searched s) more = IsRunText (is_some s.explains) s.app s.found more
 AreLinesOf (NoAnswer r) more = more ≡ place_text r.place
+
+-- the lines that follow the one that a report shows: none where that one says that a deadlock isn't excluded, and else those that follow
+-- the first one
+abbrev pub AreLinesBy : AnswerKind → What → List ℕ → Type 0
+AreLinesBy MayDeadlock what more = more ≡ []
+AreLinesBy kind what more = AreLinesOf what more
+
+abbrev pub AreShownLinesOf : What → List ℕ → Type 0
+AreShownLinesOf what more = AreLinesBy (kind_of what) what more
 
 -- the text of an answer: all its lines
 abbrev pub IsTextOf : What → List ℕ → Type 0

@@ -7,6 +7,7 @@ ghost use Rattle.fr_report.specs.Report.{verdict_text};
 ghost use Rattle.fr_outcome.specs.Answers.{
   AreJudgedLines,
   AreLinesOf,
+  AreShownLinesOf,
   IsTextOf,
   IsYes,
   first_line,
@@ -352,8 +353,11 @@ impl What {
         }
     }
 
-    /// The lines that follow the one that reports show. Its error is that an allocation was refused.
-    pub fn shown_lines(&self, alloc: Global) -> Result<Vec<String>, AllocError> {
+    /// The lines that follow the one that reports show: none where that one says that a deadlock isn't excluded. Its error is that an
+    /// allocation was refused.
+    pub fn shown_lines(&self, alloc: Global) -> Result<Vec<String>, AllocError>
+        ensures { IfOk result (λ lines. AreShownLinesOf self.now (lines_text lines.items)) }
+    {
         match self.kind() {
             AnswerKind::MayDeadlock => Ok(Vec::new(alloc)),
             _ => self.lines(alloc),

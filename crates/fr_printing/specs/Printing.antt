@@ -2,28 +2,20 @@
 --
 -- | word          | meaning                                                                                                  |
 -- |---------------|----------------------------------------------------------------------------------------------------------|
--- | Shows         | a report shows an answer: the application's file, its kind and its first line                            |
 -- | IsTextPrinted | an answer's text was written                                                                             |
 -- | IsPrinted     | an answer was written: its text, or a report that shows it                                               |
 -- | IsShown       | such an answer has this exit status, and was printed                                                     |
 -- | PutsPage      | the page of an answer with this exit status was written to the file that is named for it                 |
 -- | IsPaged       | the files are as they were, or that was                                                                  |
-use Rattle.std.specs.Prelude.{◌≡◌, ◌≤◌, ◌⊎◌, ℕ, List, [], ◌∷◌, Option, None, Some, string_bytes}
+use Rattle.std.specs.Prelude.{◌≡◌, ◌≤◌, ◌⊎◌, ℕ, List, [], ◌∷◌, Option, None, Some}
 use Rattle.std.specs.Io.KnownBytes.{Appends}
 use Rattle.fr_formats.specs.declared.answer.AnswerShown.{AnswerShown}
 use Rattle.fr_formats.specs.Reports.{IsReport}
 use Rattle.fr_request.specs.declared.format.Format.{Format}
 use Rattle.fr_outcome.specs.declared.answer.What.{What}
-use Rattle.fr_outcome.specs.Answers.{IsTextOf, kind_of, refused_line, shown_line, what_status}
+use Rattle.fr_outcome.specs.Answers.{IsTextOf, what_status}
 use Rattle.fr_shown.specs.Pages.{IsPageOf}
-
--- what a report shows of an answer for the application in this file: the file, the kind of the answer, its first line, or in place of
--- a yes that a deadlock isn't excluded, and the line at which a source is refused
-pub record Shows (path : List ℕ) (what : What) (shown : AnswerShown) : Type 0 where
-  pub application : string_bytes shown.application ≡ path
-  pub kind : shown.answer ≡ kind_of what
-  pub first : string_bytes shown.report ≡ shown_line what
-  pub line : shown.line ≡ refused_line what
+use Rattle.fr_shown.specs.Shows.{Shows}
 
 -- the answer's text was written after what the writer had, and nothing else, where it isn't refused
 abbrev pub IsTextPrinted : What → Option (List ℕ) → Option (List ℕ) → Type 0

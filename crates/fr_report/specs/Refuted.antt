@@ -9,6 +9,10 @@
 -- | IsStepTold       | the line of a step, as one of a run; if it is explained, other lines below it       |
 -- | AreStepLines     | the lines of steps, explained or not                                                |
 -- | IsLast, AreWaiting | where an actor is, if one is named; where the actors of a cycle are               |
+-- | IsBefore, IsAfter | where an actor is in the state before its step; the state after the step           |
+-- | AreExplained     | steps from one state to another, each with where its actor was before it            |
+-- | IsIn             | an actor is in this state where it is said to be                                    |
+-- | IsExplainedRun   | the steps of a run from the start, and where actors are in the state after them     |
 -- | shorter_text     | the line that says that a shorter run may exist, where it may and this is asked for |
 -- | AreRunLines      | the lines of steps, where actors are then, and that line                            |
 -- | IsRunText        | those lines of a breach or a deadlock, and otherwise none                           |
@@ -18,9 +22,13 @@ use Rattle.fr_escape.specs.Plain.{plain}
 use Rattle.fr_program.specs.declared.ids.ActorId.{ActorId}
 use Rattle.fr_program.specs.Program.{Program}
 use Rattle.fr_program.specs.Lookup.{actor_at}
+use Rattle.fr_rules.specs.Choices.{CanChoose}
 use Rattle.fr_rules.specs.Rule.{number_of}
+use Rattle.fr_rules.specs.State.{State, place_of, start}
+use Rattle.fr_rules.specs.Step.{Step}
 use Rattle.fr_runner.specs.declared.trace.Entry.TheVariants.{Stepped}
 use Rattle.fr_states.specs.declared.step.StepTaken.{StepTaken}
+use Rattle.fr_states.specs.Mover.{IsMover}
 use Rattle.fr_refuter.specs.declared.replay.Refutation.{Refutation}
 use Rattle.fr_refuter.specs.declared.answer.Finding.{Finding}
 use Rattle.fr_refuter.specs.declared.answer.Finding.TheVariants.{Breach, Deadlock, Safe, Free, Unknown}
@@ -28,7 +36,7 @@ use Rattle.fr_report.specs.declared.changes.ExplainedStep.{ExplainedStep}
 use Rattle.fr_wording.specs.declared.standing.Standing.{Standing}
 use Rattle.fr_wording.specs.Lines.{lines_text}
 use Rattle.fr_wording.specs.Names.{rule_text}
-use Rattle.fr_wording.specs.Standings.{standings_text, IsHere, IsPlaced}
+use Rattle.fr_wording.specs.Standings.{standings_text, IsHere, IsPlaced, place_said}
 use Rattle.fr_report.specs.Trace.{entry_text}
 use Rattle.fr_report.specs.Waits.{deadlock_text}
 use Rattle.fr_waits.specs.declared.wait.Wait.{Wait}
@@ -79,6 +87,27 @@ IsLast P (Some actor) lasts = (last : Standing) × (lasts ≡ last ∷ []) × Is
 -- where each actor of a cycle of waits is
 abbrev pub AreWaiting : Program → List Wait → List Standing → Type 0
 AreWaiting P cycle lasts = (map (λ s. s.actor) lasts ≡ map (λ w. w.actor) cycle) × All (IsHere P) lasts
+
+-- the actor of the step is in the state before it where it is said to be
+abbrev pub IsBefore : Program → State → ExplainedStep → Type 0
+IsBefore P S step = IsPlaced P step.taken.actor step.before × (place_said step.before ≡ place_of S step.taken.actor.0)
+
+-- the state after the step, where it can be taken
+abbrev pub IsAfter : Program → State → StepTaken → State → Type 0
+IsAfter P S step T = IsMover P S step.actor.0 → CanChoose P S step.actor.0 step.choice → Step P S step.actor.0 step.choice T
+
+-- the steps lead from S to T, and each has the place of its actor in the state before it
+abbrev pub AreExplained : Program → State → List ExplainedStep → State → Type 0
+AreExplained P S [] T = S ≡ T
+AreExplained P S (step ∷ rest) T = IsBefore P S step × (mid : State) × IsAfter P S step.taken mid × AreExplained P mid rest T
+
+-- the actor is in this state where it is said to be
+abbrev pub IsIn : Program → State → Standing → Type 0
+IsIn P S s = IsHere P s × (place_said s ≡ place_of S s.actor.0)
+
+-- the steps are those of a run from the start, and these are places of actors in the state after them
+abbrev pub IsExplainedRun : Program → List ExplainedStep → List Standing → Type 0
+IsExplainedRun P steps lasts = (T : State) × AreExplained P (start P) steps T × All (IsIn P T) lasts
 
 -- the line that follows a run that isn't known to be the shortest, where it is explained
 abbrev pub shorter_text : Bool → Bool → List ℕ

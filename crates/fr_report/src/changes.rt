@@ -1,6 +1,7 @@
 // What a step of a run changed, in words.
 ghost use Rattle.std.specs.Prelude.{◌≡◌, IfOk};
 ghost use Rattle.fr_rules.specs.State.{IsWellFormed};
+ghost use Rattle.fr_report.specs.Refuted.{IsBefore};
 
 use fr_calls::{Content, Place, State, Stock, value_in};
 use fr_notes::Subject;
@@ -180,7 +181,8 @@ pub(crate) fn step_explained(
 ) -> Result<ExplainedStep, AllocError>
     requires before { IsWellFormed app.now before.now }
     requires after { IsWellFormed app.now after.now }
-    ensures { IfOk result (λ step. step.taken ≡ taken) }
+    ensures step { IfOk result (λ step. step.taken ≡ taken) }
+    ensures place { IfOk result (IsBefore app.now before.now) }
 {
     let (actor, choice) = (taken.actor, taken.choice);
     let changes = changes_of(alloc, app, actor, before, after)?;

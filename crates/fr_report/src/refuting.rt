@@ -1,8 +1,8 @@
 // What is found of an application that is searched for a breach, or for a deadlock too.
 ghost use Rattle.std.specs.Prelude.{◌≡◌, ◌++◌, ◌∷◌, [], ℕ, List, All, IfOk, codes, string_bytes};
-ghost use Rattle.fr_rules.specs.State.{IsWellFormed};
+ghost use Rattle.fr_rules.specs.State.{IsWellFormed, start};
 ghost use Rattle.fr_wording.specs.Lines.{lines_text};
-ghost use Rattle.fr_report.specs.Refuted.{breach_text, found_line, shorter_text, steps_in, AreRunLines, AreWaiting, IsBelow, IsLast, IsStepTold};
+ghost use Rattle.fr_report.specs.Refuted.{breach_text, found_line, shorter_text, steps_in, AreExplained, AreRunLines, AreWaiting, IsAfter, IsBefore, IsBelow, IsExplainedRun, IsIn, IsLast, IsStepTold};
 ghost use Rattle.fr_wording.specs.Standings.{standings_text, IsPlaced};
 
 use crate::changes::{ExplainedStep, step_explained};
@@ -41,6 +41,8 @@ fn step_told(
     requires { IsWellFormed app.now state.old }
     ensures formed { IfOk result (λ _. IsWellFormed app.now state.new) }
     ensures step { IfOk result (λ told. told.taken ≡ step) }
+    ensures before { IfOk result (IsBefore app.now state.old) }
+    ensures after { IfOk result (λ told. IsAfter app.now state.old told.taken state.new) }
 {
     let before = state.copied()?;
     let _is_taken = take_step(app, state, step)?;
@@ -55,6 +57,7 @@ fn explained(
     taken: &[StepTaken],
 ) -> Result<(Vec<ExplainedStep>, State), AllocError>
     ensures steps { IfOk result (λ r. steps_in r.0.items ≡ taken.now) }
+    ensures states { IfOk result (λ r. AreExplained app.now (start app.now) r.0.items r.1) }
     ensures formed { IfOk result (λ r. IsWellFormed app.now r.1) }
 {
     app.recall_faultless();
@@ -76,7 +79,8 @@ fn lasts_in(
     state: &State,
 ) -> Result<Vec<Standing>, AllocError>
     requires { IsWellFormed app.now state.now }
-    ensures { IfOk result (λ lasts. IsLast app.now last lasts.items) }
+    ensures last { IfOk result (λ lasts. IsLast app.now last lasts.items) }
+    ensures places { IfOk result (λ lasts. All (IsIn app.now state.now) lasts.items) }
 {
     let mut lasts = Vec::new(alloc);
     match last {
@@ -98,6 +102,7 @@ fn run_of(
     is_shortest: bool,
 ) -> Result<ExplainedRun, AllocError>
     ensures steps { IfOk result (λ run. steps_in run.steps.items ≡ taken.now) }
+    ensures states { IfOk result (λ run. IsExplainedRun app.now run.steps.items run.lasts.items) }
     ensures last { IfOk result (λ run. IsLast app.now last run.lasts.items) }
     ensures shortest { IfOk result (λ run. run.is_shortest ≡ is_shortest) }
 {
@@ -124,6 +129,7 @@ pub fn explain_run(
     found: &Refutation,
 ) -> Result<ExplainedRun, AllocError>
     ensures steps { IfOk result (λ run. steps_in run.steps.items ≡ found.now.steps.items) }
+    ensures states { IfOk result (λ run. IsExplainedRun app.now run.steps.items run.lasts.items) }
     ensures last { IfOk result (λ run. (last : Standing) × (run.lasts.items ≡ last ∷ []) × IsPlaced app.now found.now.actor last) }
     ensures shortest { IfOk result (λ run. run.is_shortest ≡ found.now.is_shortest) }
 {
@@ -145,6 +151,7 @@ pub fn explain_steps(
     last: Option<ActorId>,
 ) -> Result<ExplainedRun, AllocError>
     ensures steps { IfOk result (λ run. steps_in run.steps.items ≡ taken.now) }
+    ensures states { IfOk result (λ run. IsExplainedRun app.now run.steps.items run.lasts.items) }
     ensures last { IfOk result (λ run. IsLast app.now last run.lasts.items) }
 {
     run_of(alloc, app, sources, taken, last, false)
@@ -159,7 +166,8 @@ fn standings_in(
     state: &State,
 ) -> Result<Vec<Standing>, AllocError>
     requires { IsWellFormed app.now state.now }
-    ensures { IfOk result (λ lasts. AreWaiting app.now cycle.now lasts.items) }
+    ensures waiting { IfOk result (λ lasts. AreWaiting app.now cycle.now lasts.items) }
+    ensures places { IfOk result (λ lasts. All (IsIn app.now state.now) lasts.items) }
 {
     let mut lasts = Vec::new(alloc);
     for wait in cycle {
@@ -181,6 +189,7 @@ pub fn explain_deadlock(
     found: &Deadlocked,
 ) -> Result<ExplainedRun, AllocError>
     ensures steps { IfOk result (λ run. steps_in run.steps.items ≡ found.now.steps.items) }
+    ensures states { IfOk result (λ run. IsExplainedRun app.now run.steps.items run.lasts.items) }
     ensures lasts { IfOk result (λ run. AreWaiting app.now found.now.cycle.items run.lasts.items) }
     ensures shortest { IfOk result (λ run. run.is_shortest ≡ found.now.is_shortest) }
 {

@@ -1,6 +1,9 @@
 // An answer as reports for machines show it.
-ghost use Rattle.std.specs.Prelude.{◌≡◌, IfOk, OnOk, string_bytes};
-ghost use Rattle.fr_outcome.specs.Answers.{kind_of, refused_line, shown_line};
+ghost use Rattle.std.specs.Prelude.{◌≡◌, [], IfOk, OnOk, option_map, string_bytes};
+ghost use Rattle.fr_outcome.specs.Answers.{AreShownLinesOf, refused_line};
+ghost use Rattle.fr_outcome.specs.Each.{Each};
+ghost use Rattle.fr_shown.specs.Shows.{AreDetailsIn, AreDetailsOf, IsFailureBy, IsSameWarning, Shows};
+ghost use Rattle.fr_wording.specs.Lines.{lines_text};
 
 mod failure;
 mod places;
@@ -19,7 +22,10 @@ fn verdict_shown(
     alloc: Global,
     places: &Places,
     judged: &Judged,
-) -> Result<(Option<Failure>, Vec<StepShown>), AllocError> {
+) -> Result<(Option<Failure>, Vec<StepShown>), AllocError>
+    requires { places.now.app.now ≡ judged.now.app }
+    ensures { IfOk result (λ r. IsFailureBy judged.now.app judged.now.verdict judged.now.waits r.0 × (r.1.items ≡ [])) }
+{
     Ok((failure_of(alloc, places, judged)?, Vec::new(alloc)))
 }
 
@@ -28,7 +34,9 @@ fn found_shown(
     alloc: Global,
     places: &Places,
     found: &Finding,
-) -> Result<(Option<Failure>, Vec<StepShown>), AllocError> {
+) -> Result<(Option<Failure>, Vec<StepShown>), AllocError>
+    ensures { IfOk result (λ r. AreDetailsIn places.now.app.now found.now r.0 r.1.items) }
+{
     match found {
         Finding::Breach(run) => run_shown(alloc, places, run),
         Finding::Deadlock(run) => deadlock_shown(alloc, places, run),
@@ -40,7 +48,9 @@ fn found_shown(
 fn details_of(
     alloc: Global,
     answer: &Answer,
-) -> Result<(Option<Failure>, Vec<StepShown>), AllocError> {
+) -> Result<(Option<Failure>, Vec<StepShown>), AllocError>
+    ensures { IfOk result (λ r. AreDetailsOf answer.now.what r.0 r.1.items) }
+{
     match &answer.what {
         What::Judged(judged) => {
             let judged = judged.get();
@@ -57,26 +67,35 @@ fn details_of(
 }
 
 /// A copy of the text, if there is one.
-fn copied(text: &Option<String>) -> Result<Option<String>, AllocError> {
+fn copied(text: &Option<String>) -> Result<Option<String>, AllocError>
+    ensures { IfOk result (λ copied. option_map string_bytes copied ≡ option_map string_bytes text.now) }
+{
     match text {
         Some(text) => Ok(Some(text.clone()?)),
         None => Ok(None),
     }
 }
 
+/// The same warning.
+fn warning_shown(warning: &WarningShown) -> Result<WarningShown, AllocError>
+    ensures { IfOk result (IsSameWarning warning.now) }
+{
+    let file = copied(&warning.file)?;
+    Ok(WarningShown {
+        kind: warning.kind,
+        text: warning.text.clone()?,
+        file,
+        line: warning.line,
+    })
+}
+
 /// The warnings.
-fn warnings_shown(
-    alloc: Global,
-    warnings: &[WarningShown],
-) -> Result<Vec<WarningShown>, AllocError> {
+fn warnings_shown(alloc: Global, warnings: &[WarningShown]) -> Result<Vec<WarningShown>, AllocError>
+    ensures { IfOk result (λ shown. Each IsSameWarning warnings.now shown.items) }
+{
     let mut shown = Vec::new(alloc);
     for warning in warnings {
-        shown.push(WarningShown {
-            kind: warning.kind,
-            text: warning.text.clone()?,
-            file: copied(&warning.file)?,
-            line: warning.line,
-        })?;
+        shown.push(warning_shown(warning)?)?;
     }
     Ok(shown)
 }
@@ -87,6 +106,9 @@ fn add_details(alloc: Global, answer: &Answer, shown: &mut AnswerShown) -> Resul
     ensures kind { OnOk result (shown.new.answer ≡ shown.old.answer) }
     ensures report { OnOk result (shown.new.report ≡ shown.old.report) }
     ensures line { OnOk result (shown.new.line ≡ refused_line answer.now.what) }
+    ensures lines { OnOk result (AreShownLinesOf answer.now.what (lines_text shown.new.lines.items)) }
+    ensures warnings { OnOk result (Each IsSameWarning answer.now.warnings.items shown.new.warnings.items) }
+    ensures details { OnOk result (AreDetailsOf answer.now.what shown.new.failure shown.new.steps.items) }
 {
     shown.line = answer.what.refused_line();
     shown.lines = answer.what.shown_lines(alloc)?;
@@ -99,10 +121,8 @@ fn add_details(alloc: Global, answer: &Answer, shown: &mut AnswerShown) -> Resul
 
 /// The answer as JSON, SARIF and JUnit show it. Its error is that an allocation was refused.
 pub fn shown_of(alloc: Global, answer: &Answer) -> Result<AnswerShown, AllocError>
-    ensures application { IfOk result (λ shown. string_bytes shown.application ≡ string_bytes answer.now.application) }
-    ensures kind { IfOk result (λ shown. shown.answer ≡ kind_of answer.now.what) }
-    ensures report { IfOk result (λ shown. string_bytes shown.report ≡ shown_line answer.now.what) }
-    ensures line { IfOk result (λ shown. shown.line ≡ refused_line answer.now.what) }
+    ensures shows { IfOk result (Shows (string_bytes answer.now.application) answer.now.what) }
+    ensures warnings { IfOk result (λ shown. Each IsSameWarning answer.now.warnings.items shown.warnings.items) }
 {
     let source = Source {
         command: answer.command,

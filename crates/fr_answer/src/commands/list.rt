@@ -18,7 +18,7 @@ ghost use Rattle.fr_answer.specs.Commands.{
   IsLineText,
   IsListAnswered,
 };
-ghost use Rattle.fr_printing.specs.Printing.{Shows};
+ghost use Rattle.fr_shown.specs.Shows.{Shows};
 ghost use Rattle.fr_outcome.specs.Each.{Each, IsAdded};
 ghost use Rattle.fr_inputs.specs.Inputs.{Reads};
 

@@ -1,6 +1,8 @@
 // What fails by a verdict, or isn't excluded, and where.
-ghost use Rattle.std.specs.Prelude.{◌≡◌};
+ghost use Rattle.std.specs.Prelude.{◌≡◌, IfOk, IsSomeAnd};
+ghost use Rattle.fr_judge.specs.Told.{IsPartOf};
 ghost use Rattle.fr_shown.specs.Names.{part_name as name_of_part};
+ghost use Rattle.fr_shown.specs.Shows.{IsFailureAt, IsFailureBy, IsPossibleDeadlock, edge_point, other_point};
 
 use super::places::Places;
 use fr_formats::{Failure, PlaceShown, rule_name};
@@ -26,8 +28,10 @@ fn part_name(part: Part) -> &'static str
     }
 }
 
-/// The point that a part names beside its own.
-fn other_of(part: Part) -> Option<Point> {
+/// The point that a part names besides its own.
+fn other_of(part: Part) -> Option<Point>
+    ensures { result ≡ other_point part }
+{
     match part {
         Part::Goes(point) | Part::Near(point) | Part::Spoiled(point) => Some(point),
         Part::Entry | Part::Rule(_) | Part::Guard(_) => None,
@@ -53,7 +57,10 @@ fn failure_at(
     point: Point,
     part: Part,
     items: &[Explained],
-) -> Result<Failure, AllocError> {
+) -> Result<Failure, AllocError>
+    requires { IsPartOf places.now.app.now part }
+    ensures { IfOk result (IsFailureAt places.now.app.now point part) }
+{
     let app = places.app();
     let step = items
         .iter()
@@ -76,34 +83,50 @@ fn failure_at(
     })
 }
 
-/// The point of an edge, if there is one.
-fn point_of(edge: Option<&Edge>) -> Option<Point> {
-    Some(edge?.point)
+/// The point of the edge with this number, if there is one.
+fn point_of(edges: &[Edge], number: usize) -> Option<Point>
+    ensures { result ≡ edge_point edges.now number }
+{
+    Some(edges.get(number)?.point)
 }
 
-/// The deadlock that isn't excluded, at the first two takes of the cycle; None where there is no cycle.
-fn may_deadlock(
+/// The deadlock that a cycle of takes doesn't exclude, at the first two of them.
+fn possible_deadlock(
     alloc: Global,
     places: &Places,
-    judged: &Judged,
-) -> Result<Option<Failure>, AllocError> {
-    let Some(order) = judged.waits() else {
-        return Ok(None);
-    };
-    let Order::Cycle(edges) = order else {
-        return Ok(None);
-    };
+    order: &Order,
+    edges: &[Edge],
+) -> Result<Failure, AllocError>
+    ensures { IfOk result (IsPossibleDeadlock places.now.app.now order.now edges.now) }
+{
     let text = order_line(alloc, places.app(), order)?;
-    let place = places.shown_if(alloc, point_of(edges.first()))?;
-    let other = places.shown_if(alloc, point_of(edges.get(1)))?;
-    Ok(Some(Failure {
+    let place = places.shown_if(alloc, point_of(edges, 0))?;
+    let other = places.shown_if(alloc, point_of(edges, 1))?;
+    Ok(Failure {
         rule: "may-deadlock",
         text,
         place,
         other,
         state: String::new(alloc),
         step: String::new(alloc),
-    }))
+    })
+}
+
+/// The deadlock that isn't excluded; None where there is no cycle of takes.
+fn may_deadlock(
+    alloc: Global,
+    places: &Places,
+    judged: &Judged,
+) -> Result<Option<Failure>, AllocError>
+    ensures { IfOk result (IsFailureBy places.now.app.now Verdict.Yes judged.now.waits) }
+{
+    match judged.waits() {
+        Some(order) => match order {
+            Order::Cycle(edges) => Ok(Some(possible_deadlock(alloc, places, order, edges)?)),
+            Order::Upwards(_) => Ok(None),
+        },
+        None => Ok(None),
+    }
 }
 
 /// What fails by the verdict, as far as it is explained, or a deadlock that isn't excluded; None where it is yes and neither is so.
@@ -111,7 +134,11 @@ pub(super) fn failure_of(
     alloc: Global,
     places: &Places,
     judged: &Judged,
-) -> Result<Option<Failure>, AllocError> {
+) -> Result<Option<Failure>, AllocError>
+    requires { places.now.app.now ≡ judged.now.app }
+    ensures { IfOk result (IsFailureBy judged.now.app judged.now.verdict judged.now.waits) }
+{
+    judged.recall_verdict();
     let Verdict::No { point, part } = judged.verdict() else {
         return may_deadlock(alloc, places, judged);
     };

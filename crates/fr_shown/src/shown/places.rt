@@ -1,5 +1,6 @@
 // Points of an application as reports for machines show them.
 ghost use Rattle.std.specs.Prelude.{◌≡◌, IfOk};
+ghost use Rattle.fr_shown.specs.Shows.{IsPlaceIf, IsPlaceOf};
 
 use fr_code::{CodePlace, CodeSource, places_of_code, source_texts, sources_of_code};
 use fr_formats::{PlaceShown, SourceShown, WarningShown};
@@ -91,7 +92,9 @@ impl<'a> Places<'a> {
     }
 
     /// The point, with its line of code.
-    pub(super) fn shown(&self, alloc: Global, point: Point) -> Result<PlaceShown, AllocError> {
+    pub(super) fn shown(&self, alloc: Global, point: Point) -> Result<PlaceShown, AllocError>
+        ensures { IfOk result (IsPlaceOf self.now.app.now point) }
+    {
         let at = self.code_at(point);
         Ok(PlaceShown {
             point: self.app.number(point).unwrap_or(0),
@@ -111,7 +114,9 @@ impl<'a> Places<'a> {
         &self,
         alloc: Global,
         point: Option<Point>,
-    ) -> Result<Option<PlaceShown>, AllocError> {
+    ) -> Result<Option<PlaceShown>, AllocError>
+        ensures { IfOk result (IsPlaceIf self.now.app.now point) }
+    {
         match point {
             Some(point) => Ok(Some(self.shown(alloc, point)?)),
             None => Ok(None),

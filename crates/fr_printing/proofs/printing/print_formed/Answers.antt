@@ -4,7 +4,8 @@ use Rattle.std.specs.Io.KnownBytes.{Appends}
 use Rattle.fr_request.specs.declared.format.Format.{Format}
 use Rattle.fr_formats.specs.declared.answer.AnswerShown.{AnswerShown}
 use Rattle.fr_outcome.specs.declared.answer.What.{What}
-use Rattle.fr_printing.specs.Printing.{IsPrinted, Shows}
+use Rattle.fr_printing.specs.Printing.{IsPrinted}
+use Rattle.fr_shown.specs.Shows.{Shows}
 use Rattle.fr_formats.specs.Reports.{IsReport}
 use Rattle.fr_printing.proofs.printing.print_formed.Goals as goal
 
@@ -17,5 +18,4 @@ pub returns-clause-text : goal.returns-clause-text
 returns-clause-text g c =
     let shown = c.in_ok-shown.shown in
     let path = string_bytes c.args.answer.now.application in
-    let shows : Shows path c.args.answer.now.what shown = record { application = c.in_ok-shown.ensures.application; kind = c.in_ok-shown.ensures.kind; first = c.in_ok-shown.ensures.report; line = c.in_ok-shown.ensures.line } in
-    formed c.args.format path c.args.answer.now.what _ _ shown _ c.put_report.result c.from_ref.ensures.value shows c.put_report.ensures.report
+    formed c.args.format path c.args.answer.now.what _ _ shown _ c.put_report.result c.from_ref.ensures.value c.in_ok-shown.ensures.shows c.put_report.ensures.report
