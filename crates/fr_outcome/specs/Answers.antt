@@ -150,12 +150,12 @@ IsAnsweredFor false verdict waits = waits ≡ None
 IsAnsweredFor true TellsYes waits = IsSome waits
 IsAnsweredFor true (TellsNo p part) waits = waits ≡ None
 
--- the bytes mean this application and this certificate for it, this is the verdict on both, and whether actors can deadlock is answered
--- by the certificate, where that is asked
+-- the bytes mean this application and this certificate for it, this is the verdict on both, whether actors can deadlock is answered by the
+-- certificate, where that is asked, and nothing explains a yes
 abbrev pub IsVerdictOn : Bool → List ℕ → List ℕ → What → Type 0
 IsVerdictOn asks app certificate (Judged j) =
     AppMeans app j.app × CertMeans j.app certificate j.certificate × TellsVerdict j.app j.certificate j.verdict
-    × IfSome j.waits (IsOrderOf j.app j.certificate) × IsAnsweredFor asks j.verdict j.waits
+    × IfSome j.waits (IsOrderOf j.app j.certificate) × IsAnsweredFor asks j.verdict j.waits × (j.verdict ≡ TellsYes → j.why ≡ None)
 IsVerdictOn asks app certificate what = ⊥
 
 -- the bytes mean this application, and what was found of it is so: a run into a breach or a deadlock is one, and where no breach is

@@ -56,6 +56,19 @@ fn does_something(steps: &[RowShown], actor: usize) -> bool {
     })
 }
 
+/// Whether the actor has a lane: it does something in the rows that are shown, or is deep in something after one of them.
+fn has_lane(steps: &[RowShown], number: usize, actor: &ActorShown) -> bool {
+    if does_something(steps, number) {
+        return true;
+    }
+    for track in 0..actor.tracks.len() {
+        if has_bar(steps, number, track) {
+            return true;
+        }
+    }
+    false
+}
+
 /// The lane of an actor.
 fn lane_of<'a>(
     alloc: Global,
@@ -76,7 +89,7 @@ fn lane_of<'a>(
     })
 }
 
-/// The lanes of the actors that do something in the steps.
+/// The lanes of the actors that have one.
 fn lanes_of<'a>(
     alloc: Global,
     actors: &'a [ActorShown],
@@ -84,7 +97,7 @@ fn lanes_of<'a>(
 ) -> Result<Vec<Lane<'a>>, AllocError> {
     let mut lanes = Vec::new(alloc);
     for (number, actor) in actors.iter().enumerate() {
-        if does_something(steps, number) {
+        if has_lane(steps, number, actor) {
             lanes.push(lane_of(alloc, steps, number, actor)?)?;
         }
     }
@@ -105,7 +118,7 @@ fn put_still(
     page.number(still)?;
     page.markup(" more, without a step here</summary>\n<p>")?;
     for (number, actor) in actors.iter().enumerate() {
-        if !does_something(steps, number) {
+        if !has_lane(steps, number, actor) {
             page.between("<span>", actor.name.as_str(), "</span> ")?;
         }
     }
@@ -214,7 +227,7 @@ fn put_cell(
     page.markup("</div></td>\n")
 }
 
-/// Writes that steps are left out; nothing where none are.
+/// Writes that rows are left out; nothing where none are.
 fn put_gap(page: &mut Writer, omitted: usize, lanes: usize) -> Result<(), AllocError> {
     if omitted == 0 {
         return Ok(());
@@ -223,7 +236,10 @@ fn put_gap(page: &mut Writer, omitted: usize, lanes: usize) -> Result<(), AllocE
     page.number(lanes)?;
     page.markup("'>")?;
     page.number(omitted)?;
-    page.markup(" steps are left out here</td></tr>\n")
+    match omitted {
+        1 => page.markup(" row is left out here</td></tr>\n"),
+        _ => page.markup(" rows are left out here</td></tr>\n"),
+    }
 }
 
 /// Writes the row of a step.

@@ -46,6 +46,7 @@ fn wanted_at(steps: &[Step]) -> &'static str {
             None if inner_key(steps) == "range" => "a list of two numbers",
             None => "a whole number",
         },
+        Some((Step::At(_), before)) if matches!(before.last(), Some(Step::At(_))) => "an object",
         Some((Step::At(_), _)) if inner_key(steps).is_empty() =>
             "an object, and for a note \"never\" too, or in version 2 a list",
         Some((Step::At(_), _)) => "",

@@ -36,9 +36,10 @@ pub(crate) fn position_at(text: &[u8], offset: usize) -> Position<'_> {
     }
 }
 
-/// The place in this line, from 1, of the byte in this column, from 1.
+/// The place in this line, from 1, of the byte in this column, from 1. A carriage return at the end of the line is left out.
 pub(crate) fn position_in(text: &[u8], line: usize, column: usize) -> Position<'_> {
     let whole = line_after(text, line.saturating_sub(1));
+    let whole = whole.strip_suffix(b"\r").unwrap_or(whole);
     let (before, behind) = whole.split_at(column.saturating_sub(1).min(whole.len()));
     Position {
         line,

@@ -10,10 +10,10 @@ fn first_byte(text: &[u8]) -> u8 {
 }
 
 /// Whether the two files seem to be swapped: the application's begins as a certificate does, with `{`, and the
-/// certificate's as an application does, with `[`, `#`, or a letter.
+/// certificate's as an application or a source does, with `[`, `#`, `/`, or a letter.
 pub fn seem_swapped(app: &[u8], certificate: &[u8]) -> bool {
     let first = first_byte(certificate);
-    first_byte(app) == b'{' && (first == b'[' || first == b'#' || first.is_ascii_alphabetic())
+    first_byte(app) == b'{' && (matches!(first, b'[' | b'#' | b'/') || first.is_ascii_alphabetic())
 }
 
 /// What is said of two files that seem to be swapped. Its error is that an allocation was refused.

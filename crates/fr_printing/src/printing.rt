@@ -192,11 +192,11 @@ pub fn show<F: Files, O: Write, E: Write>(
     ensures fault { IfErr result (λ refusal. fault_status refusal.fault ≡ 3) }
 {
     print(alloc, answer, asked, out, err)?;
-    put_page(alloc, answer, asked, files)?;
     if asked.format.is_none() {
         warn(alloc, answer, "", err)?;
         put(&text_of(alloc, &answer.notes)?, err)?;
     }
+    put_page(alloc, answer, asked, files)?;
     Ok(answer.what.status())
 }
 

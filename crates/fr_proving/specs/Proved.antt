@@ -41,6 +41,7 @@ IsKnown asks searches P C (Settled found explains) =
 
 -- the answer is of this application and this certificate, with what is known
 abbrev pub IsWhatOf : Program → Certificate → Known → What → Type 0
-IsWhatOf P C (Reached verdict why waits tried) (Judged j) = (j.app ≡ P) × (j.certificate ≡ C) × (j.verdict ≡ verdict) × (j.waits ≡ waits)
+IsWhatOf P C (Reached verdict why waits tried) (Judged j) =
+    (j.app ≡ P) × (j.certificate ≡ C) × (j.verdict ≡ verdict) × (j.waits ≡ waits) × (j.why ≡ why)
 IsWhatOf P C (Settled found explains) (Searched s) = (s.app ≡ P) × (s.found ≡ found)
 IsWhatOf P C known what = ⊥

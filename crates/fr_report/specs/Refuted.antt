@@ -15,7 +15,8 @@
 -- | IsExplainedRun   | the steps of a run from the start, and where actors are in the state after them     |
 -- | shorter_text     | the line that says that a shorter run may exist, where it may and this is asked for |
 -- | AreRunLines      | the lines of steps, where actors are then, and that line                            |
--- | IsRunText        | those lines of a breach or a deadlock, and otherwise none                           |
+-- | IsRunOf          | those lines of the run of these steps                                               |
+-- | IsRunText        | those of a breach or a deadlock, and otherwise none                                 |
 use Rattle.std.specs.Prelude.{◌≡◌, ◌++◌, ℕ, Bool, true, false, not, ◌&&◌, if◌then◌else◌, List, [], ◌∷◌, All, Option, None, Some, codes, decimal, encode_utf8_all, length, map, String, string_bytes}
 use Rattle.std.specs.declared.alloc.Global.{Global}
 use Rattle.fr_escape.specs.Plain.{plain}
@@ -118,11 +119,17 @@ abbrev pub AreRunLines : Bool → Program → List StepTaken → List Standing �
 AreRunLines explains P steps lasts shortest text =
     (lines : List ℕ) × AreStepLines explains P steps lines × (text ≡ lines ++ (standings_text explains P lasts ++ shorter_text explains shortest))
 
--- those lines of the steps that lead to a breach, and where the actor is that breaches the rule; or to a deadlock, and where the actors
+-- those lines of the run of these steps, and where these actors are after them
+abbrev pub IsRunOf : Bool → Program → List StepTaken → List ActorId → Bool → List ℕ → Type 0
+IsRunOf explains P taken actors shortest text =
+    (steps : List ExplainedStep) × (lasts : List Standing) × (steps_in steps ≡ taken) × (map (λ s. s.actor) lasts ≡ actors)
+    × IsExplainedRun P steps lasts × AreRunLines explains P taken lasts shortest text
+
+-- those of the steps that lead to a breach, and where the actor is that breaches the rule; or to a deadlock, and where the actors
 -- are that wait for one another; no text where no run was found
 abbrev pub IsRunText : Bool → Program → Finding → List ℕ → Type 0
-IsRunText explains P (Breach r) text = (last : Standing) × IsPlaced P r.actor last × AreRunLines explains P r.steps.items (last ∷ []) r.is_shortest text
-IsRunText explains P (Deadlock d) text = (lasts : List Standing) × AreWaiting P d.cycle.items lasts × AreRunLines explains P d.steps.items lasts d.is_shortest text
+IsRunText explains P (Breach r) text = IsRunOf explains P r.steps.items (r.actor ∷ []) r.is_shortest text
+IsRunText explains P (Deadlock d) text = IsRunOf explains P d.steps.items (map (λ w. w.actor) d.cycle.items) d.is_shortest text
 IsRunText explains P (Safe states) text = text ≡ []
 IsRunText explains P (Free states) text = text ≡ []
 IsRunText explains P (Unknown states left) text = text ≡ []

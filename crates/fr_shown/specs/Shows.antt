@@ -138,11 +138,12 @@ pub record IsSameWarning (warning shown : WarningShown) : Type 0 where
   pub file : option_map string_bytes shown.file ≡ option_map string_bytes warning.file
   pub line : shown.line ≡ warning.line
 
--- what a report shows of an answer for the application in this file: the file, the kind of the answer, its first line, or in place of
--- a yes that a deadlock isn't excluded, the lines that follow, the line at which a source is refused, what fails and where, and the
--- steps of a run
+-- what a report shows of an answer for the application in this file: the file, and no trace; the kind of the answer, its first line, or in
+-- place of a yes that a deadlock isn't excluded, and the lines that follow; the line at which a source is refused; what fails and where,
+-- and the steps of a run
 pub record Shows (path : List ℕ) (what : What) (shown : AnswerShown) : Type 0 where
   pub application : string_bytes shown.application ≡ path
+  pub trace : shown.trace ≡ None
   pub kind : shown.answer ≡ kind_of what
   pub first : string_bytes shown.report ≡ shown_line what
   pub lines : AreShownLinesOf what (lines_text shown.lines.items)

@@ -103,6 +103,7 @@ fn warnings_shown(alloc: Global, warnings: &[WarningShown]) -> Result<Vec<Warnin
 /// Adds what reports show besides the answer itself: its other lines, its warnings, what fails and the steps of a run.
 fn add_details(alloc: Global, answer: &Answer, shown: &mut AnswerShown) -> Result<(), AllocError>
     ensures application { OnOk result (shown.new.application ≡ shown.old.application) }
+    ensures trace { OnOk result (shown.new.trace ≡ shown.old.trace) }
     ensures kind { OnOk result (shown.new.answer ≡ shown.old.answer) }
     ensures report { OnOk result (shown.new.report ≡ shown.old.report) }
     ensures line { OnOk result (shown.new.line ≡ refused_line answer.now.what) }

@@ -11,7 +11,7 @@ use std::alloc::{AllocError, Global};
 /// How many events are shown before the one that is spoken of.
 const MOST_BEFORE: usize = 3;
 
-/// The most bytes of a line that are shown before a mark, and from it on.
+/// The most characters of a line that are shown before a mark, and from it on.
 const MOST_AROUND: usize = 60;
 
 /// The words of a trace as they are printed: without what steers a terminal.
@@ -39,6 +39,23 @@ pub(crate) fn line_shown(alloc: Global, trace: &[u8], number: usize) -> Result<S
     Ok(text)
 }
 
+/// The first characters of the text, so many at the most.
+fn first_of(text: &str, most: usize) -> &str {
+    match text.char_indices().nth(most) {
+        Some((end, _)) => text.get(..end).unwrap_or(text),
+        None => text,
+    }
+}
+
+/// The last characters of the text, so many at the most.
+fn last_of(text: &str, most: usize) -> &str {
+    let skipped = text.chars().count().saturating_sub(most);
+    match text.char_indices().nth(skipped) {
+        Some((begin, _)) => text.get(begin..).unwrap_or(text),
+        None => "",
+    }
+}
+
 /// What is around the column, from 1, of the line of a trace with this number, from 1, and below it a mark.
 pub(crate) fn marked(
     alloc: Global,
@@ -48,14 +65,11 @@ pub(crate) fn marked(
 ) -> Result<Vec<String>, AllocError> {
     let line = line_in(trace, number);
     let at = column.saturating_sub(1).min(line.len());
-    let (from, to) = (
-        at.saturating_sub(MOST_AROUND),
-        at.saturating_add(MOST_AROUND).min(line.len()),
-    );
+    let (before, behind) = line.split_at_checked(at).unwrap_or((line, ""));
     let mut text = String::new(alloc);
-    push_plain(&mut text, line.get(from..at).unwrap_or(""))?;
+    push_plain(&mut text, last_of(before, MOST_AROUND))?;
     let width = text.chars().count();
-    push_plain(&mut text, line.get(at..to).unwrap_or(""))?;
+    push_plain(&mut text, first_of(behind, MOST_AROUND))?;
     let mark = format!(in alloc; "{:width$}^", "")?;
     Ok(vec![in alloc; text, mark]?)
 }

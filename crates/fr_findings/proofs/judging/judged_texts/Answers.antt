@@ -13,5 +13,5 @@ returns-in_err-reading-clause-refused g c =
 pub returns-clause-judged : goal.returns-clause-judged
 returns-clause-judged g c =
     let waits = c.in_ok-waits.ensures in
-    rw (c.in_ok-new.ensures, c.new-judged.ensures.app, c.new-judged.ensures.certificate, c.new-judged.ensures.verdict, c.new-judged.ensures.waits)
-    (c.in_ok-reading.ensures.judged.0, c.in_ok-reading.ensures.means, c.in_ok-reading.ensures.verdict, waits.order, waits.answered)
+    rw (c.in_ok-new.ensures, c.new-judged.ensures.app, c.new-judged.ensures.certificate, c.new-judged.ensures.verdict, c.new-judged.ensures.waits, c.new-judged.ensures.why)
+    (c.in_ok-reading.ensures.judged.0, c.in_ok-reading.ensures.means, c.in_ok-reading.ensures.verdict, waits.order, waits.answered, c.in_ok-why.ensures.yes)
