@@ -7,13 +7,12 @@ use crate::actors::{count_text, put_point};
 use crate::body::Body;
 use crate::code::Code;
 use fr_calls::{Place, Rule, State, the_start_is_well_formed};
+use fr_changes::{ExplainedRun, ExplainedStep, explain_steps, waiting_actors};
 use fr_page::{
     ActorAfter, Doing, Moved, PointShown, PointState, RowShown, Track, TrackKind, WaitShown,
 };
 use fr_program::{ActorId, App, Point, Side};
-use fr_refuter::{Deadlocked, Refutation};
-use fr_report::{ExplainedRun, ExplainedStep, explain_deadlock, explain_run};
-use fr_states::take_step;
+use fr_states::{StepTaken, take_step};
 use fr_waits::Wait;
 use fr_wording::{
     Depth, Standing, actor_place, depth_in, depths_of, object_name, rule_text, state_told,
@@ -320,38 +319,26 @@ fn put_taken(
     put_steps(alloc, body, app, code, depths, &run.steps)
 }
 
-/// Adds a run that is explained, and the rule that its last step breaks.
-fn put_broken(
-    alloc: Global,
-    body: &mut Body,
-    app: &App,
-    code: &Code,
-    depths: &[Depth],
-    run: &ExplainedRun,
-    rule: Rule,
-) -> Result<(), AllocError> {
-    let said = rule_told(alloc, rule)?;
-    let last = put_taken(alloc, body, app, code, depths, run)?;
-    match run.lasts.first() {
-        Some(at) => {
-            let end = (Doing::Breach, said.as_str());
-            put_end(alloc, body, app, code, depths, at, end, &last)
-        }
-        None => Ok(()),
-    }
-}
-
-/// Adds a run into a breach to the body.
+/// Adds a run into a breach to the body: its steps, after which this actor breaches the rule.
 pub fn put_run(
     alloc: Global,
     body: &mut Body,
     app: &App,
     code: &Code,
-    found: &Refutation,
+    steps: &[StepTaken],
+    actor: ActorId,
+    rule: Rule,
 ) -> Result<(), AllocError> {
-    let depths = depths_of(alloc, app)?;
-    let run = explain_run(alloc, app, &code.sources, found)?;
-    put_broken(alloc, body, app, code, &depths, &run, found.rule)
+    let (depths, said) = (depths_of(alloc, app)?, rule_told(alloc, rule)?);
+    let run = explain_steps(alloc, app, &code.sources, steps, &[actor])?;
+    let last = put_taken(alloc, body, app, code, &depths, &run)?;
+    match run.lasts.first() {
+        Some(at) => {
+            let end = (Doing::Breach, said.as_str());
+            put_end(alloc, body, app, code, &depths, at, end, &last)
+        }
+        None => Ok(()),
+    }
 }
 
 /// Adds where the actors are that wait for one another.
@@ -398,31 +385,20 @@ fn arrows_of(alloc: Global, app: &App, cycle: &[Wait]) -> Result<Vec<WaitShown>,
     Ok(arrows)
 }
 
-/// Adds a run that is explained, and the cycle of those that wait after it.
-fn put_cycle(
-    alloc: Global,
-    body: &mut Body,
-    app: &App,
-    code: &Code,
-    depths: &[Depth],
-    run: &ExplainedRun,
-    cycle: &[Wait],
-) -> Result<(), AllocError> {
-    let last = put_taken(alloc, body, app, code, depths, run)?;
-    put_waits(alloc, body, app, code, depths, (&run.lasts, cycle), &last)
-}
-
-/// Adds a run into a deadlock to the body.
+/// Adds a run into a deadlock to the body: its steps, and the cycle of those that wait after them.
 pub fn put_deadlock(
     alloc: Global,
     body: &mut Body,
     app: &App,
     code: &Code,
-    found: &Deadlocked,
+    steps: &[StepTaken],
+    cycle: &[Wait],
 ) -> Result<(), AllocError> {
-    let depths = depths_of(alloc, app)?;
-    let run = explain_deadlock(alloc, app, &code.sources, found)?;
-    put_cycle(alloc, body, app, code, &depths, &run, &found.cycle)?;
-    body.waits = arrows_of(alloc, app, &found.cycle)?;
+    let (depths, actors) = (depths_of(alloc, app)?, waiting_actors(alloc, cycle)?);
+    let run = explain_steps(alloc, app, &code.sources, steps, &actors)?;
+    let last = put_taken(alloc, body, app, code, &depths, &run)?;
+    let waiting = (run.lasts.as_slice(), cycle);
+    put_waits(alloc, body, app, code, &depths, waiting, &last)?;
+    body.waits = arrows_of(alloc, app, cycle)?;
     Ok(())
 }

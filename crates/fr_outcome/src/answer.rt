@@ -2,7 +2,6 @@
 ghost use Rattle.std.specs.Prelude.{◌≡◌, IfOk, IsTrue, None, string_bytes};
 ghost use Rattle.std.specs.Option.{is_some};
 ghost use Rattle.fr_wording.specs.Lines.{lines_text};
-ghost use Rattle.fr_report.specs.Refuted.{IsRunText};
 ghost use Rattle.fr_report.specs.Report.{verdict_text};
 ghost use Rattle.fr_outcome.specs.Answers.{
   AreJudgedLines,
@@ -35,7 +34,7 @@ use fr_judge::Verdict;
 use fr_order::Order;
 use fr_program::App;
 use fr_refuter::Finding;
-use fr_report::{explain_deadlock, explain_run, finding_line, order_line, verdict_line};
+use fr_report::{finding_line, order_line, run_lines, verdict_line};
 use fr_wording::{Sources, text_of};
 use std::alloc::{AllocError, Global};
 
@@ -200,39 +199,6 @@ fn judged_line(alloc: Global, judged: &Judged) -> Result<String, AllocError>
     }
 }
 
-/// The lines of a run into a breach or a deadlock; none where none was found.
-fn run_lines(
-    alloc: Global,
-    app: &App,
-    found: &Finding,
-    sources: &Sources,
-    explains: bool,
-) -> Result<Vec<String>, AllocError>
-    ensures { IfOk result (λ lines. IsRunText explains app.now found.now (lines_text lines.items)) }
-{
-    match found {
-        Finding::Breach(run) => explain_run(alloc, app, sources, run)?.lines(alloc, app, explains),
-        Finding::Deadlock(run) => {
-            explain_deadlock(alloc, app, sources, run)?.lines(alloc, app, explains)
-        }
-        Finding::Safe { .. } | Finding::Free { .. } | Finding::Unknown { .. } => {
-            Ok(Vec::new(alloc))
-        }
-    }
-}
-
-/// The same, explained with their places in the source where that is asked for.
-fn searched_lines(alloc: Global, searched: &Searched) -> Result<Vec<String>, AllocError>
-    ensures { IfOk result
-        (λ lines. IsRunText (is_some searched.now.explains) searched.now.app searched.now.found (lines_text lines.items)) }
-{
-    let (app, found) = (&searched.app, &searched.found);
-    match &searched.explains {
-        Some(sources) => run_lines(alloc, app, found, sources, true),
-        None => run_lines(alloc, app, found, &Sources::none(alloc), false),
-    }
-}
-
 /// The same lines. Its error is that an allocation was refused.
 pub fn copied_lines(alloc: Global, lines: &[String]) -> Result<Vec<String>, AllocError>
     ensures { IfOk result (λ copied. lines_text copied.items ≡ lines_text lines.now) }
@@ -348,7 +314,14 @@ impl What {
     {
         match self {
             What::Judged(judged) => judged_lines(alloc, judged.get()),
-            What::Searched(searched) => searched_lines(alloc, searched.get()),
+            What::Searched(searched) => {
+                let Searched {
+                    app,
+                    found,
+                    explains,
+                } = searched.get();
+                run_lines(alloc, app, found, explains)
+            }
             What::Refused(refusal) => place_lines(alloc, refusal.get()),
         }
     }

@@ -2,49 +2,34 @@
 --
 -- | word             | meaning                                                                             |
 -- |------------------|-------------------------------------------------------------------------------------|
--- | steps_in         | the steps that are explained                                                        |
 -- | breach_text      | the rule, the actor that breaches it, and the number of steps                       |
 -- | found_line       | the line that reports that; or how many states were seen, and whether these are all |
 -- | IsBelow          | a line that explains a step, and looks like none                                    |
 -- | IsStepTold       | the line of a step, as one of a run; if it is explained, other lines below it       |
 -- | AreStepLines     | the lines of steps, explained or not                                                |
--- | IsLast, AreWaiting | where an actor is, if one is named; where the actors of a cycle are               |
--- | IsBefore, IsAfter | where an actor is in the state before its step; the state after the step           |
--- | AreExplained     | steps from one state to another, each with where its actor was before it            |
--- | IsIn             | an actor is in this state where it is said to be                                    |
--- | IsExplainedRun   | the steps of a run from the start, and where actors are in the state after them     |
 -- | shorter_text     | the line that says that a shorter run may exist, where it may and this is asked for |
--- | AreRunLines      | the lines of steps, where actors are then, and that line                            |
--- | IsRunOf          | those lines of the run of these steps                                               |
+-- | IsRunOf          | the lines of the run of these steps, where actors are then, and that line           |
 -- | IsRunText        | those of a breach or a deadlock, and otherwise none                                 |
-use Rattle.std.specs.Prelude.{◌≡◌, ◌++◌, ℕ, Bool, true, false, not, ◌&&◌, if◌then◌else◌, List, [], ◌∷◌, All, Option, None, Some, codes, decimal, encode_utf8_all, length, map, String, string_bytes}
+use Rattle.std.specs.Prelude.{◌≡◌, ◌++◌, ℕ, Bool, true, false, not, ◌&&◌, if◌then◌else◌, List, [], ◌∷◌, All, codes, decimal, encode_utf8_all, length, map, String, string_bytes}
 use Rattle.std.specs.declared.alloc.Global.{Global}
 use Rattle.fr_escape.specs.Plain.{plain}
 use Rattle.fr_program.specs.declared.ids.ActorId.{ActorId}
 use Rattle.fr_program.specs.Program.{Program}
 use Rattle.fr_program.specs.Lookup.{actor_at}
-use Rattle.fr_rules.specs.Choices.{CanChoose}
 use Rattle.fr_rules.specs.Rule.{number_of}
-use Rattle.fr_rules.specs.State.{State, place_of, start}
-use Rattle.fr_rules.specs.Step.{Step}
 use Rattle.fr_runner.specs.declared.trace.Entry.TheVariants.{Stepped}
 use Rattle.fr_states.specs.declared.step.StepTaken.{StepTaken}
-use Rattle.fr_states.specs.Mover.{IsMover}
 use Rattle.fr_refuter.specs.declared.replay.Refutation.{Refutation}
 use Rattle.fr_refuter.specs.declared.answer.Finding.{Finding}
 use Rattle.fr_refuter.specs.declared.answer.Finding.TheVariants.{Breach, Deadlock, Safe, Free, Unknown}
-use Rattle.fr_report.specs.declared.changes.ExplainedStep.{ExplainedStep}
+use Rattle.fr_changes.specs.declared.changes.ExplainedStep.{ExplainedStep}
+use Rattle.fr_changes.specs.Explained.{IsExplainedRun, steps_in}
 use Rattle.fr_wording.specs.declared.standing.Standing.{Standing}
 use Rattle.fr_wording.specs.Lines.{lines_text}
 use Rattle.fr_wording.specs.Names.{rule_text}
-use Rattle.fr_wording.specs.Standings.{standings_text, IsHere, IsPlaced, place_said}
+use Rattle.fr_wording.specs.Standings.{standings_text}
 use Rattle.fr_report.specs.Trace.{entry_text}
 use Rattle.fr_report.specs.Waits.{deadlock_text}
-use Rattle.fr_waits.specs.declared.wait.Wait.{Wait}
-
--- the steps that are explained
-abbrev pub steps_in : List ExplainedStep → List StepTaken
-steps_in steps = map (λ step. step.taken) steps
 
 -- the line of a step, with its newline
 abbrev pub step_text : Program → StepTaken → List ℕ
@@ -80,50 +65,16 @@ AreStepLines explains P [] text = text ≡ []
 AreStepLines explains P (step ∷ rest) text =
     (own others : List ℕ) × IsStepTold explains P step own × (text ≡ own ++ others) × AreStepLines explains P rest others
 
--- where this actor is alone, if one is named
-abbrev pub IsLast : Program → Option ActorId → List Standing → Type 0
-IsLast P None lasts = lasts ≡ []
-IsLast P (Some actor) lasts = (last : Standing) × (lasts ≡ last ∷ []) × IsPlaced P actor last
-
--- where each actor of a cycle of waits is
-abbrev pub AreWaiting : Program → List Wait → List Standing → Type 0
-AreWaiting P cycle lasts = (map (λ s. s.actor) lasts ≡ map (λ w. w.actor) cycle) × All (IsHere P) lasts
-
--- the actor of the step is in the state before it where it is said to be
-abbrev pub IsBefore : Program → State → ExplainedStep → Type 0
-IsBefore P S step = IsPlaced P step.taken.actor step.before × (place_said step.before ≡ place_of S step.taken.actor.0)
-
--- the state after the step, where it can be taken
-abbrev pub IsAfter : Program → State → StepTaken → State → Type 0
-IsAfter P S step T = IsMover P S step.actor.0 → CanChoose P S step.actor.0 step.choice → Step P S step.actor.0 step.choice T
-
--- the steps lead from S to T, and each has the place of its actor in the state before it
-abbrev pub AreExplained : Program → State → List ExplainedStep → State → Type 0
-AreExplained P S [] T = S ≡ T
-AreExplained P S (step ∷ rest) T = IsBefore P S step × (mid : State) × IsAfter P S step.taken mid × AreExplained P mid rest T
-
--- the actor is in this state where it is said to be
-abbrev pub IsIn : Program → State → Standing → Type 0
-IsIn P S s = IsHere P s × (place_said s ≡ place_of S s.actor.0)
-
--- the steps are those of a run from the start, and these are places of actors in the state after them
-abbrev pub IsExplainedRun : Program → List ExplainedStep → List Standing → Type 0
-IsExplainedRun P steps lasts = (T : State) × AreExplained P (start P) steps T × All (IsIn P T) lasts
-
 -- the line that follows a run that isn't known to be the shortest, where it is explained
 abbrev pub shorter_text : Bool → Bool → List ℕ
 shorter_text explains shortest = if explains && not shortest then codes "a shorter run may exist\n" else []
 
--- the lines of the steps, explained or not, then those that say where actors are, and that a shorter run may exist
-abbrev pub AreRunLines : Bool → Program → List StepTaken → List Standing → Bool → List ℕ → Type 0
-AreRunLines explains P steps lasts shortest text =
-    (lines : List ℕ) × AreStepLines explains P steps lines × (text ≡ lines ++ (standings_text explains P lasts ++ shorter_text explains shortest))
-
--- those lines of the run of these steps, and where these actors are after them
+-- the lines of the run of these steps, then those that say where these actors are after them, and that a shorter run may exist
 abbrev pub IsRunOf : Bool → Program → List StepTaken → List ActorId → Bool → List ℕ → Type 0
 IsRunOf explains P taken actors shortest text =
     (steps : List ExplainedStep) × (lasts : List Standing) × (steps_in steps ≡ taken) × (map (λ s. s.actor) lasts ≡ actors)
-    × IsExplainedRun P steps lasts × AreRunLines explains P taken lasts shortest text
+    × IsExplainedRun P steps lasts × (lines : List ℕ) × AreStepLines explains P taken lines
+    × (text ≡ lines ++ (standings_text explains P lasts ++ shorter_text explains shortest))
 
 -- those of the steps that lead to a breach, and where the actor is that breaches the rule; or to a deadlock, and where the actors
 -- are that wait for one another; no text where no run was found

@@ -39,8 +39,9 @@ use Rattle.fr_outcome.specs.Answers.{AreShownLinesOf, kind_of, refused_line, sho
 use Rattle.fr_outcome.specs.Each.{Each}
 use Rattle.fr_refuter.specs.declared.answer.Finding.{Finding}
 use Rattle.fr_refuter.specs.declared.answer.Finding.TheVariants.{Breach, Deadlock, Safe, Free, Unknown}
-use Rattle.fr_report.specs.declared.changes.ExplainedStep.{ExplainedStep}
-use Rattle.fr_report.specs.Refuted.{IsExplainedRun, breach_text, steps_in}
+use Rattle.fr_changes.specs.declared.changes.ExplainedStep.{ExplainedStep}
+use Rattle.fr_changes.specs.Explained.{IsExplainedRun, steps_in}
+use Rattle.fr_report.specs.Refuted.{breach_text}
 use Rattle.fr_report.specs.Report.{part_text}
 use Rattle.fr_report.specs.Waits.{deadlock_text, order_text}
 use Rattle.fr_shown.specs.Names.{part_name}

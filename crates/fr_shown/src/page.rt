@@ -35,8 +35,8 @@ fn put_found(
 ) -> Result<(), AllocError> {
     put_actors(alloc, body, app, code)?;
     match found {
-        Finding::Breach(run) => put_run(alloc, body, app, code, run),
-        Finding::Deadlock(run) => put_deadlock(alloc, body, app, code, run),
+        Finding::Breach(run) => put_run(alloc, body, app, code, &run.steps, run.actor, run.rule),
+        Finding::Deadlock(run) => put_deadlock(alloc, body, app, code, &run.steps, &run.cycle),
         _ => Ok(()),
     }
 }

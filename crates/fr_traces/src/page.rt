@@ -4,6 +4,7 @@ ghost use Rattle.fr_rules.specs.State.{IsWellFormed};
 ghost use Rattle.fr_traces.specs.Traces.{IsTrailPage};
 
 use fr_calls::{Rule, State};
+use fr_changes::{ExplainedRun, explain_steps};
 use fr_explained::Followed;
 use fr_lanes::{
     Body, Code, RowPosition, count_text, empty_body, is_shown, omitted_before, page_kind,
@@ -11,7 +12,6 @@ use fr_lanes::{
 };
 use fr_page::{Doing, Moved, page_text};
 use fr_program::{ActorId, App};
-use fr_report::{ExplainedRun, explain_steps};
 use fr_states::StepTaken;
 use fr_trail::{TraceAnswer, TrailRow};
 use fr_wording::{Depth, depths_of};
@@ -158,8 +158,11 @@ fn put_trail(
     let (steps, depths) = (steps_in(alloc, &answer.rows)?, depths_of(alloc, app)?);
     put_tracks(alloc, body, app, &depths)?;
     put_counts(alloc, body, steps.len(), answer.rows.len())?;
-    let last = broken(&answer.followed).map(|broken| broken.1);
-    let run = explain_steps(alloc, app, &code.sources, &steps, last)?;
+    let sources = &code.sources;
+    let run = match broken(&answer.followed) {
+        Some((_, actor)) => explain_steps(alloc, app, sources, &steps, &[actor])?,
+        None => explain_steps(alloc, app, sources, &steps, &[])?,
+    };
     put_found(alloc, body, app, code, &depths, answer, &run)
 }
 

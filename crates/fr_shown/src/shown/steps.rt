@@ -7,11 +7,10 @@ ghost use Rattle.fr_report.specs.Waits.{deadlock_text as text_of_deadlock};
 ghost use Rattle.fr_shown.specs.Shows.{IsEndOfRun, IsPlaceIf, IsRunShown, IsStepShown, first_point};
 
 use super::places::Places;
+use fr_changes::{ExplainedRun, ExplainedStep, explain_steps, waiting_actors};
 use fr_formats::{Failure, PlaceShown, StepShown, rule_name};
 use fr_refuter::{Deadlocked, Refutation};
-use fr_report::{
-    ExplainedRun, ExplainedStep, breach_text, deadlock_text, explain_deadlock, explain_run,
-};
+use fr_report::{breach_text, deadlock_text};
 use fr_wording::Standing;
 use std::alloc::{AllocError, Global};
 
@@ -92,8 +91,8 @@ pub(super) fn deadlock_shown(
         (text_of_deadlock places.now.app.now found.now) r.0 r.1.items) }
 {
     let text = deadlock_text(alloc, places.app(), found)?;
-    let sources = places.sources(alloc)?;
-    let run = explain_deadlock(alloc, places.app(), &sources, found)?;
+    let (sources, actors) = (places.sources(alloc)?, waiting_actors(alloc, &found.cycle)?);
+    let run = explain_steps(alloc, places.app(), &sources, &found.steps, &actors)?;
     let failure = ended(alloc, places, &run, "deadlock", text)?;
     Ok((Some(failure), steps_shown(alloc, places, &run.steps)?))
 }
@@ -110,7 +109,8 @@ pub(super) fn run_shown(
 {
     let text = breach_text(alloc, places.app(), found)?;
     let sources = places.sources(alloc)?;
-    let run = explain_run(alloc, places.app(), &sources, found)?;
+    let actors = &[found.actor];
+    let run = explain_steps(alloc, places.app(), &sources, &found.steps, actors)?;
     let failure = ended(alloc, places, &run, rule_name(found.rule), text)?;
     Ok((Some(failure), steps_shown(alloc, places, &run.steps)?))
 }

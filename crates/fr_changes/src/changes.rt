@@ -1,7 +1,7 @@
 // What a step of a run changed, in words.
 ghost use Rattle.std.specs.Prelude.{◌≡◌, IfOk};
 ghost use Rattle.fr_rules.specs.State.{IsWellFormed};
-ghost use Rattle.fr_report.specs.Refuted.{IsBefore};
+ghost use Rattle.fr_changes.specs.Explained.{IsBefore};
 
 use fr_calls::{Content, Place, State, Stock, value_in};
 use fr_notes::Subject;

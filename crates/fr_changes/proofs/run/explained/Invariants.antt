@@ -1,7 +1,7 @@
 use Rattle.std.proofs.Common.{◌≡◌, take}
 use Rattle.fr_rules.specs.State.{IsWellFormed, start}
-use Rattle.fr_report.specs.Refuted.{steps_in, AreExplained}
-use Rattle.fr_report.proofs.refuting.explained.Given as goal
+use Rattle.fr_changes.specs.Explained.{steps_in, AreExplained}
+use Rattle.fr_changes.proofs.run.explained.Given as goal
 
 -- the steps so far are explained, and lead to a state of the application
 abbrev pub invariant-loop-step : goal.invariant-loop-step

@@ -1,9 +1,10 @@
 -- Each turn takes the next step from the state that the others lead to.
 use Rattle.std.proofs.Common.{◌≡◌, ◌+◌, ◌++◌, ◌∷◌, [], rules, subst, sym, take}
 use Rattle.fr_rules.specs.State.{start}
-use Rattle.fr_report.specs.Refuted.{steps_in, AreExplained}
-use Rattle.fr_report.proofs.RunLemmas.{explained-more, steps-more}
-use Rattle.fr_report.proofs.refuting.explained.Goals as goal
+use Rattle.fr_changes.specs.declared.changes.ExplainedStep.{ExplainedStep}
+use Rattle.fr_changes.specs.Explained.{steps_in, AreExplained}
+use Rattle.fr_changes.proofs.RunLemmas.{explained-more, one-more}
+use Rattle.fr_changes.proofs.run.explained.Goals as goal
 
 pub loop-step-preserved : goal.loop-step-preserved
 loop-step-preserved c =
@@ -15,7 +16,7 @@ loop-step-preserved c =
     record {
       formed = c.in_ok-step_told.ensures.formed;
       steps = subst (λ steps. steps_in steps ≡ take (was.step-index + 1) c.args.taken.now) (sym pushed)
-          (steps-more was.steps.items told c.args.taken.now was.step-index _ was.invariant.steps c.in_ok-step_told.ensures.step c.loop-step-test.true);
+          (one-more (λ (s : ExplainedStep). s.taken) was.steps.items told c.args.taken.now was.step-index _ was.invariant.steps c.in_ok-step_told.ensures.step c.loop-step-test.true);
       states = subst (λ steps. AreExplained P (start P) steps state) (sym pushed)
           (explained-more P (start P) was.state state was.steps.items told was.invariant.states c.in_ok-step_told.ensures.before c.in_ok-step_told.ensures.after);
     }
