@@ -22,9 +22,9 @@ use Rattle.fr_order.specs.declared.order.Order.{Order}
 use Rattle.fr_order.specs.declared.order.Order.TheVariants.{Upwards, Cycle}
 use Rattle.fr_order.specs.Order.{IsOrderOf}
 use Rattle.fr_order.proofs.DeadlockLaw.{order-excludes}
-use Rattle.fr_refuter.specs.declared.answer.Finding.{Finding}
-use Rattle.fr_refuter.specs.declared.answer.Finding.TheVariants.{Breach as FoundBreach, Deadlock as FoundDeadlock, Safe, Free, Unknown}
-use Rattle.fr_refuter.specs.Refutes.{IsFound, Suits}
+use Rattle.fr_found.specs.declared.finding.Finding.{Finding}
+use Rattle.fr_found.specs.declared.finding.Finding.TheVariants.{Breach as FoundBreach, Deadlock as FoundDeadlock, Safe, Free, Unknown}
+use Rattle.fr_found.specs.Refutes.{IsFound, Suits}
 use Rattle.fr_formats.specs.Answers.{status_of as kind_status}
 use Rattle.fr_request.specs.declared.request.CheckedFiles.{CheckedFiles as Named}
 use Rattle.fr_request.specs.declared.request.CheckedFiles.TheVariants.{One, Listed}

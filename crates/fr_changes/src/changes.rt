@@ -158,11 +158,8 @@ pub struct ExplainedStep {
 }
 
 impl ExplainedStep {
-    /// What it changes, in words; where it changes nothing but the actor's place, how the call went.
-    ///
-    /// # Errors
-    ///
-    /// Only where memory is refused. The words are this project's own.
+    /// What it changes, in words; where it changes nothing but the actor's place, how the call went. Its error is that an allocation was
+    /// refused. The words are this project's own.
     pub fn change(&self, alloc: Global) -> Result<String, AllocError> {
         let mut text = String::new(alloc);
         put_listed(&mut text, &self.changes, "; ", &self.outcome)?;

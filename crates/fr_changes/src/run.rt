@@ -81,11 +81,7 @@ fn standings_in(
 }
 
 /// A run of the application: each of these steps with where its actor was and what it changed, and where these actors are after them.
-/// `sources` says where the application's lines are in a source.
-///
-/// # Errors
-///
-/// Only where memory is refused.
+/// `sources` says where the application's lines are in a source. Its error is that an allocation was refused.
 pub fn explain_steps(
     alloc: Global,
     app: &App,

@@ -46,11 +46,8 @@ impl Language for AsJson {
 
 /// Appends a text in JSON, so that nothing in it steers what shows it: DEL, the controls of Unicode beyond ASCII, the separators of lines
 /// and of paragraphs and the characters that set the direction of reading, which a string of RFC 8259 may have as they are, are written as
-/// `\u` and four digits. A parser reads the same text.
-///
-/// # Errors
-///
-/// Only where memory is refused. A part of the text may then have been appended.
+/// `\u` and four digits. A parser reads the same text. Its error is that an allocation was refused. A part of the text may then have been
+/// appended.
 pub fn push_json(out: &mut String, text: &str) -> Result<(), AllocError>
     ensures text { OnOk result (string_bytes out.new ≡ string_bytes out.old ++ encode_utf8_all (as_json text.now)) }
     ensures harmless { All IsSteady (as_json text.now) }

@@ -25,11 +25,8 @@ impl Language for Html {
 
 /// Appends a text, so that it stays a text between two tags or in quotes of either kind: what is appended has none of
 /// `<`, `>`, `"` and `'`, and an `&` only where an entity begins. The rule is HTML's, for text and for the values of
-/// attributes; it doesn't serve inside a script or a style sheet.
-///
-/// # Errors
-///
-/// Only where memory is refused. A part of the text may then have been appended.
+/// attributes; it doesn't serve inside a script or a style sheet. Its error is that an allocation was refused. A part of the text may then
+/// have been appended.
 pub fn push_html(out: &mut String, text: &str) -> Result<(), AllocError>
     ensures text { OnOk result (string_bytes out.new ≡ string_bytes out.old ++ encode_utf8_all (html text.now)) }
     ensures harmless { All IsHarmless (html text.now) }

@@ -43,11 +43,8 @@ impl Language for Plain {
 
 /// Appends a text, so that it can be read on a terminal and steers nothing there: controls, the separators of lines
 /// and of paragraphs, and the characters that set the direction of reading are written as Rust writes them in a
-/// literal, as `\n` or `\u{1b}`. A backslash stays one backslash. The rule is this project's.
-///
-/// # Errors
-///
-/// Only where memory is refused. A part of the text may then have been appended.
+/// literal, as `\n` or `\u{1b}`. A backslash stays one backslash. The rule is this project's. Its error is that an allocation was refused. A
+/// part of the text may then have been appended.
 pub fn push_plain(out: &mut String, text: &str) -> Result<(), AllocError>
     ensures text { OnOk result (string_bytes out.new ≡ string_bytes out.old ++ encode_utf8_all (plain text.now)) }
     ensures harmless { All IsPlain (plain text.now) }

@@ -27,11 +27,8 @@ fn push_byte(out: &mut String, byte: u8) -> Result<(), AllocError>
 
 /// Appends a path, as it is written in a URI: letters, digits, `/` and the marks ``- . _ ~ ! $ & ' ( ) * + , ; = @``
 /// stay, and each other byte becomes `%` with two digits in upper case. The rule is RFC 3986's for the parts of a
-/// path; a `:`, which may not be in the first part of a relative path, is escaped everywhere.
-///
-/// # Errors
-///
-/// Only where memory is refused. A part of the path may then have been appended.
+/// path; a `:`, which may not be in the first part of a relative path, is escaped everywhere. Its error is that an allocation was refused. A
+/// part of the path may then have been appended.
 pub fn push_uri(out: &mut String, path: &str) -> Result<(), AllocError>
     ensures text { OnOk result (string_bytes out.new ≡ string_bytes out.old ++ uri path.now) }
     ensures harmless { All IsUriByte (uri path.now) }

@@ -41,11 +41,8 @@ impl Language for Xml {
 /// `<`, `>`, `"` and `'`, and an `&` only where an entity or the number of a character begins. Line ends and tabs are
 /// written as numbers, since a parser makes blanks of them in attributes. U+FFFD is written for what XML 1.0 can't have,
 /// which is most controls, U+FFFE and U+FFFF, and by a rule of this project for every other control, a carriage return
-/// too, and for each character that sets the direction of reading.
-///
-/// # Errors
-///
-/// Only where memory is refused. A part of the text may then have been appended.
+/// too, and for each character that sets the direction of reading. Its error is that an allocation was refused. A part of the text may then
+/// have been appended.
 pub fn push_xml(out: &mut String, text: &str) -> Result<(), AllocError>
     ensures text { OnOk result (string_bytes out.new ≡ string_bytes out.old ++ encode_utf8_all (xml text.now)) }
     ensures harmless { All IsHarmless (xml text.now) }

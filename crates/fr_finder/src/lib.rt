@@ -13,7 +13,7 @@ mod rounds;
 mod spot;
 mod start;
 
-pub use arrivals::{points_before, target};
+pub use arrivals::{empty_lists, points_before, target};
 pub use fault::FindFault;
 pub use finding::{find, is_rounds};
 pub use guards::{all_ends, ends_of_most};

@@ -247,11 +247,8 @@ impl WarningKind {
 }
 
 impl AnswerShown {
-    /// An answer of this kind to what is asked, with the first line that is printed, and nothing else.
-    ///
-    /// # Errors
-    ///
-    /// Only where memory is refused.
+    /// An answer of this kind to what is asked, with the first line that is printed, and nothing else. Its error is that an allocation was
+    /// refused.
     pub fn new(
         alloc: Global,
         source: Source,

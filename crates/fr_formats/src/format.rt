@@ -9,11 +9,7 @@ use crate::sarif::sarif_text;
 use fr_request::Format;
 use std::alloc::{AllocError, Global};
 
-/// The answers in this form.
-///
-/// # Errors
-///
-/// Only where memory is refused.
+/// The answers in this form. Its error is that an allocation was refused.
 pub fn answers_text(
     alloc: Global,
     format: Format,

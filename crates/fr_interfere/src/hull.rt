@@ -124,8 +124,8 @@ pub fn cover_ranges(ranges: &mut [(VarId, Range)], alternative: &Alternative)
     }
 }
 
-/// The claims of an alternative that say something of an object.
-fn claims_said(
+/// The claims of an alternative that say something of an object. Its error is that an allocation was refused.
+pub fn claims_said(
     alloc: Global,
     alternative: &Alternative,
 ) -> Result<Vec<(ObjId, Claim)>, AllocError> {
@@ -138,8 +138,8 @@ fn claims_said(
     Ok(claims)
 }
 
-/// The ranges of an alternative that say something of a variable.
-fn ranges_said(
+/// The ranges of an alternative that say something of a variable. Its error is that an allocation was refused.
+pub fn ranges_said(
     alloc: Global,
     app: &App,
     alternative: &Alternative,

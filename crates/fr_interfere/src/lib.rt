@@ -10,7 +10,7 @@ mod spoilers;
 mod staying;
 
 pub use fr_effects::{Index, undisturbed};
-pub use hull::{cover_ranges, excludes_claim, excludes_range};
+pub use hull::{claims_said, cover_ranges, excludes_claim, excludes_range, ranges_said};
 pub use interference::{Interference, spoiler_by};
 pub use laws::an_index_is_exact;
 pub use rows::Hulls;

@@ -29,12 +29,12 @@ use Rattle.fr_cert.specs.Meaning.{Means as CertMeans}
 use Rattle.fr_judge.specs.declared.part.Verdict.{Verdict}
 use Rattle.fr_judge.specs.declared.part.Verdict.TheVariants.{Yes as TellsYes, No as TellsNo}
 use Rattle.fr_judge.specs.Told.{TellsVerdict}
-use Rattle.fr_refuter.specs.declared.answer.Finding.{Finding}
+use Rattle.fr_found.specs.declared.finding.Finding.{Finding}
 use Rattle.fr_order.specs.declared.order.Order.{Order}
 use Rattle.fr_order.specs.declared.order.Order.TheVariants.{Upwards, Cycle}
 use Rattle.fr_order.specs.Order.{IsOrderOf}
-use Rattle.fr_refuter.specs.declared.answer.Finding.TheVariants.{Breach as FoundBreach, Deadlock as FoundDeadlock, Safe, Free, Unknown}
-use Rattle.fr_refuter.specs.Refutes.{IsFound, Suits}
+use Rattle.fr_found.specs.declared.finding.Finding.TheVariants.{Breach as FoundBreach, Deadlock as FoundDeadlock, Safe, Free, Unknown}
+use Rattle.fr_found.specs.Refutes.{IsFound, Suits}
 use Rattle.fr_wording.specs.Lines.{lines_text}
 use Rattle.fr_report.specs.Report.{verdict_text}
 use Rattle.fr_report.specs.Refuted.{IsRunText, found_line}

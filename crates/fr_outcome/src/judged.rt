@@ -5,10 +5,10 @@ ghost use Rattle.fr_judge.specs.Told.{Speaks, TellsVerdict};
 ghost use Rattle.fr_order.specs.Order.{IsOrderOf};
 
 use fr_ends::Certificate;
+use fr_found::Left;
 use fr_judge::Verdict;
 use fr_order::Order;
 use fr_program::App;
-use fr_refuter::Left;
 use fr_wording::Explanation;
 use std::marker::Model;
 

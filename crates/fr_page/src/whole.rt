@@ -173,11 +173,7 @@ fn put_rest(alloc: Global, page: &mut Writer, shown: &Page) -> Result<(), AllocE
 /// The page as one file in HTML without outside links. It shows the answer, the run where there is one, as lanes, and the actors
 /// side by side with their code. It needs no script; with one it steps through the run. No text of `shown` can end
 /// the place that it stands in, since each is escaped by `push_html`. To the letter it begins with the answer's line as
-/// its title, the command, and the mark, the word and the meaning of the answer's kind.
-///
-/// # Errors
-///
-/// Only where memory is refused.
+/// its title, the command, and the mark, the word and the meaning of the answer's kind. Its error is that an allocation was refused.
 pub fn page_text(alloc: Global, shown: &Page) -> Result<String, AllocError>
     ensures { IfOk result (λ text. (rest : List ℕ) × (string_bytes text ≡ head_of shown.now ++ rest)) }
 {

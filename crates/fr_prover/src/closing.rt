@@ -1,6 +1,7 @@
 // Closing a point's note under the steps of other actors.
-use crate::effect::{Effect, Effects, telling_ranges};
+use crate::effect::{Effect, Effects};
 use crate::trial::{Item, Trial};
+use fr_interfere::ranges_said;
 use fr_notes::Claim;
 use fr_program::{ObjId, Range, VarId};
 use std::alloc::{AllocError, Global};
@@ -76,7 +77,7 @@ impl<'a> Trial<'a> {
         let Some(facts) = self.pool.get(facts) else {
             return Ok(felt);
         };
-        let ranges = telling_ranges(alloc, self.pool.app(), facts)?;
+        let ranges = ranges_said(alloc, self.pool.app(), facts)?;
         for (other, effects) in others.iter().enumerate() {
             if other != actor {
                 effects.add_felt(other, &ranges, facts, &mut felt)?;

@@ -2,10 +2,10 @@
 ghost use Rattle.fr_notes.specs.Fits.{AlternativeFits};
 ghost use Rattle.fr_finder.specs.Spots.{IsPlaced};
 
-use crate::lists::empty_lists;
 use crate::place::{Placed, changed_life, place_at};
 use crate::trial::{Item, Trial};
-use fr_interfere::{cover_ranges, excludes_claim, excludes_range};
+use fr_finder::empty_lists;
+use fr_interfere::{claims_said, cover_ranges, excludes_claim, excludes_range, ranges_said};
 use fr_notes::{Alternative, Claim, Known, change_by};
 use fr_program::{App, Instr, ObjId, Operand, Operator, Range, VarId};
 use fr_rules::Way;
@@ -55,33 +55,6 @@ struct Common {
     ranges: Vec<(VarId, Range)>,
 }
 
-/// What the alternative says of objects, but for those of which it says nothing.
-fn telling_claims(alloc: Global, facts: &Alternative) -> Result<Vec<(ObjId, Claim)>, AllocError> {
-    let mut telling = Vec::new(alloc);
-    for (object, claim) in facts.claims().iter().enumerate() {
-        if *claim != Claim::NotHeld {
-            telling.push((ObjId(object), *claim))?;
-        }
-    }
-    Ok(telling)
-}
-
-/// The alternative's ranges, but for those that have each declared number.
-pub fn telling_ranges(
-    alloc: Global,
-    app: &App,
-    facts: &Alternative,
-) -> Result<Vec<(VarId, Range)>, AllocError> {
-    let mut telling = Vec::new(alloc);
-    for number in 0..app.variables().len() {
-        let (variable, range) = (VarId(number), facts.range(VarId(number)));
-        if range != app.range(variable) {
-            telling.push((variable, range))?;
-        }
-    }
-    Ok(telling)
-}
-
 /// Leaves of the claims what the alternative says, too.
 fn weaken(claims: &mut Vec<(ObjId, Claim)>, facts: &Alternative) {
     for (object, claim) in claims.iter_mut() {
@@ -96,8 +69,8 @@ impl Common {
     fn of(alloc: Global, app: &App, facts: &Alternative) -> Result<Common, AllocError> {
         Ok(Common {
             critical: facts.critical() > 0,
-            claims: telling_claims(alloc, facts)?,
-            ranges: telling_ranges(alloc, app, facts)?,
+            claims: claims_said(alloc, facts)?,
+            ranges: ranges_said(alloc, app, facts)?,
         })
     }
 

@@ -2,15 +2,6 @@
 use fr_program::Range;
 use std::alloc::{AllocError, Global};
 
-/// So many empty lists.
-pub fn empty_lists<T: Drop>(alloc: Global, count: usize) -> Result<Vec<Vec<T>>, AllocError> {
-    let mut lists = Vec::with_capacity(alloc, count)?;
-    for _ in 0..count {
-        lists.push(Vec::new(alloc))?;
-    }
-    Ok(lists)
-}
-
 /// The list with this number; an empty one where there is none.
 pub fn list_at<T>(lists: &[Vec<T>], number: usize) -> &[T] {
     match lists.get(number) {

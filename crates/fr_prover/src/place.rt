@@ -2,7 +2,7 @@
 ghost use Rattle.std.specs.Prelude.{IfSome};
 ghost use Rattle.fr_finder.specs.Spots.{IsPlaced};
 
-use fr_program::{Act, App, Attempt, Call, Instr, Operand, Point, VarId};
+use fr_program::{App, Call, Instr, Operand, Point, VarId};
 use fr_rules::Way;
 
 /// A point with its instruction.
@@ -33,17 +33,6 @@ pub fn number_of(operand: Operand) -> Option<i128> {
     }
 }
 
-/// The variable whose value a call sends to a queue, if it sends one.
-fn sent_by(act: Act) -> Option<VarId> {
-    match act {
-        Act::Try {
-            attempt: Attempt::QueueSend(operand),
-            ..
-        } => operand.variable(),
-        _ => None,
-    }
-}
-
 /// The variables that an instruction tests.
 pub fn tested(instr: &Instr) -> [Option<VarId>; 2] {
     match instr {
@@ -54,12 +43,10 @@ pub fn tested(instr: &Instr) -> [Option<VarId>; 2] {
 
 /// The variables whose numbers an instruction takes.
 pub fn read(instr: &Instr) -> [Option<VarId>; 2] {
+    let uses = instr.variables();
     match instr {
-        Instr::Set { left, right, .. } | Instr::If { left, right, .. } => {
-            [left.variable(), right.variable()]
-        }
-        Instr::Call(Call::On(call)) => [sent_by(call.act), None],
-        _ => [None, None],
+        Instr::Call(_) if instr.written().is_some() => [None, None],
+        _ => [uses.left, uses.right],
     }
 }
 

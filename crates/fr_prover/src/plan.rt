@@ -1,9 +1,10 @@
 // What is looked up of an application once, before the search.
-use crate::lists::{add_once, empty_lists, insert_inside};
+use crate::lists::{add_once, insert_inside};
 use crate::order::{heads, places_in_order};
 use crate::place::{number_of, place_at, tested};
 use crate::table::TruthTable;
 use crate::thresholds::{Kin, kin_of};
+use fr_finder::empty_lists;
 use fr_program::{App, Instr, Operand};
 use std::alloc::{AllocError, Global};
 

@@ -1,6 +1,7 @@
 // The numbers at which a range that grows may rest: those that the code tests, sets, picks or receives.
-use crate::lists::{empty_lists, insert, insert_inside, list_at};
+use crate::lists::{insert, insert_inside, list_at};
 use crate::place::{number_of, place_at};
+use fr_finder::empty_lists;
 use fr_program::{
     Act, App, Attempt, Call, Instr, Kind, ObjectCall, Operand, Operator, Range, VarId,
 };

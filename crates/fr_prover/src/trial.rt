@@ -3,13 +3,13 @@ ghost use Rattle.std.specs.Prelude.{IfOk, IfSome};
 ghost use Rattle.fr_notes.specs.Fits.{AlternativeFits};
 
 use crate::growth::{Growth, grown};
-use crate::lists::{empty_lists, is_marked, list_at};
+use crate::lists::{is_marked, list_at};
 use crate::place::{place_at, ways};
 use crate::plan::Plan;
 use crate::pool::Pool;
 use crate::separation::{Separation, add_cuts, are_alike};
 use crate::table::TruthTable;
-use fr_finder::common_claims;
+use fr_finder::{common_claims, empty_lists};
 use fr_notes::{Alternative, Known, keeps};
 use fr_program::{App, Range, VarId};
 use fr_rules::Way;

@@ -14,7 +14,7 @@ use Rattle.fr_judge.specs.Told.{Speaks, TellsVerdict}
 use Rattle.fr_order.specs.declared.order.Order.{Order}
 use Rattle.fr_order.specs.Order.{IsOrderOf}
 use Rattle.fr_formats.specs.declared.answer.AnswerKind.TheVariants.{No, MayDeadlock}
-use Rattle.fr_refuter.specs.Refutes.{IsFound, Suits}
+use Rattle.fr_found.specs.Refutes.{IsFound, Suits}
 use Rattle.fr_outcome.specs.declared.answer.What.{What}
 use Rattle.fr_outcome.specs.declared.answer.What.TheVariants.{Judged, Searched}
 use Rattle.fr_outcome.specs.Answers.{IsAnsweredFor, Settles, kind_of_judged}

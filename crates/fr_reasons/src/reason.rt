@@ -436,11 +436,8 @@ fn explained(
 /// a step the step, as `witness` of fr_witness finds them; each point with its line of code, what the note says, and
 /// what is so. None where the verdict is yes. The certificate fits the application; `sources` says where its lines are in a source.
 /// Where `blames` asks for it, lines are named that a person would change: those at which a guard could have been got, by all points that
-/// lack it; those that delete the object of a call; and first the `set` that spoils the point, where that is out of its range itself.
-///
-/// # Errors
-///
-/// Only where memory is refused.
+/// lack it; those that delete the object of a call; and first the `set` that spoils the point, where that is out of its range itself. Its
+/// error is that an allocation was refused.
 pub fn explain(
     alloc: Global,
     app: &App,

@@ -19,9 +19,9 @@ use Rattle.fr_program.specs.Lookup.{actor_at}
 use Rattle.fr_rules.specs.Rule.{number_of}
 use Rattle.fr_runner.specs.declared.trace.Entry.TheVariants.{Stepped}
 use Rattle.fr_states.specs.declared.step.StepTaken.{StepTaken}
-use Rattle.fr_refuter.specs.declared.replay.Refutation.{Refutation}
-use Rattle.fr_refuter.specs.declared.answer.Finding.{Finding}
-use Rattle.fr_refuter.specs.declared.answer.Finding.TheVariants.{Breach, Deadlock, Safe, Free, Unknown}
+use Rattle.fr_found.specs.declared.finding.Refutation.{Refutation}
+use Rattle.fr_found.specs.declared.finding.Finding.{Finding}
+use Rattle.fr_found.specs.declared.finding.Finding.TheVariants.{Breach, Deadlock, Safe, Free, Unknown}
 use Rattle.fr_changes.specs.declared.changes.ExplainedStep.{ExplainedStep}
 use Rattle.fr_changes.specs.Explained.{IsExplainedRun, steps_in}
 use Rattle.fr_wording.specs.declared.standing.Standing.{Standing}

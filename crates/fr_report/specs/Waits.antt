@@ -17,7 +17,7 @@ use Rattle.fr_waits.specs.declared.wait.Wait.{Wait}
 use Rattle.fr_order.specs.declared.edge.Edge.{Edge}
 use Rattle.fr_order.specs.declared.order.Order.{Order}
 use Rattle.fr_order.specs.declared.order.Order.TheVariants.{Upwards, Cycle}
-use Rattle.fr_refuter.specs.declared.replay.Deadlocked.{Deadlocked}
+use Rattle.fr_found.specs.declared.finding.Deadlocked.{Deadlocked}
 
 -- `<actor> waits for <mutex>`
 abbrev pub wait_text : Program → Wait → List ℕ

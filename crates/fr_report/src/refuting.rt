@@ -9,8 +9,8 @@ use crate::trace::put_entry;
 use crate::waits::deadlock_text;
 use fr_changes::{ExplainedStep, explain_steps, waiting_actors};
 use fr_escape::push_plain;
+use fr_found::{Finding, Refutation};
 use fr_program::{ActorId, App};
-use fr_refuter::{Finding, Refutation};
 use fr_runner::Entry;
 use fr_states::StepTaken;
 use fr_wording::{Sources, Standing, actor_name, add_text, rule_text};
@@ -189,11 +189,8 @@ fn lines_of(
 
 /// The lines of a run into a breach or a deadlock: those of its steps, and where the actor is that then breaches the rule, or where those
 /// are that wait for one another, with their lines of code; none where no run was found. With the places of the application's lines in
-/// its source, lines below each step explain it, the places are there, and the last line says that a shorter run may exist, where it may.
-///
-/// # Errors
-///
-/// Only where memory is refused. The lines' form is this project's own.
+/// its source, lines below each step explain it, the places are there, and the last line says that a shorter run may exist, where it may. Its
+/// error is that an allocation was refused. The lines' form is this project's own.
 pub fn run_lines(
     alloc: Global,
     app: &App,

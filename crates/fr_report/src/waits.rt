@@ -15,9 +15,9 @@ ghost use Rattle.fr_report.specs.Waits.{
   wait_text,
 };
 
+use fr_found::Deadlocked;
 use fr_order::{Edge, Order};
 use fr_program::{App, ObjId};
-use fr_refuter::Deadlocked;
 use fr_waits::Wait;
 use fr_wording::{actor_name, object_name};
 use std::alloc::{AllocError, Global};

@@ -37,8 +37,8 @@ use Rattle.fr_outcome.specs.declared.answer.What.{What}
 use Rattle.fr_outcome.specs.declared.answer.What.TheVariants.{Judged, Searched, Refused}
 use Rattle.fr_outcome.specs.Answers.{AreShownLinesOf, kind_of, refused_line, shown_line}
 use Rattle.fr_outcome.specs.Each.{Each}
-use Rattle.fr_refuter.specs.declared.answer.Finding.{Finding}
-use Rattle.fr_refuter.specs.declared.answer.Finding.TheVariants.{Breach, Deadlock, Safe, Free, Unknown}
+use Rattle.fr_found.specs.declared.finding.Finding.{Finding}
+use Rattle.fr_found.specs.declared.finding.Finding.TheVariants.{Breach, Deadlock, Safe, Free, Unknown}
 use Rattle.fr_changes.specs.declared.changes.ExplainedStep.{ExplainedStep}
 use Rattle.fr_changes.specs.Explained.{IsExplainedRun, steps_in}
 use Rattle.fr_report.specs.Refuted.{breach_text}

@@ -1,10 +1,10 @@
 // What an answer may hide.
 use crate::shown::Places;
 use fr_formats::{Command, Source, WarningKind, WarningShown};
+use fr_found::{Finding, Left};
 use fr_judge::Verdict;
 use fr_outcome::{AppText, Judged, Tried, What};
 use fr_program::App;
-use fr_refuter::{Finding, Left};
 use fr_request::Warns;
 use fr_source::Message;
 use fr_warnings::{Warning, warnings_for};

@@ -5,11 +5,11 @@ ghost use Rattle.fr_shown.specs.Pages.{IsPageOf};
 mod points;
 
 use fr_formats::{AnswerKind, Command};
+use fr_found::Finding;
 use fr_lanes::{Body, Code, empty_body, page_kind, page_with, put_actors, put_deadlock, put_run};
 use fr_outcome::{Answer, What};
 use fr_page::page_text;
 use fr_program::App;
-use fr_refuter::Finding;
 use points::put_judged;
 use std::alloc::{AllocError, Global};
 

@@ -11,8 +11,8 @@ mod steps;
 
 use failure::failure_of;
 use fr_formats::{AnswerShown, Failure, Source, StepShown, WarningShown};
+use fr_found::Finding;
 use fr_outcome::{Answer, Judged, What};
-use fr_refuter::Finding;
 pub(crate) use places::Places;
 use std::alloc::{AllocError, Global};
 use steps::{deadlock_shown, run_shown};

@@ -88,11 +88,7 @@ pub(crate) fn refused_by(alloc: Global, source: &Source<'_>, fault: Fault) -> Re
 
 impl Message {
     /// The line to print: `FILE:LINE:COLUMN: text`. What could steer a terminal in the file's name is written as in a literal
-    /// of Rust.
-    ///
-    /// # Errors
-    ///
-    /// Only where memory is refused.
+    /// of Rust. Its error is that an allocation was refused.
     pub fn report(&self, alloc: Global, file: &str) -> Result<String, AllocError> {
         let mut report = String::new(alloc);
         push_plain(&mut report, file)?;
@@ -111,11 +107,8 @@ impl Message {
         Ok(report)
     }
 
-    /// The lines to print below that: the line of the source with its number, and the mark under the place.
-    ///
-    /// # Errors
-    ///
-    /// Only where memory is refused.
+    /// The lines to print below that: the line of the source with its number, and the mark under the place. Its error is that an allocation
+    /// was refused.
     pub fn excerpt(&self, alloc: Global) -> Result<[String; 2], AllocError> {
         let Message {
             line,

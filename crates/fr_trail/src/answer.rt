@@ -318,11 +318,7 @@ fn begun_in(
 }
 
 /// What is answered of a trace that was followed so far: its kind, a line, and where that is asked for the lines that explain it, and those
-/// of the run that was found. The lines' form is this project's own.
-///
-/// # Errors
-///
-/// Only where memory is refused.
+/// of the run that was found. The lines' form is this project's own. Its error is that an allocation was refused.
 pub fn answer_of(
     alloc: Global,
     app: &App,
@@ -411,11 +407,7 @@ pub fn no_answer(alloc: Global, bytes: &[u8], why: NoTrace) -> Result<NoAnswer, 
     }
 }
 
-/// What is answered of a trace that has something that the application doesn't list.
-///
-/// # Errors
-///
-/// Only where memory is refused.
+/// What is answered of a trace that has something that the application doesn't list. Its error is that an allocation was refused.
 pub fn unlisted_answer<'a>(
     alloc: Global,
     app: &App,

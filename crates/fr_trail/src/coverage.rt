@@ -56,11 +56,7 @@ fn put_span(text: &mut String, from: usize, to: usize) -> Result<(), AllocError>
 }
 
 impl Coverage {
-    /// Without a run.
-    ///
-    /// # Errors
-    ///
-    /// Only where memory is refused.
+    /// Without a run. Its error is that an allocation was refused.
     pub fn new(alloc: Global, app: &App) -> Result<Coverage, AllocError> {
         let none = LineTaken {
             is_reached: false,
@@ -117,11 +113,7 @@ impl Coverage {
         }
     }
 
-    /// Adds the run that was found for a trace of this application, if one was.
-    ///
-    /// # Errors
-    ///
-    /// Only where memory is refused.
+    /// Adds the run that was found for a trace of this application, if one was. Its error is that an allocation was refused.
     pub fn add(
         &mut self,
         alloc: Global,
@@ -221,11 +213,8 @@ impl Coverage {
         Ok(())
     }
 
-    /// The lines of code that no run has reached, and the calls that have never failed or never worked, actor by actor, a line each.
-    ///
-    /// # Errors
-    ///
-    /// Only where memory is refused. The lines' form is this project's own.
+    /// The lines of code that no run has reached, and the calls that have never failed or never worked, actor by actor, a line each. Its error
+    /// is that an allocation was refused. The lines' form is this project's own.
     pub fn text(&self, alloc: Global, app: &App) -> Result<String, AllocError> {
         let mut lines = Vec::new(alloc);
         for (number, actor) in app.actors().iter().enumerate() {

@@ -33,11 +33,7 @@ fn untimed_events(alloc: Global, events: &[Event]) -> Result<Vec<Event>, AllocEr
     Ok(found)
 }
 
-/// The trace as it is followed: where any times will do, all block times and ticks are unknown.
-///
-/// # Errors
-///
-/// Only where memory is refused.
+/// The trace as it is followed: where any times will do, all block times and ticks are unknown. Its error is that an allocation was refused.
 pub fn as_asked(alloc: Global, trace: Trace, any_times: bool) -> Result<Trace, AllocError>
     ensures { IfOk result (IsAsked any_times trace) }
 {

@@ -34,12 +34,7 @@ impl Model for MemoryFiles {
 fn is_among(paths: &[String], path: &str) -> bool
     ensures { Contains (map string_bytes paths.now) path.now → IsTrue result }
 {
-    for other in paths {
-        if other.as_str() == path {
-            return true;
-        }
-    }
-    false
+    paths.iter().any(|other| other.as_str() == path)
 }
 
 /// Whether the path is one of the inputs, or one of these outputs.

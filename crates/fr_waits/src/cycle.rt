@@ -60,11 +60,7 @@ fn begun_at(alloc: Global, cycle: &[Wait], first: usize) -> Result<Vec<Wait>, Al
 /// A cycle of waits to which this actor's waits lead, or None where they end at an actor that doesn't
 /// wait; then this actor is in no cycle. A cycle begins with the actor that has the least number, and
 /// has each actor once. State and actor are of the application. What counts as a deadlock is this
-/// project's profile.
-///
-/// # Errors
-///
-/// Only where memory is refused.
+/// project's profile. Its error is that an allocation was refused.
 pub fn deadlock_from(
     alloc: Global,
     app: &App,
@@ -103,11 +99,7 @@ pub fn deadlock_from(
 
 /// A cycle of waits in this state, or None exactly where the state has no deadlock over mutexes. The
 /// cycle begins with the actor that has the least number, and has each actor once. Where there are
-/// several cycles, which one is given is open. The state is of the application.
-///
-/// # Errors
-///
-/// Only where memory is refused.
+/// several cycles, which one is given is open. The state is of the application. Its error is that an allocation was refused.
 pub fn deadlock_in(alloc: Global, app: &App, state: &State) -> Result<Option<Vec<Wait>>, AllocError>
     requires formed { IsWellFormed app.now state.now }
     ensures cycle { IfOk result (λ found. IfSome found (λ c. IsCycle app.now state.now c.items)) }

@@ -308,11 +308,7 @@ fn witness_of<'a>(
 /// What shows that the verdict's part isn't kept: the start, a state, or steps from states, all of which
 /// are well formed and have the notes that they should have. The certificate fits the application.
 /// None where the verdict is yes, or where no such state was found: how it is looked for isn't exact,
-/// what is found is.
-///
-/// # Errors
-///
-/// Only where memory is refused.
+/// what is found is. Its error is that an allocation was refused.
 pub fn witness(
     alloc: Global,
     app: &App,

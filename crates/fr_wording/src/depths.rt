@@ -19,11 +19,8 @@ pub enum Depth {
     Held(ObjId),
 }
 
-/// All that an actor of the application can be deep in: the critical section, suspension, and each mutex.
-///
-/// # Errors
-///
-/// Only where memory is refused.
+/// All that an actor of the application can be deep in: the critical section, suspension, and each mutex. Its error is that an allocation was
+/// refused.
 pub fn depths_of(alloc: Global, app: &App) -> Result<Vec<Depth>, AllocError> {
     let mut depths = Vec::new(alloc);
     depths.push(Depth::Critical)?;
@@ -50,11 +47,8 @@ pub fn depth_in(app: &App, state: &State, actor: ActorId, depth: Depth) -> u32
     }
 }
 
-/// What each object and each variable is in the state, in words, an item each.
-///
-/// # Errors
-///
-/// Only where memory is refused. The words are this project's own.
+/// What each object and each variable is in the state, in words, an item each. Its error is that an allocation was refused. The words are this
+/// project's own.
 pub fn state_told(alloc: Global, app: &App, state: &State) -> Result<Vec<String>, AllocError>
     requires { IsWellFormed app.now state.now }
 {
@@ -68,11 +62,8 @@ pub fn state_told(alloc: Global, app: &App, state: &State) -> Result<Vec<String>
     Ok(told)
 }
 
-/// What the object has in the state, in words; no text where the application has no such object.
-///
-/// # Errors
-///
-/// Only where memory is refused. The words are this project's own.
+/// What the object has in the state, in words; no text where the application has no such object. Its error is that an allocation was refused.
+/// The words are this project's own.
 pub fn object_told(
     alloc: Global,
     app: &App,

@@ -39,11 +39,8 @@ pub fn suspension_in(app: &App, state: &State, actor: ActorId) -> u32
     }
 }
 
-/// Appends that an actor holds a mutex, so often; where that is 0, that it doesn't hold it.
-///
-/// # Errors
-///
-/// Only where memory is refused. The words are this project's own.
+/// Appends that an actor holds a mutex, so often; where that is 0, that it doesn't hold it. Its error is that an allocation was refused. The
+/// words are this project's own.
 pub fn put_held(
     text: &mut String,
     actor: &str,
@@ -71,11 +68,8 @@ fn put_depth(
     }
 }
 
-/// Appends how deep an actor is in the critical section, by the actor's name.
-///
-/// # Errors
-///
-/// Only where memory is refused. The words are this project's own.
+/// Appends how deep an actor is in the critical section, by the actor's name. Its error is that an allocation was refused. The words are this
+/// project's own.
 pub fn put_critical(text: &mut String, actor: &str, depth: u32) -> Result<(), AllocError> {
     let (none, some) = (
         "isn't in the critical section",
@@ -84,11 +78,8 @@ pub fn put_critical(text: &mut String, actor: &str, depth: u32) -> Result<(), Al
     put_depth(text, actor, none, some, depth)
 }
 
-/// Appends how deep an actor has suspended the scheduler, by the actor's name.
-///
-/// # Errors
-///
-/// Only where memory is refused. The words are this project's own.
+/// Appends how deep an actor has suspended the scheduler, by the actor's name. Its error is that an allocation was refused. The words are this
+/// project's own.
 pub fn put_suspended(text: &mut String, actor: &str, depth: u32) -> Result<(), AllocError> {
     let (none, some) = (
         "hasn't suspended the scheduler",
@@ -191,11 +182,8 @@ fn put_fact(
     }
 }
 
-/// What is so in the state of something, for this actor: an item of a list. Only the depths are the actor's own.
-///
-/// # Errors
-///
-/// Only where memory is refused. The words are this project's own.
+/// What is so in the state of something, for this actor: an item of a list. Only the depths are the actor's own. Its error is that an
+/// allocation was refused. The words are this project's own.
 pub fn fact(
     alloc: Global,
     app: &App,
@@ -210,11 +198,8 @@ pub fn fact(
     Ok(text)
 }
 
-/// Whether something is otherwise after a step of this actor, so that `fact` tells it in other words.
-///
-/// # Errors
-///
-/// Only where memory is refused.
+/// Whether something is otherwise after a step of this actor, so that `fact` tells it in other words. Its error is that an allocation was
+/// refused.
 pub fn has_changed(
     alloc: Global,
     app: &App,

@@ -12,11 +12,7 @@ use fr_calls::{Place, State};
 use fr_program::{ActorId, App, Point};
 use std::alloc::{AllocError, Global};
 
-/// An actor at a point, with the line of code there.
-///
-/// # Errors
-///
-/// Only where memory is refused.
+/// An actor at a point, with the line of code there. Its error is that an allocation was refused.
 pub fn standing_at(
     alloc: Global,
     app: &App,
@@ -47,11 +43,7 @@ pub fn actor_place(app: &App, state: &State, actor: ActorId) -> Place
     }
 }
 
-/// Where the actor is in the state, with its line of code.
-///
-/// # Errors
-///
-/// Only where memory is refused.
+/// Where the actor is in the state, with its line of code. Its error is that an allocation was refused.
 pub fn standing_in(
     alloc: Global,
     app: &App,

@@ -37,11 +37,8 @@ fn works_text(alloc: Global, what: &str, choice: i64) -> Result<String, AllocErr
     format!(in alloc; "the {what} {how}")
 }
 
-/// What a step by this choice does, where it is a call that can do one thing or another; otherwise no text.
-///
-/// # Errors
-///
-/// Only where memory is refused. The words are this project's own.
+/// What a step by this choice does, where it is a call that can do one thing or another; otherwise no text. Its error is that an allocation
+/// was refused. The words are this project's own.
 pub fn outcome_text(
     alloc: Global,
     side: Side,

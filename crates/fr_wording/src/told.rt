@@ -225,11 +225,7 @@ impl Explained {
         }
     }
 
-    /// The line in its two parts.
-    ///
-    /// # Errors
-    ///
-    /// Only where memory is refused. The words are this project's own.
+    /// The line in its two parts. Its error is that an allocation was refused. The words are this project's own.
     pub fn line(&self, alloc: Global, app: &App) -> Result<Line, AllocError> {
         match self {
             Explained::Place(at) => at.line(alloc, app, ""),
@@ -266,11 +262,7 @@ impl Explained {
 }
 
 impl Explanation {
-    /// The lines that tell it, a line for each item.
-    ///
-    /// # Errors
-    ///
-    /// Only where memory is refused. The lines' form is this project's own.
+    /// The lines that tell it, a line for each item. Its error is that an allocation was refused. The lines' form is this project's own.
     pub fn lines(&self, alloc: Global, app: &App) -> Result<Vec<String>, AllocError>
         ensures { IfOk result (λ lines. length lines.items ≡ length self.now.items.items) }
     {
@@ -282,11 +274,7 @@ impl Explanation {
     }
 }
 
-/// The lines of an explanation, each with its newline; no text where there is none.
-///
-/// # Errors
-///
-/// Only where memory is refused.
+/// The lines of an explanation, each with its newline; no text where there is none. Its error is that an allocation was refused.
 pub fn explanation_text(
     alloc: Global,
     app: &App,

@@ -114,11 +114,7 @@ fn copied_contents(alloc: Global, contents: &[Content]) -> Result<Vec<Content>, 
 }
 
 impl State {
-    /// The same state once more.
-    ///
-    /// # Errors
-    ///
-    /// Only where memory is refused.
+    /// The same state once more. Its error is that an allocation was refused.
     pub fn copied(&self) -> Result<State, AllocError>
         ensures { IfOk result (λ state. state ≡ self.now) }
     {
@@ -133,11 +129,7 @@ impl State {
     }
 
     /// The state becomes the same as another one, and its lists' memory is used again. Where memory is
-    /// refused, what it is then is open.
-    ///
-    /// # Errors
-    ///
-    /// Only where memory is refused.
+    /// refused, what it is then is open. Its error is that an allocation was refused.
     pub fn copy_from(&mut self, other: &State) -> Result<(), AllocError>
         ensures { OnOk result (self.new ≡ other.now) }
     {

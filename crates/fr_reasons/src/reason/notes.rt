@@ -167,11 +167,8 @@ pub(super) fn claims_of(
 }
 
 /// What the note of a point says in words, an item for each alternative, beside that the objects in `live` are live; no item where the
-/// actor is never there, or where the application has no such point. The certificate fits the application.
-///
-/// # Errors
-///
-/// Only where memory is refused. The words are this project's own.
+/// actor is never there, or where the application has no such point. The certificate fits the application. Its error is that an allocation was
+/// refused. The words are this project's own.
 pub fn note_told(
     alloc: Global,
     app: &App,
@@ -223,11 +220,8 @@ fn is_lasting(app: &App, object: ObjId) -> bool {
     }
 }
 
-/// The objects that are live from the start on and deleted by no line, so that a page says once that they are live.
-///
-/// # Errors
-///
-/// Only where memory is refused.
+/// The objects that are live from the start on and deleted by no line, so that a page says once that they are live. Its error is that an
+/// allocation was refused.
 pub fn never_deleted(alloc: Global, app: &App) -> Result<Vec<ObjId>, AllocError> {
     let mut live = Vec::new(alloc);
     for number in 0..app.objects().len() {

@@ -9,7 +9,7 @@ ghost use Rattle.fr_shown.specs.Shows.{IsEndOfRun, IsPlaceIf, IsRunShown, IsStep
 use super::places::Places;
 use fr_changes::{ExplainedRun, ExplainedStep, explain_steps, waiting_actors};
 use fr_formats::{Failure, PlaceShown, StepShown, rule_name};
-use fr_refuter::{Deadlocked, Refutation};
+use fr_found::{Deadlocked, Refutation};
 use fr_report::{breach_text, deadlock_text};
 use fr_wording::Standing;
 use std::alloc::{AllocError, Global};
