@@ -15,7 +15,7 @@ use toml::Table;
 /// Appends where the text is no TOML.
 fn push_toml(out: &mut Lines, bytes: &[u8], error: &toml::de::Error) {
     match error.span() {
-        Some(span) => push_position(out, position_at(bytes, span.start), error.message()),
+        Some(span) => push_position(out, bytes, position_at(bytes, span.start), error.message()),
         None => out.refuse(),
     }
 }

@@ -3,7 +3,7 @@ use crate::keys::{has_keys, is_after_another, keys_in, row_in, row_of};
 use crate::lines::Lines;
 use crate::misfit::{push_end, push_note};
 use crate::nearness::push_nearest;
-use crate::position::{position_in, push_position};
+use crate::position::push_position;
 use crate::shown::Quoted;
 use crate::steps::{inner_key, last_key, push_path, value_at};
 use fr_cert::{CertFault, MOST_CERTIFICATE_BYTES, Path, Step};
@@ -18,13 +18,12 @@ fn push_json(out: &mut Lines, bytes: &[u8], error: &serde_json::Error) {
     if error.is_memory() {
         return out.refuse();
     }
-    let position = position_in(bytes, error.line(), error.column());
     let fault = if error.is_eof() {
         "the text ends too soon"
     } else {
         "no JSON"
     };
-    push_position(out, position, fault);
+    push_position(out, bytes, (error.line(), error.column()), fault);
 }
 
 /// Appends a value: a text, a number or a word as it is written, else what it is.

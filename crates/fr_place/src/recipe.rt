@@ -60,17 +60,10 @@ pub(crate) fn recipe_for(call: &str) -> Option<&'static str> {
     recipe_among(&RECIPES, call).or(recipe_among(&LINE_RECIPES, call))
 }
 
-/// Whether a call is at the front of the text: a name, and then a parenthesis.
-fn begins_call(text: &str) -> bool {
-    let after = text.trim_start_matches(|at: char| at.is_ascii_alphanumeric() || at == '_');
-    after.trim_start_matches(' ').starts_with('(')
-}
-
 /// The same of a call that no source has, which begins at this column of a line of a source, from 1; None where no call begins there.
 pub fn recipe_at(line: &str, column: usize) -> Option<&'static str> {
-    let (_, after) = line.split_at_checked(column.checked_sub(1)?)?;
-    if !begins_call(after) {
-        return None;
-    }
-    recipe_among(&RECIPES, after)
+    let (_, call) = line.split_at_checked(column.checked_sub(1)?)?;
+    let behind = call.trim_start_matches(|at: char| at.is_ascii_alphanumeric() || at == '_');
+    behind.trim_start_matches(' ').strip_prefix('(')?;
+    recipe_among(&RECIPES, call)
 }
