@@ -53,7 +53,7 @@ def content_text(app, name, content):
     if not content:
         return "live, empty"
     if kind == "message":
-        return f"live, with messages of {values} bytes"
+        return f"live, with {'a message' if len(content) == 1 else 'messages'} of {values} {'byte' if content == (1,) else 'bytes'}"
     return f"live, with the {'value' if len(content) == 1 else 'values'} {values}"
 
 
@@ -118,7 +118,8 @@ def outcome_text(mover, choice, row):
     if line.action and mover.point[2] == "before":
         return ": the call begins"
     if line.moves_bytes():
-        many = f"a message of {choice} bytes is" if "Message" in line.op else f"{choice} bytes are"
+        count = f"{choice} {'byte' if choice == '1' else 'bytes'}"
+        many = f"a message of {count} is" if "Message" in line.op else f"{count} {'is' if choice == '1' else 'are'}"
         return f": nothing is {verb}" if choice == "0" else f": {many} {verb}"
     tried = "create" if line.is_create() else line.action and line.action.lower()
     return f": the {tried} {'works' if row == 'then' else 'fails'}" if tried else ""

@@ -54,38 +54,22 @@ pub fn put_held(
     }
 }
 
-/// Appends how deep an actor is in something: this where the depth is 0, and otherwise that with the depth.
-fn put_depth(
-    text: &mut String,
-    actor: &str,
-    none: &str,
-    some: &str,
-    depth: u32,
-) -> Result<(), AllocError> {
-    match depth {
-        0 => put_two(text, actor, none),
-        _ => write!(text, "{actor} {some} at depth {depth}"),
-    }
-}
-
 /// Appends how deep an actor is in the critical section, by the actor's name. Its error is that an allocation was refused. The words are this
 /// project's own.
 pub fn put_critical(text: &mut String, actor: &str, depth: u32) -> Result<(), AllocError> {
-    let (none, some) = (
-        "isn't in the critical section",
-        "is in the critical section",
-    );
-    put_depth(text, actor, none, some, depth)
+    match depth {
+        0 => put_two(text, actor, "isn't in the critical section"),
+        _ => write!(text, "{actor} is in the critical section at depth {depth}"),
+    }
 }
 
 /// Appends how deep an actor has suspended the scheduler, by the actor's name. Its error is that an allocation was refused. The words are this
 /// project's own.
 pub fn put_suspended(text: &mut String, actor: &str, depth: u32) -> Result<(), AllocError> {
-    let (none, some) = (
-        "hasn't suspended the scheduler",
-        "has suspended the scheduler",
-    );
-    put_depth(text, actor, none, some, depth)
+    match depth {
+        0 => put_two(text, actor, "hasn't suspended the scheduler"),
+        _ => write!(text, "{actor} has suspended the scheduler at depth {depth}"),
+    }
 }
 
 /// Appends a text, and behind it each of the items with a blank before it.
@@ -113,14 +97,15 @@ fn put_values(text: &mut String, values: &VecDeque<i64>) -> Result<(), AllocErro
 
 /// Appends the lengths of the messages of a buffer, or how many they are where they are many.
 fn put_lengths(text: &mut String, lengths: &VecDeque<u32>) -> Result<(), AllocError> {
-    match lengths.len() {
-        0 => text.push_str("live, empty"),
-        1..=MOST_VALUES => {
-            put_each(text, "live, with messages of", lengths)?;
-            text.push_str(" bytes")
-        }
-        count => write!(text, "live, with {count} messages"),
-    }
+    let before = match lengths.len() {
+        0 => return text.push_str("live, empty"),
+        1 if lengths.front() == Some(&1) => return text.push_str("live, with a message of 1 byte"),
+        1 => "live, with a message of",
+        2..=MOST_VALUES => "live, with messages of",
+        count => return write!(text, "live, with {count} messages"),
+    };
+    put_each(text, before, lengths)?;
+    text.push_str(" bytes")
 }
 
 /// Appends what an object has.

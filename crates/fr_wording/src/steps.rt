@@ -26,7 +26,9 @@ fn moved_text(
     };
     match (choice, kind) {
         (0, _) => format!(in alloc; "nothing is {verb}"),
+        (1, BufferKind::Stream) => format!(in alloc; "1 byte is {verb}"),
         (_, BufferKind::Stream) => format!(in alloc; "{choice} bytes are {verb}"),
+        (1, BufferKind::Message) => format!(in alloc; "a message of 1 byte is {verb}"),
         (_, BufferKind::Message) => format!(in alloc; "a message of {choice} bytes is {verb}"),
     }
 }
