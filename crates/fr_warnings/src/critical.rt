@@ -12,12 +12,8 @@ fn can_be_critical(notes: &Notes, number: usize) -> bool {
     let Some(note) = notes.get(number) else {
         return false;
     };
-    for alternative in note.alternatives() {
-        if alternative.critical() > 0 {
-            return true;
-        }
-    }
-    false
+    let mut alternatives = note.alternatives().iter();
+    alternatives.any(|alternative| alternative.critical() > 0)
 }
 
 /// The buffer of which the line sends or receives in the form for tasks with block time 0, and at which end, where the actor is

@@ -1,10 +1,11 @@
 // Mutexes that are held for long: while a task waits without limit for something else, and where a task takes one that it holds.
+use crate::updates::Walk;
 use crate::warning::Warning;
 use fr_formats::WarningKind;
 use fr_notes::{Claim, Notes};
 use fr_program::{
-    Act, ActorId, App, Attempt, BlockTime, Call, Instr, ObjId, ObjectCall, Point, SemaphoreForm,
-    Side, Timing,
+    Act, App, Attempt, BlockTime, Call, Instr, ObjId, ObjectCall, Point, SemaphoreForm, Side,
+    Timing,
 };
 use fr_wording::{actor_name, is_mutex, object_name};
 use std::alloc::{AllocError, Global};
@@ -14,12 +15,8 @@ fn can_hold(notes: &Notes, number: usize, mutex: ObjId) -> bool {
     let Some(note) = notes.get(number) else {
         return false;
     };
-    for alternative in note.alternatives() {
-        if matches!(alternative.claim(mutex), Claim::HeldTimes(_)) {
-            return true;
-        }
-    }
-    false
+    let mut alternatives = note.alternatives().iter();
+    alternatives.any(|alternative| matches!(alternative.claim(mutex), Claim::HeldTimes(_)))
 }
 
 /// The object call of the point's line.
@@ -96,34 +93,77 @@ pub(crate) fn held_while_waiting(
     Ok(())
 }
 
-/// The plain mutex that the line takes.
-fn mutex_taken(app: &App, point: Point) -> Option<ObjId> {
+/// What the line tries, and with which object.
+fn tried_at(app: &App, point: Point) -> Option<(Attempt, ObjId)> {
     let call = call_at(app, point)?;
     match call.act {
-        Act::Try {
-            attempt: Attempt::Take(SemaphoreForm::Plain),
-            ..
-        } if is_mutex(app, call.object) => Some(call.object),
+        Act::Try { attempt, .. } => Some((attempt, call.object)),
         _ => None,
     }
 }
 
-/// The first line of the actor that takes the mutex.
-fn first_take(app: &App, actor: ActorId, mutex: ObjId) -> Option<usize> {
-    let side = Side::Before;
-    for pc in 0..app.actors().get(actor.0)?.code.len() {
-        if mutex_taken(app, Point { actor, pc, side }) == Some(mutex) {
-            return Some(pc);
+/// The plain mutex that the line takes.
+fn mutex_taken(app: &App, point: Point) -> Option<ObjId> {
+    match tried_at(app, point)? {
+        (Attempt::Take(SemaphoreForm::Plain), mutex) if is_mutex(app, mutex) => Some(mutex),
+        _ => None,
+    }
+}
+
+/// Whether a way without a give of the mutex leads from its take at this point of the code to the other line.
+fn keeps_until(
+    alloc: Global,
+    app: &App,
+    code: &[Instr],
+    mutex: ObjId,
+    from: Point,
+    to: usize,
+) -> Result<bool, AllocError> {
+    let mut walk = Walk::none(alloc, code.len())?;
+    let mut next = from.pc.checked_add(1);
+    for _ in 0..code.len().saturating_mul(2).saturating_add(1) {
+        let Some(pc) = next else {
+            break;
+        };
+        let tried = tried_at(app, Point { pc, ..from });
+        let is_given = matches!(tried, Some((Attempt::Give(_), given)) if given == mutex);
+        if let Some(instr) = code.get(pc)
+            && walk.is_first_look(pc)
+            && !is_given
+        {
+            walk.follow(instr, pc)?;
+        }
+        next = walk.next.pop();
+    }
+    Ok(walk.seen.get(to) == Some(&true))
+}
+
+/// The first line from whose take of the mutex the actor can come to this point without a give of it.
+fn take_before(
+    alloc: Global,
+    app: &App,
+    point: Point,
+    mutex: ObjId,
+) -> Result<Option<usize>, AllocError> {
+    let Some(actor) = app.actors().get(point.actor.0) else {
+        return Ok(None);
+    };
+    for pc in 0..actor.code.len() {
+        let from = Point { pc, ..point };
+        if mutex_taken(app, from) == Some(mutex)
+            && keeps_until(alloc, app, &actor.code, mutex, from, point.pc)?
+        {
+            return Ok(Some(pc));
         }
     }
-    None
+    Ok(None)
 }
 
 /// The line of a take of a mutex that the actor can hold there.
 fn taken_line(alloc: Global, app: &App, point: Point, mutex: ObjId) -> Result<String, AllocError> {
     let (actor, pc) = (actor_name(app, point.actor), point.pc);
     let name = object_name(app, mutex);
-    match first_take(app, point.actor, mutex) {
+    match take_before(alloc, app, point, mutex)? {
         Some(first) if first != pc => {
             format!(in alloc;
                 "warning: {actor} {pc} takes {name}, which it can hold there since {actor} {first}"

@@ -116,11 +116,11 @@ fn lines_after(instr: &Instr, pc: usize) -> (Option<usize>, Option<usize>) {
     }
 }
 
-/// A walk through an actor's code from a copy on.
+/// A walk through an actor's code, as from a copy on.
 #[derive(Drop)]
-struct Walk {
-    next: Vec<usize>,
-    seen: Vec<bool>,
+pub(crate) struct Walk {
+    pub next: Vec<usize>,
+    pub seen: Vec<bool>,
     /// The lines that were looked at.
     visited: Vec<usize>,
     /// Which lines lead to one that sets the variable from the copy.
@@ -131,7 +131,7 @@ struct Walk {
 
 impl Walk {
     /// A walk through code of this length that hasn't begun.
-    fn none(alloc: Global, length: usize) -> Result<Walk, AllocError> {
+    pub(crate) fn none(alloc: Global, length: usize) -> Result<Walk, AllocError> {
         let seen = vec![in alloc; false; length]?;
         let leads = vec![in alloc; false; length]?;
         Ok(Walk {
@@ -144,7 +144,7 @@ impl Walk {
     }
 
     /// Goes on from the line.
-    fn follow(&mut self, instr: &Instr, pc: usize) -> Result<(), AllocError> {
+    pub(crate) fn follow(&mut self, instr: &Instr, pc: usize) -> Result<(), AllocError> {
         let (one, other) = lines_after(instr, pc);
         if let Some(pc) = one {
             self.next.push(pc)?;
@@ -156,7 +156,7 @@ impl Walk {
     }
 
     /// Whether the line wasn't looked at before; from now on it was.
-    fn is_first_look(&mut self, pc: usize) -> bool {
+    pub(crate) fn is_first_look(&mut self, pc: usize) -> bool {
         match self.seen.get_mut(pc) {
             Some(seen) => !replace(seen, true),
             None => false,
@@ -295,28 +295,14 @@ fn can_both_be_at(app: &App, notes: &Notes, one: Point, number: usize) -> bool {
 
 /// Whether another actor can be at the point with this number while the actor is at one of the lines of the update.
 fn is_between(app: &App, notes: &Notes, update: &Update, number: usize) -> bool {
-    let actor = update.copied.actor;
-    for place in &update.between {
-        let (pc, before, inside) = (*place, Side::Before, Side::Inside);
-        if can_both_be_at(
-            app,
-            notes,
-            Point {
-                actor,
-                pc,
-                side: before,
-            },
-            number,
-        ) || can_both_be_at(
-            app,
-            notes,
-            Point {
-                actor,
-                pc,
-                side: inside,
-            },
-            number,
-        ) {
+    let mut point = store_of(update);
+    for pc in &update.between {
+        point.pc = *pc;
+        let inside = Point {
+            side: Side::Inside,
+            ..point
+        };
+        if can_both_be_at(app, notes, point, number) || can_both_be_at(app, notes, inside, number) {
             return true;
         }
     }

@@ -129,42 +129,20 @@ fn add_unused(
     app: &App,
     uses: &Uses,
 ) -> Result<(), AllocError> {
+    let (kind, how) = (WarningKind::NeverUsed, "never used");
     for place in 0..app.variables().len() {
         if !is_marked(&uses.read, place) && !is_marked(&uses.written, place) {
             let name = variable_name(app, VarId(place));
-            warnings.push(warning_for(
-                alloc,
-                WarningKind::NeverUsed,
-                "variable",
-                name,
-                "never used",
-            )?)?;
+            warnings.push(warning_for(alloc, kind, "variable", name, how)?)?;
         }
     }
     for place in 0..app.objects().len() {
         if !is_marked(&uses.named, place) {
             let name = object_name(app, ObjId(place));
-            warnings.push(warning_for(
-                alloc,
-                WarningKind::NeverUsed,
-                "object",
-                name,
-                "never used",
-            )?)?;
+            warnings.push(warning_for(alloc, kind, "object", name, how)?)?;
         }
     }
     Ok(())
-}
-
-/// Adds the warnings for variables and objects that no line of code names, a line each. A wrong name can be the cause. An error
-/// says that an allocation was refused. The lines' form is this project's own.
-pub(crate) fn never_used(
-    alloc: Global,
-    app: &App,
-    warnings: &mut Vec<Warning>,
-) -> Result<(), AllocError> {
-    let uses = uses_in(alloc, app)?;
-    add_unused(alloc, warnings, app, &uses)
 }
 
 /// Whether the variable has one value alone.
@@ -200,14 +178,15 @@ fn add_one_way(
     Ok(())
 }
 
-/// Adds the warnings for variables that are read and never written, or written and never read, a line each. A wrong name can be the cause.
-/// A variable with one value in its range is written so that a rule is broken there, and nobody has to read it.
-/// An error says that an allocation was refused. The lines' form is this project's own.
-pub(crate) fn used_one_way(
+/// Adds the warnings for variables and objects that no line of code names, and for variables that are read and never written, or written
+/// and never read, a line each. A wrong name can be the cause. A variable with one value in its range is written so that a rule is broken
+/// there, and nobody has to read it. An error says that an allocation was refused. The lines' form is this project's own.
+pub(crate) fn used_too_little(
     alloc: Global,
     app: &App,
     warnings: &mut Vec<Warning>,
 ) -> Result<(), AllocError> {
     let uses = uses_in(alloc, app)?;
+    add_unused(alloc, warnings, app, &uses)?;
     add_one_way(alloc, warnings, app, &uses)
 }

@@ -3,7 +3,7 @@ use crate::critical::buffers_in_critical_sections;
 use crate::mutexes::{held_while_waiting, never_given};
 use crate::reached::never_reached;
 use crate::updates::lost_updates;
-use crate::uses::{never_used, used_one_way};
+use crate::uses::used_too_little;
 use fr_formats::WarningKind;
 use fr_notes::Notes;
 use fr_program::{App, Point};
@@ -37,12 +37,6 @@ fn add_noted(
     buffers_in_critical_sections(alloc, app, notes, warnings)
 }
 
-/// Adds what is never used, or used one way.
-fn add_unused(alloc: Global, warnings: &mut Vec<Warning>, app: &App) -> Result<(), AllocError> {
-    never_used(alloc, app, warnings)?;
-    used_one_way(alloc, app, warnings)
-}
-
 /// Adds that the application has no actors, and where all warnings are asked for what the notes hint at, where there are notes, and
 /// what is never used or used one way.
 fn add_for(
@@ -65,7 +59,7 @@ fn add_for(
     if let Some(notes) = notes {
         add_noted(alloc, warnings, app, notes)?;
     }
-    add_unused(alloc, warnings, app)
+    used_too_little(alloc, app, warnings)
 }
 
 /// The warnings for an application, as far as they are asked for, with these notes where a certificate has some. Its error is that an
