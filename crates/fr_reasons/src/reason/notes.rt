@@ -10,7 +10,7 @@ use super::scene::{Scene, says_of};
 use super::words::{can_hold, otherwise_text, put_claim, put_said};
 use fr_calls::State;
 use fr_ends::{Certificate, EndName, is_inside_end};
-use fr_notes::{Alternative, Claim, Spot, Subject};
+use fr_notes::{Alternative, Claim, Notes, Spot, Subject};
 use fr_program::{ActorId, App, Call, Instr, ObjId, Point};
 use fr_witness::{claim_broken, spot_of};
 use fr_wording::{Explained, ShownState, add_text, subject_at, subject_count};
@@ -186,22 +186,8 @@ pub fn note_told(
 
 /// Whether some line deletes the object.
 fn is_deleted(app: &App, object: ObjId) -> bool {
-    for actor in app.actors() {
-        if code_deletes(&actor.code, object) {
-            return true;
-        }
-    }
-    false
-}
-
-/// Whether one of these lines deletes the object.
-fn code_deletes(code: &[Instr], object: ObjId) -> bool {
-    for instr in code {
-        if deletes(instr, object) {
-            return true;
-        }
-    }
-    false
+    let mut actors = app.actors().iter();
+    actors.any(|actor| actor.code.iter().any(|instr| deletes(instr, object)))
 }
 
 /// Whether the line deletes the object.
@@ -212,21 +198,26 @@ pub(super) fn deletes(instr: &Instr, object: ObjId) -> bool {
     }
 }
 
-/// Whether the object is live from the start on and deleted by no line.
-fn is_lasting(app: &App, object: ObjId) -> bool {
-    match app.objects().get(object.0) {
-        Some(declared) => declared.live && !is_deleted(app, object),
-        None => false,
-    }
+/// Whether the note of the point with this number says that the object is live.
+fn says_live(notes: &Notes, number: usize, object: ObjId) -> bool {
+    let Some(note) = notes.get(number) else {
+        return false;
+    };
+    let mut alternatives = note.alternatives().iter();
+    alternatives.all(|says| matches!(says.claim(object), Claim::Alive | Claim::HeldTimes(_)))
 }
 
-/// The objects that are live from the start on and deleted by no line, so that a page says once that they are live. Its error is that an
-/// allocation was refused.
-pub fn never_deleted(alloc: Global, app: &App) -> Result<Vec<ObjId>, AllocError> {
+/// The objects that are live from the start on, deleted by no line and live by each note, so that a page says once that they are live. Its
+/// error is that an allocation was refused.
+pub fn never_deleted(alloc: Global, app: &App, notes: &Notes) -> Result<Vec<ObjId>, AllocError> {
     let mut live = Vec::new(alloc);
-    for number in 0..app.objects().len() {
-        if is_lasting(app, ObjId(number)) {
-            live.push(ObjId(number))?;
+    for (number, declared) in app.objects().iter().enumerate() {
+        let object = ObjId(number);
+        if declared.live
+            && !is_deleted(app, object)
+            && (0..app.points()).all(|number| says_live(notes, number, object))
+        {
+            live.push(object)?;
         }
     }
     Ok(live)

@@ -236,7 +236,7 @@ pub(super) fn put_judged(
 ) -> Result<(), AllocError> {
     judged.recall_verdict();
     let (app, certificate) = (judged.app(), judged.certificate());
-    let live = never_deleted(alloc, app)?;
+    let live = never_deleted(alloc, app, &certificate.notes)?;
     let look = Look {
         code,
         live: &live,
