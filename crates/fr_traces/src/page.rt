@@ -6,6 +6,7 @@ ghost use Rattle.fr_traces.specs.Traces.{IsTrailPage};
 use fr_calls::{Rule, State};
 use fr_changes::{ExplainedRun, explain_steps};
 use fr_explained::Followed;
+use fr_formats::AnswerKind;
 use fr_lanes::{
     Body, Code, RowPosition, count_text, empty_body, is_shown, omitted_before, page_kind,
     page_with, put_actors, put_end, put_start, put_step, put_tracks, row_of, rule_told,
@@ -152,7 +153,8 @@ fn put_trail(
     code: &Code,
     answer: &TraceAnswer,
 ) -> Result<(), AllocError> {
-    if answer.rows.is_empty() {
+    let is_shown_below = matches!(answer.kind, AnswerKind::Followed | AnswerKind::NotFollowed);
+    if answer.rows.is_empty() && !is_shown_below {
         return Ok(());
     }
     let (steps, depths) = (steps_in(alloc, &answer.rows)?, depths_of(alloc, app)?);
