@@ -1,4 +1,5 @@
 // Where the lines of code are in an application's text.
+use crate::source::{after_quotes, text_in};
 use crate::table::{code_of, entries_at};
 use fr_reader::Key;
 use std::alloc::{AllocError, Global};
@@ -40,15 +41,6 @@ fn characters(bytes: &[u8]) -> usize {
         }
     }
     count
-}
-
-/// How many quotes open the text that begins here.
-fn opening(text: &[u8]) -> usize {
-    if text.starts_with(b"\"\"\"") || text.starts_with(b"'''") {
-        3
-    } else {
-        1
-    }
 }
 
 impl<'a> Quotes<'a> {
@@ -94,10 +86,12 @@ impl<'a> Quotes<'a> {
             Err(ParseError::OutOfMemory) => return Err(AllocError),
             Err(_) => return Ok(None),
         };
-        let quotes = opening(self.rest.as_bytes());
-        let (line, column) = (self.line, self.column.saturating_add(quotes));
-        let passed = characters(self.go_to(rest));
-        let length = passed.saturating_sub(quotes.saturating_mul(2));
+        let opened = after_quotes(self.rest).unwrap_or("");
+        let quotes = self.rest.len().saturating_sub(opened.len());
+        let inside = opened.strip_prefix("\r\n").or(opened.strip_prefix("\n"));
+        self.go_to(inside.unwrap_or(opened));
+        let (line, column) = (self.line, self.column);
+        let length = characters(self.go_to(rest)).saturating_sub(quotes);
         let place = CodePlace {
             line,
             column,
@@ -175,7 +169,7 @@ fn lines_in(alloc: Global, whole: &Table) -> Result<Vec<Vec<String>>, AllocError
 /// Its error is that an allocation was refused.
 pub fn places_of_code(alloc: Global, bytes: &[u8]) -> Result<Vec<Vec<CodePlace>>, AllocError> {
     match toml::table_from_slice(alloc, bytes) {
-        Ok(table) => places_in(alloc, str::from_utf8(bytes).unwrap_or(""), &table),
+        Ok(table) => places_in(alloc, text_in(bytes), &table),
         Err(error) if error.is_memory() => Err(AllocError),
         Err(_) => Ok(Vec::new(alloc)),
     }

@@ -48,6 +48,12 @@ struct Reading<'a> {
     rest: &'a str,
 }
 
+/// The text in these bytes, without a byte order mark before it; an empty one where they aren't UTF-8.
+pub(crate) fn text_in(bytes: &[u8]) -> &str {
+    let text = str::from_utf8(bytes).unwrap_or("");
+    text.strip_prefix('\u{feff}').unwrap_or(text)
+}
+
 /// What follows so many characters; None where there are fewer.
 fn after_characters(text: &str, count: usize) -> Option<&str> {
     let mut characters = text.chars();
@@ -68,7 +74,7 @@ fn after_blanks(text: &str) -> &str {
 }
 
 /// What follows the quotes at the front of the text.
-fn after_quotes(text: &str) -> Option<&str> {
+pub(crate) fn after_quotes(text: &str) -> Option<&str> {
     for quotes in ["\"\"\"", "'''", "\"", "'"] {
         if let Some(after) = text.strip_prefix(quotes) {
             return Some(after);
@@ -240,7 +246,7 @@ pub fn sources_of_code(
 ) -> Result<Vec<Vec<Option<CodeSource>>>, AllocError>
     ensures { IfOk result (λ sources. map vec_len sources.items ≡ map vec_len code.now) }
 {
-    let mut reading = Reading::new(alloc, str::from_utf8(bytes).unwrap_or(""))?;
+    let mut reading = Reading::new(alloc, text_in(bytes))?;
     let mut sources = Vec::new(alloc);
     for places in code {
         sources.push(reading.sources_of(alloc, places)?)?;
