@@ -100,33 +100,6 @@ fn split_digits(text: &str) -> Option<(&str, &str)> {
     Some((digits, rest))
 }
 
-/// Whether a colon with this text after it ends the name of a file: digits, and then a blank, a colon or nothing.
-fn ends_file(after: &str) -> bool {
-    match split_digits(after) {
-        Some((_, rest)) => match rest.chars().next() {
-            Some(character) => character == ':' || is_blank(character),
-            None => true,
-        },
-        None => false,
-    }
-}
-
-/// The name of the file at the front of the text, and what follows the colon after it.
-fn split_file(text: &str) -> Option<(&str, &str)> {
-    for (at, character) in text.char_indices() {
-        if character.is_control() || character == '"' {
-            return None;
-        }
-        let (file, rest) = text.split_at_checked(at)?;
-        if let Some(after) = rest.strip_prefix(':')
-            && ends_file(after)
-        {
-            return Some((file, after));
-        }
-    }
-    None
-}
-
 /// What follows one caller at the front of the text.
 fn after_caller(text: &str) -> Option<&str> {
     match split_digits(text.strip_prefix(" from ")?) {
@@ -147,27 +120,41 @@ fn split_callers(text: &str) -> Option<(&str, &str)> {
     text.split_at_checked(text.len().saturating_sub(rest.len()))
 }
 
+/// The number of a line and its callers, with which the text ends, or an excerpt follows.
+fn line_in(text: &str) -> Option<(usize, &str)> {
+    let (digits, rest) = split_digits(text)?;
+    let (callers, end) = split_callers(rest)?;
+    let line = digits.parse::<usize>().ok()?;
+    (end.is_empty() || end.starts_with(": ")).then_some((line, callers))
+}
+
+/// The place at the front of the text: the name of a file, a colon and a line.
+fn place_in(text: &str) -> Option<Named<'_>> {
+    for (at, character) in text.char_indices() {
+        if character.is_control() {
+            return None;
+        }
+        let (file, rest) = text.split_at_checked(at)?;
+        if let Some(after) = rest.strip_prefix(':')
+            && let Some((line, callers)) = line_in(after)
+        {
+            return Some(Named {
+                file,
+                line,
+                callers,
+            });
+        }
+    }
+    None
+}
+
 /// What the comment names, if it has the form of those of translations: a number, a place and maybe an excerpt.
 fn named_by(comment: &str) -> Option<Named<'_>> {
     let comment = comment.strip_suffix('\r').unwrap_or(comment);
     let (_, after) = split_digits(after_blanks(comment))?;
     let place = after_blanks(after);
-    let (file, rest) = split_file(place)?;
-    let (digits, rest) = split_digits(rest)?;
-    let Ok(line) = digits.parse::<usize>() else {
-        return None;
-    };
-    let (callers, end) = split_callers(rest)?;
-    let is_ended = end.is_empty() || end.starts_with(": ");
-    if is_ended && place.len() < after.len() && !file.is_empty() && line > 0 {
-        Some(Named {
-            file,
-            line,
-            callers,
-        })
-    } else {
-        None
-    }
+    let named = place_in(place)?;
+    (place.len() < after.len() && !named.file.is_empty() && named.line > 0).then_some(named)
 }
 
 impl<'a> Reading<'a> {
@@ -235,8 +222,8 @@ impl<'a> Reading<'a> {
 /// The places in the source that the comments after the lines of code name, in the text of an application that
 /// `translate` wrote: for each actor, in order, that of each line. None where the text after the line has no such
 /// comment: its quotes, maybe a comma, and then `# NUMBER FILE:LINE`, the callers of the line if it has any, as in
-/// ` from 21 from 30`, and nothing more or `: ` with an excerpt. The file's name has no control character and no double
-/// quote; it ends at the first colon that a number follows. Of a text that isn't UTF-8 there are none.
+/// ` from 21 from 30`, and nothing more or `: ` with an excerpt. The file's name has no control character; it ends at the first
+/// colon that all this follows. Of a text that isn't UTF-8 there are none.
 ///
 /// Its error is that an allocation was refused.
 pub fn sources_of_code(
