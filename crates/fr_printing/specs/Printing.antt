@@ -14,7 +14,7 @@ use Rattle.fr_formats.specs.Reports.{IsReport}
 use Rattle.fr_request.specs.declared.format.Format.{Format}
 use Rattle.fr_outcome.specs.declared.answer.What.{What}
 use Rattle.fr_outcome.specs.Answers.{IsTextOf, what_status}
-use Rattle.fr_shown.specs.Pages.{IsPageOf}
+use Rattle.fr_printing.specs.Pages.{IsPageOf}
 use Rattle.fr_shown.specs.Shows.{Shows}
 
 -- the answer's text was written after what the writer had, and nothing else, where it isn't refused

@@ -5,6 +5,7 @@ ghost use Rattle.fr_outcome.specs.Answers.{HasFound, IsTextOf, what_status};
 ghost use Rattle.fr_outcome.specs.Checked.{fault_status};
 ghost use Rattle.fr_printing.specs.Printing.{IsPaged, IsPrinted, IsShown, IsTextPrinted, PutsPage};
 
+use crate::page::page_of;
 use crate::ways::PrintWays;
 use fr_files::OutputFault;
 use fr_formats::Source;
@@ -14,7 +15,7 @@ use fr_outcome::{
 };
 use fr_place::is_unknown_word;
 use fr_request::{Format, Warns};
-use fr_shown::{answer_to, page_of, shown_of};
+use fr_shown::{answer_to, shown_of};
 use fr_wording::text_of;
 use std::alloc::{AllocError, Global};
 use std::io::Write;

@@ -1,6 +1,6 @@
 // An answer as a page to look at.
 ghost use Rattle.std.specs.Prelude.{IfOk, string_bytes};
-ghost use Rattle.fr_shown.specs.Pages.{IsPageOf};
+ghost use Rattle.fr_printing.specs.Pages.{IsPageOf};
 
 mod points;
 

@@ -6,8 +6,8 @@ use Rattle.fr_page.specs.Whole.{head_of}
 use Rattle.fr_outcome.specs.declared.answer.What.{What}
 use Rattle.fr_outcome.specs.Answers.{kind_of, shown_line}
 use Rattle.fr_lanes.specs.Pages.{page_kind}
-use Rattle.fr_shown.specs.Pages.{IsPageOf}
-use Rattle.fr_shown.proofs.page.page_of.Goals as goal
+use Rattle.fr_printing.specs.Pages.{IsPageOf}
+use Rattle.fr_printing.proofs.page.page_of.Goals as goal
 
 written : {Y : Type 0} (what : What) (page : Page) (r : Result (String Global) Y) → page.kind ≡ page_kind (kind_of what) → string_bytes page.answer ≡ shown_line what
     → IfOk r (λ text. (rest : List ℕ) × (string_bytes text ≡ head_of page ++ rest)) → IfOk r (λ text. IsPageOf what (string_bytes text))
