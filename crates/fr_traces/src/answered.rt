@@ -16,6 +16,7 @@ use fr_instr::names_of;
 use fr_program::App;
 use fr_trace::{NoTrace, read_trace};
 use fr_trail::{Asked, NoAnswer, TraceAnswer, answer_of, as_asked, no_answer, unlisted_answer};
+use fr_wording::Sources;
 use std::alloc::{AllocError, Global};
 
 /// The trace in these bytes, which may begin anywhere in a run or doesn't.
@@ -36,6 +37,7 @@ fn trace_in<'a>(
 fn answer_as_asked(
     alloc: Global,
     app: &App,
+    sources: &Sources,
     bytes: &[u8],
     trace: Trace,
     asked: Asked,
@@ -48,7 +50,7 @@ fn answer_as_asked(
 {
     let timed = as_asked(alloc, trace, asked.any_times)?;
     let followed = follow(alloc, app, &timed, asked.states as usize)?;
-    Ok(answer_of(alloc, app, bytes, &timed, followed, asked)?)
+    Ok(answer_of(alloc, app, sources, bytes, &timed, followed, asked)?)
 }
 
 /// What is answered of the text of a trace, which is followed by runs of the application: its kind, a line, and where that is asked for the
@@ -60,6 +62,7 @@ fn answer_as_asked(
 pub(crate) fn answered(
     alloc: Global,
     app: &App,
+    sources: &Sources,
     bytes: &[u8],
     asked: Asked,
 ) -> Result<TraceAnswer, NoAnswer>
@@ -69,7 +72,7 @@ pub(crate) fn answered(
     ensures most { IfOk result (λ answer. status_of answer.kind ≤ 1) }
 {
     match trace_in(alloc, app, bytes, asked.from_anywhere) {
-        Ok(trace) => Ok(answer_as_asked(alloc, app, bytes, trace, asked)?),
+        Ok(trace) => Ok(answer_as_asked(alloc, app, sources, bytes, trace, asked)?),
         Err(NoTrace::NotListed(unlisted)) => {
             Ok(unlisted_answer(alloc, app, unlisted, asked.explains)?)
         }

@@ -14,6 +14,7 @@ use fr_program::App;
 use fr_request::FollowRequest;
 use fr_trace::MOST_TRACE_BYTES;
 use fr_trail::{Asked, NoAnswer, TraceAnswer};
+use fr_wording::Sources;
 use std::alloc::{AllocError, Global};
 
 /// Whether it is explained why a trace isn't followed further, and where a refusal is: where a machine reads the answer, always.
@@ -45,6 +46,7 @@ fn refused(alloc: Global, why: NoAnswer, places: bool) -> Refusal
 fn answer_at<F: Files>(
     alloc: Global,
     app: &App,
+    sources: &Sources,
     path: &str,
     asked: &FollowRequest,
     files: &F,
@@ -64,7 +66,7 @@ fn answer_at<F: Files>(
         writes: asked.run.is_some(),
         shows: asked.html.is_some(),
     };
-    match answered(alloc, app, &bytes, ways) {
+    match answered(alloc, app, sources, &bytes, ways) {
         Ok(answer) => Ok(answer),
         Err(why) => Err(refused(alloc, why, explains)),
     }
@@ -106,6 +108,7 @@ fn answer_of(alloc: Global, refusal: Refusal, explains: bool) -> Result<TraceAns
 pub(crate) fn answer_shown<F: Files>(
     alloc: Global,
     app: &App,
+    sources: &Sources,
     path: &str,
     asked: &FollowRequest,
     files: &F,
@@ -113,7 +116,7 @@ pub(crate) fn answer_shown<F: Files>(
     ensures by { IfOk result (λ answer. IsAnswerAt (Reads (F.Gives files.now) F.Means) asked.now app.now
         (answered_at path.now answer)) }
 {
-    match answer_at(alloc, app, path, asked, files) {
+    match answer_at(alloc, app, sources, path, asked, files) {
         Ok(answer) => Boxed::new(alloc, answer),
         Err(refusal) => Boxed::new(alloc, answer_of(alloc, refusal, explains(asked))?),
     }
@@ -123,6 +126,7 @@ pub(crate) fn answer_shown<F: Files>(
 pub(crate) fn answer_one<F: Files>(
     alloc: Global,
     app: &App,
+    sources: &Sources,
     path: &str,
     asked: &FollowRequest,
     files: &F,
@@ -133,9 +137,9 @@ pub(crate) fn answer_one<F: Files>(
     ensures fault { IfErr result (λ refusal. 2 ≤ fault_status refusal.fault) }
 {
     if asked.format.is_some() {
-        Ok(answer_shown(alloc, app, path, asked, files)?)
+        Ok(answer_shown(alloc, app, sources, path, asked, files)?)
     } else {
-        let answer = answer_at(alloc, app, path, asked, files)?;
+        let answer = answer_at(alloc, app, sources, path, asked, files)?;
         Ok(Boxed::new(alloc, answer)?)
     }
 }

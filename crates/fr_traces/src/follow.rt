@@ -9,6 +9,7 @@ use crate::answers::answer_one;
 use crate::outputs::{look_at_outputs, put_outputs};
 use crate::printed::{print_one, print_several};
 use fr_inputs::{Files, application, refusal_of_texts};
+use fr_lanes::Code;
 use fr_outcome::{AppText, Boxed, CheckFault, Refusal, put};
 use fr_place::is_unknown_word;
 use fr_program::App;
@@ -67,7 +68,7 @@ fn follow_one<F: Files, O: Write>(
     ensures kept { IfOk result (λ answer. asked.now.format ≡ None → kind_status answer.kind ≤ 1) }
     ensures refused { IfErr result (λ refusal. fault_status refusal.fault ≡ 2 → out.new ≡ out.old) }
 {
-    let answer = answer_one(alloc, app, path, asked, files)?;
+    let answer = answer_one(alloc, app, &coverage.sources, path, asked, files)?;
     print_one(alloc, path, answer.get(), asked, out)?;
     coverage.add(alloc, app, answer.get())?;
     Ok(answer)
@@ -139,7 +140,7 @@ pub fn follow_traces<F: Files, O: Write>(
 {
     look_at_outputs(alloc, asked, files)?;
     let (app, text) = app_asked(alloc, asked, files)?;
-    let mut coverage = Coverage::new(alloc, &app)?;
+    let mut coverage = Coverage::new(alloc, &app, Code::of(alloc, &text)?.sources)?;
     let (status, answer) = follow_named(alloc, &app, asked, &mut coverage, files, out)?;
     cover(alloc, &app, asked, &coverage, out)?;
     put_outputs(alloc, asked, &app, &text, &answer, files)?;

@@ -129,7 +129,7 @@ fn print_each<F: Files, O: Write>(
 {
     let mut greatest = 0u8;
     for path in paths {
-        let answer = answer_shown(alloc, app, *path, asked, files)?;
+        let answer = answer_shown(alloc, app, &coverage.sources, *path, asked, files)?;
         let status = print_after(alloc, app, *path, answer.get(), coverage, out)?;
         greatest = greatest.max(status);
     }
@@ -158,6 +158,7 @@ fn shown_each<F: Files>(
     app: &App,
     paths: &[&str],
     asked: &FollowRequest,
+    coverage: &Coverage,
     files: &F,
 ) -> Result<(Vec<AnswerShown>, u8), AllocError>
     ensures answered { IfOk result (λ r. AreTraces (Reads (F.Gives files.now) F.Means) asked.now app.now (map (λ s. s.now) paths.now) r.1
@@ -166,7 +167,7 @@ fn shown_each<F: Files>(
 {
     let (mut answers, mut greatest) = (Vec::new(alloc), 0u8);
     for path in paths {
-        let answer = answer_shown(alloc, app, *path, asked, files)?;
+        let answer = answer_shown(alloc, app, &coverage.sources, *path, asked, files)?;
         let status = add_trace(alloc, *path, answer.get(), asked, &mut answers)?;
         greatest = greatest.max(status);
     }
@@ -180,6 +181,7 @@ fn report_each<F: Files, O: Write>(
     paths: &[&str],
     format: Format,
     asked: &FollowRequest,
+    coverage: &Coverage,
     files: &F,
     out: &mut O,
 ) -> Result<u8, CheckFault>
@@ -188,7 +190,7 @@ fn report_each<F: Files, O: Write>(
     ensures most { IfOk result (λ status. status ≤ 3) }
     ensures fault { IfErr result (λ fault. fault_status fault ≡ 3) }
 {
-    let (answers, status) = shown_each(alloc, app, paths, asked, files)?;
+    let (answers, status) = shown_each(alloc, app, paths, asked, coverage, files)?;
     put_report(alloc, format, &answers, out)?;
     Ok(status)
 }
@@ -210,6 +212,6 @@ pub(crate) fn print_several<F: Files, O: Write>(
 {
     match asked.format {
         None => print_each(alloc, app, paths, asked, coverage, files, out),
-        Some(format) => report_each(alloc, app, paths, format, asked, files, out),
+        Some(format) => report_each(alloc, app, paths, format, asked, coverage, files, out),
     }
 }

@@ -27,7 +27,7 @@ use fr_explained::{Followed, Item};
 use fr_formats::AnswerKind;
 use fr_program::App;
 use fr_trace::{NoTrace, NotListed, TraceFault};
-use fr_wording::{actor_name, rule_text};
+use fr_wording::{Sources, actor_name, rule_text};
 use std::alloc::{AllocError, Global};
 
 /// How a trace is followed.
@@ -253,13 +253,14 @@ fn below(alloc: Global, texts: &[String]) -> Result<Vec<String>, AllocError> {
 fn why_lines(
     alloc: Global,
     app: &App,
+    sources: &Sources,
     bytes: &[u8],
     trace: &Trace,
     followed: &Followed,
     asked: Asked,
 ) -> Result<Vec<String>, AllocError> {
     if asked.explains {
-        below(alloc, &why(alloc, app, bytes, trace, followed)?)
+        below(alloc, &why(alloc, app, sources, bytes, trace, followed)?)
     } else {
         Ok(Vec::new(alloc))
     }
@@ -322,6 +323,7 @@ fn begun_in(
 pub fn answer_of(
     alloc: Global,
     app: &App,
+    sources: &Sources,
     bytes: &[u8],
     trace: &Trace,
     followed: Followed,
@@ -342,7 +344,7 @@ pub fn answer_of(
         rest_of(alloc, bytes, trace, &followed, asked.states)?,
         end_of(alloc, &followed)?,
     );
-    let why = why_lines(alloc, app, bytes, trace, &followed, asked)?;
+    let why = why_lines(alloc, app, sources, bytes, trace, &followed, asked)?;
     let run = lines_of(alloc, app, bytes, trace, &followed, asked.writes)?;
     let rows = rows_asked(alloc, bytes, trace, &followed, asked)?;
     let begun = begun_in(alloc, app, trace, &followed)?;

@@ -7,7 +7,7 @@ use fr_calls::{Place, Way};
 use fr_events::Recorded;
 use fr_explained::can_end;
 use fr_program::{Actor, ActorId, App, Call, Instr, Point, Side};
-use fr_wording::{actor_place, line_of_code, text_of};
+use fr_wording::{Sources, actor_place, standing_at, text_of};
 use std::alloc::{AllocError, Global};
 
 /// What the runs did at a line of code.
@@ -25,6 +25,7 @@ struct LineTaken {
 pub struct Coverage {
     /// By the numbers of the points before the lines.
     lines: Vec<LineTaken>,
+    pub sources: Sources,
 }
 
 /// The numbers of the lines that are marked here, from 0, as `3, 6 to 7`. The last one isn't marked.
@@ -57,7 +58,7 @@ fn put_span(text: &mut String, from: usize, to: usize) -> Result<(), AllocError>
 
 impl Coverage {
     /// Without a run. Its error is that an allocation was refused.
-    pub fn new(alloc: Global, app: &App) -> Result<Coverage, AllocError> {
+    pub fn new(alloc: Global, app: &App, sources: Sources) -> Result<Coverage, AllocError> {
         let none = LineTaken {
             is_reached: false,
             has_worked: false,
@@ -65,6 +66,7 @@ impl Coverage {
         };
         Ok(Coverage {
             lines: vec![in alloc; none; app.points()]?,
+            sources,
         })
     }
 
@@ -72,11 +74,8 @@ impl Coverage {
     fn see_begun(&mut self, app: &App, replayed: &Replayed, actor: ActorId, begun: usize)
         requires { IsWellFormed app.now replayed.now.state }
     {
-        let last = replayed
-            .visits
-            .iter()
-            .rfind(|visit| visit.point.actor == actor);
-        if let Some(visit) = last
+        let mut visits = replayed.visits.iter();
+        if let Some(visit) = visits.rfind(|visit| visit.point.actor == actor)
             && visit.events > begun
             && let Some(instr) = app.instr(visit.point)
             && effect_at(visit.point, instr).is_some()
@@ -161,11 +160,8 @@ impl Coverage {
         let mut marked = Vec::new(alloc);
         for pc in 0..=count {
             let side = Side::Before;
-            let is_unseen = match self.at(app, Point { actor, pc, side }) {
-                Some(line) => !line.is_reached,
-                None => false,
-            };
-            marked.push(is_unseen)?;
+            let line = self.at(app, Point { actor, pc, side });
+            marked.push(line.is_some_and(|line| !line.is_reached))?;
         }
         spans(alloc, &marked)
     }
@@ -206,7 +202,7 @@ impl Coverage {
             let side = Side::Before;
             let point = Point { actor, pc, side };
             if let Some(never) = self.never(app, point) {
-                let code = line_of_code(alloc, app, point)?;
+                let code = standing_at(alloc, app, &self.sources, point)?.code_text(alloc)?;
                 lines.push(format!(in alloc; "{never}: {name} {pc}: {code}")?)?;
             }
         }

@@ -10,7 +10,9 @@ use fr_events::{Event, Happening, Trace};
 use fr_explained::{Followed, Item};
 use fr_program::{ActorId, ActorKind, App, Call, Instr, Point, Side};
 use fr_states::{StepTaken, take_step};
-use fr_wording::{actor_name, actor_place, line_of_code, object_told};
+use fr_wording::{
+    Sources, actor_name, actor_place, line_of_code, object_told, put_source, standing_at,
+};
 use std::alloc::{AllocError, Global};
 
 /// What a call that can be answered so can return.
@@ -59,10 +61,8 @@ fn inside_text(
 ) -> Result<String, AllocError>
     requires { IsWellFormed app.now state.old }
 {
-    let (name, code) = (
-        actor_name(app, point.actor),
-        line_of_code(alloc, app, point)?,
-    );
+    let name = actor_name(app, point.actor);
+    let code = line_of_code(alloc, app, point)?;
     let at = format!(in alloc; "{name} may be inside {}: {code}", point.pc)?;
     let Some(Instr::Call(call)) = app.instr(point) else {
         return Ok(at);
@@ -79,12 +79,10 @@ fn inside_text(
 
 /// Where an actor is whose call has had its effect by this step.
 fn past_text(alloc: Global, app: &App, visit: StepSeen) -> Result<String, AllocError> {
-    let (name, code) = (
-        actor_name(app, visit.point.actor),
-        line_of_code(alloc, app, visit.point)?,
-    );
-    let (pc, choice) = (visit.point.pc, visit.choice);
-    match app.instr(visit.point) {
+    let StepSeen { point, choice, .. } = visit;
+    let (name, pc) = (actor_name(app, point.actor), point.pc);
+    let code = line_of_code(alloc, app, point)?;
+    match app.instr(point) {
         Some(Instr::Call(Call::On(_) | Call::Create { .. })) => {
             format!(in alloc; "{name} may be past {pc}: {code}; it returned {choice} there")
         }
@@ -96,13 +94,15 @@ fn past_text(alloc: Global, app: &App, visit: StepSeen) -> Result<String, AllocE
 fn before_texts(
     alloc: Global,
     app: &App,
+    sources: &Sources,
     trace: &Trace,
     from: Point,
 ) -> Result<Vec<String>, AllocError> {
     let name = actor_name(app, from.actor);
     let mut texts = Vec::new(alloc);
     for point in awaited(alloc, app, trace, from)? {
-        let (pc, code) = (point.pc, line_of_code(alloc, app, point)?);
+        let pc = point.pc;
+        let code = standing_at(alloc, app, sources, point)?.code_text(alloc)?;
         texts.push(format!(in alloc; "{name} may be before {pc}; expected there: {code}")?)?;
     }
     Ok(texts)
@@ -120,11 +120,7 @@ fn effect_before(
     let begun = before.iter().rposition(|other| other.actor == actor)?;
     let last = visits.iter().rfind(|visit| visit.point.actor == actor)?;
     let instr = app.instr(last.point)?;
-    if last.events > begun && effect_at(last.point, instr).is_some() {
-        Some(*last)
-    } else {
-        None
-    }
+    (last.events > begun && effect_at(last.point, instr).is_some()).then_some(*last)
 }
 
 /// Whether the actor's handler runs before the event with this number: it has begun, and has not ended.
@@ -132,10 +128,8 @@ fn is_in_handler(trace: &Trace, actor: ActorId, number: usize) -> bool {
     let Some(before) = trace.events.get(..number) else {
         return false;
     };
-    match before.iter().rfind(|event| event.actor == actor) {
-        Some(event) => !matches!(event.what, Happening::End),
-        None => false,
-    }
+    let last = before.iter().rfind(|event| event.actor == actor);
+    last.is_some_and(|event| !matches!(event.what, Happening::End))
 }
 
 /// Why the event with this number can't come where its actor records `begin` and `end`; None where these don't stand against it.
@@ -174,6 +168,7 @@ fn handler_text(
 fn places(
     alloc: Global,
     app: &App,
+    sources: &Sources,
     trace: &Trace,
     number: usize,
     event: &Event,
@@ -190,12 +185,13 @@ fn places(
     };
     let point = Point { actor, pc, side };
     if !matches!(event.what, Happening::Return { .. }) {
-        return before_texts(alloc, app, trace, point);
+        return before_texts(alloc, app, sources, trace, point);
     }
-    let text = match effect_before(app, trace, &visits, actor, number) {
-        Some(visit) => past_text(alloc, app, visit)?,
-        None => inside_text(alloc, app, &mut state, point)?,
+    let (mut text, at) = match effect_before(app, trace, &visits, actor, number) {
+        Some(visit) => (past_text(alloc, app, visit)?, visit.point),
+        None => (inside_text(alloc, app, &mut state, point)?, point),
     };
+    put_source(&mut text, sources.at(at))?;
     Ok(vec![in alloc; text]?)
 }
 
@@ -203,13 +199,14 @@ fn places(
 fn stopped(
     alloc: Global,
     app: &App,
+    sources: &Sources,
     bytes: &[u8],
     trace: &Trace,
     number: usize,
     run: &[Item],
 ) -> Result<Vec<String>, AllocError> {
     let mut texts = match trace.events.get(number) {
-        Some(event) => places(alloc, app, trace, number, event, run)?,
+        Some(event) => places(alloc, app, sources, trace, number, event, run)?,
         None => Vec::new(alloc),
     };
     texts.append(&mut events_before(alloc, bytes, trace, number)?)?;
@@ -239,13 +236,18 @@ fn strayed(
 pub(crate) fn why(
     alloc: Global,
     app: &App,
+    sources: &Sources,
     bytes: &[u8],
     trace: &Trace,
     followed: &Followed,
 ) -> Result<Vec<String>, AllocError> {
     match followed {
-        Followed::Stops { event, run, .. } => stopped(alloc, app, bytes, trace, *event, run),
-        Followed::Breaks { event, run, .. } => stopped(alloc, app, bytes, trace, *event, run),
+        Followed::Stops { event, run, .. } => stopped(
+            alloc, app, sources, bytes, trace, *event, run,
+        ),
+        Followed::Breaks { event, run, .. } => stopped(
+            alloc, app, sources, bytes, trace, *event, run,
+        ),
         Followed::Strays { event, .. } => strayed(alloc, app, bytes, trace, *event),
         Followed::GaveUp { event } => {
             let mut texts = events_before(alloc, bytes, trace, *event)?;

@@ -24,7 +24,7 @@ pub use lines::{add_text, put_listed, put_three, put_two, text_of};
 pub use listing::{line_of_code, points_text};
 pub use places::{actor_place, standing_at, standing_in};
 pub use shown::{actor_name, is_mutex, number_of, object_name, rule_text, variable_name};
-pub use sources::Sources;
+pub use sources::{Sources, put_source};
 pub use standing::{Line, Standing};
 pub use steps::outcome_text;
 pub use subjects::{subject_at, subject_count};

@@ -38,7 +38,7 @@ impl Sources {
 }
 
 /// Appends the place of a line in its source, after the line, as a comment; nothing where it isn't known.
-pub(crate) fn put_source(text: &mut String, place: &str) -> Result<(), AllocError>
+pub fn put_source(text: &mut String, place: &str) -> Result<(), AllocError>
     ensures { OnOk result (string_bytes text.new ≡ string_bytes text.old ++ source_text place.now) }
 {
     if place.is_empty() {
