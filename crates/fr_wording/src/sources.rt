@@ -37,7 +37,8 @@ impl Sources {
     }
 }
 
-/// Appends the place of a line in its source, after the line, as a comment; nothing where it isn't known.
+/// Appends the place of a line in its source, after the line, as a comment; nothing where it isn't known. Its error is that an allocation was
+/// refused.
 pub fn put_source(text: &mut String, place: &str) -> Result<(), AllocError>
     ensures { OnOk result (string_bytes text.new ≡ string_bytes text.old ++ source_text place.now) }
 {
