@@ -10,7 +10,7 @@ use super::scene::{Scene, says_of};
 use super::words::{can_hold, otherwise_text, put_claim, put_said};
 use fr_calls::State;
 use fr_ends::{Certificate, EndName, is_inside_end};
-use fr_notes::{Alternative, Claim, Notes, Spot, Subject};
+use fr_notes::{Alternative, Claim, Note, Notes, Spot, Subject};
 use fr_program::{ActorId, App, Call, Instr, ObjId, Point};
 use fr_witness::{claim_broken, spot_of};
 use fr_wording::{Explained, ShownState, add_text, subject_at, subject_count};
@@ -184,12 +184,6 @@ pub fn note_told(
     }
 }
 
-/// Whether some line deletes the object.
-fn is_deleted(app: &App, object: ObjId) -> bool {
-    let mut actors = app.actors().iter();
-    actors.any(|actor| actor.code.iter().any(|instr| deletes(instr, object)))
-}
-
 /// Whether the line deletes the object.
 pub(super) fn deletes(instr: &Instr, object: ObjId) -> bool {
     match instr {
@@ -198,13 +192,22 @@ pub(super) fn deletes(instr: &Instr, object: ObjId) -> bool {
     }
 }
 
-/// Whether the note of the point with this number says that the object is live.
-fn says_live(notes: &Notes, number: usize, object: ObjId) -> bool {
-    let Some(note) = notes.get(number) else {
-        return false;
-    };
+/// Whether the object is live by the note, and the line doesn't delete it.
+fn stays_live(instr: &Instr, note: &Note, object: ObjId) -> bool {
     let mut alternatives = note.alternatives().iter();
-    alternatives.all(|says| matches!(says.claim(object), Claim::Alive | Claim::HeldTimes(_)))
+    !deletes(instr, object)
+        && alternatives.all(|says| matches!(says.claim(object), Claim::Alive | Claim::HeldTimes(_)))
+}
+
+/// Whether so it is at each point.
+fn is_lasting(app: &App, notes: &Notes, object: ObjId) -> bool {
+    for number in 0..app.points() {
+        match (app.instr(app.point(number)), notes.get(number)) {
+            (Some(instr), Some(note)) if stays_live(instr, note, object) => {}
+            _ => return false,
+        }
+    }
+    true
 }
 
 /// The objects that are live from the start on, deleted by no line and live by each note, so that a page says once that they are live. Its
@@ -212,12 +215,8 @@ fn says_live(notes: &Notes, number: usize, object: ObjId) -> bool {
 pub fn never_deleted(alloc: Global, app: &App, notes: &Notes) -> Result<Vec<ObjId>, AllocError> {
     let mut live = Vec::new(alloc);
     for (number, declared) in app.objects().iter().enumerate() {
-        let object = ObjId(number);
-        if declared.live
-            && !is_deleted(app, object)
-            && (0..app.points()).all(|number| says_live(notes, number, object))
-        {
-            live.push(object)?;
+        if declared.live && is_lasting(app, notes, ObjId(number)) {
+            live.push(ObjId(number))?;
         }
     }
     Ok(live)
