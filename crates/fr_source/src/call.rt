@@ -1,9 +1,10 @@
 // Calls of the kernel with their arguments.
 
+use crate::cursor::Cursor;
 use crate::fault::{Fault, Spot};
 use crate::kernel::{Kernel, Slot, kernel_named};
 use crate::near::{OF_CALLS, hint_for};
-use crate::program::{Argument, Call, Home, Object, Operand, Range, Variable};
+use crate::program::{Argument, Call, Home, Object, Operand, Range};
 use crate::reader::Reader;
 use crate::scope::Meaning;
 use crate::texts::Word;
@@ -33,6 +34,21 @@ fn instead_of(name: &str) -> &'static str {
     }
 }
 
+impl Cursor {
+    /// Refuses the next token, in whose place something is expected in a call.
+    fn refuse_in(&mut self, what: &str, kernel: &Kernel) {
+        let Ok(shape) = kernel.shape(self.alloc) else {
+            return self.note(Fault::Memory);
+        };
+        let more = if self.sees(",") {
+            "; data pointers and '&woken' are left out"
+        } else {
+            ""
+        };
+        self.refuse_for(what, " in ", shape.as_str(), more);
+    }
+}
+
 impl Reader {
     /// Takes the arguments of the call with this name, and gives the call. A name of another kind is refused.
     pub(crate) fn kernel_call(&mut self, token: Token) -> Option<Call> {
@@ -44,12 +60,12 @@ impl Reader {
             let form = "a task doesn't make the call %, which is for interrupts";
             self.cursor.refuse_about(token.spot, form, kernel.name, "");
         }
-        self.here.call = Some(kernel);
+        self.here.call = Some(kernel.call);
         self.cursor.take("(", "");
         let mut arguments = [Argument::Absent; 3];
         for (place, slot) in kernel.slots.iter().enumerate() {
             if place > 0 && !self.cursor.accepts(",") {
-                self.refuse_in("','", kernel);
+                self.cursor.refuse_in("','", kernel);
             }
             let argument = self.argument(kernel, *slot, arguments[0]);
             if let Some(at) = arguments.get_mut(place) {
@@ -57,7 +73,7 @@ impl Reader {
             }
         }
         if !self.cursor.accepts(")") {
-            self.refuse_in("')'", kernel);
+            self.cursor.refuse_in("')'", kernel);
         }
         self.here.call = None;
         let call = self.program.call(kernel.call, arguments).ok();
@@ -76,16 +92,12 @@ impl Reader {
         name: &str,
         spot: Spot,
     ) {
-        let Variable {
-            name: shown,
-            range,
-            ..
-        } = self.program.variable(variable);
-        if !range.includes(other) {
+        let target = self.program.variable(variable);
+        if !target.range.includes(other) {
             let words = &[
-                Word::Piece(shown),
-                Word::Number(range.low),
-                Word::Number(range.high),
+                Word::Piece(target.name),
+                Word::Number(target.range.low),
+                Word::Number(target.range.high),
                 Word::Number(other.low),
                 Word::Number(other.high),
                 Word::Text(name),
@@ -120,23 +132,10 @@ impl Reader {
         self.cursor.refuse_with(spot, form, words);
     }
 
-    /// Refuses the next token, in whose place something is expected in a call.
-    fn refuse_in(&mut self, what: &str, kernel: &Kernel) {
-        let Ok(shape) = kernel.shape(self.alloc) else {
-            return self.cursor.note(Fault::Memory);
-        };
-        let more = if self.cursor.sees(",") {
-            "; data pointers and '&woken' are left out"
-        } else {
-            ""
-        };
-        self.cursor.refuse_for(what, " in ", shape.as_str(), more);
-    }
-
     /// Takes the argument for a slot. `object` is the first one.
     fn argument(&mut self, kernel: &Kernel, slot: Slot, object: Argument) -> Argument {
         if self.cursor.sees(")") {
-            self.refuse_in(slot.text(), kernel);
+            self.cursor.refuse_in(slot.text(), kernel);
         }
         let is_forever = self.cursor.sees("portMAX_DELAY")
             || matches!(self.meaning(self.cursor.token()), Some(Meaning::Forever));
@@ -155,10 +154,9 @@ impl Reader {
                 Argument::Forever
             }
             Slot::Length | Slot::Time | Slot::Ticks => {
-                let range = if matches!(slot, Slot::Length) {
-                    LENGTHS
-                } else {
-                    TICKS
+                let range = match slot {
+                    Slot::Length => LENGTHS,
+                    _ => TICKS,
                 };
                 Argument::Operand(Operand::Number(self.number(slot.text(), range)))
             }
@@ -178,7 +176,7 @@ impl Reader {
         let token = self.cursor.token();
         let meaning = self.named("the name of an object");
         let Meaning::Object(place) = meaning else {
-            self.refuse_meaning(token, "an object", meaning);
+            self.cursor.refuse_meaning(token, "an object", meaning);
             return Argument::Absent;
         };
         if let Some(object) = self.program.objects.get(place)

@@ -1,5 +1,6 @@
 // Conditions: what an expression says, where a statement asks whether it is true.
 
+use crate::cursor::Cursor;
 use crate::expression::{Term, Value};
 use crate::fault::Spot;
 use crate::kernel::Answer;
@@ -20,7 +21,7 @@ fn why_no_condition(sign: &str, after: &str) -> Option<&'static str> {
     }
 }
 
-impl Reader {
+impl Cursor {
     /// Refuses a call that doesn't answer whether it worked.
     fn check_fails(&mut self, call: Call, spot: Spot) {
         let kernel = call.kernel.row();
@@ -32,7 +33,7 @@ impl Reader {
                 "% doesn't answer whether it worked: write (n = ..) > 0, where n is a variable",
             _ => "% doesn't answer whether it worked",
         };
-        self.cursor.refuse_about(spot, form, kernel.name, "");
+        self.refuse_about(spot, form, kernel.name, "");
     }
 
     /// The operand that is a side of a comparison.
@@ -44,12 +45,14 @@ impl Reader {
             Some(operand) => operand,
             None => {
                 let text = "a side of a comparison is a number or a variable";
-                self.cursor.refuse(term.spot, text);
+                self.refuse(term.spot, text);
                 Operand::Number(0)
             }
         }
     }
+}
 
+impl Reader {
     /// Reads a condition in brackets.
     pub(crate) fn condition(&mut self) -> usize {
         self.cursor.take("(", "");
@@ -83,7 +86,7 @@ impl Reader {
                 right: Operand::Number(0),
             },
             Value::Called(call) => {
-                self.check_fails(call, spot);
+                self.cursor.check_fails(call, spot);
                 Condition::Works(call)
             }
             Value::Given { .. } | Value::Any(_) | Value::Null | Value::Sum { .. } => {
@@ -97,7 +100,7 @@ impl Reader {
                 return 0;
             }
         };
-        self.here.lines.test(condition, spot)
+        self.lines.test(condition, spot)
     }
 
     /// The condition that two terms compare so.
@@ -139,7 +142,7 @@ impl Reader {
         right: Term,
         spot: Spot,
     ) -> usize {
-        self.check_fails(call, spot);
+        self.cursor.check_fails(call, spot);
         let kernel = call.kernel.row();
         let is_handle = matches!(kernel.answer, Answer::Handle);
         let worked = match (right.value, is_handle) {
@@ -160,11 +163,11 @@ impl Reader {
                 true
             }
         };
-        let test = self.here.lines.test(Condition::Works(call), spot);
+        let test = self.lines.test(Condition::Works(call), spot);
         if is_works {
             test
         } else {
-            self.here.lines.test(Condition::Not(test), spot)
+            self.lines.test(Condition::Not(test), spot)
         }
     }
 
@@ -177,8 +180,8 @@ impl Reader {
         right: Term,
         spot: Spot,
     ) -> usize {
-        let left = self.side(left);
-        let right = self.side(right);
+        let left = self.cursor.side(left);
+        let right = self.cursor.side(right);
         let mut condition = Condition::Compare {
             before,
             left,
@@ -192,7 +195,7 @@ impl Reader {
             (Operand::Variable(one), Operand::Variable(other)) => self.check_two(one, other, spot),
             _ => {}
         }
-        self.here.lines.test(condition, spot)
+        self.lines.test(condition, spot)
     }
 
     /// Refuses to compare a variable with itself, and two shared ones.

@@ -64,28 +64,27 @@ impl Cursor {
         self.tokens.len().saturating_sub(self.next)
     }
 
-    /// The next token.
-    pub(crate) fn token(&self) -> Token {
-        match self.tokens.get(self.next) {
+    /// The token in this place.
+    fn token_at(&self, place: usize) -> Token {
+        match self.tokens.get(place) {
             Some(token) => *token,
             None => self.end,
         }
+    }
+
+    /// The next token.
+    pub(crate) fn token(&self) -> Token {
+        self.token_at(self.next)
     }
 
     /// The token after the next one.
     pub(crate) fn following(&self) -> Token {
-        match self.tokens.get(self.next.saturating_add(1)) {
-            Some(token) => *token,
-            None => self.end,
-        }
+        self.token_at(self.next.saturating_add(1))
     }
 
     /// The token before the next one.
     pub(crate) fn previous(&self) -> Token {
-        match self.tokens.get(self.next.saturating_sub(1)) {
-            Some(token) => *token,
-            None => self.end,
-        }
+        self.token_at(self.next.saturating_sub(1))
     }
 
     /// The text of a token.

@@ -69,10 +69,10 @@ pub(crate) fn program_in(
     reader.outcome()
 }
 
-impl Reader {
+impl Cursor {
     /// Refuses a word that begins no declaration.
     fn refuse_declaration(&mut self, word: Token) {
-        let text = self.cursor.text(word);
+        let text = self.text(word);
         let what =
             "expected a declaration, which begins with one of const, shared, task, interrupt, function, queue, \
             binary, counting, mutex, recursive, stream, message; found '";
@@ -81,7 +81,7 @@ impl Reader {
             None => ("%%'%", hint_for(&OF_C, text).unwrap_or("")),
         };
         let words = &[Word::Text(what), Word::Piece(word.span), Word::Text(more)];
-        self.cursor.refuse_with(word.spot, form, words);
+        self.refuse_with(word.spot, form, words);
     }
 
     /// Refuses one more of what there may be at most so many.
@@ -89,10 +89,12 @@ impl Reader {
         if count >= most {
             let form = "there may be at most % %, and this is one more";
             let words = &[Word::Count(most), Word::Text(what)];
-            self.cursor.refuse_with(spot, form, words);
+            self.refuse_with(spot, form, words);
         }
     }
+}
 
+impl Reader {
     /// Reads all declarations.
     fn declarations(&mut self) {
         for _ in 0..=self.cursor.left() {
@@ -101,7 +103,7 @@ impl Reader {
             }
             self.declaration();
         }
-        self.check_templates();
+        self.cursor.check_templates(&self.scope.templates);
         if self.program.actors.is_empty() {
             self.cursor
                 .refuse_next("a task or an interrupt: there is none");
@@ -116,9 +118,9 @@ impl Reader {
         match self.cursor.fault.take() {
             Some(fault) => Err(fault),
             None => {
-                let none = Pieces::none(self.alloc);
+                let none = Pieces::none(self.cursor.alloc);
                 self.program.pieces = mem::replace(&mut self.cursor.pieces, none);
-                Ok(mem::replace(&mut self.program, Program::new(self.alloc)))
+                Ok(mem::replace(&mut self.program, Program::new(self.cursor.alloc)))
             }
         }
     }
@@ -137,7 +139,7 @@ impl Reader {
             Declared::Actor(home) => self.actor(home),
             Declared::Function => self.function(),
             Declared::Object(kind) => self.object(kind),
-            Declared::Nothing => self.refuse_declaration(word),
+            Declared::Nothing => self.cursor.refuse_declaration(word),
         }
     }
 
@@ -234,14 +236,15 @@ impl Reader {
     pub(crate) fn add_variable(&mut self, variable: Variable) -> usize {
         let is_of_function = matches!(variable.owner, Owner::Function(_));
         let count = if is_of_function {
-            self.here.lines.body.variables.len()
+            self.lines.body.variables.len()
         } else {
             self.program.written.len()
         };
-        self.check_count("variables", count, MOST_VARIABLES, variable.spot);
+        self.cursor
+            .check_count("variables", count, MOST_VARIABLES, variable.spot);
         let place = self.program.variables.len();
         let is_noted = if is_of_function {
-            self.here.lines.body.variables.push(place).is_ok()
+            self.lines.body.variables.push(place).is_ok()
         } else {
             self.program.written.push(place).is_ok()
         };
@@ -255,7 +258,8 @@ impl Reader {
     fn object(&mut self, kind: ObjectKind) {
         let name = self.new_name("the name of an object");
         let place = self.program.objects.len();
-        self.check_count("objects", place, MOST_OBJECTS, name.spot);
+        self.cursor
+            .check_count("objects", place, MOST_OBJECTS, name.spot);
         let mut object = Object {
             name: name.span,
             kind,
@@ -326,7 +330,8 @@ impl Reader {
             return self.template(kind, name);
         }
         let count = self.program.actors.len();
-        self.check_count("actors", count, MOST_ACTORS, name.spot);
+        self.cursor
+            .check_count("actors", count, MOST_ACTORS, name.spot);
         if self.cursor.accepts("=") {
             self.made_actor(kind, name)
         } else {
@@ -374,15 +379,15 @@ impl Reader {
             self.variable_declaration(owner, is_static);
         }
         let end = self.statements();
-        self.check_labels();
+        self.cursor.check_labels(&self.here.labels, home.text());
         self.scope.inside.clear();
-        self.here.lines.place(0);
+        self.lines.place(0);
         if let Some(action) = last {
-            self.here.lines.line(action, None, end);
+            self.lines.line(action, None, end);
         }
         let Lines { body, is_short, .. } = mem::replace(
-            &mut self.here.lines,
-            Lines::new(self.alloc),
+            &mut self.lines,
+            Lines::new(self.cursor.alloc),
         );
         if is_short || self.program.bodies.push(body).is_err() {
             self.cursor.note(Fault::Memory);

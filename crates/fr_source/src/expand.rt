@@ -12,7 +12,6 @@ use crate::program::{
 };
 use crate::texts::Word;
 use std::alloc::{AllocError, Global};
-use std::mem;
 
 /// Where a line is in the source. In a function, `call` is the number of the call, among those of the actor.
 #[derive(Clone, Copy)]
@@ -82,14 +81,14 @@ struct Expander {
 
 impl Expander {
     /// Writes out the body of the actor.
-    fn write_out(&mut self, program: &mut Program) -> Result<Code, Fault> {
+    fn write_out(&mut self, program: &mut Program) -> Result<(), Fault> {
         self.enter(program, self.actor.body, None)?;
         for _ in 0..=MOST_ITEMS * 4 {
             if !self.step(program)? {
                 break;
             }
         }
-        Ok(self.finished())
+        Ok(())
     }
 
     /// Begins to write out a body.
@@ -134,11 +133,7 @@ impl Expander {
     /// Writes a line with the actor's own variables, notes the line that a label is before, or begins to write out a
     /// function.
     fn write_item(&mut self, program: &mut Program, item: Item, frame: Frame) -> Result<(), Fault> {
-        let Frame {
-            first_label,
-            call,
-            ..
-        } = frame;
+        let (first_label, call) = (frame.first_label, frame.call);
         match item {
             Item::Line { action, to, spot } => {
                 let to = match to {
@@ -322,17 +317,13 @@ impl Expander {
         let name = program.text(self.actor.name);
         wrong_about(self.alloc, spot, form, self.actor.kind.text(), name)
     }
+}
 
-    /// The lines, with the lines that their labels are before.
-    fn finished(&mut self) -> Code {
-        for line in &mut self.lines {
-            if let Some(label) = line.to {
-                line.to = self.labels.get(label).copied();
-            }
-        }
-        Code {
-            lines: mem::replace(&mut self.lines, Vec::new(self.alloc)),
-            calls: mem::replace(&mut self.calls, Vec::new(self.alloc)),
+/// Lets lines go to the lines that their labels are before.
+fn resolve(lines: &mut [Line], labels: &[usize]) {
+    for line in lines {
+        if let Some(label) = line.to {
+            line.to = labels.get(label).copied();
         }
     }
 }
@@ -375,5 +366,13 @@ pub(crate) fn code_of(
         labels: Vec::new(alloc),
         own: Vec::new(alloc),
     };
-    expander.write_out(program)
+    expander.write_out(program)?;
+    let Expander {
+        mut lines,
+        calls,
+        labels,
+        ..
+    } = expander;
+    resolve(&mut lines, &labels);
+    Ok(Code { lines, calls })
 }

@@ -1,6 +1,7 @@
 // Expressions, read with the precedence of C. What is waiting for its right side is on a list, and no call goes into
 // itself: so the depth of brackets costs no stack.
 
+use crate::cursor::Cursor;
 use crate::fault::{Fault, Spot};
 use crate::kernel::value_of;
 use crate::lines::Condition;
@@ -153,12 +154,36 @@ fn number_in(text: &str) -> Option<i64> {
     }
 }
 
+impl Cursor {
+    /// The number that the operator makes of two.
+    fn worked_out(&mut self, one: i64, sign: Arithmetic, other: i64, spot: Spot) -> i64 {
+        let number = match sign {
+            Arithmetic::Plus => one.checked_add(other),
+            Arithmetic::Minus => one.checked_sub(other),
+            Arithmetic::Times => one.checked_mul(other),
+            Arithmetic::Divide => one.checked_div(other),
+            Arithmetic::Remainder => one.checked_rem(other),
+        };
+        match number {
+            Some(number) => number,
+            None => {
+                let text = match other {
+                    0 => "division by zero",
+                    _ => "this doesn't fit in 64 bits",
+                };
+                self.refuse(spot, text);
+                0
+            }
+        }
+    }
+}
+
 impl Reader {
     /// Two terms, joined by an operator on numbers: worked out, where both are numbers.
     pub(crate) fn binary(&mut self, left: Term, sign: Arithmetic, right: Term, spot: Spot) -> Term {
         let value = match (left.operand(), right.operand()) {
             (Some(Operand::Number(one)), Some(Operand::Number(other))) => {
-                let number = self.worked_out(one, sign, other, spot);
+                let number = self.cursor.worked_out(one, sign, other, spot);
                 return Term {
                     value: Value::Number(number),
                     spot: left.spot,
@@ -180,31 +205,9 @@ impl Reader {
         Term { value, spot }
     }
 
-    /// The number that the operator makes of two.
-    fn worked_out(&mut self, one: i64, sign: Arithmetic, other: i64, spot: Spot) -> i64 {
-        let number = match sign {
-            Arithmetic::Plus => one.checked_add(other),
-            Arithmetic::Minus => one.checked_sub(other),
-            Arithmetic::Times => one.checked_mul(other),
-            Arithmetic::Divide => one.checked_div(other),
-            Arithmetic::Remainder => one.checked_rem(other),
-        };
-        match number {
-            Some(number) => number,
-            None => {
-                let text = match other {
-                    0 => "division by zero",
-                    _ => "this doesn't fit in 64 bits",
-                };
-                self.cursor.refuse(spot, text);
-                0
-            }
-        }
-    }
-
     /// Reads an expression.
     pub(crate) fn expression(&mut self) -> Term {
-        let mut yard = Yard::new(self.alloc, true);
+        let mut yard = Yard::new(self.cursor.alloc, true);
         self.read_expression(&mut yard);
         self.finished(&mut yard)
     }
@@ -223,7 +226,7 @@ impl Reader {
 
     /// Reads an expression of numbers, and of a variable.
     fn arithmetic(&mut self) -> Term {
-        let mut yard = Yard::new(self.alloc, false);
+        let mut yard = Yard::new(self.cursor.alloc, false);
         self.read_arithmetic(&mut yard);
         self.finished(&mut yard)
     }
@@ -263,7 +266,8 @@ impl Reader {
         }
         yard.wait(waiting);
         yard.depth = yard.depth.saturating_add(1);
-        self.check_depth(yard.depth, spot);
+        let depth = self.here.open.len().saturating_add(yard.depth);
+        self.cursor.check_depth(depth, spot);
         true
     }
 
@@ -310,18 +314,13 @@ impl Reader {
     /// Takes a number, a constant or a variable.
     fn plain_operand(&mut self) -> Term {
         let token = self.cursor.token();
-        let Token {
-            kind,
-            span,
-            spot,
-            ..
-        } = token;
-        let value = match kind {
+        let spot = token.spot;
+        let value = match token.kind {
             Kind::Number => match number_in(self.cursor.text(token)) {
                 Some(number) => Value::Number(number),
                 None => {
                     let form = "% doesn't fit in 64 bits";
-                    self.cursor.refuse_piece(spot, form, span, "");
+                    self.cursor.refuse_piece(spot, form, token.span, "");
                     Value::Null
                 }
             },
@@ -388,7 +387,7 @@ impl Reader {
         match waiting {
             Waiting::Not(spot) => {
                 let part = self.test_of(term);
-                let value = Value::Test(self.here.lines.test(Condition::Not(part), spot));
+                let value = Value::Test(self.lines.test(Condition::Not(part), spot));
                 Term { value, spot }
             }
             Waiting::Minus(spot) => {
@@ -404,7 +403,9 @@ impl Reader {
     /// The ticks of so many milliseconds.
     fn ticks(&mut self, term: Term) -> Term {
         let Term { value, spot } = term;
-        let rate = self.meaning_of("configTICK_RATE_HZ");
+        let rate = self
+            .scope
+            .meaning(&self.cursor.pieces, "configTICK_RATE_HZ");
         let text = match (rate, value) {
             (Some(Meaning::Constant(rate)), Value::Number(time)) => match time.checked_mul(rate) {
                 Some(product) => {
@@ -507,7 +508,7 @@ impl Reader {
                     Operator::And => Condition::And(first, second),
                     _ => Condition::Or(first, second),
                 };
-                self.here.lines.test(condition, spot)
+                self.lines.test(condition, spot)
             }
         };
         let value = Value::Test(test);
@@ -553,12 +554,11 @@ impl Reader {
     pub(crate) fn number(&mut self, what: &str, range: Range) -> i64 {
         let spot = self.cursor.spot();
         let number = self.constant();
-        let Range { low, high } = range;
         if !range.holds(number) {
             let words = &[
                 Word::Text(what),
-                Word::Number(low),
-                Word::Number(high),
+                Word::Number(range.low),
+                Word::Number(range.high),
                 Word::Number(number),
             ];
             self.cursor

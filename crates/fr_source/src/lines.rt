@@ -2,6 +2,7 @@
 // the body is then not used.
 
 use crate::fault::Spot;
+use crate::open::Case;
 use crate::program::{Action, Body, Call, Comparison, Item, Operand};
 use std::alloc::{AllocError, Global};
 
@@ -29,17 +30,11 @@ struct Test {
     spot: Spot,
 }
 
-/// What is left to be written of a condition.
-#[derive(Clone, Copy)]
-enum Task {
-    Branch(Branch),
-    Label(usize),
-}
-
-/// Goes to `yes` if the condition with the place `test` is true, else to `no`. `after` is the label that is placed next,
-/// one of these two.
+/// What is left to be written of a condition: goes to `yes` if the one with the place `test` is true, else to `no`. `before` is
+/// the label that is placed before that, if there is one, and `after` the one that is placed next, one of these two.
 #[derive(Clone, Copy)]
 struct Branch {
+    before: Option<usize>,
     test: usize,
     spot: Spot,
     yes: usize,
@@ -50,10 +45,9 @@ struct Branch {
 /// The body that is read, and its conditions.
 #[derive(Drop)]
 pub(crate) struct Lines {
+    alloc: Global,
     pub(crate) body: Body,
     tests: Vec<Test>,
-    /// What is left to be written of a condition, the next one last.
-    tasks: Vec<Task>,
     /// The actions in conditions, which give a variable a value.
     givers: Vec<Action>,
     /// What belongs behind what is read next.
@@ -71,9 +65,9 @@ fn move_rest(from: &mut Vec<Item>, place: usize, to: &mut Vec<Item>) -> Result<(
 impl Lines {
     pub(crate) fn new(alloc: Global) -> Lines {
         Lines {
+            alloc,
             body: Body::new(alloc),
             tests: Vec::new(alloc),
-            tasks: Vec::new(alloc),
             givers: Vec::new(alloc),
             aside: Vec::new(alloc),
             is_short: false,
@@ -134,6 +128,13 @@ impl Lines {
         self.add(Item::Label(label));
     }
 
+    /// A new label, put before the next line.
+    pub(crate) fn label_here(&mut self) -> usize {
+        let label = self.label();
+        self.place(label);
+        label
+    }
+
     pub(crate) fn line(&mut self, action: Action, to: Option<usize>, spot: Spot) {
         self.add(Item::Line { action, to, spot });
     }
@@ -184,6 +185,73 @@ impl Lines {
         self.place(good);
     }
 
+    /// Writes the test of an `if`, and gives the label of what is done where it is false.
+    pub(crate) fn open_if(&mut self, test: usize, spot: Spot) -> usize {
+        let yes = self.label();
+        let no = self.label();
+        self.branch(test, spot, yes, no, yes);
+        self.place(yes);
+        no
+    }
+
+    /// Writes the end of an `if` that has an `else`, and gives the label of the end of that.
+    pub(crate) fn open_else(&mut self, no: usize, spot: Spot) -> usize {
+        let end = self.label();
+        self.goto(end, spot);
+        self.place(no);
+        end
+    }
+
+    /// Writes the test of a loop, and gives the labels of its step and of what is after it.
+    pub(crate) fn open_loop(&mut self, test: Option<usize>, spot: Spot) -> (usize, usize) {
+        let body = self.label();
+        let again = self.label();
+        let end = self.label();
+        if let Some(test) = test {
+            self.branch(test, spot, body, end, body);
+        }
+        self.place(body);
+        (again, end)
+    }
+
+    /// Writes the step and the end of a loop with these labels.
+    pub(crate) fn close_loop(&mut self, labels: [usize; 3], step: usize, spot: Spot) {
+        let [top, again, end] = labels;
+        self.place(again);
+        self.take_back(step);
+        self.goto(top, spot);
+        self.place(end);
+    }
+
+    /// Begins a `do` loop, and gives the labels of its body, of its test and of what is after it.
+    pub(crate) fn open_do(&mut self) -> [usize; 3] {
+        let top = self.label();
+        let again = self.label();
+        let end = self.label();
+        self.place(top);
+        [top, again, end]
+    }
+
+    /// Writes the test of a `do` loop with these labels.
+    pub(crate) fn close_do(&mut self, labels: [usize; 3], test: usize, spot: Spot) {
+        let [top, again, end] = labels;
+        let spot = self.test_spot(test, spot);
+        self.place(again);
+        self.branch(test, spot, top, end, end);
+        self.place(end);
+    }
+
+    /// Writes the tests of a switch, one for each number of a case but the last one of all.
+    pub(crate) fn write_tests(&mut self, variable: usize, cases: &[Case], last: Option<i64>) {
+        for Case { value, label, spot } in cases {
+            if let Some(number) = *value
+                && *value != last
+            {
+                self.test_case(variable, number, *label, *spot);
+            }
+        }
+    }
+
     /// Keeps a condition, and gives its place.
     pub(crate) fn test(&mut self, condition: Condition, spot: Spot) -> usize {
         let place = self.tests.len();
@@ -203,44 +271,56 @@ impl Lines {
 
     /// Goes to `yes` if the condition is true, else to `no`. The caller places `after` next, one of these two.
     pub(crate) fn branch(&mut self, test: usize, spot: Spot, yes: usize, no: usize, after: usize) {
-        self.leave(Task::Branch(Branch {
+        // What is left to be written, the next one last.
+        let mut left = Vec::new(self.alloc);
+        let branch = Branch {
+            before: None,
             test,
             spot,
             yes,
             no,
             after,
-        }));
+        };
+        self.leave(&mut left, branch);
         for _ in 0..=self.tests.len().saturating_mul(2) {
-            match self.tasks.pop() {
-                Some(Task::Branch(branch)) => self.branch_once(branch),
-                Some(Task::Label(label)) => self.place(label),
-                None => break,
+            let Some(branch) = left.pop() else {
+                break;
+            };
+            if let Some(label) = branch.before {
+                self.place(label);
             }
+            self.branch_once(&mut left, branch);
         }
     }
 
-    /// Leaves a task for later, before the others.
-    fn leave(&mut self, task: Task) {
-        if self.tasks.push(task).is_err() {
+    /// Leaves a branch for later, before the others.
+    fn leave(&mut self, left: &mut Vec<Branch>, branch: Branch) {
+        if left.push(branch).is_err() {
             self.is_short = true;
         }
     }
 
     /// Writes the line of a condition, or leaves its parts for later.
-    fn branch_once(&mut self, branch: Branch) {
+    fn branch_once(&mut self, rest: &mut Vec<Branch>, branch: Branch) {
         let Some(Test { condition, .. }) = self.tests.get(branch.test).copied() else {
             return;
         };
         let Branch { spot, yes, no, .. } = branch;
         match condition {
-            Condition::Not(part) => self.leave(Task::Branch(Branch {
-                test: part,
-                yes: no,
-                no: yes,
-                ..branch
-            })),
-            Condition::And(one, other) => self.branch_twice(branch, (one, other), true),
-            Condition::Or(one, other) => self.branch_twice(branch, (one, other), false),
+            Condition::Not(part) => {
+                let opposite = Branch {
+                    before: None,
+                    test: part,
+                    yes: no,
+                    no: yes,
+                    ..branch
+                };
+                self.leave(rest, opposite);
+            }
+            Condition::And(one, other) | Condition::Or(one, other) => {
+                let is_and = matches!(condition, Condition::And(..));
+                self.branch_twice(rest, branch, (one, other), is_and);
+            }
             Condition::Works(call) => self.branch_on_call(branch, call),
             Condition::Always(holds) => self.goto(if holds { yes } else { no }, spot),
             Condition::Compare {
@@ -249,28 +329,27 @@ impl Lines {
                 comparison,
                 right,
             } => {
-                if let Some(place) = before
-                    && let Some(action) = self.givers.get(place).copied()
-                {
-                    self.line(action, None, spot);
-                }
+                self.give(before, spot);
                 self.branch_on_comparison(branch, left, comparison, right);
             }
         }
     }
 
+    /// Writes the action with this place that gives a variable a value, if there is one.
+    fn give(&mut self, before: Option<usize>, spot: Spot) {
+        if let Some(place) = before
+            && let Some(action) = self.givers.get(place).copied()
+        {
+            self.line(action, None, spot);
+        }
+    }
+
     /// Makes a call, and goes to `yes` if it works, else to `no`.
     fn branch_on_call(&mut self, branch: Branch, call: Call) {
-        let Branch {
-            spot,
-            yes,
-            no,
-            after,
-            ..
-        } = branch;
-        self.line(Action::Call { answer: None, call }, Some(no), spot);
-        if after != yes {
-            self.goto(yes, spot);
+        let action = Action::Call { answer: None, call };
+        self.line(action, Some(branch.no), branch.spot);
+        if branch.after != branch.yes {
+            self.goto(branch.yes, branch.spot);
         }
     }
 
@@ -282,46 +361,48 @@ impl Lines {
         comparison: Comparison,
         right: Operand,
     ) {
-        let Branch {
-            spot,
-            yes,
-            no,
-            after,
-            ..
-        } = branch;
-        let (comparison, target) = if after == yes {
-            (comparison.inverse(), no)
+        let (comparison, target) = if branch.after == branch.yes {
+            (comparison.inverse(), branch.no)
         } else {
-            (comparison, yes)
+            (comparison, branch.yes)
         };
         let action = Action::If {
             left,
             comparison,
             right,
         };
-        self.line(action, Some(target), spot);
+        self.line(action, Some(target), branch.spot);
     }
 
     /// Leaves the two parts of a condition for later, with a label between them.
-    fn branch_twice(&mut self, branch: Branch, parts: (usize, usize), is_and: bool) {
+    fn branch_twice(
+        &mut self,
+        rest: &mut Vec<Branch>,
+        branch: Branch,
+        parts: (usize, usize),
+        is_and: bool,
+    ) {
         let (first, second) = parts;
         let middle = self.label();
         let Branch { spot, yes, no, .. } = branch;
         let first_spot = self.test_spot(first, spot);
         let second_spot = self.test_spot(second, spot);
         let (first_yes, first_no) = if is_and { (middle, no) } else { (yes, middle) };
-        self.leave(Task::Branch(Branch {
+        let then = Branch {
+            before: Some(middle),
             test: second,
             spot: second_spot,
             ..branch
-        }));
-        self.leave(Task::Label(middle));
-        self.leave(Task::Branch(Branch {
+        };
+        self.leave(rest, then);
+        let now = Branch {
+            before: None,
             test: first,
             spot: first_spot,
             yes: first_yes,
             no: first_no,
             after: middle,
-        }));
+        };
+        self.leave(rest, now);
     }
 }

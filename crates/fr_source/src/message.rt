@@ -92,16 +92,10 @@ impl Message {
     pub fn report(&self, alloc: Global, file: &str) -> Result<String, AllocError> {
         let mut report = String::new(alloc);
         push_plain(&mut report, file)?;
-        let Message {
-            line,
-            column,
-            text,
-            ..
-        } = self;
         let words = &[
-            Word::Count(*line),
-            Word::Count(*column),
-            Word::Text(text.as_str()),
+            Word::Count(self.line),
+            Word::Count(self.column),
+            Word::Text(self.text.as_str()),
         ];
         push_filled(alloc, &mut report, ":%:%: %", words)?;
         Ok(report)
@@ -110,25 +104,20 @@ impl Message {
     /// The lines to print below that: the line of the source with its number, and the mark under the place. Its error is that an allocation
     /// was refused.
     pub fn excerpt(&self, alloc: Global) -> Result<[String; 2], AllocError> {
-        let Message {
-            line,
-            shown,
-            mark,
-            ..
-        } = self;
-        let before = match *line {
+        let shown = self.shown.as_str();
+        let before = match self.line {
             0..=9 => 2,
             10..=99 => 1,
             _ => 0,
         };
         let words = &[
             Word::Blanks(before),
-            Word::Count(*line),
-            Word::Text(shown.as_str()),
+            Word::Count(self.line),
+            Word::Text(shown),
         ];
         let numbered = filled(alloc, "%% | %", words)?;
         let width = numbered.len().saturating_sub(shown.len()).saturating_sub(3);
-        let words = &[Word::Blanks(width), Word::Text(mark.as_str())];
+        let words = &[Word::Blanks(width), Word::Text(self.mark.as_str())];
         Ok([numbered, filled(alloc, "% | %", words)?])
     }
 }

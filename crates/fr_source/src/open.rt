@@ -60,19 +60,17 @@ pub(crate) enum Open {
         end: usize,
         margin: Margin,
     },
-    /// A `while` or a `for`. `step` is where the lines of its step are among those that were put aside.
+    /// A `while` or a `for`. `labels` are those of its test, of its step and of what is after it, and `step` is where the lines of its
+    /// step are among those that were put aside.
     Loop {
-        top: usize,
-        again: usize,
-        end: usize,
+        labels: [usize; 3],
         step: usize,
         margin: Margin,
         spot: Spot,
     },
+    /// `labels` are those of its body, of its test and of what is after it.
     Do {
-        top: usize,
-        again: usize,
-        end: usize,
+        labels: [usize; 3],
         margin: Margin,
     },
     /// `first_item` is where its tests belong among the items of the body, `first_case` its first case among all.

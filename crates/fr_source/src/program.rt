@@ -141,8 +141,7 @@ impl Comparison {
     /// The comparison that says the same with its sides exchanged.
     pub(crate) fn turned(self) -> Comparison {
         match self {
-            Comparison::Equal => Comparison::Equal,
-            Comparison::Unequal => Comparison::Unequal,
+            Comparison::Equal | Comparison::Unequal => self,
             Comparison::Less => Comparison::Greater,
             Comparison::AtMost => Comparison::AtLeast,
             Comparison::Greater => Comparison::Less,

@@ -3,13 +3,12 @@
 
 use crate::cursor::Cursor;
 use crate::fault::{Fault, Spot};
-use crate::kernel::{DECLARATIONS, Kernel, TYPES, is_among, is_reserved, kernel_named};
+use crate::kernel::{DECLARATIONS, Kernel, KernelCall, TYPES, is_among, is_reserved, kernel_named};
 use crate::lines::Lines;
 use crate::near::{OF_C, hint_for};
 use crate::open::{Case, Open};
 use crate::program::{Home, Program};
 use crate::scope::{Meaning, Scope};
-use crate::template::Template;
 use crate::texts::{Span, Word};
 use crate::token::Token;
 use std::alloc::Global;
@@ -29,10 +28,9 @@ pub(crate) struct NamedLabel {
     pub(crate) is_placed: bool,
 }
 
-/// The body that is read.
+/// What is known of the body that is read, beside its lines.
 #[derive(Drop)]
 pub(crate) struct Here {
-    pub(crate) lines: Lines,
     pub(crate) labels: Vec<NamedLabel>,
     /// The constructs whose end isn't read yet, the innermost last, and the cases of the switches among them.
     pub(crate) open: Vec<Open>,
@@ -46,18 +44,17 @@ pub(crate) struct Here {
     /// The variable of `configASSERT`, once there is one.
     pub(crate) assertion: Option<usize>,
     /// The call whose arguments are read.
-    pub(crate) call: Option<&'static Kernel>,
+    pub(crate) call: Option<KernelCall>,
 }
 
 #[derive(Drop)]
 pub(crate) struct Reader {
-    pub(crate) alloc: Global,
     pub(crate) cursor: Cursor,
     pub(crate) scope: Scope,
     pub(crate) program: Program,
-    /// The bodies with parameters.
-    pub(crate) templates: Vec<Template>,
     pub(crate) here: Here,
+    /// The body that is read.
+    pub(crate) lines: Lines,
 }
 
 /// What is said of a name that isn't declared, where that is known by its text alone.
@@ -77,16 +74,46 @@ fn why_undeclared(text: &str) -> Option<&'static str> {
     }
 }
 
+impl Cursor {
+    /// Refuses what is too deep: so many constructs and brackets are open.
+    pub(crate) fn check_depth(&mut self, depth: usize, spot: Spot) {
+        if depth > DEEPEST {
+            self.refuse(spot, "nested more than 40 deep");
+        }
+    }
+
+    /// Whether no name may have the text of a token.
+    fn is_taken(&self, token: Token) -> bool {
+        let text = self.text(token);
+        is_reserved(text) || kernel_named(text).is_some()
+    }
+
+    /// Refuses a name that means something else than what is expected.
+    pub(crate) fn refuse_meaning(&mut self, token: Token, what: &str, meaning: Meaning) {
+        let (shown, kind) = (Word::Piece(token.span), Word::Text(meaning.text()));
+        let form = "expected the name of %, and '%' is the name of %";
+        let words = &[Word::Text(what), shown, kind];
+        self.refuse_with(token.spot, form, words);
+    }
+
+    /// Refuses an argument that isn't declared, where there are more than the call has.
+    fn refuse_surplus(&mut self, token: Token, kernel: &Kernel) {
+        let form = "'%' isn't declared: data pointers are left out, as in %";
+        let Ok(shape) = kernel.shape(self.alloc) else {
+            return self.note(Fault::Memory);
+        };
+        self.refuse_piece(token.spot, form, token.span, shape.as_str());
+    }
+}
+
 impl Reader {
     pub(crate) fn new(alloc: Global, cursor: Cursor) -> Reader {
         Reader {
-            alloc,
             cursor,
             scope: Scope::new(alloc),
             program: Program::new(alloc),
-            templates: Vec::new(alloc),
+            lines: Lines::new(alloc),
             here: Here {
-                lines: Lines::new(alloc),
                 labels: Vec::new(alloc),
                 open: Vec::new(alloc),
                 cases: Vec::new(alloc),
@@ -99,27 +126,10 @@ impl Reader {
         }
     }
 
-    /// Refuses what is too deep: so many brackets in the constructs that are open.
-    pub(crate) fn check_depth(&mut self, brackets: usize, spot: Spot) {
-        if self.here.open.len().saturating_add(brackets) > DEEPEST {
-            self.cursor.refuse(spot, "nested more than 40 deep");
-        }
-    }
-
-    /// What a text means here.
-    pub(crate) fn meaning_of(&self, text: &str) -> Option<Meaning> {
-        self.scope.meaning(&self.cursor.pieces, text)
-    }
-
     /// What the text of a token means here.
     pub(crate) fn meaning(&self, token: Token) -> Option<Meaning> {
-        self.meaning_of(self.cursor.text(token))
-    }
-
-    /// Whether no name may have the text of a token.
-    fn is_taken(&self, token: Token) -> bool {
-        let text = self.cursor.text(token);
-        is_reserved(text) || kernel_named(text).is_some()
+        self.scope
+            .meaning(&self.cursor.pieces, self.cursor.text(token))
     }
 
     /// Takes the name of something new. `what` is what is expected.
@@ -130,7 +140,7 @@ impl Reader {
             let form = "'%' is a type of C, and there are none here: write the name alone";
             self.cursor.refuse_piece(spot, form, span, "");
         }
-        if self.is_taken(token) {
+        if self.cursor.is_taken(token) {
             let form = "'%' is a word of this notation or of the kernel: choose another name";
             self.cursor.refuse_piece(spot, form, span, "");
         }
@@ -158,25 +168,6 @@ impl Reader {
         }
     }
 
-    /// Refuses a name that means something else than what is expected.
-    pub(crate) fn refuse_meaning(&mut self, token: Token, what: &str, meaning: Meaning) {
-        let (shown, kind) = (Word::Piece(token.span), Word::Text(meaning.text()));
-        let form = "expected the name of %, and '%' is the name of %";
-        let words = &[Word::Text(what), shown, kind];
-        self.cursor.refuse_with(token.spot, form, words);
-    }
-
-    /// Refuses an argument that isn't declared, where there are more than the call has.
-    fn refuse_surplus(&mut self, token: Token, kernel: &Kernel) {
-        let form = "'%' isn't declared: data pointers are left out, as in %";
-        match kernel.shape(self.alloc) {
-            Ok(shape) => self
-                .cursor
-                .refuse_piece(token.spot, form, token.span, shape.as_str()),
-            Err(_) => self.cursor.note(Fault::Memory),
-        }
-    }
-
     /// Refuses a name that isn't declared.
     pub(crate) fn refuse_undeclared(&mut self, token: Token) {
         let Token { span, spot, .. } = token;
@@ -194,8 +185,8 @@ impl Reader {
                 let form = "'%' isn't declared. Did you mean '%'?";
                 self.cursor.refuse_with(spot, form, words);
             }
-            (None, Some(kernel)) if self.cursor.is_at_surplus(kernel.slots.len()) => {
-                self.refuse_surplus(token, kernel);
+            (None, Some(call)) if self.cursor.is_at_surplus(call.row().slots.len()) => {
+                self.cursor.refuse_surplus(token, call.row());
             }
             _ => self
                 .cursor
@@ -215,7 +206,7 @@ impl Reader {
         match self.named(what) {
             Meaning::Variable(variable) => variable,
             meaning => {
-                self.refuse_meaning(token, "a variable", meaning);
+                self.cursor.refuse_meaning(token, "a variable", meaning);
                 0
             }
         }

@@ -2,6 +2,7 @@
 
 use crate::kernel::kernel_near;
 use crate::near::is_near;
+use crate::template::Template;
 use crate::texts::{Pieces, Span, Word};
 use std::alloc::Global;
 
@@ -68,6 +69,8 @@ fn near_among(pieces: &Pieces, names: &[Name], word: &str) -> Option<Span> {
 pub(crate) struct Scope {
     pub(crate) outside: Vec<Name>,
     pub(crate) inside: Vec<Name>,
+    /// The bodies with parameters.
+    pub(crate) templates: Vec<Template>,
     /// Whether an allocation was refused, so that a name is missing.
     pub(crate) is_short: bool,
 }
@@ -77,26 +80,23 @@ impl Scope {
         Scope {
             outside: Vec::new(alloc),
             inside: Vec::new(alloc),
+            templates: Vec::new(alloc),
             is_short: false,
         }
     }
 
     /// What the text means here.
     pub(crate) fn meaning(&self, pieces: &Pieces, text: &str) -> Option<Meaning> {
-        match meaning_among(pieces, &self.inside, text) {
-            Some(meaning) => Some(meaning),
-            None => meaning_among(pieces, &self.outside, text),
-        }
+        let inside = meaning_among(pieces, &self.inside, text);
+        inside.or(meaning_among(pieces, &self.outside, text))
     }
 
     /// A name or a call of the kernel that a word is near to.
     pub(crate) fn near(&self, pieces: &Pieces, word: &str) -> Option<Word<'static>> {
-        match near_among(pieces, &self.inside, word) {
+        let inside = near_among(pieces, &self.inside, word);
+        match inside.or(near_among(pieces, &self.outside, word)) {
             Some(name) => Some(Word::Piece(name)),
-            None => match near_among(pieces, &self.outside, word) {
-                Some(name) => Some(Word::Piece(name)),
-                None => kernel_near(word),
-            },
+            None => kernel_near(word),
         }
     }
 

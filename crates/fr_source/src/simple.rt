@@ -91,14 +91,14 @@ impl Reader {
         if self.cursor.is(token, "configASSERT") {
             let test = self.condition();
             let variable = self.assertion_variable(spot);
-            self.here.lines.assert(variable, test, spot);
+            self.lines.assert(variable, test, spot);
         } else if let Some(Meaning::Function(function)) = self.meaning(token) {
             self.cursor.take("(", "");
             self.cursor.take(")", ": a function has no arguments");
-            self.here.lines.add(Item::Expand { function, spot });
+            self.lines.add(Item::Expand { function, spot });
         } else if let Some(call) = self.kernel_call(token) {
             let action = Action::Call { answer: None, call };
-            self.here.lines.line(action, None, spot);
+            self.lines.line(action, None, spot);
         }
     }
 
@@ -107,7 +107,7 @@ impl Reader {
         if let Some(variable) = self.here.assertion {
             return variable;
         }
-        if self.meaning_of(ASSERTION).is_some() {
+        if self.scope.meaning(&self.cursor.pieces, ASSERTION).is_some() {
             let text = "configASSERT makes the variable 'assertion', and that name is used";
             self.cursor.refuse(spot, text);
         }
@@ -153,7 +153,7 @@ impl Reader {
     /// The variable of `(x = ..)`, with the action that gives it a value.
     pub(crate) fn given(&mut self, variable: usize, spot: Spot, term: Term) -> Term {
         self.assigned(variable, spot, term);
-        let Some(action) = self.here.lines.take_giver() else {
+        let Some(action) = self.lines.take_giver() else {
             let text =
                 "in a condition, only any(..) or the bytes of a call are given to a variable";
             self.cursor.refuse(spot, text);
@@ -178,7 +178,7 @@ impl Reader {
             self.cursor.refuse_with(any_spot, form, words);
         }
         let action = Action::Pick { variable, range };
-        self.here.lines.line(action, None, spot);
+        self.lines.line(action, None, spot);
     }
 
     /// Gives a variable the answer of a call. Refuses an answer that the variable can't have.
@@ -196,11 +196,11 @@ impl Reader {
         let form = "the range of '%', %..%, has to include %..%, which % can answer";
         self.check_range(variable, Range { low: 0, high }, form, name, spot);
         if kernel.may_fail() {
-            return self.here.lines.keep(variable, call, spot);
+            return self.lines.keep(variable, call, spot);
         }
         let answer = Some(variable);
         let action = Action::Call { answer, call };
-        self.here.lines.line(action, None, spot);
+        self.lines.line(action, None, spot);
     }
 
     /// Refuses what a line can't work out.
@@ -254,7 +254,7 @@ impl Reader {
                     left,
                     more,
                 };
-                return self.here.lines.line(set, None, spot);
+                return self.lines.line(set, None, spot);
             }
         };
         let (one, other) = (self.program.variable(one), self.program.variable(other));

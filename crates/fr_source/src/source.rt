@@ -35,10 +35,8 @@ impl<'a> Source<'a> {
 
     /// What the line with this number, from 1, has of some bytes: its beginning, where it is long.
     pub(crate) fn line_of<'b>(&self, bytes: &'b [u8], number: usize) -> &'b [u8] {
-        let start = match self.starts.get(number.saturating_sub(1)) {
-            Some(start) => *start,
-            None => 0,
-        };
+        let start = self.starts.get(number.saturating_sub(1)).copied();
+        let start = start.unwrap_or(0);
         let end = match self.starts.get(number) {
             Some(next) => next.saturating_sub(1),
             None => self.bytes.len(),

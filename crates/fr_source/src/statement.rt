@@ -1,5 +1,6 @@
 // Statements. The constructs whose end isn't read yet are on a list, and no call goes into itself.
 
+use crate::cursor::Cursor;
 use crate::fault::{Fault, Spot};
 use crate::kernel::is_reserved;
 use crate::open::{Construct, Margin, Open};
@@ -61,6 +62,79 @@ impl Jump {
     }
 }
 
+/// The label that a `break`, or else a `continue`, goes to from inside these constructs.
+fn label_to_leave(constructs: &[Open], is_break: bool) -> Option<usize> {
+    let mut label = None;
+    for open in constructs {
+        match *open {
+            Open::Loop { labels, .. } | Open::Do { labels, .. } => {
+                label = Some(if is_break { labels[2] } else { labels[1] });
+            }
+            Open::Switch { end, .. } if is_break => label = Some(end),
+            _ => {}
+        }
+    }
+    label
+}
+
+impl Cursor {
+    /// Where the body of a construct begins.
+    fn margin(&self, construct: Construct) -> Margin {
+        let head = self.previous();
+        let first = self.token();
+        Margin {
+            construct,
+            indent: first.indent,
+            is_plain: self.sees("{") || first.spot.line <= head.spot.line,
+        }
+    }
+
+    /// Where the body of an `if` or an `else` begins.
+    fn branch_margin(&mut self, construct: Construct) -> Margin {
+        if self.sees(";") {
+            let spot = self.spot();
+            let form = "an '%' with nothing but ';': write '{ }' if this is meant";
+            self.refuse_about(spot, form, construct.text(), "");
+        }
+        self.margin(construct)
+    }
+
+    /// Refuses what is after a body without braces and looks as if it belonged to it.
+    fn check_margin(&mut self, open: Open) {
+        let (Open::If { margin, .. }
+        | Open::Else { margin, .. }
+        | Open::Loop { margin, .. }
+        | Open::Do { margin, .. }) = open
+        else {
+            return;
+        };
+        let last = self.previous();
+        let after = self.token();
+        let is_test = matches!(open, Open::Do { .. }) && after.spot.line <= last.spot.line;
+        let is_apart = margin.is_plain
+            || is_test
+            || after.indent < margin.indent
+            || self.sees("else")
+            || self.sees("}");
+        if !is_apart {
+            let form =
+                "this looks as if it were in the '%' above, and isn't: put braces around its body, \
+                or move this to the left";
+            self.refuse_about(after.spot, form, margin.construct.text(), "");
+        }
+    }
+
+    /// Refuses a `goto` to one of these labels that isn't there.
+    pub(crate) fn check_labels(&mut self, labels: &[NamedLabel], kind: &'static str) {
+        for one in labels {
+            if !one.is_placed {
+                let form = "no label '%' in this %";
+                self.refuse_piece(one.spot, form, one.name, kind);
+            }
+        }
+    }
+}
+
 impl Reader {
     /// Reads statements up to the closing brace of the body, and gives its place.
     pub(crate) fn statements(&mut self) -> Spot {
@@ -76,7 +150,7 @@ impl Reader {
             if self.statement() {
                 self.close_all();
             }
-            if self.here.lines.body.items.len() > MOST_ITEMS {
+            if self.lines.body.items.len() > MOST_ITEMS {
                 let form = "% '%' grows to more than 4096 lines and labels: this passed the limit";
                 let home = Word::Text(self.here.home.text());
                 let words = &[home, Word::Piece(self.here.name)];
@@ -131,7 +205,7 @@ impl Reader {
         if self.here.open.push(open).is_err() {
             self.cursor.note(Fault::Memory);
         }
-        self.check_depth(0, spot);
+        self.cursor.check_depth(self.here.open.len(), spot);
     }
 
     /// Reads the head of a construct.
@@ -148,34 +222,22 @@ impl Reader {
     }
 
     fn while_head(&mut self, spot: Spot) {
-        let top = self.here.lines.label();
-        self.here.lines.place(top);
+        let top = self.lines.label_here();
         let test = self.condition();
-        let first = self.here.lines.body.items.len();
+        let first = self.lines.body.items.len();
         self.loop_head(Some(test), top, first, Construct::While, spot);
     }
 
     fn do_head(&mut self) {
-        let top = self.here.lines.label();
-        let again = self.here.lines.label();
-        let end = self.here.lines.label();
-        self.here.lines.place(top);
-        let margin = self.margin(Construct::Do);
-        self.enter(Open::Do {
-            top,
-            again,
-            end,
-            margin,
-        });
+        let labels = self.lines.open_do();
+        let margin = self.cursor.margin(Construct::Do);
+        self.enter(Open::Do { labels, margin });
     }
 
     fn if_head(&mut self, spot: Spot) {
         let test = self.condition();
-        let yes = self.here.lines.label();
-        let no = self.here.lines.label();
-        self.here.lines.branch(test, spot, yes, no, yes);
-        self.here.lines.place(yes);
-        let margin = self.branch_margin(Construct::If);
+        let no = self.lines.open_if(test, spot);
+        let margin = self.cursor.branch_margin(Construct::If);
         self.enter(Open::If { no, margin, spot });
     }
 
@@ -185,14 +247,13 @@ impl Reader {
             self.simple();
         }
         self.cursor.take(";", "");
-        let top = self.here.lines.label();
-        self.here.lines.place(top);
+        let top = self.lines.label_here();
         let mut test = None;
         if !self.cursor.sees(";") {
             test = Some(self.bare_condition());
         }
         self.cursor.take(";", "");
-        let first = self.here.lines.body.items.len();
+        let first = self.lines.body.items.len();
         if !self.cursor.sees(")") {
             self.simple();
         }
@@ -210,70 +271,16 @@ impl Reader {
         construct: Construct,
         spot: Spot,
     ) {
-        let step = self.here.lines.put_aside(first);
-        let body = self.here.lines.label();
-        let again = self.here.lines.label();
-        let end = self.here.lines.label();
-        if let Some(test) = test {
-            self.here.lines.branch(test, spot, body, end, body);
-        }
-        self.here.lines.place(body);
-        let margin = self.margin(construct);
+        let step = self.lines.put_aside(first);
+        let (again, end) = self.lines.open_loop(test, spot);
+        let labels = [top, again, end];
+        let margin = self.cursor.margin(construct);
         self.enter(Open::Loop {
-            top,
-            again,
-            end,
+            labels,
             step,
             margin,
             spot,
         });
-    }
-
-    /// Where the body of a construct begins.
-    fn margin(&self, construct: Construct) -> Margin {
-        let head = self.cursor.previous();
-        let first = self.cursor.token();
-        Margin {
-            construct,
-            indent: first.indent,
-            is_plain: self.cursor.sees("{") || first.spot.line <= head.spot.line,
-        }
-    }
-
-    /// Where the body of an `if` or an `else` begins.
-    fn branch_margin(&mut self, construct: Construct) -> Margin {
-        if self.cursor.sees(";") {
-            let spot = self.cursor.spot();
-            let form = "an '%' with nothing but ';': write '{ }' if this is meant";
-            self.cursor.refuse_about(spot, form, construct.text(), "");
-        }
-        self.margin(construct)
-    }
-
-    /// Refuses what is after a body without braces and looks as if it belonged to it.
-    fn check_margin(&mut self, open: Open) {
-        let (Open::If { margin, .. }
-        | Open::Else { margin, .. }
-        | Open::Loop { margin, .. }
-        | Open::Do { margin, .. }) = open
-        else {
-            return;
-        };
-        let last = self.cursor.previous();
-        let after = self.cursor.token();
-        let is_test = matches!(open, Open::Do { .. }) && after.spot.line <= last.spot.line;
-        let is_apart = margin.is_plain
-            || is_test
-            || after.indent < margin.indent
-            || self.cursor.sees("else")
-            || self.cursor.sees("}");
-        if !is_apart {
-            let form =
-                "this looks as if it were in the '%' above, and isn't: put braces around its body, \
-                or move this to the left";
-            let construct = margin.construct.text();
-            self.cursor.refuse_about(after.spot, form, construct, "");
-        }
     }
 
     /// Closes the constructs that the end of a statement ends.
@@ -284,7 +291,7 @@ impl Reader {
                 Some(open) => *open,
             };
             let _ = self.here.open.pop();
-            self.check_margin(open);
+            self.cursor.check_margin(open);
             if !self.close_one(open) {
                 break;
             }
@@ -295,50 +302,32 @@ impl Reader {
     fn close_one(&mut self, open: Open) -> bool {
         match open {
             Open::If { no, spot, .. } => return self.close_if(no, spot),
-            Open::Else { end, .. } => self.here.lines.place(end),
+            Open::Else { end, .. } => self.lines.place(end),
             Open::Loop {
-                top,
-                again,
-                end,
+                labels,
                 step,
                 spot,
                 ..
-            } => self.close_loop([again, top, end], step, spot),
-            Open::Do {
-                top,
-                again,
-                end,
-                ..
-            } => self.close_do(top, again, end),
+            } => self.lines.close_loop(labels, step, spot),
+            Open::Do { labels, .. } => self.close_do(labels),
             Open::Block | Open::Switch { .. } => {}
         }
         true
     }
 
-    /// Writes the end of a loop, by the labels of its step, of its test and of what is after it.
-    fn close_loop(&mut self, labels: [usize; 3], step: usize, spot: Spot) {
-        let [again, top, end] = labels;
-        self.here.lines.place(again);
-        self.here.lines.take_back(step);
-        self.here.lines.goto(top, spot);
-        self.here.lines.place(end);
-    }
-
     /// Writes the end of an `if`. Answers whether it has no `else`.
     fn close_if(&mut self, no: usize, spot: Spot) -> bool {
         if !self.cursor.accepts("else") {
-            self.here.lines.place(no);
+            self.lines.place(no);
             return true;
         }
-        let end = self.here.lines.label();
-        self.here.lines.goto(end, spot);
-        self.here.lines.place(no);
-        let margin = self.branch_margin(Construct::Else);
+        let end = self.lines.open_else(no, spot);
+        let margin = self.cursor.branch_margin(Construct::Else);
         self.enter(Open::Else { end, margin });
         false
     }
 
-    fn close_do(&mut self, top: usize, again: usize, end: usize) {
+    fn close_do(&mut self, labels: [usize; 3]) {
         if !self.cursor.accepts("while") {
             self.cursor
                 .refuse_next("'while' and the condition of the 'do' loop");
@@ -347,10 +336,7 @@ impl Reader {
         let spot = self.cursor.spot();
         let test = self.condition();
         self.cursor.take(";", " after the 'do' loop");
-        let spot = self.here.lines.test_spot(test, spot);
-        self.here.lines.place(again);
-        self.here.lines.branch(test, spot, top, end, end);
-        self.here.lines.place(end);
+        self.lines.close_do(labels, test, spot);
     }
 
     /// Reads a jump, or else a simple statement.
@@ -372,13 +358,13 @@ impl Reader {
                     let why = ": a return has no value";
                     self.cursor.refuse_for("'", ";", "'", why);
                 }
-                self.here.lines.goto(0, spot);
+                self.lines.goto(0, spot);
             }
             Jump::Goto => {
                 self.cursor.advance();
                 let name = self.cursor.word("a label");
                 let label = self.label_named(name, false);
-                self.here.lines.goto(label, spot);
+                self.lines.goto(label, spot);
             }
             Jump::Variable => {
                 let form = "variables are declared at the beginning of the %";
@@ -395,17 +381,7 @@ impl Reader {
 
     /// Takes a `break`, or else a `continue`.
     fn leave_loop(&mut self, is_break: bool, spot: Spot) {
-        let mut label = None;
-        for open in &self.here.open {
-            match *open {
-                Open::Loop { again, end, .. } | Open::Do { again, end, .. } => {
-                    label = Some(if is_break { end } else { again });
-                }
-                Open::Switch { end, .. } if is_break => label = Some(end),
-                _ => {}
-            }
-        }
-        let Some(label) = label else {
+        let Some(label) = label_to_leave(&self.here.open, is_break) else {
             let text = if is_break {
                 "'break' outside a loop and a switch"
             } else {
@@ -414,7 +390,7 @@ impl Reader {
             return self.cursor.refuse(spot, text);
         };
         self.cursor.advance();
-        self.here.lines.goto(label, spot);
+        self.lines.goto(label, spot);
     }
 
     /// Takes a label that the source names.
@@ -427,7 +403,7 @@ impl Reader {
             self.cursor.refuse_piece(name.spot, form, name.span, "");
         }
         let label = self.label_named(name, true);
-        self.here.lines.place(label);
+        self.lines.place(label);
     }
 
     /// The label with this name, which is placed here or only named.
@@ -444,7 +420,7 @@ impl Reader {
             one.is_placed = one.is_placed || is_placed;
             return one.label;
         }
-        let label = self.here.lines.label();
+        let label = self.lines.label();
         let new = NamedLabel {
             name: span,
             label,
@@ -455,16 +431,5 @@ impl Reader {
             self.cursor.note(Fault::Memory);
         }
         label
-    }
-
-    /// Refuses a `goto` whose label isn't there.
-    pub(crate) fn check_labels(&mut self) {
-        let kind = self.here.home.text();
-        for one in &self.here.labels {
-            if !one.is_placed {
-                let form = "no label '%' in this %";
-                self.cursor.refuse_piece(one.spot, form, one.name, kind);
-            }
-        }
     }
 }

@@ -47,8 +47,8 @@ impl Reader {
         }
         self.cursor.take(")", ": a switch is on one variable");
         self.cursor.take("{", "");
-        let end = self.here.lines.label();
-        let first_item = self.here.lines.body.items.len();
+        let end = self.lines.label();
+        let first_item = self.lines.body.items.len();
         let first_case = self.here.cases.len();
         self.enter(Open::Switch {
             variable,
@@ -81,22 +81,9 @@ impl Reader {
             };
             self.cursor.refuse_with(spot, form, &[Word::Number(number)]);
         }
-        let label = self.here.lines.label();
-        self.here.lines.place(label);
+        let label = self.lines.label_here();
         if self.here.cases.push(Case { value, label, spot }).is_err() {
             self.cursor.note(Fault::Memory);
-        }
-    }
-
-    /// Writes the tests of a switch, one for each number but the last one of all.
-    fn write_tests(&mut self, variable: usize, first_case: usize, last: Option<i64>) {
-        for place in first_case..self.here.cases.len() {
-            if let Some(Case { value, label, spot }) = self.here.cases.get(place).copied()
-                && let Some(number) = value
-                && value != last
-            {
-                self.here.lines.test_case(variable, number, label, spot);
-            }
         }
     }
 
@@ -121,11 +108,11 @@ impl Reader {
         // A switch goes on where no test holds: at the last number of all, or else at `default`.
         let last = last_of_all(cases, range);
         let rest = label_of_case(cases, last).unwrap_or(end);
-        let bodies = self.here.lines.put_aside(first_item);
-        self.write_tests(variable, first_case, last);
-        self.here.lines.goto(rest, spot);
-        self.here.lines.take_back(bodies);
+        let bodies = self.lines.put_aside(first_item);
+        self.lines.write_tests(variable, cases, last);
+        self.lines.goto(rest, spot);
+        self.lines.take_back(bodies);
         self.here.cases.truncate(first_case);
-        self.here.lines.place(end);
+        self.lines.place(end);
     }
 }

@@ -1,7 +1,7 @@
 // The text of an application: its variables, its objects, and the code of its actors with a comment after each line.
 
 use crate::expand::{Code, Line, Origin, caller};
-use crate::fault::{Fault, Spot, wrong};
+use crate::fault::{Fault, wrong};
 use crate::program::{Action, Actor, Argument, Arithmetic, Call, Operand, Owner, Program, Range};
 use crate::renamed::names_of;
 use crate::source::Source;
@@ -282,8 +282,8 @@ impl Writer {
 
     /// Writes where a line is in the source.
     fn place(&mut self, source: &Source<'_>, code: &Code, place: Origin) -> Result<(), AllocError> {
-        let Spot { line, .. } = place.spot;
-        self.write("%:%", &[Word::Text(source.file), Word::Count(line)])?;
+        let words = &[Word::Text(source.file), Word::Count(place.spot.line)];
+        self.write("%:%", words)?;
         self.callers(code, place)
     }
 

@@ -55,10 +55,7 @@ impl Pieces {
 
     /// The text of a piece.
     pub(crate) fn text(&self, span: Span) -> &str {
-        match self.bytes.get(span.start..span.end) {
-            Some(bytes) => std::str::from_utf8(bytes).unwrap_or(""),
-            None => "",
-        }
+        std::str::from_utf8(self.bytes_of(span)).unwrap_or("")
     }
 
     fn bytes_of(&self, span: Span) -> &[u8] {

@@ -13,7 +13,6 @@ use std::alloc::{AllocError, Global};
 /// Lines that are being tidied.
 #[derive(Drop)]
 struct Tidying<'a> {
-    program: &'a Program,
     plain: &'a [Line],
     kept: Vec<Kept>,
     /// For each plain line, what goes on as it did.
@@ -188,7 +187,7 @@ impl Tidying<'_> {
     }
 
     /// What can be done at the line with this number, where jumps come to these lines.
-    fn change_at(&self, aimed: &[bool], number: usize) -> Change {
+    fn change_at(&self, program: &Program, aimed: &[bool], number: usize) -> Change {
         let next = number.saturating_add(1);
         let Some(
             Line {
@@ -213,7 +212,7 @@ impl Tidying<'_> {
                     Some(other) if can_turn && aimed.get(next) == Some(&false) => {
                         Change::Turn(other)
                     }
-                    _ if leads_on && !self.program.looks_at_shared(left, right) => Change::TakeOut,
+                    _ if leads_on && !program.looks_at_shared(left, right) => Change::TakeOut,
                     _ => Change::Keep,
                 }
             }
@@ -227,9 +226,12 @@ impl Tidying<'_> {
     fn take_out(&mut self, alloc: Global, gone: &[Option<Heir>]) -> Result<(), AllocError> {
         let numbers = numbers_after(alloc, gone)?;
         let mut left = Vec::new(alloc);
-        for (one, heir) in self.kept.iter().zip(gone) {
-            if heir.is_none() {
-                let to = one.to.map(|target| number_after(&numbers, target));
+        for (number, one) in self.kept.iter().enumerate() {
+            if let Some(None) = gone.get(number) {
+                let to = match one.to {
+                    Some(target) => Some(number_after(&numbers, target)),
+                    None => None,
+                };
                 left.push(Kept { to, ..*one })?;
             }
         }
@@ -314,13 +316,13 @@ impl Tidying<'_> {
     }
 
     /// Makes the changes that can be made at each line, one after the other. Answers whether one was made.
-    fn change_each(&mut self, alloc: Global) -> Result<bool, AllocError> {
+    fn change_each(&mut self, alloc: Global, program: &Program) -> Result<bool, AllocError> {
         let aimed = self.aimed(alloc)?;
         let mut gone = vec![in alloc; None; self.kept.len()]?;
         let mut has_changed = false;
         for number in 0..gone.len() {
             if gone[number].is_none() {
-                let change = self.change_at(&aimed, number);
+                let change = self.change_at(program, &aimed, number);
                 has_changed = self.change(&mut gone, number, change) || has_changed;
             }
         }
@@ -331,11 +333,11 @@ impl Tidying<'_> {
     }
 
     /// Makes all changes that can be made.
-    fn tidy(&mut self, alloc: Global) -> Result<(), AllocError> {
+    fn tidy(&mut self, alloc: Global, program: &Program) -> Result<(), AllocError> {
         for _ in 0..=self.kept.len().saturating_mul(4) {
             let is_shorter = self.shorten_jumps(alloc)?;
             let is_smaller = self.take_out_unreached(alloc)?;
-            let is_changed = self.change_each(alloc)?;
+            let is_changed = self.change_each(alloc, program)?;
             if !is_shorter && !is_smaller && !is_changed {
                 break;
             }
@@ -345,23 +347,14 @@ impl Tidying<'_> {
 }
 
 /// All lines as they are.
-fn untouched<'a>(
-    alloc: Global,
-    program: &'a Program,
-    plain: &'a [Line],
-) -> Result<Tidying<'a>, AllocError> {
+fn untouched<'a>(alloc: Global, plain: &'a [Line]) -> Result<Tidying<'a>, AllocError> {
     let (mut kept, mut heirs) = (Vec::new(alloc), Vec::new(alloc));
     for (from, line) in plain.iter().enumerate() {
         let (form, to) = (Form::Same, line.to);
         kept.push(Kept { from, form, to })?;
         heirs.push(Heir::Line(from))?;
     }
-    Ok(Tidying {
-        program,
-        plain,
-        kept,
-        heirs,
-    })
+    Ok(Tidying { plain, kept, heirs })
 }
 
 /// The lines without jumps that aren't needed, and without lines that no way leads to. Others see of them what they see of the
@@ -373,7 +366,7 @@ pub(crate) fn tidied(
 ) -> Result<Vec<Line>, AllocError>
     ensures { IfOk result (λ tidied. ShowsNoLess program.now.variables.items lines.now tidied.items) }
 {
-    let mut tidying = untouched(alloc, program, lines)?;
-    tidying.tidy(alloc)?;
+    let mut tidying = untouched(alloc, lines)?;
+    tidying.tidy(alloc, program)?;
     tidied_lines(alloc, program, lines, &tidying.kept, &tidying.heirs)
 }

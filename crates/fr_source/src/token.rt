@@ -113,9 +113,9 @@ impl Class {
 
 /// The length of the comment that the text begins with, if it ends.
 fn comment_length(text: &[u8]) -> Option<usize> {
-    for (place, pair) in text.get(2..)?.windows(2).enumerate() {
-        if pair == b"*/".as_slice() {
-            return Some(place.saturating_add(4));
+    for length in 4..=text.len() {
+        if let Some([.., b'*', b'/']) = text.get(..length) {
+            return Some(length);
         }
     }
     None
