@@ -34,7 +34,12 @@ impl Model for MemoryFiles {
 fn is_among(paths: &[String], path: &str) -> bool
     ensures { Contains (map string_bytes paths.now) path.now → IsTrue result }
 {
-    paths.iter().any(|other| other.as_str() == path)
+    for other in paths {
+        if other.as_str() == path {
+            return true;
+        }
+    }
+    false
 }
 
 /// Whether the path is one of the inputs, or one of these outputs.
