@@ -140,44 +140,22 @@ impl Expander {
                     Some(label) => Some(label.saturating_add(first_label)),
                     None => None,
                 };
-                self.write_line(program, action, to, Origin { spot, call })
+                let (action, place) = (self.own_action(program, action)?, Origin { spot, call });
+                self.lines.push(Line { action, to, place })?;
             }
             Item::Label(label) => {
                 if let Some(slot) = self.labels.get_mut(label.saturating_add(first_label)) {
                     *slot = self.lines.len();
                 }
-                Ok(())
             }
             Item::Expand { function, spot } => {
                 self.copy_variables(program, function)?;
-                self.enter_function(program, function, Origin { spot, call })
+                let number = self.calls.len();
+                self.calls.push(Origin { spot, call })?;
+                self.enter(program, function, Some(number))?;
             }
         }
-    }
-
-    /// Writes a line with the actor's own variables.
-    fn write_line(
-        &mut self,
-        program: &mut Program,
-        action: Action,
-        to: Option<usize>,
-        place: Origin,
-    ) -> Result<(), Fault> {
-        let action = self.own_action(program, action)?;
-        self.lines.push(Line { action, to, place })?;
         Ok(())
-    }
-
-    /// Notes a call of a function, and begins to write out its body.
-    fn enter_function(
-        &mut self,
-        program: &Program,
-        function: usize,
-        place: Origin,
-    ) -> Result<(), Fault> {
-        let number = self.calls.len();
-        self.calls.push(place)?;
-        self.enter(program, function, Some(number))
     }
 
     /// Gives the actor its own variables of a function, unless it has them.

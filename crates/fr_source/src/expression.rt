@@ -208,39 +208,31 @@ impl Reader {
     /// Reads an expression.
     pub(crate) fn expression(&mut self) -> Term {
         let mut yard = Yard::new(self.cursor.alloc, true);
-        self.read_expression(&mut yard);
-        self.finished(&mut yard)
-    }
-
-    fn read_expression(&mut self, yard: &mut Yard) {
         for _ in 0..=self.cursor.left() {
-            if self.prefix(yard) {
+            if self.prefix(&mut yard) {
                 continue;
             }
             let term = self.operand();
-            if self.ends_after(yard, term) {
+            if self.ends_after(&mut yard, term) {
                 break;
             }
         }
+        self.finished(&mut yard)
     }
 
     /// Reads an expression of numbers, and of a variable.
     fn arithmetic(&mut self) -> Term {
         let mut yard = Yard::new(self.cursor.alloc, false);
-        self.read_arithmetic(&mut yard);
-        self.finished(&mut yard)
-    }
-
-    fn read_arithmetic(&mut self, yard: &mut Yard) {
         for _ in 0..=self.cursor.left() {
-            if self.prefix(yard) {
+            if self.prefix(&mut yard) {
                 continue;
             }
             let term = self.plain_operand();
-            if self.ends_after(yard, term) {
+            if self.ends_after(&mut yard, term) {
                 break;
             }
         }
+        self.finished(&mut yard)
     }
 
     /// Keeps a term, with what is after it. Answers whether the expression ends there.
@@ -281,7 +273,10 @@ impl Reader {
         self.cursor.advance();
         let spot = token.spot;
         let value = if is_any {
-            Value::Any(self.any())
+            self.cursor.take("(", " and two numbers, as in 'any(0, 1)'");
+            let range = self.numbers(",", "", "there is no number from % to %");
+            self.cursor.take(")", "");
+            Value::Any(range)
         } else if is_null {
             Value::Null
         } else {
@@ -301,14 +296,6 @@ impl Reader {
             Some(call) => Value::Called(call),
             None => Value::Null,
         }
-    }
-
-    /// Takes the two numbers of an `any`.
-    fn any(&mut self) -> Range {
-        self.cursor.take("(", " and two numbers, as in 'any(0, 1)'");
-        let range = self.numbers(",", "", "there is no number from % to %");
-        self.cursor.take(")", "");
-        range
     }
 
     /// Takes a number, a constant or a variable.

@@ -213,32 +213,26 @@ impl Reader {
         let spot = self.cursor.spot();
         self.cursor.advance();
         match construct {
-            Construct::If | Construct::Else => self.if_head(spot),
-            Construct::While => self.while_head(spot),
-            Construct::Do => self.do_head(),
+            Construct::If | Construct::Else => {
+                let test = self.condition();
+                let no = self.lines.open_if(test, spot);
+                let margin = self.cursor.branch_margin(Construct::If);
+                self.enter(Open::If { no, margin, spot });
+            }
+            Construct::While => {
+                let top = self.lines.label_here();
+                let test = self.condition();
+                let first = self.lines.body.items.len();
+                self.loop_head(Some(test), top, first, Construct::While, spot);
+            }
+            Construct::Do => {
+                let labels = self.lines.open_do();
+                let margin = self.cursor.margin(Construct::Do);
+                self.enter(Open::Do { labels, margin });
+            }
             Construct::For => self.for_head(spot),
             Construct::Switch => self.switch_head(spot),
         }
-    }
-
-    fn while_head(&mut self, spot: Spot) {
-        let top = self.lines.label_here();
-        let test = self.condition();
-        let first = self.lines.body.items.len();
-        self.loop_head(Some(test), top, first, Construct::While, spot);
-    }
-
-    fn do_head(&mut self) {
-        let labels = self.lines.open_do();
-        let margin = self.cursor.margin(Construct::Do);
-        self.enter(Open::Do { labels, margin });
-    }
-
-    fn if_head(&mut self, spot: Spot) {
-        let test = self.condition();
-        let no = self.lines.open_if(test, spot);
-        let margin = self.cursor.branch_margin(Construct::If);
-        self.enter(Open::If { no, margin, spot });
     }
 
     fn for_head(&mut self, spot: Spot) {
@@ -301,7 +295,13 @@ impl Reader {
     /// Writes the end of a construct. Answers whether it ends here, and has no `else`.
     fn close_one(&mut self, open: Open) -> bool {
         match open {
-            Open::If { no, spot, .. } => return self.close_if(no, spot),
+            Open::If { no, spot, .. } if self.cursor.accepts("else") => {
+                let end = self.lines.open_else(no, spot);
+                let margin = self.cursor.branch_margin(Construct::Else);
+                self.enter(Open::Else { end, margin });
+                return false;
+            }
+            Open::If { no, .. } => self.lines.place(no),
             Open::Else { end, .. } => self.lines.place(end),
             Open::Loop {
                 labels,
@@ -313,18 +313,6 @@ impl Reader {
             Open::Block | Open::Switch { .. } => {}
         }
         true
-    }
-
-    /// Writes the end of an `if`. Answers whether it has no `else`.
-    fn close_if(&mut self, no: usize, spot: Spot) -> bool {
-        if !self.cursor.accepts("else") {
-            self.lines.place(no);
-            return true;
-        }
-        let end = self.lines.open_else(no, spot);
-        let margin = self.cursor.branch_margin(Construct::Else);
-        self.enter(Open::Else { end, margin });
-        false
     }
 
     fn close_do(&mut self, labels: [usize; 3]) {

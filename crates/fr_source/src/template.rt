@@ -153,11 +153,22 @@ impl Reader {
         None
     }
 
-    /// Reads the values of parameters.
+    /// Reads the values of parameters: the name of an object, a variable or a function, `portMAX_DELAY`, or a constant.
     fn values(&mut self) -> Vec<Meaning> {
         let mut values = Vec::new(self.cursor.alloc);
         for _ in 0..self.cursor.left() {
-            let value = self.value();
+            let mut value = Meaning::Forever;
+            if !self.cursor.accepts("portMAX_DELAY") {
+                value = match self.meaning(self.cursor.token()) {
+                    Some(
+                        named @ (Meaning::Object(_) | Meaning::Variable(_) | Meaning::Function(_)),
+                    ) => {
+                        self.cursor.advance();
+                        named
+                    }
+                    _ => Meaning::Constant(self.constant()),
+                };
+            }
             if values.push(value).is_err() {
                 self.cursor.note(Fault::Memory);
             }
@@ -166,20 +177,6 @@ impl Reader {
             }
         }
         values
-    }
-
-    /// Reads the value of a parameter: the name of an object, a variable or a function, `portMAX_DELAY`, or a constant.
-    fn value(&mut self) -> Meaning {
-        if self.cursor.accepts("portMAX_DELAY") {
-            return Meaning::Forever;
-        }
-        match self.meaning(self.cursor.token()) {
-            Some(meaning @ (Meaning::Object(_) | Meaning::Variable(_) | Meaning::Function(_))) => {
-                self.cursor.advance();
-                meaning
-            }
-            _ => Meaning::Constant(self.constant()),
-        }
     }
 
     /// Gives each parameter its value. The signs around the parameters were there when the body was noted.

@@ -137,7 +137,7 @@ impl Writer {
         code: &Code,
         said: &Said,
     ) -> Result<(), AllocError> {
-        let mut last = None;
+        let (mut last_start, mut last_end) = (0usize, 0usize);
         for (number, line) in code.lines.iter().enumerate() {
             let text = match said.lines.get(number) {
                 Some(text) => text.as_str(),
@@ -150,17 +150,16 @@ impl Writer {
                 Word::Blanks(usize::from(number < 10)),
             ];
             self.write("  %%  # %% ", words)?;
-            let is_same = match last {
-                Some(last) => are_of_one_place(code, last, line.place),
-                None => false,
-            };
+            let start = self.text.len();
             self.place(source, code, line.place)?;
-            if is_same {
+            let end = self.text.len();
+            let last = self.written(last_start, last_end);
+            if last == self.written(start, end) {
                 self.text.push_str("\n")?;
             } else {
                 self.excerpt(program, source, line.place.spot.line)?;
             }
-            last = Some(line.place);
+            (last_start, last_end) = (start, end);
         }
         Ok(())
     }
@@ -280,11 +279,24 @@ impl Writer {
         filled(self.alloc, form, words)
     }
 
-    /// Writes where a line is in the source.
+    /// What is written from `start` up to `end`, without the last one.
+    fn written(&self, start: usize, end: usize) -> &str {
+        self.text.as_str().get(start..end).unwrap_or("")
+    }
+
+    /// Writes where a line is in the source, and the lines that call the function that it is of, the innermost first.
     fn place(&mut self, source: &Source<'_>, code: &Code, place: Origin) -> Result<(), AllocError> {
         let words = &[Word::Text(source.file), Word::Count(place.spot.line)];
         self.write("%:%", words)?;
-        self.callers(code, place)
+        let mut place = place;
+        for _ in 0..code.calls.len() {
+            let Some(outer) = caller(&code.calls, place) else {
+                break;
+            };
+            self.write(" from %", &[Word::Count(outer.spot.line)])?;
+            place = outer;
+        }
+        Ok(())
     }
 
     /// Writes the text of a line of the source.
@@ -302,19 +314,6 @@ impl Writer {
             _ => self.write(": %\n", &[Word::Text(shown.as_str())]),
         }
     }
-
-    /// Writes the lines that call the function that a line is of, the innermost first.
-    fn callers(&mut self, code: &Code, place: Origin) -> Result<(), AllocError> {
-        let mut place = place;
-        for _ in 0..code.calls.len() {
-            let Some(outer) = caller(&code.calls, place) else {
-                break;
-            };
-            self.write(" from %", &[Word::Count(outer.spot.line)])?;
-            place = outer;
-        }
-        Ok(())
-    }
 }
 
 /// The name of a variable among all names.
@@ -323,24 +322,4 @@ fn name_in(names: &[String], variable: usize) -> Word<'_> {
         Some(name) => Word::Text(name.as_str()),
         None => Word::Text(""),
     }
-}
-
-/// Whether two lines of code are of one line of the source, called from the same lines.
-fn are_of_one_place(code: &Code, one: Origin, other: Origin) -> bool {
-    let mut one = one;
-    let mut other = other;
-    for _ in 0..=code.calls.len() {
-        if one.spot.line != other.spot.line {
-            return false;
-        }
-        match (caller(&code.calls, one), caller(&code.calls, other)) {
-            (Some(first), Some(second)) => {
-                one = first;
-                other = second;
-            }
-            (None, None) => return true,
-            _ => return false,
-        }
-    }
-    false
 }

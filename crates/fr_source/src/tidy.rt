@@ -77,15 +77,6 @@ enum Change {
     Turn(usize),
 }
 
-/// The end of all jumps that come to these lines is this one.
-fn note_end(ends: &mut [Option<usize>], way: &[usize], end: usize) {
-    for number in way {
-        if let Some(place) = ends.get_mut(*number) {
-            *place = Some(end);
-        }
-    }
-}
-
 impl Tidying<'_> {
     /// The line that a way through this one comes to: the end of a goto, or the line itself.
     fn through(&self, number: usize) -> Option<usize> {
@@ -97,80 +88,65 @@ impl Tidying<'_> {
         }
     }
 
-    /// The line with the least number among those that a way through gotos comes to from this one.
-    fn least_after(&self, first: usize) -> usize {
-        let (mut target, mut least) = (first, first);
-        for _ in 0..self.kept.len() {
-            target = self.through(target).unwrap_or(target);
-            least = least.min(target);
-        }
-        least
-    }
-
-    /// Where a jump to a line comes to in the end, through further gotos, which are added to the way. Of gotos that go around for
-    /// ever that is the one with the least number, whichever of them the way begins at. `ends` has what is known of lines.
-    fn end_of_jumps(
-        &self,
-        ends: &[Option<usize>],
-        first: usize,
-        way: &mut Vec<usize>,
-    ) -> Result<usize, AllocError> {
-        let mut target = first;
-        for _ in 0..self.kept.len() {
-            if let Some(Some(end)) = ends.get(target) {
-                return Ok(*end);
-            }
-            match self.through(target) {
-                Some(next) if next != target => {
-                    way.push(target)?;
-                    target = next;
-                }
-                _ => return Ok(target),
+    /// Lets each jump to a goto go to where that goes. Answers whether one changed. Of gotos that go around for ever there is one
+    /// less each time, down to one that goes to itself.
+    fn shorten_jumps(&mut self) -> bool {
+        let mut has_changed = false;
+        for number in 0..self.kept.len() {
+            if let Some(
+                Kept {
+                    to: Some(first),
+                    ..
+                },
+            ) = self.kept.get(number).copied()
+                && let Some(target) = self.through(first)
+                && target != first
+                && let Some(slot) = self.kept.get_mut(number)
+            {
+                slot.to = Some(target);
+                has_changed = true;
             }
         }
-        Ok(self.least_after(target))
+        has_changed
     }
 
-    /// Where a jump to each line comes to in the end.
-    fn ends_of_jumps(&self, alloc: Global) -> Result<Vec<Option<usize>>, AllocError> {
-        let mut ends = vec![in alloc; None; self.kept.len()]?;
-        let mut way = Vec::new(alloc);
-        for number in 0..self.kept.len() {
-            let end = self.end_of_jumps(&ends, number, &mut way)?;
-            way.push(number)?;
-            note_end(&mut ends, &way, end);
-            way.clear();
-        }
-        Ok(ends)
-    }
-
-    /// Whether the line is a goto, and the line at the end of all jumps a return.
-    fn leads_to_return(&self, line: Line, target: usize) -> bool {
-        match made_at(self.plain, &self.kept, target) {
-            Some(end) => matches!((line.action, end.action), (Action::Goto, Action::Return)),
-            None => false,
-        }
-    }
-
-    /// Lets each jump go to its end at once, and makes a goto to a return the return. Answers whether a line changed.
-    fn shorten_jumps(&mut self, alloc: Global) -> Result<bool, AllocError> {
-        let (ends, mut has_changed) = (self.ends_of_jumps(alloc)?, false);
-        for number in 0..self.kept.len() {
-            let Some(line) = made_at(self.plain, &self.kept, number) else {
+    /// Lets each jump go to its end at once: a way through gotos is half as long after each round. Answers whether one changed.
+    fn shorten_all_jumps(&mut self) -> bool {
+        let mut has_changed = false;
+        for _ in 0..self.kept.len() {
+            if !self.shorten_jumps() {
                 break;
-            };
-            let Some(first) = line.to else {
-                continue;
-            };
-            let target = ends.get(first).copied().flatten().unwrap_or(first);
-            let returns = self.leads_to_return(line, target);
-            has_changed = has_changed || returns || target != first;
-            if let Some(slot) = self.kept.get_mut(number) {
-                slot.to = if returns { None } else { Some(target) };
-                slot.form = if returns { Form::Returns } else { slot.form };
+            }
+            has_changed = true;
+        }
+        has_changed
+    }
+
+    /// Makes each goto to a return the return. Answers whether there was one.
+    fn return_at_once(&mut self) -> bool {
+        let mut has_changed = false;
+        for number in 0..self.kept.len() {
+            if let Some(
+                Line {
+                    action: Action::Goto,
+                    to: Some(target),
+                    ..
+                },
+            ) = made_at(self.plain, &self.kept, number)
+                && let Some(
+                    Line {
+                        action: Action::Return,
+                        ..
+                    },
+                ) = made_at(self.plain, &self.kept, target)
+                && let Some(slot) = self.kept.get_mut(number)
+            {
+                slot.form = Form::Returns;
+                slot.to = None;
+                has_changed = true;
             }
         }
-        Ok(has_changed)
+        has_changed
     }
 
     /// For each line whether a jump comes to it.
@@ -335,26 +311,16 @@ impl Tidying<'_> {
     /// Makes all changes that can be made.
     fn tidy(&mut self, alloc: Global, program: &Program) -> Result<(), AllocError> {
         for _ in 0..=self.kept.len().saturating_mul(4) {
-            let is_shorter = self.shorten_jumps(alloc)?;
+            let is_shorter = self.shorten_all_jumps();
+            let has_returns = self.return_at_once();
             let is_smaller = self.take_out_unreached(alloc)?;
             let is_changed = self.change_each(alloc, program)?;
-            if !is_shorter && !is_smaller && !is_changed {
+            if !is_shorter && !has_returns && !is_smaller && !is_changed {
                 break;
             }
         }
         Ok(())
     }
-}
-
-/// All lines as they are.
-fn untouched<'a>(alloc: Global, plain: &'a [Line]) -> Result<Tidying<'a>, AllocError> {
-    let (mut kept, mut heirs) = (Vec::new(alloc), Vec::new(alloc));
-    for (from, line) in plain.iter().enumerate() {
-        let (form, to) = (Form::Same, line.to);
-        kept.push(Kept { from, form, to })?;
-        heirs.push(Heir::Line(from))?;
-    }
-    Ok(Tidying { plain, kept, heirs })
 }
 
 /// The lines without jumps that aren't needed, and without lines that no way leads to. Others see of them what they see of the
@@ -366,7 +332,14 @@ pub(crate) fn tidied(
 ) -> Result<Vec<Line>, AllocError>
     ensures { IfOk result (λ tidied. ShowsNoLess program.now.variables.items lines.now tidied.items) }
 {
-    let mut tidying = untouched(alloc, lines)?;
+    let (mut kept, mut heirs) = (Vec::new(alloc), Vec::new(alloc));
+    for (from, line) in lines.iter().enumerate() {
+        let (form, to) = (Form::Same, line.to);
+        kept.push(Kept { from, form, to })?;
+        heirs.push(Heir::Line(from))?;
+    }
+    let plain = lines;
+    let mut tidying = Tidying { plain, kept, heirs };
     tidying.tidy(alloc, program)?;
     tidied_lines(alloc, program, lines, &tidying.kept, &tidying.heirs)
 }
