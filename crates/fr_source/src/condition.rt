@@ -9,18 +9,6 @@ use crate::program::{Call, Comparison, Operand, Owner, Variable};
 use crate::reader::Reader;
 use crate::texts::Word;
 
-/// Why a condition doesn't go on with this sign, before the one after it.
-fn why_no_condition(sign: &str, after: &str) -> Option<&'static str> {
-    match (sign, after) {
-        ("=", ">") => Some("'=>' in a condition: write '>='"),
-        ("=", _) => Some("'=' in a condition: write '=='"),
-        ("++" | "--", _) => {
-            Some("a condition changes nothing: write '++' or '--' as a statement of its own")
-        }
-        _ => None,
-    }
-}
-
 impl Cursor {
     /// Refuses a call that doesn't answer whether it worked.
     fn check_fails(&mut self, call: Call, spot: Spot) {
@@ -53,24 +41,26 @@ impl Cursor {
 }
 
 impl Reader {
-    /// Reads a condition in brackets.
+    /// Reads a condition in brackets, and gives its place among those of the body.
     pub(crate) fn condition(&mut self) -> usize {
         self.cursor.take("(", "");
-        let test = self.bare_condition();
+        let term = self.expression();
+        let test = self.test_of(term);
         let spot = self.cursor.spot();
         let sign = self.cursor.text(self.cursor.token());
         let after = self.cursor.text(self.cursor.following());
-        if let Some(why) = why_no_condition(sign, after) {
+        let why = match (sign, after) {
+            ("=", ">") => "'=>' in a condition: write '>='",
+            ("=", _) => "'=' in a condition: write '=='",
+            ("++" | "--", _) =>
+                "a condition changes nothing: write '++' or '--' as a statement of its own",
+            _ => "",
+        };
+        if !why.is_empty() {
             self.cursor.refuse(spot, why);
         }
         self.cursor.take(")", "");
         test
-    }
-
-    /// Reads a condition, and gives its place among those of the body.
-    pub(crate) fn bare_condition(&mut self) -> usize {
-        let term = self.expression();
-        self.test_of(term)
     }
 
     /// The place of the condition that a term is.

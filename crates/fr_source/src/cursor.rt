@@ -1,8 +1,8 @@
 // Where a reader is among the tokens of a source, and the first fault in them. Once a fault is noted, only the end of the
 // source is seen: so what reads goes on, with values of no meaning, and soon ends.
 
-use crate::fault::{Fault, Spot, wrong_in};
-use crate::texts::{Pieces, Span, Word};
+use crate::fault::{Fault, Spot};
+use crate::texts::{Pieces, Span, Word, push_pieces};
 use crate::token::{Kind, Token};
 use std::alloc::Global;
 
@@ -39,7 +39,11 @@ impl Cursor {
     /// Notes the fault that a form says is at a place, with its words, unless one is noted already.
     pub(crate) fn refuse_with(&mut self, spot: Spot, form: &str, words: &[Word<'_>]) {
         if self.fault.is_none() {
-            let fault = wrong_in(self.alloc, &self.pieces, spot, form, words);
+            let mut text = String::new(self.alloc);
+            let fault = match push_pieces(self.alloc, &mut text, &self.pieces, form, words) {
+                Ok(()) => Fault::Wrong(spot, text),
+                Err(_) => Fault::Memory,
+            };
             self.note(fault);
         }
     }
@@ -178,18 +182,8 @@ impl Cursor {
         token
     }
 
-    /// Where the next token is refused, in whose place this sign was expected: where a semicolon is missing, that is after the
-    /// token before it.
-    fn spot_for(&self, sign: &str) -> Spot {
-        if sign != ";" {
-            return self.spot();
-        }
-        let Token { span, spot, .. } = self.previous();
-        let column = spot.column.saturating_add(span.length());
-        Spot { column, ..spot }
-    }
-
-    /// Refuses the next token, in whose place something else was expected, which four texts say.
+    /// Refuses the next token, in whose place something else was expected, which four texts say. Where a semicolon is missing,
+    /// the place of the fault is after the token before.
     pub(crate) fn refuse_for<'x>(
         &mut self,
         first: &'x str,
@@ -212,7 +206,15 @@ impl Cursor {
             Word::Text(last),
             Word::Piece(found.span),
         ];
-        let spot = self.spot_for(sign);
+        let mut spot = found.spot;
+        if sign == ";" {
+            let last = self.previous();
+            let column = last.spot.column.saturating_add(last.span.length());
+            spot = Spot {
+                column,
+                ..last.spot
+            };
+        }
         self.refuse_with(spot, form, words);
     }
 

@@ -134,21 +134,19 @@ impl Reader {
                 .refuse(word.spot, "more than 1024 names are declared");
         }
         match Declared::of(self.cursor.text(word)) {
-            Declared::Constant => self.constant_declaration(),
+            Declared::Constant => {
+                let name = self.new_name("the name of a constant");
+                self.cursor.take("=", "");
+                let number = self.constant();
+                self.scope.add_outside(name.span, Meaning::Constant(number));
+                self.cursor.take(";", " after the declaration");
+            }
             Declared::Shared => self.variable_declaration(Owner::Everyone, false),
             Declared::Actor(home) => self.actor(home),
             Declared::Function => self.function(),
             Declared::Object(kind) => self.object(kind),
             Declared::Nothing => self.cursor.refuse_declaration(word),
         }
-    }
-
-    fn constant_declaration(&mut self) {
-        let name = self.new_name("the name of a constant");
-        self.cursor.take("=", "");
-        let number = self.constant();
-        self.scope.add_outside(name.span, Meaning::Constant(number));
-        self.cursor.take(";", " after the declaration");
     }
 
     /// Reads the least and the greatest number of a range, with `..` between them.

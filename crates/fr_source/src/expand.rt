@@ -235,20 +235,7 @@ impl Expander {
 
     /// The action, with the actor's own variables in place of those of functions.
     fn own_action(&self, program: &mut Program, action: Action) -> Result<Action, AllocError> {
-        if let Action::Call { answer, call } = action {
-            let answer = match answer {
-                Some(variable) => Some(self.own_variable(variable)),
-                None => None,
-            };
-            let call = self.own_call(program, call)?;
-            return Ok(Action::Call { answer, call });
-        }
-        Ok(self.own_plain_action(action))
-    }
-
-    /// The same of an action that is no call.
-    fn own_plain_action(&self, action: Action) -> Action {
-        match action {
+        Ok(match action {
             Action::Set {
                 variable,
                 left,
@@ -265,6 +252,13 @@ impl Expander {
                 variable: self.own_variable(variable),
                 range,
             },
+            Action::Call { answer, call } => Action::Call {
+                answer: match answer {
+                    Some(variable) => Some(self.own_variable(variable)),
+                    None => None,
+                },
+                call: self.own_call(program, call)?,
+            },
             Action::If {
                 left,
                 comparison,
@@ -274,8 +268,8 @@ impl Expander {
                 comparison,
                 right: self.own_operand(right),
             },
-            Action::Call { .. } | Action::Goto | Action::Return | Action::End => action,
-        }
+            Action::Goto | Action::Return | Action::End => action,
+        })
     }
 
     /// The fault that an actor grows too large. A label is told by the line above it.

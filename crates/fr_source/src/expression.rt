@@ -279,23 +279,17 @@ impl Reader {
             Value::Any(range)
         } else if is_null {
             Value::Null
+        } else if let Some(Meaning::Function(_)) = self.meaning(token) {
+            let form = "'%' is a function and answers nothing: let it set a variable";
+            self.cursor.refuse_piece(spot, form, token.span, "");
+            Value::Null
         } else {
-            self.called_value(token)
+            match self.kernel_call(token) {
+                Some(call) => Value::Called(call),
+                None => Value::Null,
+            }
         };
         Term { value, spot }
-    }
-
-    /// Takes a call, after its name.
-    fn called_value(&mut self, token: Token) -> Value {
-        if let Some(Meaning::Function(_)) = self.meaning(token) {
-            let form = "'%' is a function and answers nothing: let it set a variable";
-            self.cursor.refuse_piece(token.spot, form, token.span, "");
-            return Value::Null;
-        }
-        match self.kernel_call(token) {
-            Some(call) => Value::Called(call),
-            None => Value::Null,
-        }
     }
 
     /// Takes a number, a constant or a variable.

@@ -1,6 +1,6 @@
 // Why a source is refused, and where.
 
-use crate::texts::{Pieces, Word, clipped, filled, push_pieces};
+use crate::texts::{Word, clipped, filled};
 use std::alloc::{AllocError, AllocFailed, Global};
 
 /// A place in the source: its line and its column, from 1. A column is a character.
@@ -34,21 +34,6 @@ impl<T: Drop> From<AllocFailed<T>> for Fault {
 /// The fault of a fixed text at a place.
 pub(crate) fn wrong(alloc: Global, spot: Spot, text: &str) -> Fault {
     wrong_with(alloc, spot, text, &[])
-}
-
-/// The fault that a form says is at a place, with its words, some of them pieces of a source.
-pub(crate) fn wrong_in(
-    alloc: Global,
-    pieces: &Pieces,
-    spot: Spot,
-    form: &str,
-    words: &[Word<'_>],
-) -> Fault {
-    let mut text = String::new(alloc);
-    match push_pieces(alloc, &mut text, pieces, form, words) {
-        Ok(()) => Fault::Wrong(spot, text),
-        Err(_) => Fault::Memory,
-    }
 }
 
 /// The fault that a form says is at a place, with its words. None of them is a piece of a source.

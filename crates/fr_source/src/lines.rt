@@ -153,16 +153,6 @@ impl Lines {
         self.line(action, None, spot);
     }
 
-    /// Goes to a label if a variable has this number.
-    pub(crate) fn test_case(&mut self, variable: usize, number: i64, label: usize, spot: Spot) {
-        let action = Action::If {
-            left: Operand::Variable(variable),
-            comparison: Comparison::Equal,
-            right: Operand::Number(number),
-        };
-        self.line(action, Some(label), spot);
-    }
-
     /// Makes a call, and sets a variable to 1 if it works, else to 0.
     pub(crate) fn keep(&mut self, variable: usize, call: Call, spot: Spot) {
         let failed = self.label();
@@ -183,23 +173,6 @@ impl Lines {
         self.place(bad);
         self.set(variable, 1, spot);
         self.place(good);
-    }
-
-    /// Writes the test of an `if`, and gives the label of what is done where it is false.
-    pub(crate) fn open_if(&mut self, test: usize, spot: Spot) -> usize {
-        let yes = self.label();
-        let no = self.label();
-        self.branch(test, spot, yes, no, yes);
-        self.place(yes);
-        no
-    }
-
-    /// Writes the end of an `if` that has an `else`, and gives the label of the end of that.
-    pub(crate) fn open_else(&mut self, no: usize, spot: Spot) -> usize {
-        let end = self.label();
-        self.goto(end, spot);
-        self.place(no);
-        end
     }
 
     /// Writes the test of a loop, and gives the labels of its step and of what is after it.
@@ -223,15 +196,6 @@ impl Lines {
         self.place(end);
     }
 
-    /// Begins a `do` loop, and gives the labels of its body, of its test and of what is after it.
-    pub(crate) fn open_do(&mut self) -> [usize; 3] {
-        let top = self.label();
-        let again = self.label();
-        let end = self.label();
-        self.place(top);
-        [top, again, end]
-    }
-
     /// Writes the test of a `do` loop with these labels.
     pub(crate) fn close_do(&mut self, labels: [usize; 3], test: usize, spot: Spot) {
         let [top, again, end] = labels;
@@ -247,7 +211,12 @@ impl Lines {
             if let Some(number) = *value
                 && *value != last
             {
-                self.test_case(variable, number, *label, *spot);
+                let action = Action::If {
+                    left: Operand::Variable(variable),
+                    comparison: Comparison::Equal,
+                    right: Operand::Number(number),
+                };
+                self.line(action, Some(*label), *spot);
             }
         }
     }
@@ -321,46 +290,38 @@ impl Lines {
                 let is_and = matches!(condition, Condition::And(..));
                 self.branch_twice(rest, branch, (one, other), is_and);
             }
-            Condition::Works(call) => self.branch_on_call(branch, call),
+            Condition::Works(call) => {
+                let action = Action::Call { answer: None, call };
+                self.line(action, Some(no), spot);
+                if branch.after != yes {
+                    self.goto(yes, spot);
+                }
+            }
             Condition::Always(holds) => self.goto(if holds { yes } else { no }, spot),
             Condition::Compare {
                 before,
                 left,
                 comparison,
                 right,
-            } => {
-                self.give(before, spot);
-                self.branch_on_comparison(branch, left, comparison, right);
-            }
+            } => self.branch_on_comparison(branch, before, left, comparison, right),
         }
     }
 
-    /// Writes the action with this place that gives a variable a value, if there is one.
-    fn give(&mut self, before: Option<usize>, spot: Spot) {
-        if let Some(place) = before
-            && let Some(action) = self.givers.get(place).copied()
-        {
-            self.line(action, None, spot);
-        }
-    }
-
-    /// Makes a call, and goes to `yes` if it works, else to `no`.
-    fn branch_on_call(&mut self, branch: Branch, call: Call) {
-        let action = Action::Call { answer: None, call };
-        self.line(action, Some(branch.no), branch.spot);
-        if branch.after != branch.yes {
-            self.goto(branch.yes, branch.spot);
-        }
-    }
-
-    /// Goes to `yes` if the comparison holds, else to `no`: by one line, since one of them is next.
+    /// Goes to `yes` if the comparison holds, else to `no`: by one line, since one of them is next. The action that gives a
+    /// variable a value is before it, if there is one.
     fn branch_on_comparison(
         &mut self,
         branch: Branch,
+        before: Option<usize>,
         left: Operand,
         comparison: Comparison,
         right: Operand,
     ) {
+        if let Some(place) = before
+            && let Some(action) = self.givers.get(place).copied()
+        {
+            self.line(action, None, branch.spot);
+        }
         let (comparison, target) = if branch.after == branch.yes {
             (comparison.inverse(), branch.no)
         } else {

@@ -1,24 +1,18 @@
 // What to write in place of a word that means nothing.
 
-/// How many bytes two texts share at the front.
-fn shared_at_front(word: &[u8], name: &[u8]) -> usize {
-    for count in 0..word.len() {
-        if word.get(count) != name.get(count) {
-            return count;
-        }
+/// The byte in this place of a text, counted from its front or from its back.
+fn byte_at(text: &[u8], place: usize, is_from_back: bool) -> Option<&u8> {
+    if is_from_back {
+        text.get(text.len().checked_sub(place)?.checked_sub(1)?)
+    } else {
+        text.get(place)
     }
-    word.len()
 }
 
-/// The byte before so many at the end of a text.
-fn at_back(text: &[u8], count: usize) -> Option<&u8> {
-    text.get(text.len().checked_sub(count)?.checked_sub(1)?)
-}
-
-/// How many bytes two texts share at the back.
-fn shared_at_back(word: &[u8], name: &[u8]) -> usize {
+/// How many bytes two texts share at the front, or else at the back.
+fn shared(word: &[u8], name: &[u8], is_from_back: bool) -> usize {
     for count in 0..word.len() {
-        if at_back(word, count) != at_back(name, count) {
+        if byte_at(word, count, is_from_back) != byte_at(name, count, is_from_back) {
             return count;
         }
     }
@@ -28,7 +22,7 @@ fn shared_at_back(word: &[u8], name: &[u8]) -> usize {
 /// Whether a word differs from a name in at most two characters in a row, and has at least half of it.
 pub(crate) fn is_near(word: &str, name: &str) -> bool {
     let (word, name) = (word.as_bytes(), name.as_bytes());
-    let shared = shared_at_front(word, name).saturating_add(shared_at_back(word, name));
+    let shared = shared(word, name, false).saturating_add(shared(word, name, true));
     let longest = word.len().max(name.len());
     longest <= shared.saturating_add(2) && longest <= shared.saturating_mul(2)
 }

@@ -82,12 +82,6 @@ impl Cursor {
         }
     }
 
-    /// Whether no name may have the text of a token.
-    fn is_taken(&self, token: Token) -> bool {
-        let text = self.text(token);
-        is_reserved(text) || kernel_named(text).is_some()
-    }
-
     /// Refuses a name that means something else than what is expected.
     pub(crate) fn refuse_meaning(&mut self, token: Token, what: &str, meaning: Meaning) {
         let (shown, kind) = (Word::Piece(token.span), Word::Text(meaning.text()));
@@ -140,11 +134,12 @@ impl Reader {
             let form = "'%' is a type of C, and there are none here: write the name alone";
             self.cursor.refuse_piece(spot, form, span, "");
         }
-        if self.cursor.is_taken(token) {
+        let text = self.cursor.text(token);
+        let length = text.len();
+        if is_reserved(text) || kernel_named(text).is_some() {
             let form = "'%' is a word of this notation or of the kernel: choose another name";
             self.cursor.refuse_piece(spot, form, span, "");
         }
-        let length = self.cursor.text(token).len();
         if length > LONGEST_NAME {
             let form = "a name has at most 32 characters, this one %";
             self.cursor.refuse_with(spot, form, &[Word::Count(length)]);

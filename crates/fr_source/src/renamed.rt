@@ -68,16 +68,7 @@ fn is_name_among(names: &[String], text: &str) -> bool {
     false
 }
 
-/// Whether a text can be a variable's name: it is short, no word of the notation or of the kernel, and no other name.
-fn is_free(program: &Program, names: &[String], text: &str) -> bool {
-    text.len() <= LONGEST_NAME
-        && !is_reserved(text)
-        && kernel_named(text).is_none()
-        && count_of(program, text) == 0
-        && !is_name_among(names, text)
-}
-
-/// A name for an actor's own variable that no other has.
+/// A name for an actor's own variable: it is short, no word of the notation or of the kernel, and no other name.
 fn free_name(
     alloc: Global,
     program: &Program,
@@ -89,7 +80,12 @@ fn free_name(
     let name = program.text(variable.name);
     let short = name.get(..28).unwrap_or(name);
     for number in 2..MOST_TRIES {
-        if is_free(program, names, text.as_str()) {
+        let is_free = text.len() <= LONGEST_NAME
+            && !is_reserved(text.as_str())
+            && kernel_named(text.as_str()).is_none()
+            && count_of(program, text.as_str()) == 0
+            && !is_name_among(names, text.as_str());
+        if is_free {
             break;
         }
         text = filled(alloc, "%_%", &[Word::Text(short), Word::Count(number)])?;

@@ -215,7 +215,9 @@ impl Reader {
         match construct {
             Construct::If | Construct::Else => {
                 let test = self.condition();
-                let no = self.lines.open_if(test, spot);
+                let (yes, no) = (self.lines.label(), self.lines.label());
+                self.lines.branch(test, spot, yes, no, yes);
+                self.lines.place(yes);
                 let margin = self.cursor.branch_margin(Construct::If);
                 self.enter(Open::If { no, margin, spot });
             }
@@ -226,7 +228,8 @@ impl Reader {
                 self.loop_head(Some(test), top, first, Construct::While, spot);
             }
             Construct::Do => {
-                let labels = self.lines.open_do();
+                let top = self.lines.label_here();
+                let labels = [top, self.lines.label(), self.lines.label()];
                 let margin = self.cursor.margin(Construct::Do);
                 self.enter(Open::Do { labels, margin });
             }
@@ -244,7 +247,8 @@ impl Reader {
         let top = self.lines.label_here();
         let mut test = None;
         if !self.cursor.sees(";") {
-            test = Some(self.bare_condition());
+            let term = self.expression();
+            test = Some(self.test_of(term));
         }
         self.cursor.take(";", "");
         let first = self.lines.body.items.len();
@@ -296,7 +300,9 @@ impl Reader {
     fn close_one(&mut self, open: Open) -> bool {
         match open {
             Open::If { no, spot, .. } if self.cursor.accepts("else") => {
-                let end = self.lines.open_else(no, spot);
+                let end = self.lines.label();
+                self.lines.goto(end, spot);
+                self.lines.place(no);
                 let margin = self.cursor.branch_margin(Construct::Else);
                 self.enter(Open::Else { end, margin });
                 return false;
@@ -309,22 +315,20 @@ impl Reader {
                 spot,
                 ..
             } => self.lines.close_loop(labels, step, spot),
-            Open::Do { labels, .. } => self.close_do(labels),
+            Open::Do { labels, .. } => {
+                if !self.cursor.accepts("while") {
+                    let what = "'while' and the condition of the 'do' loop";
+                    self.cursor.refuse_next(what);
+                }
+                self.here.operators = 0;
+                let spot = self.cursor.spot();
+                let test = self.condition();
+                self.cursor.take(";", " after the 'do' loop");
+                self.lines.close_do(labels, test, spot);
+            }
             Open::Block | Open::Switch { .. } => {}
         }
         true
-    }
-
-    fn close_do(&mut self, labels: [usize; 3]) {
-        if !self.cursor.accepts("while") {
-            self.cursor
-                .refuse_next("'while' and the condition of the 'do' loop");
-        }
-        self.here.operators = 0;
-        let spot = self.cursor.spot();
-        let test = self.condition();
-        self.cursor.take(";", " after the 'do' loop");
-        self.lines.close_do(labels, test, spot);
     }
 
     /// Reads a jump, or else a simple statement.

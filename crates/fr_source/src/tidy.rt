@@ -233,29 +233,23 @@ impl Tidying<'_> {
         }
     }
 
-    /// What goes on for a line that no way leads to any more: where its jump leads, if a way leads there.
-    fn heir_of_unreached(&self, seen: &[bool], number: usize) -> Heir {
-        let Some(line) = made_at(self.plain, &self.kept, number) else {
-            return Heir::Nowhere;
-        };
-        match (line.action, line.to) {
-            (Action::Return, _) => Heir::Returns,
-            (Action::Goto, Some(target)) if seen.get(target) == Some(&true) => Heir::Line(target),
-            _ => Heir::Nowhere,
-        }
-    }
-
-    /// Takes out the lines that no way leads to. Whether there were any.
+    /// Takes out the lines that no way leads to any more: what goes on for one is where its jump leads, if a way leads there.
+    /// Whether there were any.
     fn take_out_unreached(&mut self, alloc: Global) -> Result<bool, AllocError> {
-        let seen = reached(alloc, &made_of(alloc, self.plain, &self.kept)?)?;
+        let lines = made_of(alloc, self.plain, &self.kept)?;
+        let seen = reached(alloc, &lines)?;
         let (mut gone, mut has_changed) = (Vec::new(alloc), false);
-        for (number, is_seen) in seen.iter().enumerate() {
-            if *is_seen {
-                gone.push(None)?;
-            } else {
-                gone.push(Some(self.heir_of_unreached(&seen, number)))?;
-                has_changed = true;
-            }
+        for (number, line) in lines.iter().enumerate() {
+            let heir = match (line.action, line.to) {
+                _ if seen.get(number) == Some(&true) => None,
+                (Action::Return, _) => Some(Heir::Returns),
+                (Action::Goto, Some(target)) if seen.get(target) == Some(&true) => {
+                    Some(Heir::Line(target))
+                }
+                _ => Some(Heir::Nowhere),
+            };
+            has_changed = has_changed || heir.is_some();
+            gone.push(heir)?;
         }
         if has_changed {
             self.take_out(alloc, &gone)?;

@@ -125,11 +125,6 @@ fn comment_length(text: &[u8]) -> Option<usize> {
 const JOINED: &str =
     "this comment ends with '\\', so C reads the next line as part of it: leave the '\\' out";
 
-/// Whether a comment ends with `\`, so that C joins the next line to it.
-fn is_joined(comment: &[u8]) -> bool {
-    comment.trim_ascii_end().ends_with(b"\\")
-}
-
 /// The length of the number that the text begins with.
 fn number_length(text: &[u8]) -> usize {
     let hexadecimal = text.starts_with(b"0x") || text.starts_with(b"0X");
@@ -250,7 +245,9 @@ impl Scan {
     ) -> Result<(), Fault> {
         let Position { spot, indent } = position;
         match piece {
-            Piece::Comment if is_joined(text) => return Err(wrong(alloc, spot, JOINED)),
+            Piece::Comment if text.trim_ascii_end().ends_with(b"\\") => {
+                return Err(wrong(alloc, spot, JOINED));
+            }
             Piece::Comment => return Ok(push_blanks(&mut self.blank, text)?),
             Piece::Unended => return Err(wrong(alloc, spot, "this comment doesn't end")),
             Piece::Unknown => return Err(unknown_sign(alloc, spot, text)),
