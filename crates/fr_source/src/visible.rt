@@ -172,8 +172,8 @@ struct Comparison<'a> {
 
 impl Comparison<'_> {
     /// Whether the aim of a plain line is this mark.
-    fn aims_at(self, from: usize, mark: usize) -> bool
-        ensures { IsTrue result → Aims self.entry.aims.now from mark }
+    fn aims_at(&self, from: usize, mark: usize) -> bool
+        ensures { IsTrue result → Aims self.now.aims.now from mark }
     {
         match self.aims.get(from) {
             Some(Some(aim)) => *aim == mark,
@@ -182,8 +182,8 @@ impl Comparison<'_> {
     }
 
     /// Whether the tidied code goes on for a plain line as from this line of its own.
-    fn meets(self, from: usize, number: usize) -> bool
-        ensures { IsTrue result → Meets self.entry.aims.now self.entry.marks.now from number }
+    fn meets(&self, from: usize, number: usize) -> bool
+        ensures { IsTrue result → Meets self.now.aims.now self.now.marks.now from number }
     {
         match self.marks.get(number) {
             Some(mark) => self.aims_at(from, *mark),
@@ -192,10 +192,10 @@ impl Comparison<'_> {
     }
 
     /// The tidied line with this number and its form, if it is made from this plain line.
-    fn made_from(self, from: usize, number: usize) -> Option<(Form, Line)>
-        requires made { AreMade self.plain.now self.kept.now self.lines.now }
-        ensures there { IfSome result (λ r. slice_get self.entry.lines.now number ≡ Some r.1) }
-        ensures does { IfSome result (λ r. (was : LineOf) → slice_get self.entry.plain.now from ≡ Some was
+    fn made_from(&self, from: usize, number: usize) -> Option<(Form, Line)>
+        requires made { AreMade self.now.plain.now self.now.kept.now self.now.lines.now }
+        ensures there { IfSome result (λ r. slice_get self.now.lines.now number ≡ Some r.1) }
+        ensures does { IfSome result (λ r. (was : LineOf) → slice_get self.now.plain.now from ≡ Some was
             → r.1.action ≡ made r.0 was.action) }
     {
         match (self.kept.get(number), self.lines.get(number)) {
@@ -206,15 +206,15 @@ impl Comparison<'_> {
 
     /// Whether an `if` on the actor's own variables isn't needed: both its ways go on at the mark.
     fn skips_if(
-        self,
+        &self,
         number: usize,
         mark: usize,
         left: Operand,
         right: Operand,
         target: usize,
     ) -> bool
-        requires below { number < length self.plain.now }
-        ensures { IsTrue result → SkipsIf (tidied self.entry.program.now.variables.items self.entry.lines.now self.entry.marks.now self.entry.aims.now) number mark left right target }
+        requires below { number < length self.now.plain.now }
+        ensures { IsTrue result → SkipsIf (tidied self.now.program.now.variables.items self.now.lines.now self.now.marks.now self.now.aims.now) number mark left right target }
     {
         !self.program.looks_at_shared(left, right)
             && self.aims_at(target, mark)
@@ -222,10 +222,10 @@ impl Comparison<'_> {
     }
 
     /// The line before the mark with its form and its target, if it is made from this plain line and has one.
-    fn jump_from(self, from: usize, number: usize) -> Option<(Form, Line, usize)>
-        requires made { AreMade self.plain.now self.kept.now self.lines.now }
-        ensures there { IfSome result (λ r. slice_get self.entry.lines.now number ≡ Some r.1) }
-        ensures does { IfSome result (λ r. (was : LineOf) → slice_get self.entry.plain.now from ≡ Some was
+    fn jump_from(&self, from: usize, number: usize) -> Option<(Form, Line, usize)>
+        requires made { AreMade self.now.plain.now self.now.kept.now self.now.lines.now }
+        ensures there { IfSome result (λ r. slice_get self.now.lines.now number ≡ Some r.1) }
+        ensures does { IfSome result (λ r. (was : LineOf) → slice_get self.now.plain.now from ≡ Some was
             → r.1.action ≡ made r.0 was.action) }
         ensures goes { IfSome result (λ r. r.1.to ≡ Some r.2) }
     {
@@ -234,11 +234,11 @@ impl Comparison<'_> {
     }
 
     /// Whether the line before the mark is this `if`, or asks for the opposite, and goes on as the `if` did.
-    fn keeps_if(self, number: usize, mark: usize, line: Line, target: usize) -> bool
-        requires made { AreMade self.plain.now self.kept.now self.lines.now }
-        requires below { number < length self.plain.now }
-        requires there { slice_get self.plain.now number ≡ Some line }
-        ensures { IsTrue result → SameIf (tidied self.entry.program.now.variables.items self.entry.lines.now self.entry.marks.now self.entry.aims.now) number mark line.action target ⊎ OppositeIf (tidied self.entry.program.now.variables.items self.entry.lines.now self.entry.marks.now self.entry.aims.now) number mark line.action target }
+    fn keeps_if(&self, number: usize, mark: usize, line: Line, target: usize) -> bool
+        requires made { AreMade self.now.plain.now self.now.kept.now self.now.lines.now }
+        requires below { number < length self.now.plain.now }
+        requires there { slice_get self.now.plain.now number ≡ Some line }
+        ensures { IsTrue result → SameIf (tidied self.now.program.now.variables.items self.now.lines.now self.now.marks.now self.now.aims.now) number mark line.action target ⊎ OppositeIf (tidied self.now.program.now.variables.items self.now.lines.now self.now.marks.now self.now.aims.now) number mark line.action target }
     {
         let Some(before) = mark.checked_sub(1) else {
             return false;
@@ -251,11 +251,11 @@ impl Comparison<'_> {
     }
 
     /// Whether the line before the mark does what this line did, and goes on as it did where it works and where it fails.
-    fn keeps_act(self, number: usize, mark: usize, line: Line) -> bool
-        requires made { AreMade self.plain.now self.kept.now self.lines.now }
-        requires below { number < length self.plain.now }
-        requires there { slice_get self.plain.now number ≡ Some line }
-        ensures { IsTrue result → KeepsAct (tidied self.entry.program.now.variables.items self.entry.lines.now self.entry.marks.now self.entry.aims.now) number mark line.action line.to }
+    fn keeps_act(&self, number: usize, mark: usize, line: Line) -> bool
+        requires made { AreMade self.now.plain.now self.now.kept.now self.now.lines.now }
+        requires below { number < length self.now.plain.now }
+        requires there { slice_get self.now.plain.now number ≡ Some line }
+        ensures { IsTrue result → KeepsAct (tidied self.now.program.now.variables.items self.now.lines.now self.now.marks.now self.now.aims.now) number mark line.action line.to }
     {
         let Some(before) = mark.checked_sub(1) else {
             return false;
@@ -271,11 +271,11 @@ impl Comparison<'_> {
     }
 
     /// Whether the tidied code goes on at the mark as this plain line does.
-    fn keeps_step(self, number: usize, mark: usize, line: Line) -> bool
-        requires made { AreMade self.plain.now self.kept.now self.lines.now }
-        requires below { number < length self.plain.now }
-        requires there { slice_get self.plain.now number ≡ Some line }
-        ensures { IsTrue result → KeepsStep (tidied self.entry.program.now.variables.items self.entry.lines.now self.entry.marks.now self.entry.aims.now) number mark line.action line.to }
+    fn keeps_step(&self, number: usize, mark: usize, line: Line) -> bool
+        requires made { AreMade self.now.plain.now self.now.kept.now self.now.lines.now }
+        requires below { number < length self.now.plain.now }
+        requires there { slice_get self.now.plain.now number ≡ Some line }
+        ensures { IsTrue result → KeepsStep (tidied self.now.program.now.variables.items self.now.lines.now self.now.marks.now self.now.aims.now) number mark line.action line.to }
     {
         match (line.action, line.to) {
             (Action::Goto, Some(target)) => self.aims_at(target, mark),
@@ -292,10 +292,10 @@ impl Comparison<'_> {
     }
 
     /// Whether the tidied code does what this plain line does, wherever a way leads to it.
-    fn keeps_line(self, number: usize) -> bool
-        requires made { AreMade self.plain.now self.kept.now self.lines.now }
-        requires below { number < length self.plain.now }
-        ensures { IsTrue result → KeepsLine (tidied self.entry.program.now.variables.items self.entry.lines.now self.entry.marks.now self.entry.aims.now) self.entry.plain.now number }
+    fn keeps_line(&self, number: usize) -> bool
+        requires made { AreMade self.now.plain.now self.now.kept.now self.now.lines.now }
+        requires below { number < length self.now.plain.now }
+        ensures { IsTrue result → KeepsLine (tidied self.now.program.now.variables.items self.now.lines.now self.now.marks.now self.now.aims.now) self.now.plain.now number }
     {
         let Some(line) = self.plain.get(number) else {
             return true;
@@ -310,10 +310,10 @@ impl Comparison<'_> {
     }
 
     /// Whether it does so for each plain line, and begins where they begin.
-    fn keeps_all(self) -> bool
-        requires made { AreMade self.plain.now self.kept.now self.lines.now }
-        requires marked { AreMarks self.program.now.variables.items self.lines.now self.marks.now }
-        ensures { IsTrue result → KeepsAll (tidied self.entry.program.now.variables.items self.entry.lines.now self.entry.marks.now self.entry.aims.now) self.entry.plain.now }
+    fn keeps_all(&self) -> bool
+        requires made { AreMade self.now.plain.now self.now.kept.now self.now.lines.now }
+        requires marked { AreMarks self.now.program.now.variables.items self.now.lines.now self.now.marks.now }
+        ensures { IsTrue result → KeepsAll (tidied self.now.program.now.variables.items self.now.lines.now self.now.marks.now self.now.aims.now) self.now.plain.now }
     {
         for number in 0..self.plain.len() {
             if !self.keeps_line(number) {

@@ -20,8 +20,8 @@ returns-then-ends c = λ is.
 pub returns-then-meets : goal.returns-then-meets
 returns-then-meets c = λ is.
     let kept = c.in-Some-Same-default in
-    let aims = c.args.self.aims.now in
-    let marks = c.args.self.marks.now in
+    let aims = c.args.self.now.aims.now in
+    let marks = c.args.self.now.marks.now in
     let next : c.args.number + 1 ≡ suc c.args.number = omega arith in
     let failing : c.unwrap_or.result ≡ unwrap_or c.args.line.to (suc c.args.number) = c.unwrap_or.ensures ∙ ap (unwrap_or c.args.line.to) next in
     record {

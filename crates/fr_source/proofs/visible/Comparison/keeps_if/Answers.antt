@@ -13,7 +13,7 @@ returns-then-meets c = λ is.
       before = search rules;
       is = record { line = kept.field-0-1; there = kept.ensures.there; does = kept.ensures.does c.args.line c.requires.there ∙ ap (λ f. made f c.args.line.action) kept.field-0-0-is; goes = kept.ensures.goes };
       far = c.meets.ensures c.if-meets.true;
-      near = subst (λ n. Meets c.args.self.aims.now c.args.self.marks.now n c.args.mark) next (c.meets-then-meets.ensures is);
+      near = subst (λ n. Meets c.args.self.now.aims.now c.args.self.now.marks.now n c.args.mark) next (c.meets-then-meets.ensures is);
     })
 
 pub returns-then-meets-2 : goal.returns-then-meets-2
@@ -26,5 +26,5 @@ returns-then-meets-2 c = λ is.
       before = search rules;
       is = record { line = kept.field-0-1; there = kept.ensures.there; does = kept.ensures.does c.args.line c.requires.there ∙ ap (λ f. made f c.args.line.action) kept.field-0-0-is; goes = kept.ensures.goes };
       far = c.meets-in-Some-Turned-default-default.ensures c.if-meets-2.true;
-      near = subst (λ n. Meets c.args.self.aims.now c.args.self.marks.now n kept.to) next (c.meets-then-meets-2.ensures is);
+      near = subst (λ n. Meets c.args.self.now.aims.now c.args.self.now.marks.now n kept.to) next (c.meets-then-meets-2.ensures is);
     })

@@ -8,7 +8,7 @@ use Rattle.fr_source.proofs.visible.Comparison.keeps_line.Goals as goal
 
 pub returns-in-Some-aim : goal.returns-in-Some-aim
 returns-in-Some-aim c = λ is mark line aim there.
-    let s = c.args.self in
+    let s = c.args.self.now in
     let t = tidied s.program.now.variables.items s.lines.now s.marks.now s.aims.now in
     let read : slice_get s.plain.now c.args.number ≡ Some c.in-Some.line.now = slice_get_read s.plain.now _ c.args.number _ refl c.requires.below c.in-Some.ensures.lookup.1 in
     let below = slice_get_within s.aims.now c.args.number (Some mark) aim in
@@ -20,7 +20,7 @@ returns-in-Some-aim c = λ is mark line aim there.
 
 pub returns-in-None-aim : goal.returns-in-None-aim
 returns-in-None-aim c = λ is mark line aim there.
-    let aims = c.args.self.aims.now in
+    let aims = c.args.self.now.aims.now in
     let below = slice_get_within aims c.args.number (Some mark) aim in
     let aimed : slice_get aims c.args.number ≡ Some c.in-Some-get.aim.now = slice_get_read aims _ c.args.number _ refl below c.in-Some-get.ensures.lookup.1 in
     absurd (none-some mark (sym c.in-None-aim.is ∙ same_Some _ _ (sym aimed ∙ aim)))
@@ -31,5 +31,5 @@ returns-in_default c = λ is mark line aim there.
 
 pub returns-in-None : goal.returns-in-None
 returns-in-None c = λ is mark line aim there.
-    let below = slice_get_within c.args.self.aims.now c.args.number (Some mark) aim in
+    let below = slice_get_within c.args.self.now.aims.now c.args.number (Some mark) aim in
     absurd (false≢true (c.in-None.ensures.lookup.0 ∙ lt-ltb _ _ below))
