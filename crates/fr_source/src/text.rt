@@ -20,6 +20,8 @@ struct Writer {
     alloc: Global,
     text: String,
     names: Vec<String>,
+    /// Whether an allocation was refused, so that something is missing in the text.
+    is_short: bool,
 }
 
 /// The text of an application.
@@ -32,10 +34,20 @@ pub(crate) fn text_of(
     let form = "# Generated from % by fr_check translate: edit that file, not this one.\n";
     let names = names_of(alloc, program)?;
     let text = filled(alloc, form, &[Word::Text(source.file)])?;
-    let mut writer = Writer { alloc, text, names };
+    let is_short = false;
+    let mut writer = Writer {
+        alloc,
+        text,
+        names,
+        is_short,
+    };
     writer.application(program, source, codes)?;
-    let Writer { text, .. } = writer;
-    Ok(text)
+    let Writer { text, is_short, .. } = writer;
+    if is_short {
+        Err(Fault::Memory)
+    } else {
+        Ok(text)
+    }
 }
 
 /// The lines of an actor as text, and the length of the longest.
@@ -47,8 +59,10 @@ struct Said {
 
 impl Writer {
     /// Writes a form, with its words in their places.
-    fn write(&mut self, form: &str, words: &[Word<'_>]) -> Result<(), AllocError> {
-        push_filled(self.alloc, &mut self.text, form, words)
+    fn write(&mut self, form: &str, words: &[Word<'_>]) {
+        if push_filled(self.alloc, &mut self.text, form, words).is_err() {
+            self.is_short = true;
+        }
     }
 
     /// Writes the variables, the objects and the actors.
@@ -58,8 +72,8 @@ impl Writer {
         source: &Source<'_>,
         codes: &[Code],
     ) -> Result<(), Fault> {
-        self.variables(program)?;
-        self.objects(program)?;
+        self.variables(program);
+        self.objects(program);
         for (number, actor) in program.actors.iter().enumerate() {
             if let Some(code) = codes.get(number) {
                 self.actor(program, source, *actor, code)?;
@@ -69,7 +83,7 @@ impl Writer {
     }
 
     /// Writes the variables.
-    fn variables(&mut self, program: &Program) -> Result<(), AllocError> {
+    fn variables(&mut self, program: &Program) {
         for place in &program.written {
             let variable = program.variable(*place);
             let words = &[
@@ -79,34 +93,34 @@ impl Writer {
                 Word::Number(variable.first),
             ];
             let form = "\n[[variable]]\nname = \"%\"\nlo = %\nhi = %\ninit = %\n";
-            push_filled(self.alloc, &mut self.text, form, words)?;
+            if push_filled(self.alloc, &mut self.text, form, words).is_err() {
+                self.is_short = true;
+            }
             if let Owner::Actor(number) = variable.owner {
                 let actor = program.actor_name(number);
-                self.write("owner = \"%\"\n", &[Word::Text(actor)])?;
+                self.write("owner = \"%\"\n", &[Word::Text(actor)]);
             }
         }
-        Ok(())
     }
 
     /// Writes the objects.
-    fn objects(&mut self, program: &Program) -> Result<(), AllocError> {
+    fn objects(&mut self, program: &Program) {
         for object in &program.objects {
             let name = Word::Text(program.text(object.name));
             let words = &[name, Word::Text(object.kind.text())];
-            self.write("\n[[object]]\nname = \"%\"\nkind = \"%\"\n", words)?;
+            self.write("\n[[object]]\nname = \"%\"\nkind = \"%\"\n", words);
             if let Some(size) = object.size {
-                self.write("size = %\n", &[Word::Number(size)])?;
+                self.write("size = %\n", &[Word::Number(size)]);
             }
             if let Some(Range { low, high }) = object.items {
-                self.write("lo = %\nhi = %\n", &[Word::Number(low), Word::Number(high)])?;
+                self.write("lo = %\nhi = %\n", &[Word::Number(low), Word::Number(high)]);
             }
             if let Some(first) = object.first {
-                self.write("first = %\n", &[Word::Number(first)])?;
+                self.write("first = %\n", &[Word::Number(first)]);
             }
             let is_live = if object.is_live { "true" } else { "false" };
-            self.write("live = %\n", &[Word::Text(is_live)])?;
+            self.write("live = %\n", &[Word::Text(is_live)]);
         }
-        Ok(())
     }
 
     /// Writes an actor with its code.
@@ -120,23 +134,17 @@ impl Writer {
         let said = self.lines_said(program, code)?;
         let name = Word::Text(program.text(actor.name));
         let words = &[name, Word::Text(actor.kind.text())];
-        self.write("\n[[actor]]\nname = \"%\"\nkind = \"%\"\ncode = [\n", words)?;
-        self.rows(program, source, code, &said)?;
+        self.write("\n[[actor]]\nname = \"%\"\nkind = \"%\"\ncode = [\n", words);
+        self.rows(program, source, code, &said);
         if self.text.len() > MOST_BYTES {
             return Err(wrong(self.alloc, actor.end, "the translation has more than 1 MiB"));
         }
-        self.text.push_str("]\n")?;
+        self.write("]\n", &[]);
         Ok(())
     }
 
     /// Writes the lines of an actor, each with its comment.
-    fn rows(
-        &mut self,
-        program: &Program,
-        source: &Source<'_>,
-        code: &Code,
-        said: &Said,
-    ) -> Result<(), AllocError> {
+    fn rows(&mut self, program: &Program, source: &Source<'_>, code: &Code, said: &Said) {
         let (mut last_start, mut last_end) = (0usize, 0usize);
         for (number, line) in code.lines.iter().enumerate() {
             let text = match said.lines.get(number) {
@@ -149,19 +157,17 @@ impl Writer {
                 Word::Count(number),
                 Word::Blanks(usize::from(number < 10)),
             ];
-            self.write("  %%  # %% ", words)?;
+            self.write("  %%  # %% ", words);
             let start = self.text.len();
-            self.place(source, code, line.place)?;
+            self.place(source, code, line.place);
             let end = self.text.len();
-            let last = self.written(last_start, last_end);
-            if last == self.written(start, end) {
-                self.text.push_str("\n")?;
+            if self.written(last_start, last_end) == self.written(start, end) {
+                self.write("\n", &[]);
             } else {
-                self.excerpt(program, source, line.place.spot.line)?;
+                self.excerpt(program, source, line.place.spot.line);
             }
             (last_start, last_end) = (start, end);
         }
-        Ok(())
     }
 
     /// The lines of code, each as it is quoted in the application.
@@ -285,31 +291,28 @@ impl Writer {
     }
 
     /// Writes where a line is in the source, and the lines that call the function that it is of, the innermost first.
-    fn place(&mut self, source: &Source<'_>, code: &Code, place: Origin) -> Result<(), AllocError> {
+    fn place(&mut self, source: &Source<'_>, code: &Code, place: Origin) {
         let words = &[Word::Text(source.file), Word::Count(place.spot.line)];
-        self.write("%:%", words)?;
+        self.write("%:%", words);
         let mut place = place;
         for _ in 0..code.calls.len() {
             let Some(outer) = caller(&code.calls, place) else {
                 break;
             };
-            self.write(" from %", &[Word::Count(outer.spot.line)])?;
+            self.write(" from %", &[Word::Count(outer.spot.line)]);
             place = outer;
         }
-        Ok(())
     }
 
     /// Writes the text of a line of the source.
-    fn excerpt(
-        &mut self,
-        program: &Program,
-        source: &Source<'_>,
-        line: usize,
-    ) -> Result<(), AllocError> {
-        let shown = source.excerpt(self.alloc, &program.pieces, line)?;
+    fn excerpt(&mut self, program: &Program, source: &Source<'_>, line: usize) {
+        let Ok(shown) = source.excerpt(self.alloc, &program.pieces, line) else {
+            self.is_short = true;
+            return;
+        };
         match shown.as_str().get(..LONGEST_EXCERPT - 3) {
             Some(cut) if shown.len() > LONGEST_EXCERPT => {
-                self.write(": %...\n", &[Word::Text(cut)])
+                self.write(": %...\n", &[Word::Text(cut)]);
             }
             _ => self.write(": %\n", &[Word::Text(shown.as_str())]),
         }

@@ -7,41 +7,44 @@ ghost use Rattle.fr_source.specs.Steps.{ShowsNoLess};
 
 use crate::expand::Line;
 use crate::program::{Action, Program};
-use crate::visible::{Form, Heir, Kept, made_at, made_of, tidied_lines};
+use crate::visible::{Form, Heir, Kept, tidied_lines};
 use std::alloc::{AllocError, Global};
+
+/// What a line is, as far as tidying asks.
+#[derive(Clone, Copy)]
+enum Shape {
+    Goto,
+    Return,
+    Call,
+    /// An `if` on the actor's own variables.
+    OwnIf,
+    SharedIf,
+    /// It sets a variable.
+    Write,
+    /// The end of a task.
+    Last,
+}
 
 /// Lines that are being tidied.
 #[derive(Drop)]
-struct Tidying<'a> {
-    plain: &'a [Line],
+pub(crate) struct Tidying {
+    /// What each plain line is.
+    shapes: Vec<Shape>,
     kept: Vec<Kept>,
     /// For each plain line, what goes on as it did.
     heirs: Vec<Heir>,
 }
 
-/// Which lines a way leads to from the first one.
-pub(crate) fn reached(alloc: Global, lines: &[Line]) -> Result<Vec<bool>, AllocError> {
-    let mut seen = vec![in alloc; false; lines.len()]?;
-    let mut todo = vec![in alloc; 0usize]?;
-    for _ in 0..=lines.len().saturating_mul(2) {
-        let Some(number) = todo.pop() else {
-            break;
-        };
-        let (Some(line), Some(is_seen)) = (lines.get(number), seen.get_mut(number)) else {
-            continue;
-        };
-        if *is_seen {
-            continue;
-        }
-        *is_seen = true;
-        if let Some(target) = line.to {
-            todo.push(target)?;
-        }
-        if !line.ends() {
-            todo.push(number.saturating_add(1))?;
-        }
+fn shape_of(program: &Program, line: &Line) -> Shape {
+    match line.action {
+        Action::Goto => Shape::Goto,
+        Action::Return => Shape::Return,
+        _ if line.ends() => Shape::Last,
+        Action::If { left, right, .. } if program.looks_at_shared(left, right) => Shape::SharedIf,
+        Action::If { .. } => Shape::OwnIf,
+        Action::Call { .. } => Shape::Call,
+        _ => Shape::Write,
     }
-    Ok(seen)
 }
 
 /// The numbers that lines have after some were taken out: that of the next line that is left for one that wasn't.
@@ -77,14 +80,74 @@ enum Change {
     Turn(usize),
 }
 
-impl Tidying<'_> {
+impl Tidying {
+    /// Nothing is changed yet.
+    pub(crate) fn new(
+        alloc: Global,
+        program: &Program,
+        lines: &[Line],
+    ) -> Result<Tidying, AllocError> {
+        let mut tidying = Tidying {
+            shapes: Vec::new(alloc),
+            kept: Vec::new(alloc),
+            heirs: Vec::new(alloc),
+        };
+        for line in lines {
+            tidying.add(program, line)?;
+        }
+        Ok(tidying)
+    }
+
+    /// Adds a plain line.
+    fn add(&mut self, program: &Program, line: &Line) -> Result<(), AllocError> {
+        let (from, form, to) = (self.kept.len(), Form::Same, line.to);
+        self.shapes.push(shape_of(program, line))?;
+        self.kept.push(Kept { from, form, to })?;
+        self.heirs.push(Heir::Line(from))?;
+        Ok(())
+    }
+
+    /// What the line with this number is now, and where it goes.
+    fn shape_at(&self, number: usize) -> Option<(Shape, Option<usize>)> {
+        let one = self.kept.get(number)?;
+        let shape = self.shapes.get(one.from)?;
+        match one.form {
+            Form::Returns => Some((Shape::Return, one.to)),
+            Form::Same | Form::Turned => Some((*shape, one.to)),
+        }
+    }
+
+    /// Which lines a way leads to from the first one.
+    pub(crate) fn reached(&self, alloc: Global) -> Result<Vec<bool>, AllocError> {
+        let mut seen = vec![in alloc; false; self.kept.len()]?;
+        let mut todo = vec![in alloc; 0usize]?;
+        for _ in 0..=self.kept.len().saturating_mul(2) {
+            let Some(number) = todo.pop() else {
+                break;
+            };
+            let (Some((shape, to)), Some(is_seen)) = (self.shape_at(number), seen.get_mut(number))
+            else {
+                continue;
+            };
+            if *is_seen {
+                continue;
+            }
+            *is_seen = true;
+            if let Some(target) = to {
+                todo.push(target)?;
+            }
+            if !matches!(shape, Shape::Goto | Shape::Return | Shape::Last) {
+                todo.push(number.saturating_add(1))?;
+            }
+        }
+        Ok(seen)
+    }
+
     /// The line that a way through this one comes to: the end of a goto, or the line itself.
     fn through(&self, number: usize) -> Option<usize> {
-        let line = made_at(self.plain, &self.kept, number)?;
-        if matches!(line.action, Action::Goto) {
-            line.to
-        } else {
-            Some(number)
+        match self.shape_at(number)? {
+            (Shape::Goto, to) => to,
+            _ => Some(number),
         }
     }
 
@@ -126,19 +189,8 @@ impl Tidying<'_> {
     fn return_at_once(&mut self) -> bool {
         let mut has_changed = false;
         for number in 0..self.kept.len() {
-            if let Some(
-                Line {
-                    action: Action::Goto,
-                    to: Some(target),
-                    ..
-                },
-            ) = made_at(self.plain, &self.kept, number)
-                && let Some(
-                    Line {
-                        action: Action::Return,
-                        ..
-                    },
-                ) = made_at(self.plain, &self.kept, target)
+            if let Some((Shape::Goto, Some(target))) = self.shape_at(number)
+                && let Some((Shape::Return, _)) = self.shape_at(target)
                 && let Some(slot) = self.kept.get_mut(number)
             {
                 slot.form = Form::Returns;
@@ -163,36 +215,28 @@ impl Tidying<'_> {
     }
 
     /// What can be done at the line with this number, where jumps come to these lines.
-    fn change_at(&self, program: &Program, aimed: &[bool], number: usize) -> Change {
+    fn change_at(&self, aimed: &[bool], number: usize) -> Change {
         let next = number.saturating_add(1);
-        let Some(
-            Line {
-                action,
-                to: Some(target),
-                ..
-            },
-        ) = made_at(self.plain, &self.kept, number)
-        else {
-            return Change::Keep;
-        };
-        let Some(after) = made_at(self.plain, &self.kept, next) else {
+        let (Some((shape, Some(target))), Some((following, beyond))) = (
+            self.shape_at(number),
+            self.shape_at(next),
+        ) else {
             return Change::Keep;
         };
         let leads_on = self.through(next) == Some(target);
-        match action {
-            Action::Call { .. } if leads_on => Change::Forget,
-            Action::If { left, right, .. } => {
-                let can_turn = matches!(after.action, Action::Goto)
-                    && target == next.saturating_add(1);
-                match after.to {
-                    Some(other) if can_turn && aimed.get(next) == Some(&false) => {
-                        Change::Turn(other)
-                    }
-                    _ if leads_on && !program.looks_at_shared(left, right) => Change::TakeOut,
+        match shape {
+            Shape::Call if leads_on => Change::Forget,
+            Shape::Goto if target == next => Change::TakeOut,
+            Shape::OwnIf | Shape::SharedIf => {
+                let can_turn = matches!(following, Shape::Goto)
+                    && target == next.saturating_add(1)
+                    && aimed.get(next) == Some(&false);
+                match beyond {
+                    Some(other) if can_turn => Change::Turn(other),
+                    _ if leads_on && matches!(shape, Shape::OwnIf) => Change::TakeOut,
                     _ => Change::Keep,
                 }
             }
-            Action::Goto if target == next => Change::TakeOut,
             _ => Change::Keep,
         }
     }
@@ -236,14 +280,13 @@ impl Tidying<'_> {
     /// Takes out the lines that no way leads to any more: what goes on for one is where its jump leads, if a way leads there.
     /// Whether there were any.
     fn take_out_unreached(&mut self, alloc: Global) -> Result<bool, AllocError> {
-        let lines = made_of(alloc, self.plain, &self.kept)?;
-        let seen = reached(alloc, &lines)?;
+        let seen = self.reached(alloc)?;
         let (mut gone, mut has_changed) = (Vec::new(alloc), false);
-        for (number, line) in lines.iter().enumerate() {
-            let heir = match (line.action, line.to) {
-                _ if seen.get(number) == Some(&true) => None,
-                (Action::Return, _) => Some(Heir::Returns),
-                (Action::Goto, Some(target)) if seen.get(target) == Some(&true) => {
+        for (number, is_seen) in seen.iter().enumerate() {
+            let heir = match self.shape_at(number) {
+                _ if *is_seen => None,
+                Some((Shape::Return, _)) => Some(Heir::Returns),
+                Some((Shape::Goto, Some(target))) if seen.get(target) == Some(&true) => {
                     Some(Heir::Line(target))
                 }
                 _ => Some(Heir::Nowhere),
@@ -286,13 +329,13 @@ impl Tidying<'_> {
     }
 
     /// Makes the changes that can be made at each line, one after the other. Answers whether one was made.
-    fn change_each(&mut self, alloc: Global, program: &Program) -> Result<bool, AllocError> {
+    fn change_each(&mut self, alloc: Global) -> Result<bool, AllocError> {
         let aimed = self.aimed(alloc)?;
         let mut gone = vec![in alloc; None; self.kept.len()]?;
         let mut has_changed = false;
         for number in 0..gone.len() {
             if gone[number].is_none() {
-                let change = self.change_at(program, &aimed, number);
+                let change = self.change_at(&aimed, number);
                 has_changed = self.change(&mut gone, number, change) || has_changed;
             }
         }
@@ -303,12 +346,12 @@ impl Tidying<'_> {
     }
 
     /// Makes all changes that can be made.
-    fn tidy(&mut self, alloc: Global, program: &Program) -> Result<(), AllocError> {
+    fn tidy(&mut self, alloc: Global) -> Result<(), AllocError> {
         for _ in 0..=self.kept.len().saturating_mul(4) {
             let is_shorter = self.shorten_all_jumps();
             let has_returns = self.return_at_once();
             let is_smaller = self.take_out_unreached(alloc)?;
-            let is_changed = self.change_each(alloc, program)?;
+            let is_changed = self.change_each(alloc)?;
             if !is_shorter && !has_returns && !is_smaller && !is_changed {
                 break;
             }
@@ -326,14 +369,7 @@ pub(crate) fn tidied(
 ) -> Result<Vec<Line>, AllocError>
     ensures { IfOk result (λ tidied. ShowsNoLess program.now.variables.items lines.now tidied.items) }
 {
-    let (mut kept, mut heirs) = (Vec::new(alloc), Vec::new(alloc));
-    for (from, line) in lines.iter().enumerate() {
-        let (form, to) = (Form::Same, line.to);
-        kept.push(Kept { from, form, to })?;
-        heirs.push(Heir::Line(from))?;
-    }
-    let plain = lines;
-    let mut tidying = Tidying { plain, kept, heirs };
-    tidying.tidy(alloc, program)?;
+    let mut tidying = Tidying::new(alloc, program, lines)?;
+    tidying.tidy(alloc)?;
     tidied_lines(alloc, program, lines, &tidying.kept, &tidying.heirs)
 }

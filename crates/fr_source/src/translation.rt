@@ -9,7 +9,7 @@ use crate::program::{Action, Actor, Home, Program};
 use crate::source::Source;
 use crate::text::text_of;
 use crate::texts::{Pieces, Word, filled};
-use crate::tidy::{reached, tidied};
+use crate::tidy::{Tidying, tidied};
 use crate::token::{Scan, scanned};
 use fr_escape::push_plain;
 use std::alloc::{AllocError, Global};
@@ -117,7 +117,7 @@ fn warn(
     warnings: &mut Vec<Message>,
 ) -> Result<(), Fault> {
     check_calls(alloc, program, actor, code)?;
-    let seen = reached(alloc, &code.lines)?;
+    let seen = Tidying::new(alloc, program, &code.lines)?.reached(alloc)?;
     let mut was_dropped = false;
     for (number, line) in code.lines.iter().enumerate() {
         let is_last = number.saturating_add(1) == code.lines.len();

@@ -70,7 +70,7 @@ fn made(form: Form, action: Action) -> Action
 }
 
 /// The tidied line with this number; None where it or the plain line that it is isn't there.
-pub(crate) fn made_at(plain: &[Line], kept: &[Kept], number: usize) -> Option<Line>
+fn made_at(plain: &[Line], kept: &[Kept], number: usize) -> Option<Line>
     ensures { IfSome result (λ line. MadeAt plain.now kept.now number line) }
 {
     let one = kept.get(number)?;
@@ -83,7 +83,7 @@ pub(crate) fn made_at(plain: &[Line], kept: &[Kept], number: usize) -> Option<Li
 }
 
 /// The tidied lines. There are fewer where a line is kept that isn't there.
-pub(crate) fn made_of(alloc: Global, plain: &[Line], kept: &[Kept]) -> Result<Vec<Line>, AllocError>
+fn made_of(alloc: Global, plain: &[Line], kept: &[Kept]) -> Result<Vec<Line>, AllocError>
     ensures { IfOk result (λ lines. AreMade plain.now kept.now lines.items) }
 {
     let mut lines = Vec::new(alloc);
