@@ -1,6 +1,5 @@
 // Calls of the kernel with their arguments.
 
-use crate::cursor::Cursor;
 use crate::fault::{Fault, Spot};
 use crate::kernel::{Kernel, Slot, kernel_named};
 use crate::near::{OF_CALLS, hint_for};
@@ -34,7 +33,7 @@ fn instead_of(name: &str) -> &'static str {
     }
 }
 
-impl Cursor {
+impl Reader {
     /// Refuses the next token, in whose place something is expected in a call.
     fn refuse_in(&mut self, what: &str, kernel: &Kernel) {
         let Ok(shape) = kernel.shape(self.alloc) else {
@@ -47,38 +46,36 @@ impl Cursor {
         };
         self.refuse_for(what, " in ", shape.as_str(), more);
     }
-}
 
-impl Reader {
     /// Takes the arguments of the call with this name, and gives the call. A name of another kind is refused.
     pub(crate) fn kernel_call(&mut self, token: Token) -> Option<Call> {
-        let Some(kernel) = kernel_named(self.cursor.text(token)) else {
+        let Some(kernel) = kernel_named(self.text(token)) else {
             self.refuse_call(token);
             return None;
         };
         if kernel.is_of_interrupts() && matches!(self.here.home, Home::Task) {
             let form = "a task doesn't make the call %, which is for interrupts";
-            self.cursor.refuse_about(token.spot, form, kernel.name, "");
+            self.refuse_about(token.spot, form, kernel.name, "");
         }
         self.here.call = Some(kernel.call);
-        self.cursor.take("(", "");
+        self.take("(", "");
         let mut arguments = [Argument::Absent; 3];
         for (place, slot) in kernel.slots.iter().enumerate() {
-            if place > 0 && !self.cursor.accepts(",") {
-                self.cursor.refuse_in("','", kernel);
+            if place > 0 && !self.accepts(",") {
+                self.refuse_in("','", kernel);
             }
             let argument = self.argument(kernel, *slot, arguments[0]);
             if let Some(at) = arguments.get_mut(place) {
                 *at = argument;
             }
         }
-        if !self.cursor.accepts(")") {
-            self.cursor.refuse_in("')'", kernel);
+        if !self.accepts(")") {
+            self.refuse_in("')'", kernel);
         }
         self.here.call = None;
         let call = self.program.call(kernel.call, arguments).ok();
         if call.is_none() {
-            self.cursor.note(Fault::Memory);
+            self.note(Fault::Memory);
         }
         call
     }
@@ -102,14 +99,14 @@ impl Reader {
                 Word::Number(other.high),
                 Word::Text(name),
             ];
-            self.cursor.refuse_with(spot, form, words);
+            self.refuse_with(spot, form, words);
         }
     }
 
     /// Refuses to call a name that is neither a function's nor the kernel's.
     fn refuse_call(&mut self, token: Token) {
         let Token { span, spot, .. } = token;
-        let (form, more) = if self.cursor.pieces.are_alike(span, self.here.name) {
+        let (form, more) = if self.pieces.are_alike(span, self.here.name) {
             (
                 "'%' can't call itself: a function is expanded where it is called",
                 Word::Text(""),
@@ -125,32 +122,32 @@ impl Reader {
                 near,
             )
         } else {
-            let hint = Word::Text(instead_of(self.cursor.text(token)));
+            let hint = Word::Text(instead_of(self.text(token)));
             ("no function above and no kernel call '%%", hint)
         };
         let words = &[Word::Piece(span), more];
-        self.cursor.refuse_with(spot, form, words);
+        self.refuse_with(spot, form, words);
     }
 
     /// Takes the argument for a slot. `object` is the first one.
     fn argument(&mut self, kernel: &Kernel, slot: Slot, object: Argument) -> Argument {
-        if self.cursor.sees(")") {
-            self.cursor.refuse_in(slot.text(), kernel);
+        if self.sees(")") {
+            self.refuse_in(slot.text(), kernel);
         }
-        let is_forever = self.cursor.sees("portMAX_DELAY")
-            || matches!(self.meaning(self.cursor.token()), Some(Meaning::Forever));
+        let is_forever = self.sees("portMAX_DELAY")
+            || matches!(self.meaning(self.token()), Some(Meaning::Forever));
         match slot {
             Slot::Object => self.object_argument(kernel),
             Slot::Operand => Argument::Operand(self.number_or_variable()),
             Slot::Variable => self.variable_argument(object),
             Slot::Time if is_forever => {
-                self.cursor.advance();
+                self.advance();
                 Argument::Forever
             }
             Slot::Length | Slot::Ticks if is_forever => {
-                let spot = self.cursor.spot();
+                let spot = self.spot();
                 let text = "portMAX_DELAY is for block times alone: write a number";
-                self.cursor.refuse(spot, text);
+                self.refuse(spot, text);
                 Argument::Forever
             }
             Slot::Length | Slot::Time | Slot::Ticks => {
@@ -161,10 +158,9 @@ impl Reader {
                 Argument::Operand(Operand::Number(self.number(slot.text(), range)))
             }
             Slot::Null => {
-                let spot = self.cursor.spot();
-                if !self.cursor.accepts("NULL") {
-                    self.cursor
-                        .refuse(spot, "expected NULL: no line deletes another task");
+                let spot = self.spot();
+                if !self.accepts("NULL") {
+                    self.refuse(spot, "expected NULL: no line deletes another task");
                 }
                 Argument::Null
             }
@@ -173,10 +169,10 @@ impl Reader {
 
     /// Takes the object of a call.
     fn object_argument(&mut self, kernel: &Kernel) -> Argument {
-        let token = self.cursor.token();
+        let token = self.token();
         let meaning = self.named("the name of an object");
         let Meaning::Object(place) = meaning else {
-            self.cursor.refuse_meaning(token, "an object", meaning);
+            self.refuse_meaning(token, "an object", meaning);
             return Argument::Absent;
         };
         if let Some(object) = self.program.objects.get(place)
@@ -188,15 +184,14 @@ impl Reader {
                 Word::Text(kernel.name),
                 Word::Text(kernel.kinds_text()),
             ];
-            self.cursor
-                .refuse_with(token.spot, "'%' is a %, and % is for: %", words);
+            self.refuse_with(token.spot, "'%' is a %, and % is for: %", words);
         }
         Argument::Object(place)
     }
 
     /// Takes the variable that a queue's item goes to.
     fn variable_argument(&mut self, object: Argument) -> Argument {
-        let spot = self.cursor.spot();
+        let spot = self.spot();
         let place = self.variable_named("the name of a variable");
         if let Argument::Object(queue) = object
             && let Some(queue) = self.program.objects.get(queue)

@@ -1,6 +1,5 @@
 // Conditions: what an expression says, where a statement asks whether it is true.
 
-use crate::cursor::Cursor;
 use crate::expression::{Term, Value};
 use crate::fault::Spot;
 use crate::kernel::Answer;
@@ -9,7 +8,7 @@ use crate::program::{Call, Comparison, Operand, Owner, Variable};
 use crate::reader::Reader;
 use crate::texts::Word;
 
-impl Cursor {
+impl Reader {
     /// Refuses a call that doesn't answer whether it worked.
     fn check_fails(&mut self, call: Call, spot: Spot) {
         let kernel = call.kernel.row();
@@ -38,17 +37,15 @@ impl Cursor {
             }
         }
     }
-}
 
-impl Reader {
     /// Reads a condition in brackets, and gives its place among those of the body.
     pub(crate) fn condition(&mut self) -> usize {
-        self.cursor.take("(", "");
+        self.take("(", "");
         let term = self.expression();
         let test = self.test_of(term);
-        let spot = self.cursor.spot();
-        let sign = self.cursor.text(self.cursor.token());
-        let after = self.cursor.text(self.cursor.following());
+        let spot = self.spot();
+        let sign = self.text(self.token());
+        let after = self.text(self.following());
         let why = match (sign, after) {
             ("=", ">") => "'=>' in a condition: write '>='",
             ("=", _) => "'=' in a condition: write '=='",
@@ -57,9 +54,9 @@ impl Reader {
             _ => "",
         };
         if !why.is_empty() {
-            self.cursor.refuse(spot, why);
+            self.refuse(spot, why);
         }
-        self.cursor.take(")", "");
+        self.take(")", "");
         test
     }
 
@@ -76,7 +73,7 @@ impl Reader {
                 right: Operand::Number(0),
             },
             Value::Called(call) => {
-                self.cursor.check_fails(call, spot);
+                self.check_fails(call, spot);
                 Condition::Works(call)
             }
             Value::Given { .. } | Value::Any(_) | Value::Null | Value::Sum { .. } => {
@@ -86,7 +83,7 @@ impl Reader {
                     Value::Any(_) => "expected a condition: give any(..) to a variable first",
                     _ => "expected a condition",
                 };
-                self.cursor.refuse(spot, why);
+                self.refuse(spot, why);
                 return 0;
             }
         };
@@ -114,7 +111,7 @@ impl Reader {
                 let Variable { name, owner, .. } = self.program.variable(variable);
                 if matches!(owner, Owner::Everyone) {
                     let form = "'%' is shared: give this to a 'var'";
-                    self.cursor.refuse_piece(left.spot, form, name, "");
+                    self.refuse_piece(left.spot, form, name, "");
                 }
                 let value = Value::Variable(variable);
                 let left = Term { value, ..left };
@@ -132,7 +129,7 @@ impl Reader {
         right: Term,
         spot: Spot,
     ) -> usize {
-        self.cursor.check_fails(call, spot);
+        self.check_fails(call, spot);
         let kernel = call.kernel.row();
         let is_handle = matches!(kernel.answer, Answer::Handle);
         let worked = match (right.value, is_handle) {
@@ -149,7 +146,7 @@ impl Reader {
                 } else {
                     "the answer of % is compared by '==' or '!=' with pdTRUE, pdPASS, pdFALSE or pdFAIL"
                 };
-                self.cursor.refuse_about(right.spot, form, kernel.name, "");
+                self.refuse_about(right.spot, form, kernel.name, "");
                 true
             }
         };
@@ -170,8 +167,8 @@ impl Reader {
         right: Term,
         spot: Spot,
     ) -> usize {
-        let left = self.cursor.side(left);
-        let right = self.cursor.side(right);
+        let left = self.side(left);
+        let right = self.side(right);
         let mut condition = Condition::Compare {
             before,
             left,
@@ -200,6 +197,6 @@ impl Reader {
             return;
         };
         let words = &[Word::Piece(first.name), Word::Piece(second.name)];
-        self.cursor.refuse_with(spot, form, words);
+        self.refuse_with(spot, form, words);
     }
 }

@@ -1,35 +1,12 @@
-// Where a reader is among the tokens of a source, and the first fault in them. Once a fault is noted, only the end of the
-// source is seen: so what reads goes on, with values of no meaning, and soon ends.
+// What a reader does with the tokens of a source, whatever they mean, and with the first fault in them. Once a fault is noted, only
+// the end of the source is seen: so what reads goes on, with values of no meaning, and soon ends.
 
 use crate::fault::{Fault, Spot};
-use crate::texts::{Pieces, Span, Word, push_pieces};
+use crate::reader::Reader;
+use crate::texts::{Span, Word, push_pieces};
 use crate::token::{Kind, Token};
-use std::alloc::Global;
 
-/// The tokens of a source, and which is read next.
-#[derive(Drop)]
-pub(crate) struct Cursor {
-    pub(crate) alloc: Global,
-    pub(crate) pieces: Pieces,
-    tokens: Vec<Token>,
-    end: Token,
-    /// The place of the next token among all tokens.
-    pub(crate) next: usize,
-    pub(crate) fault: Option<Fault>,
-}
-
-impl Cursor {
-    pub(crate) fn new(alloc: Global, pieces: Pieces, tokens: Vec<Token>, end: Token) -> Cursor {
-        Cursor {
-            alloc,
-            pieces,
-            tokens,
-            end,
-            next: 0,
-            fault: None,
-        }
-    }
-
+impl Reader {
     /// Notes a fault, in place of one that is noted already.
     pub(crate) fn note(&mut self, fault: Fault) {
         self.fault = Some(fault);

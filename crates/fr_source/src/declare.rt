@@ -1,6 +1,5 @@
 // Declarations: constants, variables, objects, functions, tasks and interrupts.
 
-use crate::cursor::Cursor;
 use crate::fault::{Fault, Spot};
 use crate::kernel::DECLARATIONS;
 use crate::lines::Lines;
@@ -64,12 +63,12 @@ pub(crate) fn program_in(
     tokens: Vec<Token>,
     end: Token,
 ) -> Result<Program, Fault> {
-    let mut reader = Reader::new(alloc, Cursor::new(alloc, pieces, tokens, end));
+    let mut reader = Reader::new(alloc, pieces, tokens, end);
     reader.declarations();
     reader.outcome()
 }
 
-impl Cursor {
+impl Reader {
     /// Refuses a word that begins no declaration.
     fn refuse_declaration(&mut self, word: Token) {
         let text = self.text(word);
@@ -92,21 +91,18 @@ impl Cursor {
             self.refuse_with(spot, form, words);
         }
     }
-}
 
-impl Reader {
     /// Reads all declarations.
     fn declarations(&mut self) {
-        for _ in 0..=self.cursor.left() {
-            if matches!(self.cursor.token().kind, Kind::End) {
+        for _ in 0..=self.left() {
+            if matches!(self.token().kind, Kind::End) {
                 break;
             }
             self.declaration();
         }
-        self.cursor.check_templates(&self.scope.templates);
+        self.check_templates();
         if self.program.actors.is_empty() {
-            self.cursor
-                .refuse_next("a task or an interrupt: there is none");
+            self.refuse_next("a task or an interrupt: there is none");
         }
     }
 
@@ -115,12 +111,12 @@ impl Reader {
         if self.scope.is_short {
             return Err(Fault::Memory);
         }
-        match self.cursor.fault.take() {
+        match self.fault.take() {
             Some(fault) => Err(fault),
             None => {
-                let none = Pieces::none(self.cursor.alloc);
-                self.program.pieces = mem::replace(&mut self.cursor.pieces, none);
-                Ok(mem::replace(&mut self.program, Program::new(self.cursor.alloc)))
+                let none = Pieces::none(self.alloc);
+                self.program.pieces = mem::replace(&mut self.pieces, none);
+                Ok(mem::replace(&mut self.program, Program::new(self.alloc)))
             }
         }
     }
@@ -128,24 +124,23 @@ impl Reader {
     /// Reads a declaration.
     fn declaration(&mut self) {
         self.here.operators = 0;
-        let word = self.cursor.word("a declaration");
+        let word = self.word("a declaration");
         if self.scope.outside.len() >= MOST_NAMES {
-            self.cursor
-                .refuse(word.spot, "more than 1024 names are declared");
+            self.refuse(word.spot, "more than 1024 names are declared");
         }
-        match Declared::of(self.cursor.text(word)) {
+        match Declared::of(self.text(word)) {
             Declared::Constant => {
                 let name = self.new_name("the name of a constant");
-                self.cursor.take("=", "");
+                self.take("=", "");
                 let number = self.constant();
                 self.scope.add_outside(name.span, Meaning::Constant(number));
-                self.cursor.take(";", " after the declaration");
+                self.take(";", " after the declaration");
             }
             Declared::Shared => self.variable_declaration(Owner::Everyone, false),
             Declared::Actor(home) => self.actor(home),
             Declared::Function => self.function(),
             Declared::Object(kind) => self.object(kind),
-            Declared::Nothing => self.cursor.refuse_declaration(word),
+            Declared::Nothing => self.refuse_declaration(word),
         }
     }
 
@@ -158,12 +153,12 @@ impl Reader {
     /// the first number is greater.
     pub(crate) fn numbers(&mut self, sign: &str, why: &str, form: &str) -> Range {
         let low = self.constant();
-        self.cursor.take(sign, why);
-        let spot = self.cursor.spot();
+        self.take(sign, why);
+        let spot = self.spot();
         let high = self.constant();
         if low > high {
             let words = &[Word::Number(low), Word::Number(high)];
-            self.cursor.refuse_with(spot, form, words);
+            self.refuse_with(spot, form, words);
         }
         Range { low, high }
     }
@@ -171,13 +166,13 @@ impl Reader {
     /// Reads a variable, without the words before its name.
     fn variable_declaration(&mut self, owner: Owner, is_static: bool) {
         let name = self.new_name("the name of a variable");
-        self.cursor.take("in", " and a range, as in 'in 0..8'");
+        self.take("in", " and a range, as in 'in 0..8'");
         let range = self.range();
         let may_begin = is_static
             || matches!(owner, Owner::Everyone)
             || matches!(self.here.home, Home::Task);
         let first = self.first_value(range, may_begin);
-        self.cursor.take(";", " after the declaration");
+        self.take(";", " after the declaration");
         let function = match owner {
             Owner::Function(_) => Some(self.here.name),
             _ => None,
@@ -200,15 +195,14 @@ impl Reader {
 
     /// Takes the first value of a variable, if there is one.
     fn first_value(&mut self, range: Range, may_begin: bool) -> i64 {
-        let spot = self.cursor.spot();
-        let is_given = self.cursor.accepts("=");
+        let spot = self.spot();
+        let is_given = self.accepts("=");
         let first = if is_given { self.constant() } else { 0 };
         if is_given && !may_begin {
             let form =
                 "a variable of this % keeps its value: write 'static var' for one that is set at the start alone, \
                 or assign it below";
-            self.cursor
-                .refuse_about(spot, form, self.here.home.text(), "");
+            self.refuse_about(spot, form, self.here.home.text(), "");
         }
         if range.holds(first) {
             return first;
@@ -226,7 +220,7 @@ impl Reader {
             Word::Number(range.low),
             Word::Number(range.high),
         ];
-        self.cursor.refuse_with(spot, form, words);
+        self.refuse_with(spot, form, words);
         first
     }
 
@@ -238,8 +232,7 @@ impl Reader {
         } else {
             self.program.written.len()
         };
-        self.cursor
-            .check_count("variables", count, MOST_VARIABLES, variable.spot);
+        self.check_count("variables", count, MOST_VARIABLES, variable.spot);
         let place = self.program.variables.len();
         let is_noted = if is_of_function {
             self.lines.body.variables.push(place).is_ok()
@@ -247,7 +240,7 @@ impl Reader {
             self.program.written.push(place).is_ok()
         };
         if !is_noted || self.program.variables.push(variable).is_err() {
-            self.cursor.note(Fault::Memory);
+            self.note(Fault::Memory);
         }
         place
     }
@@ -256,8 +249,7 @@ impl Reader {
     fn object(&mut self, kind: ObjectKind) {
         let name = self.new_name("the name of an object");
         let place = self.program.objects.len();
-        self.cursor
-            .check_count("objects", place, MOST_OBJECTS, name.spot);
+        self.check_count("objects", place, MOST_OBJECTS, name.spot);
         let mut object = Object {
             name: name.span,
             kind,
@@ -267,14 +259,13 @@ impl Reader {
             is_live: true,
         };
         self.sizes(&mut object);
-        if self.cursor.accepts("=") {
+        if self.accepts("=") {
             object.is_live = false;
-            self.cursor
-                .take("NULL", ": an object that isn't there at the start");
+            self.take("NULL", ": an object that isn't there at the start");
         }
-        self.cursor.take(";", " after the declaration");
+        self.take(";", " after the declaration");
         if self.program.objects.push(object).is_err() {
-            self.cursor.note(Fault::Memory);
+            self.note(Fault::Memory);
         }
         self.scope.add_outside(name.span, Meaning::Object(place));
     }
@@ -287,16 +278,15 @@ impl Reader {
         ) {
             return;
         }
-        self.cursor.take("[", " and the size");
+        self.take("[", " and the size");
         let high = self.number("the size", SIZES);
-        self.cursor.take("]", "");
+        self.take("]", "");
         object.size = Some(high);
         if matches!(object.kind, ObjectKind::Queue) {
-            self.cursor.take("of", " and a range, as in 'of 0..9'");
+            self.take("of", " and a range, as in 'of 0..9'");
             object.items = Some(self.range());
         } else if matches!(object.kind, ObjectKind::Counting) {
-            self.cursor
-                .take("first", " and the first count, as in 'first 0'");
+            self.take("first", " and the first count, as in 'first 0'");
             object.first = Some(self.number("the first count", Range { low: 0, high }));
         }
     }
@@ -304,9 +294,8 @@ impl Reader {
     /// Reads a function: its name means something only after it.
     fn function(&mut self) {
         let name = self.new_name("the name of a function");
-        self.cursor
-            .take("(", " and ')' after the name of a function");
-        self.cursor.take(")", ": a function has no arguments");
+        self.take("(", " and ')' after the name of a function");
+        self.take(")", ": a function has no arguments");
         let place = self.program.bodies.len();
         self.body(Home::Function, name, Owner::Function(place), None);
         self.scope.add_outside(name.span, Meaning::Function(place));
@@ -319,18 +308,17 @@ impl Reader {
             _ => "the name of an interrupt",
         };
         let name = self.new_name(what);
-        let parameter = self.cursor.following();
-        if self.cursor.sees("(") && !self.cursor.is(parameter, ")") {
-            if self.cursor.is(parameter, "void") {
+        let parameter = self.following();
+        if self.sees("(") && !self.is(parameter, ")") {
+            if self.is(parameter, "void") {
                 let text = "leave out '(void *p)': there are no types";
-                self.cursor.refuse(parameter.spot, text);
+                self.refuse(parameter.spot, text);
             }
             return self.template(kind, name);
         }
         let count = self.program.actors.len();
-        self.cursor
-            .check_count("actors", count, MOST_ACTORS, name.spot);
-        if self.cursor.accepts("=") {
+        self.check_count("actors", count, MOST_ACTORS, name.spot);
+        if self.accepts("=") {
             self.made_actor(kind, name)
         } else {
             self.actor_here(kind, name, &[])
@@ -357,7 +345,7 @@ impl Reader {
             end,
         };
         if self.program.actors.push(actor).is_err() {
-            self.cursor.note(Fault::Memory);
+            self.note(Fault::Memory);
         }
     }
 
@@ -366,29 +354,26 @@ impl Reader {
         self.here.home = home;
         self.here.name = name.span;
         self.here.labels.clear();
-        self.cursor.take("{", "");
-        for _ in 0..self.cursor.left() {
-            let is_static = self.cursor.accepts("static");
-            if !is_static && !self.cursor.sees("var") {
+        self.take("{", "");
+        for _ in 0..self.left() {
+            let is_static = self.accepts("static");
+            if !is_static && !self.sees("var") {
                 break;
             }
             self.here.operators = 0;
-            self.cursor.take("var", "");
+            self.take("var", "");
             self.variable_declaration(owner, is_static);
         }
         let end = self.statements();
-        self.cursor.check_labels(&self.here.labels, home.text());
+        self.check_labels();
         self.scope.inside.clear();
         self.lines.place(0);
         if let Some(action) = last {
             self.lines.line(action, None, end);
         }
-        let Lines { body, is_short, .. } = mem::replace(
-            &mut self.lines,
-            Lines::new(self.cursor.alloc),
-        );
+        let Lines { body, is_short, .. } = mem::replace(&mut self.lines, Lines::new(self.alloc));
         if is_short || self.program.bodies.push(body).is_err() {
-            self.cursor.note(Fault::Memory);
+            self.note(Fault::Memory);
         }
         end
     }

@@ -1,7 +1,6 @@
 // Expressions, read with the precedence of C. What is waiting for its right side is on a list, and no call goes into
 // itself: so the depth of brackets costs no stack.
 
-use crate::cursor::Cursor;
 use crate::fault::{Fault, Spot};
 use crate::kernel::value_of;
 use crate::lines::Condition;
@@ -154,7 +153,7 @@ fn number_in(text: &str) -> Option<i64> {
     }
 }
 
-impl Cursor {
+impl Reader {
     /// The number that the operator makes of two.
     fn worked_out(&mut self, one: i64, sign: Arithmetic, other: i64, spot: Spot) -> i64 {
         let number = match sign {
@@ -176,14 +175,12 @@ impl Cursor {
             }
         }
     }
-}
 
-impl Reader {
     /// Two terms, joined by an operator on numbers: worked out, where both are numbers.
     pub(crate) fn binary(&mut self, left: Term, sign: Arithmetic, right: Term, spot: Spot) -> Term {
         let value = match (left.operand(), right.operand()) {
             (Some(Operand::Number(one)), Some(Operand::Number(other))) => {
-                let number = self.cursor.worked_out(one, sign, other, spot);
+                let number = self.worked_out(one, sign, other, spot);
                 return Term {
                     value: Value::Number(number),
                     spot: left.spot,
@@ -198,7 +195,7 @@ impl Reader {
                 };
                 let text =
                     "one line has one operator at most: give a part of this to a variable first";
-                self.cursor.refuse(spot, text);
+                self.refuse(spot, text);
                 Value::Null
             }
         };
@@ -207,8 +204,8 @@ impl Reader {
 
     /// Reads an expression.
     pub(crate) fn expression(&mut self) -> Term {
-        let mut yard = Yard::new(self.cursor.alloc, true);
-        for _ in 0..=self.cursor.left() {
+        let mut yard = Yard::new(self.alloc, true);
+        for _ in 0..=self.left() {
             if self.prefix(&mut yard) {
                 continue;
             }
@@ -222,8 +219,8 @@ impl Reader {
 
     /// Reads an expression of numbers, and of a variable.
     fn arithmetic(&mut self) -> Term {
-        let mut yard = Yard::new(self.cursor.alloc, false);
-        for _ in 0..=self.cursor.left() {
+        let mut yard = Yard::new(self.alloc, false);
+        for _ in 0..=self.left() {
             if self.prefix(&mut yard) {
                 continue;
             }
@@ -244,44 +241,44 @@ impl Reader {
 
     /// Takes an operator before a term, or an opening bracket, if it is next. Whether it took one.
     fn prefix(&mut self, yard: &mut Yard) -> bool {
-        let spot = self.cursor.spot();
-        let waiting = match self.cursor.text(self.cursor.token()) {
+        let spot = self.spot();
+        let waiting = match self.text(self.token()) {
             "!" if yard.is_of_tests => Waiting::Not(spot),
-            "-" if !self.cursor.is(self.cursor.following(), LEAST) => Waiting::Minus(spot),
+            "-" if !self.is(self.following(), LEAST) => Waiting::Minus(spot),
             "(" => Waiting::Bracket,
             "pdMS_TO_TICKS" => Waiting::Ticks,
             _ => return false,
         };
-        self.cursor.advance();
+        self.advance();
         if matches!(waiting, Waiting::Ticks) {
-            self.cursor.take("(", "");
+            self.take("(", "");
         }
         yard.wait(waiting);
         yard.depth = yard.depth.saturating_add(1);
         let depth = self.here.open.len().saturating_add(yard.depth);
-        self.cursor.check_depth(depth, spot);
+        self.check_depth(depth, spot);
         true
     }
 
     /// Takes an operand: a call, `any(..)`, `NULL` or a plain one.
     fn operand(&mut self) -> Term {
-        let token = self.cursor.token();
-        let (is_any, is_null) = (self.cursor.sees("any"), self.cursor.sees("NULL"));
-        if !is_any && !is_null && !self.cursor.is_before("(") {
+        let token = self.token();
+        let (is_any, is_null) = (self.sees("any"), self.sees("NULL"));
+        if !is_any && !is_null && !self.is_before("(") {
             return self.plain_operand();
         }
-        self.cursor.advance();
+        self.advance();
         let spot = token.spot;
         let value = if is_any {
-            self.cursor.take("(", " and two numbers, as in 'any(0, 1)'");
+            self.take("(", " and two numbers, as in 'any(0, 1)'");
             let range = self.numbers(",", "", "there is no number from % to %");
-            self.cursor.take(")", "");
+            self.take(")", "");
             Value::Any(range)
         } else if is_null {
             Value::Null
         } else if let Some(Meaning::Function(_)) = self.meaning(token) {
             let form = "'%' is a function and answers nothing: let it set a variable";
-            self.cursor.refuse_piece(spot, form, token.span, "");
+            self.refuse_piece(spot, form, token.span, "");
             Value::Null
         } else {
             match self.kernel_call(token) {
@@ -294,35 +291,35 @@ impl Reader {
 
     /// Takes a number, a constant or a variable.
     fn plain_operand(&mut self) -> Term {
-        let token = self.cursor.token();
+        let token = self.token();
         let spot = token.spot;
         let value = match token.kind {
-            Kind::Number => match number_in(self.cursor.text(token)) {
+            Kind::Number => match number_in(self.text(token)) {
                 Some(number) => Value::Number(number),
                 None => {
                     let form = "% doesn't fit in 64 bits";
-                    self.cursor.refuse_piece(spot, form, token.span, "");
+                    self.refuse_piece(spot, form, token.span, "");
                     Value::Null
                 }
             },
             Kind::Word => self.named_operand(token),
-            _ if self.cursor.sees("-") => {
-                self.cursor.advance();
+            _ if self.sees("-") => {
+                self.advance();
                 Value::Number(i64::MIN)
             }
             _ => {
-                self.cursor.refuse_next("a variable, a number or a call");
+                self.refuse_next("a variable, a number or a call");
                 Value::Null
             }
         };
-        self.cursor.advance();
+        self.advance();
         Term { value, spot }
     }
 
     /// What the name of a constant or a variable is.
     fn named_operand(&mut self, token: Token) -> Value {
         let Token { span, spot, .. } = token;
-        if let Some(number) = value_of(self.cursor.text(token)) {
+        if let Some(number) = value_of(self.text(token)) {
             return Value::Number(number);
         }
         match self.meaning(token) {
@@ -330,10 +327,10 @@ impl Reader {
             Some(Meaning::Variable(variable)) => return Value::Variable(variable),
             Some(meaning) => {
                 let form = "'%' is the name of %, and a variable or a number is expected";
-                self.cursor.refuse_piece(spot, form, span, meaning.text());
+                self.refuse_piece(spot, form, span, meaning.text());
             }
-            None if self.cursor.is(token, "NULL") || self.cursor.is(token, "portMAX_DELAY") => {
-                self.cursor.refuse_next("a variable or a number");
+            None if self.is(token, "NULL") || self.is(token, "portMAX_DELAY") => {
+                self.refuse_next("a variable or a number");
             }
             None => self.refuse_undeclared(token),
         }
@@ -348,11 +345,11 @@ impl Reader {
                 Some(Waiting::Not(_) | Waiting::Minus(_))
             ) {
                 // An operator before a term is joined as soon as the term is there: so what is left is an open bracket.
-                if yard.depth == 0 || !self.cursor.sees(")") {
+                if yard.depth == 0 || !self.sees(")") {
                     break;
                 }
                 self.join(yard, 0);
-                self.cursor.advance();
+                self.advance();
             }
             yard.depth = yard.depth.saturating_sub(1);
             let (Some(waiting), Some(term)) = (yard.waiting.pop(), yard.terms.pop()) else {
@@ -384,9 +381,7 @@ impl Reader {
     /// The ticks of so many milliseconds.
     fn ticks(&mut self, term: Term) -> Term {
         let Term { value, spot } = term;
-        let rate = self
-            .scope
-            .meaning(&self.cursor.pieces, "configTICK_RATE_HZ");
+        let rate = self.scope.meaning(&self.pieces, "configTICK_RATE_HZ");
         let text = match (rate, value) {
             (Some(Meaning::Constant(rate)), Value::Number(time)) => match time.checked_mul(rate) {
                 Some(product) => {
@@ -398,14 +393,14 @@ impl Reader {
             (Some(Meaning::Constant(_)), _) => "expected a number or a constant",
             _ => "pdMS_TO_TICKS needs 'const configTICK_RATE_HZ = ..;' above",
         };
-        self.cursor.refuse(spot, text);
+        self.refuse(spot, text);
         term
     }
 
     /// Takes the `=` of `(x = ..)`, if it is next and only `(x` is before it. Whether it took one.
     fn assignment(&mut self, yard: &mut Yard) -> bool {
         if !yard.is_of_tests
-            || !self.cursor.sees("=")
+            || !self.sees("=")
             || !matches!(yard.waiting.last(), Some(Waiting::Bracket))
         {
             return false;
@@ -419,7 +414,7 @@ impl Reader {
         else {
             return false;
         };
-        self.cursor.advance();
+        self.advance();
         let _ = yard.terms.pop();
         let _ = yard.waiting.pop();
         yard.wait(Waiting::Given { variable, spot });
@@ -428,19 +423,19 @@ impl Reader {
 
     /// Takes an operator between two terms, if it is next. Answers whether none is.
     fn infix(&mut self, yard: &mut Yard) -> bool {
-        let token = self.cursor.token();
+        let token = self.token();
         let spot = token.spot;
-        let Some((operator, level)) = Operator::of(self.cursor.text(token)) else {
+        let Some((operator, level)) = Operator::of(self.text(token)) else {
             return true;
         };
         if level < 4 && !yard.is_of_tests {
             return true;
         }
-        self.cursor.advance();
+        self.advance();
         self.here.operators = self.here.operators.saturating_add(1);
         if self.here.operators > MOST_OPERATORS {
             let text = "more than 256 operators in one statement";
-            self.cursor.refuse(spot, text);
+            self.refuse(spot, text);
         }
         // No comparison is joined by another one.
         let is_comparison = matches!(operator, Operator::Compare(_));
@@ -452,7 +447,7 @@ impl Reader {
             )
         {
             let text = "a comparison of a comparison: join two with '&&'";
-            self.cursor.refuse(spot, text);
+            self.refuse(spot, text);
         }
         yard.wait(Waiting::Infix(operator, level, spot));
         false
@@ -500,15 +495,15 @@ impl Reader {
     fn finished(&mut self, yard: &mut Yard) -> Term {
         self.join(yard, 0);
         if yard.is_short {
-            self.cursor.note(Fault::Memory);
+            self.note(Fault::Memory);
         }
         match (yard.waiting.is_empty(), yard.terms.pop()) {
             (true, Some(term)) => term,
             _ => {
-                self.cursor.refuse_next("')'");
+                self.refuse_next("')'");
                 Term {
                     value: Value::Null,
-                    spot: self.cursor.spot(),
+                    spot: self.spot(),
                 }
             }
         }
@@ -525,7 +520,7 @@ impl Reader {
                 } else {
                     "expected a number or a constant"
                 };
-                self.cursor.refuse(term.spot, text);
+                self.refuse(term.spot, text);
                 0
             }
         }
@@ -533,7 +528,7 @@ impl Reader {
 
     /// Reads a number from `low` to `high`.
     pub(crate) fn number(&mut self, what: &str, range: Range) -> i64 {
-        let spot = self.cursor.spot();
+        let spot = self.spot();
         let number = self.constant();
         if !range.holds(number) {
             let words = &[
@@ -542,8 +537,7 @@ impl Reader {
                 Word::Number(range.high),
                 Word::Number(number),
             ];
-            self.cursor
-                .refuse_with(spot, "% is from % to %, and this is %", words);
+            self.refuse_with(spot, "% is from % to %, and this is %", words);
         }
         number
     }
@@ -554,8 +548,7 @@ impl Reader {
         match term.operand() {
             Some(operand) => operand,
             None => {
-                self.cursor
-                    .refuse(term.spot, "expected a number or a variable");
+                self.refuse(term.spot, "expected a number or a variable");
                 Operand::Number(0)
             }
         }

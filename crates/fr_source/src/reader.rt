@@ -1,7 +1,6 @@
-// What reads a source: its tokens, the names so far, and the body that is being read. The first fault is noted at the cursor,
-// and what is read after it means nothing.
+// What reads a source: its tokens, the names so far, and the body that is being read. The first fault is noted, and what is read
+// after it means nothing.
 
-use crate::cursor::Cursor;
 use crate::fault::{Fault, Spot};
 use crate::kernel::{DECLARATIONS, Kernel, KernelCall, TYPES, is_among, is_reserved, kernel_named};
 use crate::lines::Lines;
@@ -9,7 +8,7 @@ use crate::near::{OF_C, hint_for};
 use crate::open::{Case, Open};
 use crate::program::{Home, Program};
 use crate::scope::{Meaning, Scope};
-use crate::texts::{Span, Word};
+use crate::texts::{Pieces, Span, Word};
 use crate::token::Token;
 use std::alloc::Global;
 
@@ -49,7 +48,14 @@ pub(crate) struct Here {
 
 #[derive(Drop)]
 pub(crate) struct Reader {
-    pub(crate) cursor: Cursor,
+    pub(crate) alloc: Global,
+    pub(crate) pieces: Pieces,
+    pub(crate) tokens: Vec<Token>,
+    /// What is after the last token.
+    pub(crate) end: Token,
+    /// The place of the next token among all tokens.
+    pub(crate) next: usize,
+    pub(crate) fault: Option<Fault>,
     pub(crate) scope: Scope,
     pub(crate) program: Program,
     pub(crate) here: Here,
@@ -74,7 +80,31 @@ fn why_undeclared(text: &str) -> Option<&'static str> {
     }
 }
 
-impl Cursor {
+impl Reader {
+    pub(crate) fn new(alloc: Global, pieces: Pieces, tokens: Vec<Token>, end: Token) -> Reader {
+        Reader {
+            alloc,
+            pieces,
+            tokens,
+            end,
+            next: 0,
+            fault: None,
+            scope: Scope::new(alloc),
+            program: Program::new(alloc),
+            lines: Lines::new(alloc),
+            here: Here {
+                labels: Vec::new(alloc),
+                open: Vec::new(alloc),
+                cases: Vec::new(alloc),
+                home: Home::Function,
+                name: Span::NONE,
+                operators: 0,
+                assertion: None,
+                call: None,
+            },
+        }
+    }
+
     /// Refuses what is too deep: so many constructs and brackets are open.
     pub(crate) fn check_depth(&mut self, depth: usize, spot: Spot) {
         if depth > DEEPEST {
@@ -98,62 +128,40 @@ impl Cursor {
         };
         self.refuse_piece(token.spot, form, token.span, shape.as_str());
     }
-}
-
-impl Reader {
-    pub(crate) fn new(alloc: Global, cursor: Cursor) -> Reader {
-        Reader {
-            cursor,
-            scope: Scope::new(alloc),
-            program: Program::new(alloc),
-            lines: Lines::new(alloc),
-            here: Here {
-                labels: Vec::new(alloc),
-                open: Vec::new(alloc),
-                cases: Vec::new(alloc),
-                home: Home::Function,
-                name: Span::NONE,
-                operators: 0,
-                assertion: None,
-                call: None,
-            },
-        }
-    }
 
     /// What the text of a token means here.
     pub(crate) fn meaning(&self, token: Token) -> Option<Meaning> {
-        self.scope
-            .meaning(&self.cursor.pieces, self.cursor.text(token))
+        self.scope.meaning(&self.pieces, self.text(token))
     }
 
     /// Takes the name of something new. `what` is what is expected.
     pub(crate) fn new_name(&mut self, what: &str) -> Token {
-        let token = self.cursor.word(what);
+        let token = self.word(what);
         let Token { span, spot, .. } = token;
-        if is_among(self.cursor.text(token), &TYPES) {
+        if is_among(self.text(token), &TYPES) {
             let form = "'%' is a type of C, and there are none here: write the name alone";
-            self.cursor.refuse_piece(spot, form, span, "");
+            self.refuse_piece(spot, form, span, "");
         }
-        let text = self.cursor.text(token);
+        let text = self.text(token);
         let length = text.len();
         if is_reserved(text) || kernel_named(text).is_some() {
             let form = "'%' is a word of this notation or of the kernel: choose another name";
-            self.cursor.refuse_piece(spot, form, span, "");
+            self.refuse_piece(spot, form, span, "");
         }
         if length > LONGEST_NAME {
             let form = "a name has at most 32 characters, this one %";
-            self.cursor.refuse_with(spot, form, &[Word::Count(length)]);
+            self.refuse_with(spot, form, &[Word::Count(length)]);
         }
         if let Some(meaning) = self.meaning(token) {
             let form = "'%' is already the name of %";
-            self.cursor.refuse_piece(spot, form, span, meaning.text());
+            self.refuse_piece(spot, form, span, meaning.text());
         }
         token
     }
 
     /// Takes a name, and gives what it means here. `what` is what is expected.
     pub(crate) fn named(&mut self, what: &str) -> Meaning {
-        let token = self.cursor.word(what);
+        let token = self.word(what);
         match self.meaning(token) {
             Some(meaning) => meaning,
             None => {
@@ -166,42 +174,37 @@ impl Reader {
     /// Refuses a name that isn't declared.
     pub(crate) fn refuse_undeclared(&mut self, token: Token) {
         let Token { span, spot, .. } = token;
-        if let Some(form) = why_undeclared(self.cursor.text(token)) {
-            return self.cursor.refuse_piece(spot, form, span, "");
+        if let Some(form) = why_undeclared(self.text(token)) {
+            return self.refuse_piece(spot, form, span, "");
         }
-        if let Some(hint) = hint_for(&OF_C, self.cursor.text(token)) {
-            return self
-                .cursor
-                .refuse_piece(spot, "'%' isn't declared%", span, hint);
+        if let Some(hint) = hint_for(&OF_C, self.text(token)) {
+            return self.refuse_piece(spot, "'%' isn't declared%", span, hint);
         }
         match (self.near(token), self.here.call) {
             (Some(near), _) => {
                 let words = &[Word::Piece(span), near];
                 let form = "'%' isn't declared. Did you mean '%'?";
-                self.cursor.refuse_with(spot, form, words);
+                self.refuse_with(spot, form, words);
             }
-            (None, Some(call)) if self.cursor.is_at_surplus(call.row().slots.len()) => {
-                self.cursor.refuse_surplus(token, call.row());
+            (None, Some(call)) if self.is_at_surplus(call.row().slots.len()) => {
+                self.refuse_surplus(token, call.row());
             }
-            _ => self
-                .cursor
-                .refuse_piece(spot, "'%' isn't declared", span, ""),
+            _ => self.refuse_piece(spot, "'%' isn't declared", span, ""),
         }
     }
 
     /// A name or a call of the kernel that the text of a token is near to.
     pub(crate) fn near(&self, token: Token) -> Option<Word<'static>> {
-        self.scope
-            .near(&self.cursor.pieces, self.cursor.text(token))
+        self.scope.near(&self.pieces, self.text(token))
     }
 
     /// Takes the name of a variable.
     pub(crate) fn variable_named(&mut self, what: &str) -> usize {
-        let token = self.cursor.token();
+        let token = self.token();
         match self.named(what) {
             Meaning::Variable(variable) => variable,
             meaning => {
-                self.cursor.refuse_meaning(token, "a variable", meaning);
+                self.refuse_meaning(token, "a variable", meaning);
                 0
             }
         }

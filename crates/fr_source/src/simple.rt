@@ -31,19 +31,19 @@ fn change_of(sign: &str) -> Option<(Arithmetic, bool)> {
 impl Reader {
     /// Takes a simple statement, and writes its lines.
     pub(crate) fn simple(&mut self) {
-        let token = self.cursor.token();
-        if !self.cursor.sees("any") && self.cursor.is_before("(") {
+        let token = self.token();
+        if !self.sees("any") && self.is_before("(") {
             return self.called(token);
         }
-        match change_of(self.cursor.text(token)) {
+        match change_of(self.text(token)) {
             Some((sign, true)) => {
-                self.cursor.advance();
+                self.advance();
                 let variable = self.variable_named("a variable");
                 self.changed(variable, token.spot, (sign, token.spot), ONE);
             }
-            _ if self.cursor.sees("(") => {
+            _ if self.sees("(") => {
                 let text = "a statement doesn't begin with '(': leave out a cast like '(void)'";
-                self.cursor.refuse(token.spot, text);
+                self.refuse(token.spot, text);
             }
             _ => self.assignment_here(token.spot),
         }
@@ -51,24 +51,24 @@ impl Reader {
 
     /// Takes a variable, and what it is given or how it is changed.
     fn assignment_here(&mut self, spot: Spot) {
-        let token = self.cursor.token();
-        if self.cursor.is_before("=") && matches!(self.meaning(token), Some(Meaning::Object(_))) {
+        let token = self.token();
+        if self.is_before("=") && matches!(self.meaning(token), Some(Meaning::Object(_))) {
             let form =
                 "expected the name of a variable, and '%' is the name of an object; a call that makes it has it in \
                 brackets: xSemaphoreCreateMutex(m)";
-            self.cursor.refuse_piece(spot, form, token.span, "");
+            self.refuse_piece(spot, form, token.span, "");
         }
         let variable = self.variable_named("a statement");
-        if self.cursor.accepts("=") {
+        if self.accepts("=") {
             let term = self.expression();
             return self.assigned(variable, spot, term);
         }
-        let operator = self.cursor.token();
-        let Some((sign, is_by_one)) = change_of(self.cursor.text(operator)) else {
+        let operator = self.token();
+        let Some((sign, is_by_one)) = change_of(self.text(operator)) else {
             let what = "'=', '+=', '-=', '*=', '++' or '--'";
-            return self.cursor.refuse_next(what);
+            return self.refuse_next(what);
         };
-        self.cursor.advance();
+        self.advance();
         let by = if is_by_one { ONE } else { self.expression() };
         self.changed(variable, spot, (sign, operator.spot), by);
     }
@@ -87,14 +87,14 @@ impl Reader {
     /// Takes what is after the name of what is called.
     fn called(&mut self, token: Token) {
         let spot = token.spot;
-        self.cursor.advance();
-        if self.cursor.is(token, "configASSERT") {
+        self.advance();
+        if self.is(token, "configASSERT") {
             let test = self.condition();
             let variable = self.assertion_variable(spot);
             self.lines.assert(variable, test, spot);
         } else if let Some(Meaning::Function(function)) = self.meaning(token) {
-            self.cursor.take("(", "");
-            self.cursor.take(")", ": a function has no arguments");
+            self.take("(", "");
+            self.take(")", ": a function has no arguments");
             self.lines.add(Item::Expand { function, spot });
         } else if let Some(call) = self.kernel_call(token) {
             let action = Action::Call { answer: None, call };
@@ -107,11 +107,11 @@ impl Reader {
         if let Some(variable) = self.here.assertion {
             return variable;
         }
-        if self.scope.meaning(&self.cursor.pieces, ASSERTION).is_some() {
+        if self.scope.meaning(&self.pieces, ASSERTION).is_some() {
             let text = "configASSERT makes the variable 'assertion', and that name is used";
-            self.cursor.refuse(spot, text);
+            self.refuse(spot, text);
         }
-        let name = self.cursor.pieces.assertion;
+        let name = self.pieces.assertion;
         let variable = Variable {
             name,
             spot,
@@ -145,7 +145,7 @@ impl Reader {
                     _ =>
                         "one line has one operator at most: give a part of this to a variable first",
                 };
-                self.cursor.refuse(term.spot, why);
+                self.refuse(term.spot, why);
             }
         }
     }
@@ -156,7 +156,7 @@ impl Reader {
         let Some(action) = self.lines.take_giver() else {
             let text =
                 "in a condition, only any(..) or the bytes of a call are given to a variable";
-            self.cursor.refuse(spot, text);
+            self.refuse(spot, text);
             return term;
         };
         let value = Value::Given { variable, action };
@@ -175,7 +175,7 @@ impl Reader {
                 Word::Number(target.range.high),
             ];
             let form = "% to % isn't in the range of '%', %..%";
-            self.cursor.refuse_with(any_spot, form, words);
+            self.refuse_with(any_spot, form, words);
         }
         let action = Action::Pick { variable, range };
         self.lines.line(action, None, spot);
@@ -188,7 +188,7 @@ impl Reader {
         let high = match (kernel.answer, self.program.arguments(call)) {
             (Answer::Nothing, _) => {
                 let form = "% answers nothing";
-                return self.cursor.refuse_about(call_spot, form, name, "");
+                return self.refuse_about(call_spot, form, name, "");
             }
             (Answer::Bytes, [_, Argument::Operand(Operand::Number(length)), _]) => length,
             _ => 1,
@@ -207,7 +207,7 @@ impl Reader {
     fn check_sum(&mut self, left: Operand, sign: Arithmetic, right: Operand, spot: Spot) {
         if matches!(sign, Arithmetic::Divide | Arithmetic::Remainder) {
             let form = "'%' is for constants alone";
-            self.cursor.refuse_about(spot, form, sign.text(), "");
+            self.refuse_about(spot, form, sign.text(), "");
         }
         let (Operand::Variable(one), Operand::Variable(other)) = (left, right) else {
             return;
@@ -215,11 +215,10 @@ impl Reader {
         if one == other {
             let form = "'%' can't be both operands: copy it to another variable";
             let name = self.program.variable(one).name;
-            self.cursor.refuse_piece(spot, form, name, "");
+            self.refuse_piece(spot, form, name, "");
         }
         if matches!(sign, Arithmetic::Times) {
-            self.cursor
-                .refuse(spot, "at least one operand of '*' is a number");
+            self.refuse(spot, "at least one operand of '*' is a number");
         }
     }
 
@@ -259,6 +258,6 @@ impl Reader {
         };
         let (one, other) = (self.program.variable(one), self.program.variable(other));
         let words = &[Word::Piece(one.name), Word::Piece(other.name)];
-        self.cursor.refuse_with(spot, form, words);
+        self.refuse_with(spot, form, words);
     }
 }

@@ -1,6 +1,5 @@
 // Statements. The constructs whose end isn't read yet are on a list, and no call goes into itself.
 
-use crate::cursor::Cursor;
 use crate::fault::{Fault, Spot};
 use crate::kernel::is_reserved;
 use crate::open::{Construct, Margin, Open};
@@ -77,7 +76,7 @@ fn label_to_leave(constructs: &[Open], is_break: bool) -> Option<usize> {
     label
 }
 
-impl Cursor {
+impl Reader {
     /// Where the body of a construct begins.
     fn margin(&self, construct: Construct) -> Margin {
         let head = self.previous();
@@ -124,26 +123,29 @@ impl Cursor {
         }
     }
 
-    /// Refuses a `goto` to one of these labels that isn't there.
-    pub(crate) fn check_labels(&mut self, labels: &[NamedLabel], kind: &'static str) {
-        for one in labels {
+    /// Refuses a `goto` to a label that isn't there.
+    pub(crate) fn check_labels(&mut self) {
+        let mut missing = None;
+        for one in &self.here.labels {
             if !one.is_placed {
-                let form = "no label '%' in this %";
-                self.refuse_piece(one.spot, form, one.name, kind);
+                missing = Some(*one);
+                break;
             }
         }
+        if let Some(one) = missing {
+            let (form, kind) = ("no label '%' in this %", self.here.home.text());
+            self.refuse_piece(one.spot, form, one.name, kind);
+        }
     }
-}
 
-impl Reader {
     /// Reads statements up to the closing brace of the body, and gives its place.
     pub(crate) fn statements(&mut self) -> Spot {
-        for _ in 0..=self.cursor.left() {
-            let Token { kind, spot, .. } = self.cursor.token();
+        for _ in 0..=self.left() {
+            let Token { kind, spot, .. } = self.token();
             if matches!(kind, Kind::End) {
                 break;
             }
-            if self.here.open.is_empty() && self.cursor.accepts("}") {
+            if self.here.open.is_empty() && self.accepts("}") {
                 return spot;
             }
             self.here.operators = 0;
@@ -154,11 +156,11 @@ impl Reader {
                 let form = "% '%' grows to more than 4096 lines and labels: this passed the limit";
                 let home = Word::Text(self.here.home.text());
                 let words = &[home, Word::Piece(self.here.name)];
-                self.cursor.refuse_with(spot, form, words);
+                self.refuse_with(spot, form, words);
             }
         }
-        self.cursor.refuse_next("'}'");
-        self.cursor.spot()
+        self.refuse_next("'}'");
+        self.spot()
     }
 
     /// Reads a statement, or the head of a construct. Answers whether a statement ends here.
@@ -168,28 +170,28 @@ impl Reader {
             Some(Open::Switch { first_case, .. }) => (true, self.here.cases.len() <= first_case),
             _ => (false, false),
         };
-        match Beginning::of(self.cursor.text(self.cursor.token())) {
+        match Beginning::of(self.text(self.token())) {
             Beginning::Case => self.case(),
             Beginning::Close if holds_many => {
-                self.cursor.advance();
+                self.advance();
                 self.close_many();
                 return true;
             }
-            _ if is_before_cases => self.cursor.refuse_next("'case' or 'default'"),
+            _ if is_before_cases => self.refuse_next("'case' or 'default'"),
             Beginning::Open => {
-                self.cursor.advance();
+                self.advance();
                 self.enter(Open::Block);
             }
             Beginning::Nothing => {
-                self.cursor.advance();
+                self.advance();
                 return true;
             }
             Beginning::Construct(construct) => self.construct(construct),
             // A label belongs to the statement after it.
-            _ if self.cursor.is_before(":") => self.named_label(),
+            _ if self.is_before(":") => self.named_label(),
             _ => {
                 self.jump();
-                self.cursor.take(";", " after the statement");
+                self.take(";", " after the statement");
                 return true;
             }
         }
@@ -200,25 +202,26 @@ impl Reader {
     pub(crate) fn enter(&mut self, open: Open) {
         let spot = match open {
             Open::Switch { spot, .. } => spot,
-            _ => self.cursor.spot(),
+            _ => self.spot(),
         };
         if self.here.open.push(open).is_err() {
-            self.cursor.note(Fault::Memory);
+            self.note(Fault::Memory);
         }
-        self.cursor.check_depth(self.here.open.len(), spot);
+        let depth = self.here.open.len();
+        self.check_depth(depth, spot);
     }
 
     /// Reads the head of a construct.
     fn construct(&mut self, construct: Construct) {
-        let spot = self.cursor.spot();
-        self.cursor.advance();
+        let spot = self.spot();
+        self.advance();
         match construct {
             Construct::If | Construct::Else => {
                 let test = self.condition();
                 let (yes, no) = (self.lines.label(), self.lines.label());
                 self.lines.branch(test, spot, yes, no, yes);
                 self.lines.place(yes);
-                let margin = self.cursor.branch_margin(Construct::If);
+                let margin = self.branch_margin(Construct::If);
                 self.enter(Open::If { no, margin, spot });
             }
             Construct::While => {
@@ -230,7 +233,7 @@ impl Reader {
             Construct::Do => {
                 let top = self.lines.label_here();
                 let labels = [top, self.lines.label(), self.lines.label()];
-                let margin = self.cursor.margin(Construct::Do);
+                let margin = self.margin(Construct::Do);
                 self.enter(Open::Do { labels, margin });
             }
             Construct::For => self.for_head(spot),
@@ -239,23 +242,23 @@ impl Reader {
     }
 
     fn for_head(&mut self, spot: Spot) {
-        self.cursor.take("(", "");
-        if !self.cursor.sees(";") {
+        self.take("(", "");
+        if !self.sees(";") {
             self.simple();
         }
-        self.cursor.take(";", "");
+        self.take(";", "");
         let top = self.lines.label_here();
         let mut test = None;
-        if !self.cursor.sees(";") {
+        if !self.sees(";") {
             let term = self.expression();
             test = Some(self.test_of(term));
         }
-        self.cursor.take(";", "");
+        self.take(";", "");
         let first = self.lines.body.items.len();
-        if !self.cursor.sees(")") {
+        if !self.sees(")") {
             self.simple();
         }
-        self.cursor.take(")", "");
+        self.take(")", "");
         self.loop_head(test, top, first, Construct::For, spot);
     }
 
@@ -272,7 +275,7 @@ impl Reader {
         let step = self.lines.put_aside(first);
         let (again, end) = self.lines.open_loop(test, spot);
         let labels = [top, again, end];
-        let margin = self.cursor.margin(construct);
+        let margin = self.margin(construct);
         self.enter(Open::Loop {
             labels,
             step,
@@ -289,7 +292,7 @@ impl Reader {
                 Some(open) => *open,
             };
             let _ = self.here.open.pop();
-            self.cursor.check_margin(open);
+            self.check_margin(open);
             if !self.close_one(open) {
                 break;
             }
@@ -299,11 +302,11 @@ impl Reader {
     /// Writes the end of a construct. Answers whether it ends here, and has no `else`.
     fn close_one(&mut self, open: Open) -> bool {
         match open {
-            Open::If { no, spot, .. } if self.cursor.accepts("else") => {
+            Open::If { no, spot, .. } if self.accepts("else") => {
                 let end = self.lines.label();
                 self.lines.goto(end, spot);
                 self.lines.place(no);
-                let margin = self.cursor.branch_margin(Construct::Else);
+                let margin = self.branch_margin(Construct::Else);
                 self.enter(Open::Else { end, margin });
                 return false;
             }
@@ -316,14 +319,14 @@ impl Reader {
                 ..
             } => self.lines.close_loop(labels, step, spot),
             Open::Do { labels, .. } => {
-                if !self.cursor.accepts("while") {
+                if !self.accepts("while") {
                     let what = "'while' and the condition of the 'do' loop";
-                    self.cursor.refuse_next(what);
+                    self.refuse_next(what);
                 }
                 self.here.operators = 0;
-                let spot = self.cursor.spot();
+                let spot = self.spot();
                 let test = self.condition();
-                self.cursor.take(";", " after the 'do' loop");
+                self.take(";", " after the 'do' loop");
                 self.lines.close_do(labels, test, spot);
             }
             Open::Block | Open::Switch { .. } => {}
@@ -333,8 +336,8 @@ impl Reader {
 
     /// Reads a jump, or else a simple statement.
     fn jump(&mut self) {
-        let spot = self.cursor.spot();
-        let Some(jump) = Jump::of(self.cursor.text(self.cursor.token())) else {
+        let spot = self.spot();
+        let Some(jump) = Jump::of(self.text(self.token())) else {
             return self.simple();
         };
         match jump {
@@ -342,32 +345,31 @@ impl Reader {
             Jump::Continue => self.leave_loop(false, spot),
             Jump::Return if matches!(self.here.home, Home::Task) => {
                 let text = "a task doesn't return (rule 11): end it with vTaskDelete(NULL)";
-                self.cursor.refuse(spot, text);
+                self.refuse(spot, text);
             }
             Jump::Return => {
-                self.cursor.advance();
-                if !self.cursor.sees(";") {
+                self.advance();
+                if !self.sees(";") {
                     let why = ": a return has no value";
-                    self.cursor.refuse_for("'", ";", "'", why);
+                    self.refuse_for("'", ";", "'", why);
                 }
                 self.lines.goto(0, spot);
             }
             Jump::Goto => {
-                self.cursor.advance();
-                let name = self.cursor.word("a label");
+                self.advance();
+                let name = self.word("a label");
                 let label = self.label_named(name, false);
                 self.lines.goto(label, spot);
             }
             Jump::Variable => {
                 let form = "variables are declared at the beginning of the %";
-                self.cursor
-                    .refuse_about(spot, form, self.here.home.text(), "");
+                self.refuse_about(spot, form, self.here.home.text(), "");
             }
             Jump::Constant => {
                 let why = "constants are declared outside tasks, interrupts and functions";
-                self.cursor.refuse(spot, why);
+                self.refuse(spot, why);
             }
-            Jump::Else => self.cursor.refuse(spot, "'else' without an 'if' above it"),
+            Jump::Else => self.refuse(spot, "'else' without an 'if' above it"),
         }
     }
 
@@ -379,20 +381,20 @@ impl Reader {
             } else {
                 "'continue' outside a loop"
             };
-            return self.cursor.refuse(spot, text);
+            return self.refuse(spot, text);
         };
-        self.cursor.advance();
+        self.advance();
         self.lines.goto(label, spot);
     }
 
     /// Takes a label that the source names.
     fn named_label(&mut self) {
-        let name = self.cursor.token();
-        self.cursor.advance();
-        self.cursor.advance();
-        if is_reserved(self.cursor.text(name)) {
+        let name = self.token();
+        self.advance();
+        self.advance();
+        if is_reserved(self.text(name)) {
             let form = "'%' is a word of this notation: choose another label";
-            self.cursor.refuse_piece(name.spot, form, name.span, "");
+            self.refuse_piece(name.spot, form, name.span, "");
         }
         let label = self.label_named(name, true);
         self.lines.place(label);
@@ -401,16 +403,21 @@ impl Reader {
     /// The label with this name, which is placed here or only named.
     fn label_named(&mut self, name: Token, is_placed: bool) -> usize {
         let Token { span, spot, .. } = name;
+        let (mut label, mut is_twice) = (None, false);
         for one in &mut self.here.labels {
-            if !self.cursor.pieces.are_alike(one.name, span) {
-                continue;
+            if self.pieces.are_alike(one.name, span) {
+                is_twice = one.is_placed && is_placed;
+                one.is_placed = one.is_placed || is_placed;
+                label = Some(one.label);
+                break;
             }
-            if one.is_placed && is_placed {
-                let form = "the label '%' is there already";
-                self.cursor.refuse_piece(spot, form, span, "");
-            }
-            one.is_placed = one.is_placed || is_placed;
-            return one.label;
+        }
+        if is_twice {
+            let form = "the label '%' is there already";
+            self.refuse_piece(spot, form, span, "");
+        }
+        if let Some(label) = label {
+            return label;
         }
         let label = self.lines.label();
         let new = NamedLabel {
@@ -420,7 +427,7 @@ impl Reader {
             is_placed,
         };
         if self.here.labels.push(new).is_err() {
-            self.cursor.note(Fault::Memory);
+            self.note(Fault::Memory);
         }
         label
     }

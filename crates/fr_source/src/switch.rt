@@ -36,17 +36,17 @@ fn label_of_case(cases: &[Case], value: Option<i64>) -> Option<usize> {
 impl Reader {
     /// Reads the head of a switch.
     pub(crate) fn switch_head(&mut self, spot: Spot) {
-        self.cursor.take("(", "");
-        let variable_spot = self.cursor.spot();
+        self.take("(", "");
+        let variable_spot = self.spot();
         let variable = self.variable_named("a variable");
         if self.program.is_shared(variable) {
             let form =
                 "'%' is shared, and each 'case' would read it again: copy it to a 'var' and switch on that";
             let name = self.program.variable(variable).name;
-            self.cursor.refuse_piece(variable_spot, form, name, "");
+            self.refuse_piece(variable_spot, form, name, "");
         }
-        self.cursor.take(")", ": a switch is on one variable");
-        self.cursor.take("{", "");
+        self.take(")", ": a switch is on one variable");
+        self.take("{", "");
         let end = self.lines.label();
         let first_item = self.lines.body.items.len();
         let first_case = self.here.cases.len();
@@ -61,17 +61,17 @@ impl Reader {
 
     /// Takes a `case` or a `default` with its colon.
     pub(crate) fn case(&mut self) {
-        let spot = self.cursor.spot();
-        let is_case = self.cursor.sees("case");
+        let spot = self.spot();
+        let is_case = self.sees("case");
         let Some(Open::Switch { first_case, .. }) = self.here.open.last().copied() else {
-            return self.cursor.refuse_next("a statement");
+            return self.refuse_next("a statement");
         };
-        self.cursor.advance();
+        self.advance();
         let mut value = None;
         if is_case {
             value = Some(self.constant());
         }
-        self.cursor.take(":", "");
+        self.take(":", "");
         if let Some(cases) = self.here.cases.get(first_case..)
             && label_of_case(cases, value).is_some()
         {
@@ -79,11 +79,11 @@ impl Reader {
                 Some(number) => ("this case % is there already", number),
                 None => ("this default is there already", 0),
             };
-            self.cursor.refuse_with(spot, form, &[Word::Number(number)]);
+            self.refuse_with(spot, form, &[Word::Number(number)]);
         }
         let label = self.lines.label_here();
         if self.here.cases.push(Case { value, label, spot }).is_err() {
-            self.cursor.note(Fault::Memory);
+            self.note(Fault::Memory);
         }
     }
 

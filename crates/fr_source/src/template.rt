@@ -1,7 +1,6 @@
 // Bodies with parameters. Such a body is no actor: it is noted and passed by. Each actor that is made of it reads its
 // tokens anew, with a value for each parameter.
 
-use crate::cursor::Cursor;
 use crate::fault::Fault;
 use crate::program::Home;
 use crate::reader::Reader;
@@ -40,7 +39,7 @@ fn fault_for(alloc: Global, pieces: &Pieces, fault: Fault, name: Token) -> Fault
     }
 }
 
-impl Cursor {
+impl Reader {
     /// Refuses more or fewer values than the body with this name has parameters.
     fn check_values(&mut self, word: Token, count: usize, given: usize) {
         if count == given {
@@ -60,38 +59,40 @@ impl Cursor {
     }
 
     /// Refuses a body with parameters that no actor is made of: nobody reads it.
-    pub(crate) fn check_templates(&mut self, templates: &[Template]) {
-        for template in templates {
+    pub(crate) fn check_templates(&mut self) {
+        let mut unused = None;
+        for template in &self.scope.templates {
             if !template.is_used {
-                let Token { span, spot, .. } = template.name;
-                let kind = Word::Text(template.kind.text());
-                let words = &[kind, kind, Word::Piece(span)];
-                let form = "no % is made of this body: write '% NAME = %(..);' below it";
-                self.refuse_with(spot, form, words);
+                unused = Some(*template);
+                break;
             }
         }
+        if let Some(template) = unused {
+            let Token { span, spot, .. } = template.name;
+            let kind = Word::Text(template.kind.text());
+            let words = &[kind, kind, Word::Piece(span)];
+            let form = "no % is made of this body: write '% NAME = %(..);' below it";
+            self.refuse_with(spot, form, words);
+        }
     }
-}
 
-impl Reader {
     /// Notes a body with parameters, and passes it by.
     pub(crate) fn template(&mut self, kind: Home, name: Token) {
-        let start = self.cursor.next;
+        let start = self.next;
         let mut count = 0usize;
-        for _ in 0..self.cursor.left() {
-            self.cursor.advance();
-            let spot = self.cursor.spot();
+        for _ in 0..self.left() {
+            self.advance();
+            let spot = self.spot();
             let parameter = self.new_name("the name of a parameter");
-            self.cursor
-                .check_count("parameters", count, MOST_PARAMETERS, spot);
+            self.check_count("parameters", count, MOST_PARAMETERS, spot);
             self.scope.add_inside(parameter.span, Meaning::Parameter);
             count = count.saturating_add(1);
-            if !self.cursor.sees(",") {
+            if !self.sees(",") {
                 break;
             }
         }
         self.scope.inside.clear();
-        self.cursor.take(")", " or ',' after a parameter");
+        self.take(")", " or ',' after a parameter");
         let meaning = Meaning::Template(self.scope.templates.len());
         let template = Template {
             name,
@@ -101,78 +102,78 @@ impl Reader {
             is_used: false,
         };
         if self.scope.templates.push(template).is_err() {
-            self.cursor.note(Fault::Memory);
+            self.note(Fault::Memory);
         }
         self.scope.add_outside(name.span, meaning);
-        self.cursor.pass_body();
+        self.pass_body();
     }
 
     /// Reads what an actor is made of, after the `=`: a body with parameters, and a value for each of them.
     pub(crate) fn made_actor(&mut self, kind: Home, name: Token) {
-        let word = self.cursor.token();
+        let word = self.token();
         let Some(template) = self.template_named(kind) else {
             return;
         };
-        self.cursor.take("(", " and the values of the parameters");
+        self.take("(", " and the values of the parameters");
         let values = self.values();
-        self.cursor.take(")", " or ',' after a value");
-        self.cursor.check_values(word, template.count, values.len());
-        self.cursor.take(";", " after the declaration");
-        if self.cursor.fault.is_some() {
+        self.take(")", " or ',' after a value");
+        self.check_values(word, template.count, values.len());
+        self.take(";", " after the declaration");
+        if self.fault.is_some() {
             return;
         }
-        let after = self.cursor.next;
-        self.cursor.next = template.start;
+        let after = self.next;
+        self.next = template.start;
         self.actor_here(kind, name, &values);
-        match self.cursor.fault.take() {
+        match self.fault.take() {
             Some(fault) => {
-                let fault = fault_for(self.cursor.alloc, &self.cursor.pieces, fault, name);
-                self.cursor.note(fault);
+                let fault = fault_for(self.alloc, &self.pieces, fault, name);
+                self.note(fault);
             }
-            None => self.cursor.next = after,
+            None => self.next = after,
         }
     }
 
     /// Takes the name of a body with parameters, for an actor of this kind. Another name is refused.
     fn template_named(&mut self, kind: Home) -> Option<Template> {
-        let word = self.cursor.token();
+        let word = self.token();
         let meaning = self.named("the name of a body with parameters");
         if let Meaning::Template(place) = meaning
-            && let Some(template) = self.scope.templates.get_mut(place)
+            && let Some(slot) = self.scope.templates.get_mut(place)
         {
-            template.is_used = true;
+            slot.is_used = true;
+            let template = *slot;
             let begins = template.kind.text();
             if begins != kind.text() {
                 let form = "'%' begins with '%', and so does each actor that is made of it";
-                self.cursor.refuse_piece(word.spot, form, word.span, begins);
+                self.refuse_piece(word.spot, form, word.span, begins);
             }
-            return Some(*template);
+            return Some(template);
         }
-        self.cursor
-            .refuse_meaning(word, "a body with parameters", meaning);
+        self.refuse_meaning(word, "a body with parameters", meaning);
         None
     }
 
     /// Reads the values of parameters: the name of an object, a variable or a function, `portMAX_DELAY`, or a constant.
     fn values(&mut self) -> Vec<Meaning> {
-        let mut values = Vec::new(self.cursor.alloc);
-        for _ in 0..self.cursor.left() {
+        let mut values = Vec::new(self.alloc);
+        for _ in 0..self.left() {
             let mut value = Meaning::Forever;
-            if !self.cursor.accepts("portMAX_DELAY") {
-                value = match self.meaning(self.cursor.token()) {
+            if !self.accepts("portMAX_DELAY") {
+                value = match self.meaning(self.token()) {
                     Some(
                         named @ (Meaning::Object(_) | Meaning::Variable(_) | Meaning::Function(_)),
                     ) => {
-                        self.cursor.advance();
+                        self.advance();
                         named
                     }
                     _ => Meaning::Constant(self.constant()),
                 };
             }
             if values.push(value).is_err() {
-                self.cursor.note(Fault::Memory);
+                self.note(Fault::Memory);
             }
-            if !self.cursor.accepts(",") {
+            if !self.accepts(",") {
                 break;
             }
         }
@@ -182,10 +183,10 @@ impl Reader {
     /// Gives each parameter its value. The signs around the parameters were there when the body was noted.
     pub(crate) fn give(&mut self, values: &[Meaning]) {
         for value in values {
-            self.cursor.advance();
+            self.advance();
             let parameter = self.new_name("the name of a parameter");
             self.scope.add_inside(parameter.span, *value);
         }
-        self.cursor.advance();
+        self.advance();
     }
 }
