@@ -55,7 +55,7 @@ impl Reader {
         };
         if kernel.is_of_interrupts() && matches!(self.here.home, Home::Task) {
             let form = "a task doesn't make the call %, which is for interrupts";
-            self.refuse_about(token.spot, form, kernel.name, "");
+            self.refuse_about(token.spot, form, kernel.name);
         }
         self.here.call = Some(kernel.call);
         self.take("(", "");

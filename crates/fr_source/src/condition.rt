@@ -20,7 +20,7 @@ impl Reader {
                 "% doesn't answer whether it worked: write (n = ..) > 0, where n is a variable",
             _ => "% doesn't answer whether it worked",
         };
-        self.refuse_about(spot, form, kernel.name, "");
+        self.refuse_about(spot, form, kernel.name);
     }
 
     /// The operand that is a side of a comparison.
@@ -146,7 +146,7 @@ impl Reader {
                 } else {
                     "the answer of % is compared by '==' or '!=' with pdTRUE, pdPASS, pdFALSE or pdFAIL"
                 };
-                self.refuse_about(right.spot, form, kernel.name, "");
+                self.refuse_about(right.spot, form, kernel.name);
                 true
             }
         };

@@ -30,9 +30,14 @@ impl Reader {
         self.refuse_with(spot, form, &[Word::Piece(piece), Word::Text(second)]);
     }
 
-    /// The same with one or two fixed texts as its words.
-    pub(crate) fn refuse_about(&mut self, spot: Spot, form: &str, first: &str, second: &str) {
-        self.refuse_with(spot, form, &[Word::Text(first), Word::Text(second)]);
+    /// The same of a token, with its text and another one as its words.
+    pub(crate) fn refuse_token(&mut self, token: Token, form: &str, second: &str) {
+        self.refuse_piece(token.spot, form, token.span, second);
+    }
+
+    /// The same with a fixed text as its word.
+    pub(crate) fn refuse_about(&mut self, spot: Spot, form: &str, text: &str) {
+        self.refuse_with(spot, form, &[Word::Text(text)]);
     }
 
     /// The same with a fixed text.

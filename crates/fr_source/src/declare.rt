@@ -202,7 +202,7 @@ impl Reader {
             let form =
                 "a variable of this % keeps its value: write 'static var' for one that is set at the start alone, \
                 or assign it below";
-            self.refuse_about(spot, form, self.here.home.text(), "");
+            self.refuse_about(spot, form, self.here.home.text());
         }
         if range.holds(first) {
             return first;

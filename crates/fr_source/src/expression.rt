@@ -278,7 +278,7 @@ impl Reader {
             Value::Null
         } else if let Some(Meaning::Function(_)) = self.meaning(token) {
             let form = "'%' is a function and answers nothing: let it set a variable";
-            self.refuse_piece(spot, form, token.span, "");
+            self.refuse_token(token, form, "");
             Value::Null
         } else {
             match self.kernel_call(token) {
@@ -298,7 +298,7 @@ impl Reader {
                 Some(number) => Value::Number(number),
                 None => {
                     let form = "% doesn't fit in 64 bits";
-                    self.refuse_piece(spot, form, token.span, "");
+                    self.refuse_token(token, form, "");
                     Value::Null
                 }
             },
@@ -318,7 +318,6 @@ impl Reader {
 
     /// What the name of a constant or a variable is.
     fn named_operand(&mut self, token: Token) -> Value {
-        let Token { span, spot, .. } = token;
         if let Some(number) = value_of(self.text(token)) {
             return Value::Number(number);
         }
@@ -327,7 +326,7 @@ impl Reader {
             Some(Meaning::Variable(variable)) => return Value::Variable(variable),
             Some(meaning) => {
                 let form = "'%' is the name of %, and a variable or a number is expected";
-                self.refuse_piece(spot, form, span, meaning.text());
+                self.refuse_token(token, form, meaning.text());
             }
             None if self.is(token, "NULL") || self.is(token, "portMAX_DELAY") => {
                 self.refuse_next("a variable or a number");

@@ -126,7 +126,7 @@ impl Reader {
         let Ok(shape) = kernel.shape(self.alloc) else {
             return self.note(Fault::Memory);
         };
-        self.refuse_piece(token.spot, form, token.span, shape.as_str());
+        self.refuse_token(token, form, shape.as_str());
     }
 
     /// What the text of a token means here.
@@ -137,24 +137,23 @@ impl Reader {
     /// Takes the name of something new. `what` is what is expected.
     pub(crate) fn new_name(&mut self, what: &str) -> Token {
         let token = self.word(what);
-        let Token { span, spot, .. } = token;
         if is_among(self.text(token), &TYPES) {
             let form = "'%' is a type of C, and there are none here: write the name alone";
-            self.refuse_piece(spot, form, span, "");
+            self.refuse_token(token, form, "");
         }
         let text = self.text(token);
         let length = text.len();
         if is_reserved(text) || kernel_named(text).is_some() {
             let form = "'%' is a word of this notation or of the kernel: choose another name";
-            self.refuse_piece(spot, form, span, "");
+            self.refuse_token(token, form, "");
         }
         if length > LONGEST_NAME {
             let form = "a name has at most 32 characters, this one %";
-            self.refuse_with(spot, form, &[Word::Count(length)]);
+            self.refuse_with(token.spot, form, &[Word::Count(length)]);
         }
         if let Some(meaning) = self.meaning(token) {
             let form = "'%' is already the name of %";
-            self.refuse_piece(spot, form, span, meaning.text());
+            self.refuse_token(token, form, meaning.text());
         }
         token
     }
@@ -173,23 +172,22 @@ impl Reader {
 
     /// Refuses a name that isn't declared.
     pub(crate) fn refuse_undeclared(&mut self, token: Token) {
-        let Token { span, spot, .. } = token;
         if let Some(form) = why_undeclared(self.text(token)) {
-            return self.refuse_piece(spot, form, span, "");
+            return self.refuse_token(token, form, "");
         }
         if let Some(hint) = hint_for(&OF_C, self.text(token)) {
-            return self.refuse_piece(spot, "'%' isn't declared%", span, hint);
+            return self.refuse_token(token, "'%' isn't declared%", hint);
         }
         match (self.near(token), self.here.call) {
             (Some(near), _) => {
-                let words = &[Word::Piece(span), near];
+                let words = &[Word::Piece(token.span), near];
                 let form = "'%' isn't declared. Did you mean '%'?";
-                self.refuse_with(spot, form, words);
+                self.refuse_with(token.spot, form, words);
             }
             (None, Some(call)) if self.is_at_surplus(call.row().slots.len()) => {
                 self.refuse_surplus(token, call.row());
             }
-            _ => self.refuse_piece(spot, "'%' isn't declared", span, ""),
+            _ => self.refuse_token(token, "'%' isn't declared", ""),
         }
     }
 

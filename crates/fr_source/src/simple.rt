@@ -56,7 +56,7 @@ impl Reader {
             let form =
                 "expected the name of a variable, and '%' is the name of an object; a call that makes it has it in \
                 brackets: xSemaphoreCreateMutex(m)";
-            self.refuse_piece(spot, form, token.span, "");
+            self.refuse_token(token, form, "");
         }
         let variable = self.variable_named("a statement");
         if self.accepts("=") {
@@ -188,7 +188,7 @@ impl Reader {
         let high = match (kernel.answer, self.program.arguments(call)) {
             (Answer::Nothing, _) => {
                 let form = "% answers nothing";
-                return self.refuse_about(call_spot, form, name, "");
+                return self.refuse_about(call_spot, form, name);
             }
             (Answer::Bytes, [_, Argument::Operand(Operand::Number(length)), _]) => length,
             _ => 1,
@@ -207,7 +207,7 @@ impl Reader {
     fn check_sum(&mut self, left: Operand, sign: Arithmetic, right: Operand, spot: Spot) {
         if matches!(sign, Arithmetic::Divide | Arithmetic::Remainder) {
             let form = "'%' is for constants alone";
-            self.refuse_about(spot, form, sign.text(), "");
+            self.refuse_about(spot, form, sign.text());
         }
         let (Operand::Variable(one), Operand::Variable(other)) = (left, right) else {
             return;

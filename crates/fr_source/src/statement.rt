@@ -93,7 +93,7 @@ impl Reader {
         if self.sees(";") {
             let spot = self.spot();
             let form = "an '%' with nothing but ';': write '{ }' if this is meant";
-            self.refuse_about(spot, form, construct.text(), "");
+            self.refuse_about(spot, form, construct.text());
         }
         self.margin(construct)
     }
@@ -119,7 +119,7 @@ impl Reader {
             let form =
                 "this looks as if it were in the '%' above, and isn't: put braces around its body, \
                 or move this to the left";
-            self.refuse_about(after.spot, form, margin.construct.text(), "");
+            self.refuse_about(after.spot, form, margin.construct.text());
         }
     }
 
@@ -363,7 +363,7 @@ impl Reader {
             }
             Jump::Variable => {
                 let form = "variables are declared at the beginning of the %";
-                self.refuse_about(spot, form, self.here.home.text(), "");
+                self.refuse_about(spot, form, self.here.home.text());
             }
             Jump::Constant => {
                 let why = "constants are declared outside tasks, interrupts and functions";
@@ -394,7 +394,7 @@ impl Reader {
         self.advance();
         if is_reserved(self.text(name)) {
             let form = "'%' is a word of this notation: choose another label";
-            self.refuse_piece(name.spot, form, name.span, "");
+            self.refuse_token(name, form, "");
         }
         let label = self.label_named(name, true);
         self.lines.place(label);
@@ -414,7 +414,7 @@ impl Reader {
         }
         if is_twice {
             let form = "the label '%' is there already";
-            self.refuse_piece(spot, form, span, "");
+            self.refuse_token(name, form, "");
         }
         if let Some(label) = label {
             return label;

@@ -146,7 +146,7 @@ impl Reader {
             let begins = template.kind.text();
             if begins != kind.text() {
                 let form = "'%' begins with '%', and so does each actor that is made of it";
-                self.refuse_piece(word.spot, form, word.span, begins);
+                self.refuse_token(word, form, begins);
             }
             return Some(template);
         }
