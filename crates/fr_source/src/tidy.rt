@@ -21,7 +21,7 @@ enum Shape {
     SharedIf,
     /// It sets a variable.
     Write,
-    /// The end of a task.
+    /// The end of a task, or a call by which it deletes itself: no way leads on from there.
     Last,
 }
 
@@ -35,6 +35,7 @@ pub(crate) struct Tidying {
     heirs: Vec<Heir>,
 }
 
+/// What a plain line is.
 fn shape_of(program: &Program, line: &Line) -> Shape {
     match line.action {
         Action::Goto => Shape::Goto,
