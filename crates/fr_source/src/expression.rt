@@ -217,14 +217,14 @@ impl Reader {
         self.finished(&mut yard)
     }
 
-    /// Reads an expression of numbers, and of a variable.
-    fn arithmetic(&mut self) -> Term {
+    /// Reads an expression of numbers, and of a variable. `expected` is what may stand there.
+    fn arithmetic(&mut self, expected: &str) -> Term {
         let mut yard = Yard::new(self.alloc, false);
         for _ in 0..=self.left() {
             if self.prefix(&mut yard) {
                 continue;
             }
-            let term = self.plain_operand();
+            let term = self.plain_operand(expected);
             if self.ends_after(&mut yard, term) {
                 break;
             }
@@ -265,7 +265,7 @@ impl Reader {
         let token = self.token();
         let (is_any, is_null) = (self.sees("any"), self.sees("NULL"));
         if !is_any && !is_null && !self.is_before("(") {
-            return self.plain_operand();
+            return self.plain_operand("a variable, a number or a call");
         }
         self.advance();
         let spot = token.spot;
@@ -289,8 +289,8 @@ impl Reader {
         Term { value, spot }
     }
 
-    /// Takes a number, a constant or a variable.
-    fn plain_operand(&mut self) -> Term {
+    /// Takes a number, a constant or a variable. `expected` is what may stand there.
+    fn plain_operand(&mut self, expected: &str) -> Term {
         let token = self.token();
         let spot = token.spot;
         let value = match token.kind {
@@ -308,7 +308,7 @@ impl Reader {
                 Value::Number(i64::MIN)
             }
             _ => {
-                self.refuse_next("a variable, a number or a call");
+                self.refuse_next(expected);
                 Value::Null
             }
         };
@@ -510,7 +510,7 @@ impl Reader {
 
     /// Reads a number, or an expression that is one.
     pub(crate) fn constant(&mut self) -> i64 {
-        let term = self.arithmetic();
+        let term = self.arithmetic("a number or a constant");
         match term.value {
             Value::Number(number) => number,
             _ => {
@@ -543,7 +543,7 @@ impl Reader {
 
     /// Reads a number or a variable.
     pub(crate) fn number_or_variable(&mut self) -> Operand {
-        let term = self.arithmetic();
+        let term = self.arithmetic("a number or a variable");
         match term.operand() {
             Some(operand) => operand,
             None => {

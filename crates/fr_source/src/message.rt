@@ -6,7 +6,7 @@ use crate::texts::{Word, filled, push_filled};
 use fr_escape::push_plain;
 use std::alloc::{AllocError, AllocFailed, Global};
 
-/// A place in a source, and what is to be said of it. All texts are printable ASCII and tabs.
+/// A place in a source, and what is to be said of it. All texts are printable ASCII.
 #[derive(Drop)]
 pub struct Message {
     /// The line, from 1.
@@ -15,9 +15,9 @@ pub struct Message {
     pub column: usize,
     /// What is wrong, and what was expected.
     pub text: String,
-    /// The line of the source, up to 240 bytes, with a question mark for each character that isn't plain.
+    /// The line of the source, up to 240 bytes, with a blank for each tab and a question mark for each character that isn't plain.
     pub shown: String,
-    /// Blanks and tabs, and a `^` under the place. Empty where the place is beyond what is shown.
+    /// Blanks, and a `^` under the place. Empty where the place is beyond what is shown.
     pub mark: String,
 }
 
@@ -44,16 +44,11 @@ impl<T: Drop> From<AllocFailed<T>> for Refused {
 
 /// The mark under a place of a line.
 fn mark_under(alloc: Global, shown: &str, column: usize) -> Result<String, AllocError> {
-    let mut mark = String::new(alloc);
     let before = column.saturating_sub(1);
     if before > shown.len() {
-        return Ok(mark);
+        return Ok(String::new(alloc));
     }
-    for character in shown.chars().take(before) {
-        mark.push(if character == '\t' { '\t' } else { ' ' })?;
-    }
-    mark.push('^')?;
-    Ok(mark)
+    filled(alloc, "%^", &[Word::Blanks(before)])
 }
 
 /// The message that a text is about a place.

@@ -70,12 +70,13 @@ impl<'a> Source<'a> {
     }
 }
 
-/// Printable ASCII and tabs as they are, and a question mark for each other character.
+/// Printable ASCII as it is, a blank for each tab, and a question mark for each other character.
 pub(crate) fn plain(alloc: Global, bytes: &[u8]) -> Result<String, AllocError> {
     let mut shown = String::new(alloc);
     for byte in bytes {
         match *byte {
-            b'\t' | b' '..=b'~' => shown.push(char::from(*byte))?,
+            b' '..=b'~' => shown.push(char::from(*byte))?,
+            b'\t' => shown.push(' ')?,
             b'\r' | 0x80..=0xbf => {}
             _ => shown.push('?')?,
         }

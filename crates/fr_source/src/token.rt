@@ -202,13 +202,13 @@ fn unknown_sign(alloc: Global, spot: Spot, text: &[u8]) -> Fault {
     }
 }
 
-/// Refuses numbers that C reads otherwise, and ones with a suffix.
+/// Refuses numbers that C reads otherwise, and ones with a suffix or of another form.
 fn check_number(alloc: Global, spot: Spot, text: &[u8], rest: &[u8]) -> Result<(), Fault> {
     let is_hexadecimal = rest.starts_with(b"x") || rest.starts_with(b"X");
     let why = if text == b"0".as_slice() && is_hexadecimal {
         "hexadecimal digits have to be after 0x, as in 0x1F"
     } else if Class::Word.length(rest) > 0 {
-        "this number has a suffix: write it without"
+        "a number is decimal, or hexadecimal after 0x, and has no suffix"
     } else if text.len() > 1 && text.starts_with(b"0") && Class::Digit.length(text) == text.len() {
         "a number with a leading zero would be octal in C: write it without"
     } else {
